@@ -1,0 +1,10 @@
+pub mod formers
+pub mod FileShelf
+pub mod MemoryShelf
+pub mod MemorySink
+pub mod Outside
+pub mod Place
+pub mod ReadFail
+pub mod Reason
+pub mod StdSink
+pub mod Tally

@@ -1,0 +1,27 @@
+//! What every part of the bridge stands on: lists and texts, places in a file and reasons of refusal,
+//! and the outside as two traits, `Shelf` for what is read and `Sink` for what is written, with
+//! devices in memory and over the runtime's files and streams.
+#![tactic(auto)]
+
+mod file_shelf;
+mod list;
+mod memory_shelf;
+mod memory_sink;
+mod place;
+mod reason;
+mod shelf;
+mod sink;
+mod std_sink;
+mod tally;
+mod transfer;
+
+pub use file_shelf::FileShelf;
+pub use list::{List, Text};
+pub use memory_shelf::MemoryShelf;
+pub use memory_sink::MemorySink;
+pub use place::{Place, place_of};
+pub use reason::{Fault, Named, Reason, Refused};
+pub use shelf::{Shelf, ShelfFault};
+pub use sink::{Sink, SinkFault, write_whole};
+pub use std_sink::StdSink;
+pub use transfer::{ReadFail, read_all};

@@ -1,0 +1,9 @@
+use Rattle.std.proofs.Common.{◌∙◌, sym, arith}
+use Rattle.frac_core.specs.Gcd.{gcd_step, gcd_end}
+use Rattle.frac_core.proofs.divisor.gcd_of_words.Goals as goal
+
+pub loop-y-preserved : goal.loop-y-preserved
+loop-y-preserved c = gcd_step _ _ ∙ c.loop-y.invariant
+
+pub returns : goal.returns
+returns c = sym (gcd_end _ _ (omega arith)) ∙ c.loop-y.invariant

@@ -1,0 +1,10 @@
+pub mod Gcd
+pub mod Ints
+pub mod Fraction
+pub mod Results
+pub mod Laws
+pub mod Order
+pub mod Rounding
+pub mod Sums
+pub mod FractionLaws
+pub mod Decimal

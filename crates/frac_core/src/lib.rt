@@ -1,0 +1,14 @@
+//! Exact fractions with parts below 2^62, and decimal literals.
+//! Contracts see a `Frac` as the fraction itself, unbounded and in lowest terms: each call answers the exact result,
+//! or `Wide` where a part of that passes the bound. No call takes memory.
+#![tactic(auto)]
+
+mod decimal;
+mod divisor;
+mod fraction;
+mod laws;
+mod rounding;
+
+pub use decimal::Decimal;
+pub use fraction::{Frac, FracFail};
+pub use laws::fraction_laws;

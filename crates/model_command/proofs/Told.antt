@@ -1,0 +1,138 @@
+-- What a run answers and writes where all is told.
+use Rattle.std.proofs.Common.{arith, ◌≡◌, ◌∙◌, sym, ap, subst, ℕ, ◌+◌, ◌<◌, ◌≤◌, List, [], ◌++◌, length, take, Option, Some, None, inl, inr}
+use Rattle.std.proofs.Common.{length-append, IsSome, append-nil}
+use Rattle.std.specs.Prelude.{true, false, nat_lt, cond, codes, ◌==◌, count_by}
+use Rattle.std.specs.List.{after_last}
+use Rattle.bridge_io.specs.ReadFail.{IsTooLong}
+use Rattle.bridge_io.specs.declared.transfer.ReadFail.TheVariants.{TooLong as TooLongAt}
+use Rattle.std.proofs.lemmas.List.{take-append-le}
+use Rattle.std.specs.Io.KnownBytes.{Appends, prepend_known}
+use Rattle.bridge_io.specs.Outside.{Lefts}
+use Rattle.bridge_io.specs.Place.{line_at, column_at}
+use Rattle.bridge_io.specs.Reason.{number_of, name_of}
+use Rattle.bridge_io.specs.declared.reason.Reason.{Reason}
+use Rattle.bridge_io.specs.declared.place.Place.{Place}
+use Rattle.model_command.specs.Words.{IsTranslation}
+use Rattle.model_command.specs.Translation.{IsSmallFile, Translates}
+use Rattle.model_command.specs.Outcome.{status_of, text_of, line_of, name_in, refusal_line}
+use Rattle.model_command.specs.Run.{IsCause, IsWhole, IsRefusal, EndsWith}
+use Rattle.model_command.specs.Headline.{IsAccepted, IsHeadline, fault_line}
+use Rattle.model_command.specs.declared.outcome.Outcome.{Outcome}
+use Rattle.model_command.specs.declared.outcome.Outcome.TheVariants.{Done, Refused, Words, ReadFault, NoMemory}
+use Rattle.model_command.proofs.Exact.{whole_bytes, same_name, wrong_not_form}
+
+appended : (xs : List ℕ) (now : Option (List ℕ)) (more : List ℕ) → Appends (Some xs) now more → now ≡ Some (xs ++ more)
+appended xs None more h = absurd h
+appended xs (Some ys) more h = ap Some h
+
+name_there : (words : List (List ℕ)) (name : List ℕ) → IsTranslation words name → name_in words ≡ name
+name_there words name form = ap name_in form.1
+
+-- of a file that is too long the read bytes are the front, of one byte more than the limit
+record IsFront (read bytes : List ℕ) : Type 0 where
+  long : 16777216 < length bytes
+  line : line_at read 16777216 ≡ line_at bytes 16777216
+  column : column_at read 16777216 ≡ column_at bytes 16777216
+
+front_of : (lefts now : Lefts) (name bytes read : List ℕ) → lefts name ≡ Some bytes → lefts name ≡ prepend_known read (now name) → IsSome (now name) → length read ≡ 16777216 + 1 → IsFront read bytes
+front_of lefts now name bytes read had was on many = of (now name) was on
+  where
+    of : (rest : Option (List ℕ)) → lefts name ≡ prepend_known read rest → IsSome rest → IsFront read bytes
+    of None was on = absurd (let o = on in cc)
+    of (Some rest) was on =
+        let same : read ++ rest ≡ bytes = cc in
+        let front : take 16777216 (read ++ rest) ≡ take 16777216 read = take-append-le 16777216 read rest (omega arith) in
+        let fronts : take 16777216 read ≡ take 16777216 bytes = sym front ∙ ap (take 16777216) same in
+        record {
+          long = omega (arith, length-append read rest, ap length same);
+          line = ap (λ l. 1 + count_by (λ b. b == 10) l) fronts;
+          column = ap (λ l. 1 + length (after_last (λ b. b == 10) l)) fronts;
+        }
+
+long_line : (name bytes : List ℕ) → 16777216 < length bytes → fault_line name bytes ≡ refusal_line name (record { line = line_at bytes 16777216; column = column_at bytes 16777216 }) 1 (codes "TooLong")
+long_line name bytes long = let e : nat_lt 16777216 (length bytes) ≡ true = grind arith in ap (λ b. cond b (refusal_line name (record { line = line_at bytes 16777216; column = column_at bytes 16777216 }) 1 (codes "TooLong")) (refusal_line name (record { line = 1; column = 1 }) 42 (codes "NotYet"))) e
+
+short_line : (name bytes : List ℕ) → length bytes ≤ 16777216 → fault_line name bytes ≡ refusal_line name (record { line = 1; column = 1 }) 42 (codes "NotYet")
+short_line name bytes short = let e : nat_lt 16777216 (length bytes) ≡ false = grind arith in ap (λ b. cond b (refusal_line name (record { line = line_at bytes 16777216; column = column_at bytes 16777216 }) 1 (codes "TooLong")) (refusal_line name (record { line = 1; column = 1 }) 42 (codes "NotYet"))) e
+
+same_place : (p : Place) (l k : ℕ) → p.line ≡ l → p.column ≡ k → p ≡ record { line = l; column = k }
+same_place p l k a b = ap (λ x. record { line = x; column = p.column }) a ∙ ap (λ x. record { line = l; column = x }) b
+
+module _ (lefts : Lefts) (after : Option Lefts) (name bytes : List ℕ) (had : lefts name ≡ Some bytes) where
+  -- why the file isn't accepted, and the line that says so
+  refusal : (reason : Reason) (place : Place) → IsRefusal (Some lefts) after name reason place →
+      (IsAccepted bytes → ⊥) × (refusal_line name place (number_of reason) (name_of reason) ≡ fault_line name bytes)
+  refusal reason place (inl r) = of after r.1
+    where
+      of : (after : Option Lefts) → IsTooLong (Some lefts) after name 16777216 (TooLongAt place) → (IsAccepted bytes → ⊥) × (refusal_line name place (number_of reason) (name_of reason) ≡ fault_line name bytes)
+      of None t = absurd t.2
+      of (Some now) t =
+          let f = front_of lefts now name bytes t.0 had t.2.was t.3 t.1 in (
+            λ acc. let le : length bytes ≤ 16777216 = acc.0 in let gt : 16777216 < length bytes = f.long in absurd (omega arith),
+            ap (λ r. refusal_line name place (number_of r) (name_of r)) r.0
+                ∙ ap (λ (p : Place). refusal_line name p 1 (codes "TooLong")) (same_place place _ _ (t.4 ∙ f.line) (t.5 ∙ f.column)) ∙ sym (long_line name bytes f.long),
+          )
+  refusal reason place (inr r) =
+      let w = r.2 in
+      let same : w.0 ≡ bytes = whole_bytes lefts after name bytes w.0 had w.1 in
+      let short : length bytes ≤ 16777216 = subst (λ b. length b ≤ 16777216) same w.1.within in (
+        λ acc. w.2 (subst IsSmallFile (sym same) acc.1),
+        ap (λ q. refusal_line name place (number_of q) (name_of q)) r.0 ∙ ap (λ (p : Place). refusal_line name p 42 (codes "NotYet")) r.1 ∙ sym (short_line name bytes short),
+      )
+
+  done : (text : List ℕ) → ((read : List ℕ) × IsWhole (Some lefts) after name read × Translates read text) → IsAccepted bytes × Translates bytes text
+  done text w =
+      let same : w.0 ≡ bytes = whole_bytes lefts after name bytes w.0 had w.1 in
+      let all : Translates bytes text = subst (λ b. Translates b text) same w.2 in
+      let short : length bytes ≤ 16777216 = subst (λ b. length b ≤ 16777216) same w.1.within in
+      ((short, (all.0, all.2.read)), all)
+
+  module _ (was said : List ℕ) (out err : Option (List ℕ)) (answer : ℕ) where
+    is_done : (text : List ℕ) → IsAccepted bytes × Translates bytes text → answer ≡ 0 → out ≡ Some (was ++ text) → err ≡ Some (said ++ []) → IsHeadline bytes name was said out err answer
+    is_done text d zero o e = record {
+      exactly = (λ _. d.0, λ _. zero);
+      accepted = λ _. (text, d.1, o, e ∙ ap Some (append-nil said));
+      refused = λ none. absurd (none d.0);
+    }
+
+    is_refused : (line : List ℕ) → (IsAccepted bytes → ⊥) × (line ≡ fault_line name bytes) → answer ≡ 2 → out ≡ Some (was ++ []) → err ≡ Some (said ++ line) → IsHeadline bytes name was said out err answer
+    is_refused line r two o e = record {
+      exactly = (λ zero. absurd (not_both zero two), λ acc. absurd (r.0 acc));
+      accepted = λ zero. absurd (not_both zero two);
+      refused = λ _. (two, o ∙ ap Some (append-nil was), e ∙ ap (λ l. Some (said ++ l)) r.1);
+    }
+      where
+        not_both : answer ≡ 0 → answer ≡ 2 → ⊥
+        not_both a b = omega (arith, a, b)
+
+module _ {S : Type 0} (left : S → Option Lefts) (faults : S → ℕ) (steady : S → List ℕ → Type 0) (words : List (List ℕ)) (old new : S)
+    (lefts : Lefts) (name bytes : List ℕ) (told : left old ≡ Some lefts) (had : lefts name ≡ Some bytes) (form : IsTranslation words name)
+    (was said : List ℕ) (out err : Option (List ℕ)) (answer : ℕ) (no_read : answer ≡ 4 → ⊥) (no_memory : answer ≡ 6 → ⊥) where
+  pub headline_of : (outcome : Outcome) → IsCause left faults steady words old new outcome → answer ≡ status_of outcome → Appends (Some was) out (text_of outcome) → Appends (Some said) err (line_of (name_in words) outcome) →
+      IsHeadline bytes name was said out err answer
+  headline_of (Done text) cause status o e =
+      let same : cause.0 ≡ name = same_name words cause.0 name cause.1 form in
+      let P : List ℕ → Option Lefts → Type 0 = λ n before. (read : List ℕ) × IsWhole before (left new) n read × Translates read text in
+      let w : P name (Some lefts) = subst (P name) told (subst (λ n. P n (left old)) same cause.2) in
+      is_done lefts (left new) name bytes had was said out err answer text (done lefts (left new) name bytes had text w) status (appended was out text o) (appended said err [] e)
+  headline_of (Refused reason place) cause status o e =
+      let same : cause.0 ≡ name = same_name words cause.0 name cause.1 form in
+      let P : List ℕ → Option Lefts → Type 0 = λ n before. IsRefusal before (left new) n reason place in
+      let r : P name (Some lefts) = subst (P name) told (subst (λ n. P n (left old)) same cause.2) in
+      let line : err ≡ Some (said ++ refusal_line name place (number_of reason) (name_of reason)) =
+      appended said err _ e ∙ ap (λ n. Some (said ++ refusal_line n place (number_of reason) (name_of reason))) (name_there words name form) in
+      is_refused lefts (left new) name bytes had was said out err answer _ (refusal lefts (left new) name bytes had reason place r) status (appended was out [] o) line
+  headline_of (Words j) cause status o e = absurd (wrong_not_form words j name cause form)
+  headline_of ReadFault cause status o e = absurd (no_read status)
+  headline_of NoMemory cause status o e = absurd (no_memory status)
+
+pub ending : {S K E : Type 0} (left : S → Option Lefts) (faults : S → ℕ) (steady : S → List ℕ → Type 0)
+    (taken : K → Option (List ℕ)) (fails : K → ℕ) (said_by : E → Option (List ℕ)) (failures : E → ℕ) (words : List (List ℕ)) (old new : S) (out out' : K) (err err' : E) (answer : ℕ)
+    (lefts : Lefts) (name bytes : List ℕ) → left old ≡ Some lefts → lefts name ≡ Some bytes → IsTranslation words name → (was said : List ℕ) → taken out ≡ Some was → said_by err ≡ Some said →
+    (answer ≡ 4 → ⊥) → (answer ≡ 5 → ⊥) → (answer ≡ 6 → ⊥) → (outcome : Outcome) → IsCause left faults steady words old new outcome →
+    EndsWith taken fails said_by failures out out' err err' words outcome answer → IsHeadline bytes name was said (taken out') (said_by err') answer
+ending left faults steady taken fails said_by failures words old new out out' err err' answer lefts name bytes told had form was said held heard no_read no_write no_memory outcome cause (inl e) =
+    headline_of left faults steady words old new lefts name bytes told had form was said (taken out') (said_by err') answer no_read no_memory outcome cause e.0
+    (subst (λ o. Appends o (taken out') (text_of outcome)) held e.1) (subst (λ o. Appends o (said_by err') (line_of (name_in words) outcome)) heard e.2)
+ending left faults steady taken fails said_by failures words old new out out' err err' answer lefts name bytes told had form was said held heard no_read no_write no_memory outcome cause (inr (inl e)) = absurd (no_write e.0)
+ending left faults steady taken fails said_by failures words old new out out' err err' answer lefts name bytes told had form was said held heard no_read no_write no_memory outcome cause (inr (inr e)) = absurd (no_write e.0)

@@ -1,0 +1,23 @@
+//! One run of `bridge`: the words of the command line, the file that they name, the translation of its model, and the
+//! texts and the status that say how it ended. The contract of `run` says that what is written denotes what was read.
+//! Today the words are `to-jani FILE`, for models of the small form (specs/SmallForm.antt).
+#![tactic(auto)]
+
+mod command;
+mod lexing;
+mod names;
+mod outcome;
+mod pieces;
+mod reader;
+mod rules;
+mod tokens;
+mod translation;
+mod trees;
+mod words;
+mod writer;
+
+pub use command::run;
+pub use outcome::Outcome;
+pub use tokens::Mark;
+pub use translation::{one_tree, translated};
+pub use trees::{SmallCommand, SmallJani, SmallPair, SmallPrism, SmallVar};

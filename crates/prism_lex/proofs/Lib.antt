@@ -1,0 +1,11 @@
+pub mod Tables
+pub mod Longest
+pub mod LongestGap
+pub mod Readings
+pub mod Worth
+pub mod Shapes
+pub mod LongestSymbol
+pub mod FrontLemmas
+pub mod NextLemmas
+pub mod Once
+pub mod Readers

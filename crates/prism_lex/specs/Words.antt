@@ -1,0 +1,105 @@
+-- Reserved words and symbols (PRISM manual, "The PRISM language": identifiers, operators), by their texts.
+use Rattle.std.specs.Prelude.{ℕ, List, [], ◌∷◌, Option, Some, None, codes, if◌then◌else◌}
+use Rattle.std.specs.Str.{bytes_eq}
+use Rattle.prism_lex.specs.declared.words.Reserved.{Reserved}
+use Rattle.prism_lex.specs.declared.words.Reserved.TheVariants.{AWord, BoolWord, Clock, Const, Ctmc, CWord, Double, Dtmc, EWord, Endinit, Endinvariant, Endmodule, Endobservables, Endrewards, Endsystem, False, Formula, Filter, Func, FWord, Global, GWord, Init, Invariant, IWord, Int, Label, Max, Mdp, Min, Module, XWord, Nondeterministic, Observable, Observables, Of, Pmax, Pmin, PWord, Pomdp, Popta, Probabilistic, Prob, Pta, Rate, Rewards, Rmax, Rmin, RWord, SWord, Stochastic, System, True, UWord, WWord}
+use Rattle.prism_lex.specs.declared.symbols.Symbol.{Symbol}
+use Rattle.prism_lex.specs.declared.symbols.Symbol.TheVariants.{Semicolon, Colon, Comma, Dots, LeftParenthesis, RightParenthesis, LeftBracket, RightBracket, LeftBrace, RightBrace, Equal, Unequal, Less, AtMost, Greater, AtLeast, Plus, Minus, Star, Slash, Prime, And, Or, Not, Implies, Iff, Arrow, Question}
+
+-- what a text is in a table
+abbrev pub lookup : {A : Type 0} → List ℕ → List (List ℕ × A) → Option A
+lookup text [] = None
+lookup text (e ∷ es) = if bytes_eq e.0 text then Some e.1 else lookup text es
+
+-- the reserved words
+unfoldable pub words : List (List ℕ × Reserved)
+words =
+    (codes "A", AWord)
+    ∷ (codes "bool", BoolWord)
+    ∷ (codes "clock", Clock)
+    ∷ (codes "const", Const)
+    ∷ (codes "ctmc", Ctmc)
+    ∷ (codes "C", CWord)
+    ∷ (codes "double", Double)
+    ∷ (codes "dtmc", Dtmc)
+    ∷ (codes "E", EWord)
+    ∷ (codes "endinit", Endinit)
+    ∷ (codes "endinvariant", Endinvariant)
+    ∷ (codes "endmodule", Endmodule)
+    ∷ (codes "endobservables", Endobservables)
+    ∷ (codes "endrewards", Endrewards)
+    ∷ (codes "endsystem", Endsystem)
+    ∷ (codes "false", False)
+    ∷ (codes "formula", Formula)
+    ∷ (codes "filter", Filter)
+    ∷ (codes "func", Func)
+    ∷ (codes "F", FWord)
+    ∷ (codes "global", Global)
+    ∷ (codes "G", GWord)
+    ∷ (codes "init", Init)
+    ∷ (codes "invariant", Invariant)
+    ∷ (codes "I", IWord)
+    ∷ (codes "int", Int)
+    ∷ (codes "label", Label)
+    ∷ (codes "max", Max)
+    ∷ (codes "mdp", Mdp)
+    ∷ (codes "min", Min)
+    ∷ (codes "module", Module)
+    ∷ (codes "X", XWord)
+    ∷ (codes "nondeterministic", Nondeterministic)
+    ∷ (codes "observable", Observable)
+    ∷ (codes "observables", Observables)
+    ∷ (codes "of", Of)
+    ∷ (codes "Pmax", Pmax)
+    ∷ (codes "Pmin", Pmin)
+    ∷ (codes "P", PWord)
+    ∷ (codes "pomdp", Pomdp)
+    ∷ (codes "popta", Popta)
+    ∷ (codes "probabilistic", Probabilistic)
+    ∷ (codes "prob", Prob)
+    ∷ (codes "pta", Pta)
+    ∷ (codes "rate", Rate)
+    ∷ (codes "rewards", Rewards)
+    ∷ (codes "Rmax", Rmax)
+    ∷ (codes "Rmin", Rmin)
+    ∷ (codes "R", RWord)
+    ∷ (codes "S", SWord)
+    ∷ (codes "stochastic", Stochastic)
+    ∷ (codes "system", System)
+    ∷ (codes "true", True)
+    ∷ (codes "U", UWord)
+    ∷ (codes "W", WWord)
+    ∷ []
+
+-- the symbols
+unfoldable pub symbols : List (List ℕ × Symbol)
+symbols =
+    (codes ";", Semicolon)
+    ∷ (codes ":", Colon)
+    ∷ (codes ",", Comma)
+    ∷ (codes "..", Dots)
+    ∷ (codes "(", LeftParenthesis)
+    ∷ (codes ")", RightParenthesis)
+    ∷ (codes "[", LeftBracket)
+    ∷ (codes "]", RightBracket)
+    ∷ (codes "{", LeftBrace)
+    ∷ (codes "}", RightBrace)
+    ∷ (codes "=", Equal)
+    ∷ (codes "!=", Unequal)
+    ∷ (codes "<", Less)
+    ∷ (codes "<=", AtMost)
+    ∷ (codes ">", Greater)
+    ∷ (codes ">=", AtLeast)
+    ∷ (codes "+", Plus)
+    ∷ (codes "-", Minus)
+    ∷ (codes "*", Star)
+    ∷ (codes "/", Slash)
+    ∷ (codes "'", Prime)
+    ∷ (codes "&", And)
+    ∷ (codes "|", Or)
+    ∷ (codes "!", Not)
+    ∷ (codes "=>", Implies)
+    ∷ (codes "<=>", Iff)
+    ∷ (codes "->", Arrow)
+    ∷ (codes "?", Question)
+    ∷ []

@@ -1,0 +1,141 @@
+// Tokens.
+ghost use Rattle.std.specs.Prelude.{◌≡◌, ◌≢◌, ◌≤◌, ◌<◌, length, take, true, None, IfOk, IfErr};
+ghost use Rattle.prism_lex.specs.Automaton.{accepts, after};
+ghost use Rattle.prism_lex.specs.Numbers.{is_real, is_number};
+ghost use Rattle.prism_lex.specs.Tokens.{is_name, IsKind, refusal, Continues, Finishes, IsFault};
+ghost use Rattle.prism_lex.specs.Front.{Begins, IsRefused, IsRefusedText};
+
+use crate::automaton::{State, scan};
+use crate::gap::gap_len;
+use crate::number::number_value;
+use crate::symbols::{Symbol, front_symbol};
+use crate::words::{Reserved, reserved_word};
+use bridge_io::{Fault, Reason};
+use frac_core::Decimal;
+
+#[derive(Clone, Copy, Debug, PartialEq, Eq)]
+pub enum TokenKind {
+    Word(Reserved),
+    Ident,
+    Quoted,
+    Number(Decimal),
+    Symbol(Symbol),
+    End,
+}
+
+/// A token, from the offset of its first byte to the one behind its last.
+#[derive(Clone, Copy, Debug, PartialEq, Eq)]
+pub struct Token {
+    pub kind: TokenKind,
+    pub at: usize,
+    pub end: usize,
+}
+
+// The most bytes of a name.
+const NAME_LIMIT: usize = 255;
+
+// What a name is, or why it is refused.
+fn name_kind(text: &[u8]) -> Result<TokenKind, Reason>
+    requires { is_name text.now ≡ true }
+    ensures ok { IfOk result (λ k. IsKind text.now k × (refusal k text.now ≡ None)) }
+    ensures err { IfErr result (IsRefusedText text.now) }
+{
+    match reserved_word(text) {
+        Some(word) => Ok(TokenKind::Word(word)),
+        None if text.len() > NAME_LIMIT => Err(Reason::TooLong),
+        None => Ok(TokenKind::Ident),
+    }
+}
+
+// What a quoted name is, or why it is refused.
+fn quoted_kind(text: &[u8]) -> Result<TokenKind, Reason>
+    requires { IsKind text.now TokenKind.Quoted }
+    ensures ok { IfOk result (λ k. IsKind text.now k × (refusal k text.now ≡ None)) }
+    ensures err { IfErr result (IsRefusedText text.now) }
+{
+    if text.len() > NAME_LIMIT + 2 {
+        return Err(Reason::TooLong);
+    }
+    Ok(TokenKind::Quoted)
+}
+
+fn is_real(state: State) -> bool
+    ensures { result ≡ is_real state }
+{
+    matches!(state, State::Part | State::Power)
+}
+
+// What a number is, or why it is refused.
+fn number_kind(text: &[u8], state: State) -> Result<TokenKind, Reason>
+    requires state { state ≡ after State.Start text.now }
+    requires number { is_number text.now ≡ true }
+    ensures ok { IfOk result (λ k. IsKind text.now k × (refusal k text.now ≡ None)) }
+    ensures err { IfErr result (IsRefusedText text.now) }
+{
+    match number_value(text, is_real(state)) {
+        Some(value) => Ok(TokenKind::Number(value)),
+        None => Err(Reason::BadNumber),
+    }
+}
+
+// What a text is that the automaton accepts, or why it is refused.
+fn kind_of(text: &[u8], state: State) -> Result<TokenKind, Reason>
+    requires state { state ≡ after State.Start text.now }
+    requires accepted { accepts state ≡ true }
+    ensures ok { IfOk result (λ k. IsKind text.now k × (refusal k text.now ≡ None)) }
+    ensures err { IfErr result (IsRefusedText text.now) }
+{
+    match state {
+        State::Letters => name_kind(text),
+        State::Closed => quoted_kind(text),
+        _ => number_kind(text, state),
+    }
+}
+
+// The longest token at the front and its length, or why there is none.
+fn front(bytes: &[u8]) -> Result<(TokenKind, usize), Reason>
+    ensures ok { IfOk result (λ r. Begins bytes.now r.0 r.1 × (refusal r.0 (take r.1 bytes.now) ≡ None)) }
+    ensures err { IfErr result (IsRefused bytes.now) }
+{
+    let (len, state) = scan(bytes);
+    if len == 0 {
+        return match front_symbol(bytes) {
+            Some((symbol, len)) => Ok((TokenKind::Symbol(symbol), len)),
+            None => Err(Reason::BadByte),
+        };
+    }
+    let (text, _) = bytes.split_at(len);
+    match kind_of(text, state) {
+        Ok(kind) => Ok((kind, len)),
+        Err(reason) => Err(reason),
+    }
+}
+
+/// The longest token behind the longest gap from an offset on, or the end of the bytes where only a gap is left.
+///
+/// It is refused at its first byte where it is a name of more than 255 bytes, not counting the quotes of a quoted
+/// name (`TooLong`), or a number of more than 38 digits or with an exponent beyond 400 in normal form
+/// (`BadNumber`). `BadByte` stands at a byte at which no token begins.
+pub fn next_token(bytes: &[u8], from: usize) -> Result<Token, Fault>
+    requires { from ≤ length bytes.now }
+    ensures token { IfOk result (λ t. t.kind ≢ TokenKind.End → Continues bytes.now from t) }
+    ensures end { IfOk result (λ t. t.kind ≡ TokenKind.End → Finishes bytes.now from t) }
+    ensures fault { IfErr result (IsFault bytes.now from) }
+{
+    let (_, rest) = bytes.split_at(from);
+    let gap = gap_len(rest);
+    let at = from + gap;
+    let (_, behind) = rest.split_at(gap);
+    if behind.is_empty() {
+        let kind = TokenKind::End;
+        return Ok(Token { kind, at, end: at });
+    }
+    match front(behind) {
+        Ok((kind, len)) => Ok(Token {
+            kind,
+            at,
+            end: at + len,
+        }),
+        Err(reason) => Err(Fault { reason, at }),
+    }
+}
