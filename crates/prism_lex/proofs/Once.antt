@@ -111,7 +111,7 @@ end_some bytes gap rest h e l s =
     let c = length-append gap rest in
     absurd (omega arith)
 
-end_next : (bytes : List ℕ) (from : ℕ) (l : Lexeme) → IsEnd bytes from → IsNext bytes from l → ⊥
+pub end_next : (bytes : List ℕ) (from : ℕ) (l : Lexeme) → IsEnd bytes from → IsNext bytes from l → ⊥
 end_next bytes from l h n = pick (length l.text) refl
   where
     pick : (m : ℕ) → length l.text ≡ m → ⊥

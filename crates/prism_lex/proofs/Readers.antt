@@ -20,7 +20,7 @@ use Rattle.prism_lex.specs.Numbers.{is_at_digit}
 use Rattle.prism_lex.specs.Gaps.{gap_len}
 use Rattle.prism_lex.specs.Tokens.{is_name, IsToken, Lexeme, end_of, lexeme_of, refusal_of, IsNext, IsEnd, IsStuck, Ending, finished, stuck, Reads, Tokens, fault, with_fault, faults_of, IsFault, refused, no_token}
 use Rattle.prism_lex.specs.Front.{Begins, BeginsNone}
-use Rattle.prism_lex.specs.Laws.{OneReading, OneList, OneFaults, SomeFaults, Reaches, AllAccepted, AllBehind, IsFirstFault, NextGoesOn, EndIsWhole, FaultIsFirst}
+use Rattle.prism_lex.specs.Laws.{OneReading, OneList, OneFaults, SomeFaults, Reaches, AllAccepted, AllBehind, IsFirstFault, NextGoesOn, EndIsWhole, FaultIsFirst, CleanIsFaultless}
 use Rattle.prism_lex.proofs.Longest.{longest_is}
 use Rattle.prism_lex.proofs.Shapes.{state_name, state_quoted, accepted_number}
 use Rattle.prism_lex.proofs.Worth.{worth_some}
@@ -212,3 +212,20 @@ fault_is_first bytes to ls f r h = (first, λ ms q a. none ms q a)
 
     none : (ms : List Lexeme) → Tokens bytes ms → AllAccepted ms → ⊥
     none ms q a = let e : f ∷ first.0 ≡ [] = one_faults bytes (f ∷ first.0) [] first.1 (ms, finished, q, sym (no_faults ms a)) in absurd cc
+
+-- ---- texts without a fault
+
+no_refusal : (o : Option Reason) (at : ℕ) (fs : List Fault) → with_fault o at fs ≡ [] → (o ≡ None) × (fs ≡ [])
+no_refusal None at fs h = (refl, h)
+no_refusal (Some reason) at fs h = absurd cc
+
+faultless : (bytes : List ℕ) (from : ℕ) (ls : List Lexeme) (e : Ending) → Reads bytes from ls e → faults_of ls e ≡ [] → Reads bytes from ls finished × AllAccepted ls
+faultless bytes from [] finished r h = (r, tt)
+faultless bytes from [] (stuck at) r h = absurd cc
+faultless bytes from (l ∷ ls) e r h =
+    let a = no_refusal (refusal_of l) l.at (faults_of ls e) h in
+    let b = faultless bytes (end_of l) ls e r.1 a.1 in
+    ((r.0, b.0), (a.0, b.1))
+
+pub clean_is_faultless : CleanIsFaultless
+clean_is_faultless bytes = (λ c. (c.0, finished, c.1, sym (no_faults c.0 c.2)), λ f. let q = faultless bytes 0 f.0 f.1 f.2 (sym f.3) in (f.0, q.0, q.1))

@@ -45,7 +45,7 @@ name_state (b ∷ bs) h = go (is_letter b) (is_digit b) h
 
 -- ---- families of states
 
-family : State → ℕ
+unfoldable pub family : State → ℕ
 family Start = 0
 family Letters = 1
 family Whole = 2
@@ -59,7 +59,7 @@ family Inside = 3
 family Closed = 3
 family Dead = 4
 
-abbrev Within : ℕ → State → Type 0
+abbrev pub Within : ℕ → State → Type 0
 Within n s = (family s ≡ n) ⊎ (s ≡ Dead)
 
 one_of : (n : ℕ) (a : Bool) (s : State) → family s ≡ n → Within n (cond a s Dead)
@@ -90,7 +90,7 @@ family_step Closed b h = inr refl
 family_step Dead b h = inr refl
 
 -- A text stays in the family of a state, or dies.
-family_after : (s : State) (bs : List ℕ) → 0 < family s → Within (family s) (after s bs)
+pub family_after : (s : State) (bs : List ℕ) → 0 < family s → Within (family s) (after s bs)
 family_after s [] h = inl refl
 family_after s (b ∷ bs) h = go (step s b) (λ (t : State). family_after t bs) (family_step s b h)
   where

@@ -10,8 +10,9 @@ is_digit b = is_ascii_digit b
 abbrev pub is_letter : ℕ → Bool
 is_letter b = is_ascii_alphabetic b || b == 95
 
--- A name is a letter or _, then letters, digits and _. A number is digits, or digits that may be missing, a point and digits, each with an
--- optional exponent, which is e or E, an optional sign, and digits. A quoted name is a name between quotes.
+-- A name is a letter or _, then letters, digits and _. A number is digits, or digits that may be missing, a point and
+-- digits, each with an optional exponent, which is e or E, an optional sign, and digits. A quoted name is a name
+-- between quotes.
 abbrev pub step : State → ℕ → State
 step Start b = if is_letter b then Letters else if is_digit b then Whole else if b == 46 then Point else if b == 34 then Quote else Dead
 step Letters b = if is_letter b || is_digit b then Letters else Dead
@@ -43,4 +44,5 @@ after s (b ∷ bs) = after (step s b) bs
 -- the length of the longest front that is accepted, 0 where none is
 abbrev pub longest : State → List ℕ → ℕ
 longest s [] = 0
-longest s (b ∷ bs) = if nat_lt 0 (longest (step s b) bs) then suc (longest (step s b) bs) else if accepts (step s b) then 1 else 0
+longest s (b ∷ bs) =
+    if nat_lt 0 (longest (step s b) bs) then suc (longest (step s b) bs) else if accepts (step s b) then 1 else 0

@@ -74,6 +74,7 @@ pub record IsWorth (w : List ℕ) (d : Decimal) : Type 0 where
   pub negative : d.negative ≡ false
   pub value : IsValue d.real (reading_of w) d
 
--- The limits: 38 digits before the exponent, from the first that is not 0; exponents from -400 to 400 in normal form.
+-- This program's limits: 38 digits before the exponent, from the first that is not 0, and exponents from -400 to 400
+-- in normal form.
 abbrev pub is_past : List ℕ → Decimal → Bool
 is_past w d = nat_le (10 ^ 38) (reading_of w).digits || nat_lt 400 (nat_abs d.exponent)

@@ -88,7 +88,8 @@ Reads bytes from (l ∷ ls) e = IsNext bytes from l × Reads bytes (end_of l) ls
 abbrev pub Tokens : List ℕ → List Lexeme → Type 0
 Tokens bytes ls = Reads bytes 0 ls finished
 
--- why a token is refused: a name of more than 255 bytes, without its quotes; a number past the limits
+-- why a token is refused, by this program's limits: a name of more than 255 bytes, without its quotes, or a number
+-- past the limits
 abbrev pub refusal : TokenKind → List ℕ → Option Reason
 refusal Ident w = if nat_lt 255 (length w) then Some TooLong else None
 refusal Quoted w = if nat_lt 257 (length w) then Some TooLong else None

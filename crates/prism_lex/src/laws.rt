@@ -1,12 +1,17 @@
 // What holds of the tokens of a text.
-ghost use Rattle.prism_lex.specs.Laws.{OneReading, OneList, OneFaults, SomeFaults, NextGoesOn, EndIsWhole, FaultIsFirst, NumberIsNormal, NumberIsWithin};
+ghost use Rattle.prism_lex.specs.Gaps.{GapIsPieces};
+ghost use Rattle.prism_lex.specs.Numerals.{NumeralIsNumber, NumberIsNumeral, LimitIs38Digits};
+ghost use Rattle.prism_lex.specs.Laws.{OneNext, EndHasNoNext, OneReading, OneList, OneFaults, SomeFaults, CleanIsFaultless, NextGoesOn, EndIsWhole, FaultIsFirst, NumberIsNormal, NumberIsWithin};
 
-/// A text has one reading: one list of tokens at most, and one list of faults. Nothing is done.
+/// A text has one reading, so one list of tokens at most, and one list of faults. Nothing is done.
 pub fn one_list()
+    ensures next { OneNext }
+    ensures end { EndHasNoNext }
     ensures reading { OneReading }
     ensures list { OneList }
     ensures faults { OneFaults }
     ensures some { SomeFaults }
+    ensures clean { CleanIsFaultless }
 {}
 
 /// A reader that calls `next_token` from offset 0, then each time from the end of the token before, has at the
@@ -18,8 +23,18 @@ pub fn reader_laws()
     ensures fault { FaultIsFirst }
 {}
 
-/// The value of a number is in normal form, and within the limits where the number is not refused. Nothing is done.
+/// A number is digits, or digits that may be missing, a point and digits, each with an optional exponent, and
+/// is read as it is written. Its value is in normal form, and within the limits where the number is not refused.
+/// Nothing is done.
 pub fn number_laws()
+    ensures numeral { NumeralIsNumber }
+    ensures number { NumberIsNumeral }
+    ensures limit { LimitIs38Digits }
     ensures normal { NumberIsNormal }
     ensures within { NumberIsWithin }
+{}
+
+/// Separators and comments stand between tokens, the last comment perhaps cut off by the end. Nothing is done.
+pub fn gap_law()
+    ensures { GapIsPieces }
 {}

@@ -1,6 +1,6 @@
-//! The tokens of PRISM texts: reserved words, identifiers, quoted names, numbers and symbols, each the
-//! longest at its place behind the longest gap, with the values of numbers and the faults of the texts.
-//! A reader calls `next_token` until the end, or until the first fault; `one_list` and `reader_laws` say what it has read.
+//! The tokens of PRISM texts: reserved words, identifiers, quoted names, numbers and symbols, each the longest
+//! at its place behind the longest gap, with the values of numbers and the faults of a text. A reader calls
+//! `next_token` until the end or the first fault; `one_list` and `reader_laws` say what it has then.
 #![tactic(auto)]
 
 mod automaton;
@@ -12,7 +12,7 @@ mod token;
 mod words;
 
 pub use automaton::State;
-pub use laws::{number_laws, one_list, reader_laws};
+pub use laws::{gap_law, number_laws, one_list, reader_laws};
 pub use number::Reading;
 pub use symbols::Symbol;
 pub use token::{Token, TokenKind, next_token};

@@ -1,9 +1,9 @@
 // Tokens.
-ghost use Rattle.std.specs.Prelude.{◌≡◌, ◌≢◌, ◌≤◌, ◌<◌, length, take, true, None, IfOk, IfErr};
+ghost use Rattle.std.specs.Prelude.{◌≡◌, ◌≢◌, ◌≤◌, length, true, IfOk, IfErr};
 ghost use Rattle.prism_lex.specs.Automaton.{accepts, after};
 ghost use Rattle.prism_lex.specs.Numbers.{is_real, is_number};
-ghost use Rattle.prism_lex.specs.Tokens.{is_name, IsKind, refusal, Continues, Finishes, IsFault};
-ghost use Rattle.prism_lex.specs.Front.{Begins, IsRefused, IsRefusedText};
+ghost use Rattle.prism_lex.specs.Tokens.{is_name, IsKind, Continues, Finishes, IsFault};
+ghost use Rattle.prism_lex.specs.Front.{IsAccepted, IsRefused, IsAcceptedText, IsRefusedText};
 
 use crate::automaton::{State, scan};
 use crate::gap::gap_len;
@@ -13,6 +13,7 @@ use crate::words::{Reserved, reserved_word};
 use bridge_io::{Fault, Reason};
 use frac_core::Decimal;
 
+/// What a token is. The text of an identifier or of a quoted name, with its quotes, is read off the bytes.
 #[derive(Clone, Copy, Debug, PartialEq, Eq)]
 pub enum TokenKind {
     Word(Reserved),
@@ -37,7 +38,7 @@ const NAME_LIMIT: usize = 255;
 // What a name is, or why it is refused.
 fn name_kind(text: &[u8]) -> Result<TokenKind, Reason>
     requires { is_name text.now ≡ true }
-    ensures ok { IfOk result (λ k. IsKind text.now k × (refusal k text.now ≡ None)) }
+    ensures ok { IfOk result (IsAcceptedText text.now) }
     ensures err { IfErr result (IsRefusedText text.now) }
 {
     match reserved_word(text) {
@@ -50,7 +51,7 @@ fn name_kind(text: &[u8]) -> Result<TokenKind, Reason>
 // What a quoted name is, or why it is refused.
 fn quoted_kind(text: &[u8]) -> Result<TokenKind, Reason>
     requires { IsKind text.now TokenKind.Quoted }
-    ensures ok { IfOk result (λ k. IsKind text.now k × (refusal k text.now ≡ None)) }
+    ensures ok { IfOk result (IsAcceptedText text.now) }
     ensures err { IfErr result (IsRefusedText text.now) }
 {
     if text.len() > NAME_LIMIT + 2 {
@@ -69,7 +70,7 @@ fn is_real(state: State) -> bool
 fn number_kind(text: &[u8], state: State) -> Result<TokenKind, Reason>
     requires state { state ≡ after State.Start text.now }
     requires number { is_number text.now ≡ true }
-    ensures ok { IfOk result (λ k. IsKind text.now k × (refusal k text.now ≡ None)) }
+    ensures ok { IfOk result (IsAcceptedText text.now) }
     ensures err { IfErr result (IsRefusedText text.now) }
 {
     match number_value(text, is_real(state)) {
@@ -82,7 +83,7 @@ fn number_kind(text: &[u8], state: State) -> Result<TokenKind, Reason>
 fn kind_of(text: &[u8], state: State) -> Result<TokenKind, Reason>
     requires state { state ≡ after State.Start text.now }
     requires accepted { accepts state ≡ true }
-    ensures ok { IfOk result (λ k. IsKind text.now k × (refusal k text.now ≡ None)) }
+    ensures ok { IfOk result (IsAcceptedText text.now) }
     ensures err { IfErr result (IsRefusedText text.now) }
 {
     match state {
@@ -94,7 +95,7 @@ fn kind_of(text: &[u8], state: State) -> Result<TokenKind, Reason>
 
 // The longest token at the front and its length, or why there is none.
 fn front(bytes: &[u8]) -> Result<(TokenKind, usize), Reason>
-    ensures ok { IfOk result (λ r. Begins bytes.now r.0 r.1 × (refusal r.0 (take r.1 bytes.now) ≡ None)) }
+    ensures ok { IfOk result (λ r. IsAccepted bytes.now r.0 r.1) }
     ensures err { IfErr result (IsRefused bytes.now) }
 {
     let (len, state) = scan(bytes);
@@ -113,9 +114,10 @@ fn front(bytes: &[u8]) -> Result<(TokenKind, usize), Reason>
 
 /// The longest token behind the longest gap from an offset on, or the end of the bytes where only a gap is left.
 ///
-/// It is refused at its first byte where it is a name of more than 255 bytes, not counting the quotes of a quoted
-/// name (`TooLong`), or a number of more than 38 digits or with an exponent beyond 400 in normal form
-/// (`BadNumber`). `BadByte` stands at a byte at which no token begins.
+/// An `Err` stands at the first byte behind the gap: `BadByte` where no token begins there, `TooLong` where the
+/// token is a name of more than 255 bytes, the quotes of a quoted name not counted, and `BadNumber` where it is a
+/// number of more than 38 digits before its exponent, from the first that is not 0, or one whose normal form has
+/// an exponent below -400 or above 400.
 pub fn next_token(bytes: &[u8], from: usize) -> Result<Token, Fault>
     requires { from ≤ length bytes.now }
     ensures token { IfOk result (λ t. t.kind ≢ TokenKind.End → Continues bytes.now from t) }

@@ -1,0 +1,3 @@
+mod fractions;
+mod tokens;
+mod trees;

@@ -1,0 +1,153 @@
+-- A node's answer follows from its operands' answers.
+use Rattle.std.proofs.Common.{◌≡◌, ℕ, List, [], ◌++◌, Bool, true, false, ◌||◌, Option, Some, None, Result, Ok, Err, if◌then◌else◌, refl, sym, ap, ap₂, ◌∙◌}
+use Rattle.std.specs.List.{list_any}
+use Rattle.std.proofs.lemmas.List.Folds.{list_any-append}
+use Rattle.op_trees.specs.declared.tree.Value.{Value}
+use Rattle.op_trees.specs.declared.tree.Next.{Next}
+use Rattle.op_trees.specs.declared.tree.Next.TheVariants.{Done, Second, Third, All}
+use Rattle.op_trees.specs.declared.tree.EvalFail.{EvalFail}
+use Rattle.op_trees.specs.declared.tree.EvalFail.TheVariants.{Undef}
+use Rattle.op_trees.specs.Tree.{Tree, Truth, Number, Name, One, Two, Three}
+use Rattle.op_trees.specs.Meaning.{Meaning, Environment, value_of, needed, needs_wide, is_wide_value, answered, answer, narrowed, one_answer, both_answer, of_one, of_both, of_lazy, chosen, asked, asked_by}
+
+-- ---- a lazy node's answer, from the answers for its operands
+abbrev pub next_answer : Next → Result Value EvalFail → Result Value EvalFail → Result Value EvalFail
+next_answer (Done v) b c = narrowed (Some v)
+next_answer Second b c = b
+next_answer Third b c = c
+next_answer All b c = Err Undef
+
+abbrev pub lazy_answer : {O : Type 0} → Meaning O → O → Result Value EvalFail → Result Value EvalFail →
+    Result Value EvalFail → Result Value EvalFail
+lazy_answer m o (Ok x) b c = next_answer (m.first o x) b c
+lazy_answer m o (Err f) b c = Err f
+
+or_false : (b : Bool) → (b || false) ≡ b
+or_false true = refl
+or_false false = refl
+
+or_true : (b : Bool) → (b || true) ≡ true
+or_true true = refl
+or_true false = refl
+
+or_absorbs : (a b : Bool) → (a ≡ true → b ≡ true) → (a || b) ≡ b
+or_absorbs true b h = sym (h refl)
+or_absorbs false b h = refl
+
+module _ {O : Type 0} (m : Meaning O) (o : O) where
+  one_answered : (p : Bool) (v : Option Value) → answered (is_wide_value (of_one m o v) || p) (of_one m o v)
+      ≡ one_answer m o (answered p v)
+  one_answered true v = ap (λ b. answered b (of_one m o v)) (or_true (is_wide_value (of_one m o v)))
+  one_answered false None = refl
+  one_answered false (Some x) = ap (λ b. answered b (m.value o x None)) (or_false (is_wide_value (m.value o x None)))
+
+  both_answered : (p q : Bool) (v w : Option Value) →
+      answered (is_wide_value (of_both m o v w) || (p || q)) (of_both m o v w)
+      ≡ both_answer m o (answered p v) (answered q w)
+  both_answered true q v w = ap (λ b. answered b (of_both m o v w)) (or_true (is_wide_value (of_both m o v w)))
+  both_answered false true None w = refl
+  both_answered false true (Some x) w =
+      ap (λ b. answered b (of_both m o (Some x) w)) (or_true (is_wide_value (of_both m o (Some x) w)))
+  both_answered false false None None = refl
+  both_answered false false None (Some y) = refl
+  both_answered false false (Some x) None = refl
+  both_answered false false (Some x) (Some y) =
+      ap (λ b. answered b (m.value o x (Some y))) (or_false (is_wide_value (m.value o x (Some y))))
+
+  module _ (P : Tree O → Bool) (b c : Option Value) (bs cs : List (Tree O)) (b_counts : is_wide_value b
+      ≡ true → list_any P bs ≡ true) (c_counts : is_wide_value c ≡ true → list_any P cs ≡ true) where
+    next_answered : (n : Next) →
+        answered (is_wide_value (chosen n b c) || list_any P (asked n bs cs)) (chosen n b c)
+        ≡ next_answer n (answered (list_any P bs) b) (answered (list_any P cs) c)
+    next_answered (Done v) = ap (λ t. answered t (Some v)) (or_false (is_wide_value (Some v)))
+    next_answered Second = ap (λ t. answered t b) (or_absorbs _ _ b_counts)
+    next_answered Third = ap (λ t. answered t c) (or_absorbs _ _ c_counts)
+    next_answered All = refl
+
+    lazy_answered : (p : Bool) (a : Option Value) →
+        answered (is_wide_value (of_lazy m o a b c) || (p || list_any P (asked_by m o a bs cs))) (of_lazy m o a b c)
+        ≡ lazy_answer m o (answered p a) (answered (list_any P bs) b) (answered (list_any P cs) c)
+    lazy_answered true a = ap (λ t. answered t (of_lazy m o a b c)) (or_true (is_wide_value (of_lazy m o a b c)))
+    lazy_answered false None = refl
+    lazy_answered false (Some x) = next_answered (m.first o x)
+
+module _ {O : Type 0} (m : Meaning O) (env : Environment) where
+  -- a tree is among those that it needs
+  self_counts : (e : Tree O) → is_wide_value (value_of m e env) ≡ true → needs_wide m e env ≡ true
+  self_counts (Truth at b) h = ap (λ t. t || false) h
+  self_counts (Number at d) h = ap (λ t. t || false) h
+  self_counts (Name at x) h = ap (λ t. t || false) h
+  self_counts (One at o a) h = ap (λ t. t || list_any (λ s. is_wide_value (value_of m s env)) (needed m a env)) h
+  self_counts (Two at o a b) h =
+      ap (λ t. t || list_any (λ s. is_wide_value (value_of m s env)) (needed m a env ++ (if m.strict o then needed m b env else asked_by m o (value_of m a env) (needed m b env) []))) h
+  self_counts (Three at o a b c) h =
+      ap (λ t. t || list_any (λ s. is_wide_value (value_of m s env)) (needed m a env ++ asked_by m o (value_of m a env) (needed m b env) (needed m c env))) h
+
+  pub strict_one : (at : ℕ) (o : O) (a : Tree O) → m.strict o ≡ true → answer m (One at o a) env
+      ≡ one_answer m o (answer m a env)
+  strict_one at o a s = rw s (one_answered m o (needs_wide m a env) (value_of m a env))
+
+  pub lazy_one : (at : ℕ) (o : O) (a : Tree O) → m.strict o ≡ false → answer m (One at o a) env
+      ≡ lazy_answer m o (answer m a env) (Err Undef) (Err Undef)
+  lazy_one at o a s =
+      let P : Tree O → Bool = λ s. is_wide_value (value_of m s env) in
+      let v = of_lazy m o (value_of m a env) None None in
+      rw s (ap (λ t. answered (is_wide_value v || t) v) (sym (nothing_asked P (value_of m a env) (needs_wide m a env)))
+      ∙ lazy_answered m o P None None [] [] (λ h. h) (λ h. h) (needs_wide m a env) (value_of m a env))
+    where
+      nothing_asked : (P : Tree O → Bool) (v : Option Value) (b : Bool) → (b || list_any P (asked_by m o v [] [])) ≡ b
+      nothing_asked P None b = or_false b
+      nothing_asked P (Some x) b = none_of (m.first o x)
+        where
+          none_of : (n : Next) → (b || list_any P (asked n [] [])) ≡ b
+          none_of (Done v) = or_false b
+          none_of Second = or_false b
+          none_of Third = or_false b
+          none_of All = or_false b
+
+  pub strict_two : (at : ℕ) (o : O) (a b : Tree O) → m.strict o ≡ true → answer m (Two at o a b) env
+      ≡ both_answer m o (answer m a env) (answer m b env)
+  strict_two at o a b s =
+      let P : Tree O → Bool = λ s. is_wide_value (value_of m s env) in
+      let v = of_both m o (value_of m a env) (value_of m b env) in
+      rw s (ap (λ t. answered (is_wide_value v || t) v) (list_any-append P (needed m a env) (needed m b env))
+      ∙ (both_answered m o (needs_wide m a env) (needs_wide m b env) (value_of m a env) (value_of m b env)))
+
+  pub lazy_two : (at : ℕ) (o : O) (a b : Tree O) → m.strict o ≡ false → answer m (Two at o a b) env
+      ≡ lazy_answer m o (answer m a env) (answer m b env) (Err Undef)
+  lazy_two at o a b s =
+      let P : Tree O → Bool = λ s. is_wide_value (value_of m s env) in
+      let v = of_lazy m o (value_of m a env) (value_of m b env) None in
+      rw s (ap (λ t. answered (is_wide_value v || t) v) (list_any-append P (needed m a env) (asked_by m o (value_of m a env) (needed m b env) []))
+      ∙ (lazy_answered m o (λ s. is_wide_value (value_of m s env)) (value_of m b env) None (needed m b env) [] (self_counts b) (λ h. h) (needs_wide m a env) (value_of m a env)))
+
+  pub lazy_three : (at : ℕ) (o : O) (a b c : Tree O) → answer m (Three at o a b c) env
+      ≡ lazy_answer m o (answer m a env) (answer m b env) (answer m c env)
+  lazy_three at o a b c =
+      let P : Tree O → Bool = λ s. is_wide_value (value_of m s env) in
+      let v = of_lazy m o (value_of m a env) (value_of m b env) (value_of m c env) in
+      ap (λ t. answered (is_wide_value v || t) v) (list_any-append P (needed m a env) (asked_by m o (value_of m a env) (needed m b env) (needed m c env)))
+      ∙ (lazy_answered m o (λ s. is_wide_value (value_of m s env)) (value_of m b env) (value_of m c env) (needed m b env) (needed m c env) (self_counts b) (self_counts c) (needs_wide m a env) (value_of m a env))
+
+  -- ---- the arms of an evaluation
+  pub arm_two_strict : (e : Tree O) (at : ℕ) (o : O) (a b : Tree O) (f s r : Result Value EvalFail) → e
+      ≡ Two at o a b → m.strict o ≡ true → f ≡ answer m a env → s ≡ answer m b env → r
+      ≡ both_answer m o f s → r ≡ answer m e env
+  arm_two_strict e at o a b f s r is st h k j =
+      j ∙ ap₂ (both_answer m o) h k ∙ sym (strict_two at o a b st) ∙ ap (λ t. answer m t env) (sym is)
+
+  pub arm_two_second : (e : Tree O) (at : ℕ) (o : O) (a b : Tree O) (x : Value) (r : Result Value EvalFail) →
+      e ≡ Two at o a b → m.strict o ≡ false → answer m a env ≡ Ok x → m.first o x ≡ Second → r
+      ≡ answer m b env → r ≡ answer m e env
+  arm_two_second e at o a b x r is st h n j =
+      j ∙ ap (λ t. next_answer t (answer m b env) (Err Undef)) (sym n)
+      ∙ ap (λ t. lazy_answer m o t (answer m b env) (Err Undef)) (sym h)
+      ∙ sym (lazy_two at o a b st) ∙ ap (λ t. answer m t env) (sym is)
+
+  pub arm_three : (e : Tree O) (at : ℕ) (o : O) (a b c : Tree O) (x : Value) (r : Result Value EvalFail) (n : Next) →
+      e ≡ Three at o a b c → answer m a env ≡ Ok x → m.first o x ≡ n → r
+      ≡ next_answer n (answer m b env) (answer m c env) → r ≡ answer m e env
+  arm_three e at o a b c x r n is h k j =
+      j ∙ ap (λ t. next_answer t (answer m b env) (answer m c env)) (sym k)
+      ∙ ap (λ t. lazy_answer m o t (answer m b env) (answer m c env)) (sym h)
+      ∙ sym (lazy_three at o a b c) ∙ ap (λ t. answer m t env) (sym is)

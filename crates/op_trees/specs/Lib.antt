@@ -1,0 +1,9 @@
+pub mod Tree
+pub mod Meaning
+pub mod Seen
+pub mod SeenLaws
+pub mod Types
+pub mod Operators
+pub mod TypeLaws
+pub mod Rebuilt
+pub mod Laws

@@ -1,0 +1,108 @@
+// Values of expressions.
+
+ghost use Rattle.std.specs.Prelude.{◌≡◌, Some};
+ghost use Rattle.op_trees.specs.Tree.{tree};
+ghost use Rattle.op_trees.specs.Meaning.{answer, both_answer, narrowed, number, one_answer};
+
+use crate::operator::{Names, Operator};
+use crate::tree::{EvalFail, Expr, Next, Value};
+use frac_core::{Decimal, Frac};
+
+/// The value of an expression: `Wide` exactly where a subexpression that the value needs passes the
+/// bound of fractions, else `Undef` exactly where the value is undefined. A name without a value is
+/// undefined, and so is a node with an undefined operand that it needs. A strict operator needs all
+/// its operands, another one its first and the one that the first one asks for. Nothing is
+/// allocated or copied.
+pub fn eval<O: Operator, N: Names>(e: &Expr<O>, names: &N) -> Result<Value, EvalFail>
+    ensures { result ≡ answer O.meaning (tree e.now) (N.values names.now) }
+{
+    match e {
+        Expr::Truth(_, b) => Ok(Value::Truth(*b)),
+        Expr::Number(_, d) => literal(*d),
+        Expr::Name(_, x) => held(names.value(x.as_str())),
+        Expr::One(_, o, a) => {
+            let first = eval(a, names);
+            if o.is_strict() {
+                return apply_one(*o, first);
+            }
+            match o.after_first(first?) {
+                Next::Done(v) => held(Some(v)),
+                _ => Err(EvalFail::Undef),
+            }
+        }
+        Expr::Two(_, o, a, b) => {
+            let first = eval(a, names);
+            if o.is_strict() {
+                return apply_both(*o, first, eval(b, names));
+            }
+            match o.after_first(first?) {
+                Next::Done(v) => held(Some(v)),
+                Next::Second => eval(b, names),
+                _ => Err(EvalFail::Undef),
+            }
+        }
+        Expr::Three(_, o, a, b, c) => {
+            let first = eval(a, names);
+            match o.after_first(first?) {
+                Next::Done(v) => held(Some(v)),
+                Next::Second => eval(b, names),
+                Next::Third => eval(c, names),
+                Next::All => Err(EvalFail::Undef),
+            }
+        }
+    }
+}
+
+/// The value of a literal, or `Wide`.
+fn literal(d: Decimal) -> Result<Value, EvalFail>
+    ensures { result ≡ narrowed (Some (number d)) }
+{
+    match Frac::from_decimal(d) {
+        Ok(q) => Ok(Value::Number(q)),
+        Err(_) => Err(EvalFail::Wide),
+    }
+}
+
+/// A value that the code holds is never wide.
+fn held(v: Option<Value>) -> Result<Value, EvalFail>
+    ensures { result ≡ narrowed v }
+{
+    match v {
+        Some(v) => small(v),
+        None => Err(EvalFail::Undef),
+    }
+}
+
+fn small(v: Value) -> Result<Value, EvalFail>
+    ensures { result ≡ narrowed (Some v) }
+{
+    match v {
+        Value::Truth(b) => Ok(Value::Truth(b)),
+        Value::Number(q) => {
+            let _num = q.num();
+            Ok(Value::Number(q))
+        }
+    }
+}
+
+fn apply_one<O: Operator>(o: O, a: Result<Value, EvalFail>) -> Result<Value, EvalFail>
+    ensures { result ≡ one_answer O.meaning o a }
+{
+    o.apply(a?, None)
+}
+
+/// `Wide` of either operand comes before `Undef` of either.
+fn apply_both<O: Operator>(
+    o: O,
+    a: Result<Value, EvalFail>,
+    b: Result<Value, EvalFail>,
+) -> Result<Value, EvalFail>
+    ensures { result ≡ both_answer O.meaning o a b }
+{
+    match (a, b) {
+        (Err(EvalFail::Wide), _) => Err(EvalFail::Wide),
+        (_, Err(EvalFail::Wide)) => Err(EvalFail::Wide),
+        (Ok(x), Ok(y)) => o.apply(x, Some(y)),
+        _ => Err(EvalFail::Undef),
+    }
+}

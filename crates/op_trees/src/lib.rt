@@ -1,0 +1,23 @@
+//! Expression trees over any set of operators: their values, their types, their size, and new trees made of them.
+//! A language gives its operators and what they mean; everything here is written and proved once for all of them.
+//! What a tree means stands over trees without addresses, in `specs/`.
+#![tactic(auto)]
+
+mod evaluation;
+mod laws;
+mod measure;
+mod operator;
+mod rebuild;
+mod tree;
+mod typing;
+
+pub use evaluation::eval;
+pub use laws::{
+    evaluation_law, formula_law, mapping_law, offset_law, renaming_law, substitution_law,
+    typing_law,
+};
+pub use measure::{count, height, same};
+pub use operator::{Names, Operator};
+pub use rebuild::{Bodies, OpMap, Shape, copy_expr, map_ops, substitute};
+pub use tree::{EvalFail, Expr, Next, Ty, Value};
+pub use typing::type_of;
