@@ -7,8 +7,8 @@ use Rattle.model_command.specs.declared.trees.SmallVar.{SmallVar}
 use Rattle.model_command.specs.declared.trees.SmallCommand.{SmallCommand}
 use Rattle.model_command.specs.declared.trees.SmallPrism.{SmallPrism}
 use Rattle.model_command.specs.declared.trees.SmallJani.{SmallJani}
-use Rattle.model_command.specs.Process.{Outcome, Choice, outcome_image, choice_image, IsIn, SameAt}
-use Rattle.model_command.specs.Process.Outcome.{Bad, Good}
+use Rattle.process_core.specs.Process.{Outcome, Choice, outcome_image, choice_image, IsIn, SameAt}
+use Rattle.process_core.specs.Process.Outcome.{Bad, Good}
 use Rattle.model_command.specs.Meaning.{Fault, faults_from, are_values, holds, is_outside, target_of, outcome_of, choice_of, out_of_range, prism_model, jani_model, JaniState, is_home, at_home, IsShape, IsSame}
 use Rattle.frac_core.specs.Fraction.{Fraction, unit}
 

@@ -8,7 +8,6 @@ pub mod Names
 pub mod NamesOf
 pub mod Outcome
 pub mod Pieces
-pub mod Process
 pub mod Reading
 pub mod Rules
 pub mod Run

@@ -13,8 +13,8 @@ use Rattle.model_command.specs.declared.trees.SmallCommand.{SmallCommand}
 use Rattle.model_command.specs.declared.trees.SmallPrism.{SmallPrism}
 use Rattle.model_command.specs.declared.trees.SmallJani.{SmallJani}
 use Rattle.model_command.specs.Jani.{jani_text}
-use Rattle.model_command.specs.Process.{Kinds, Outcome, Choice, Model, SameProcess}
-use Rattle.model_command.specs.Process.Outcome.{Bad, Good}
+use Rattle.process_core.specs.Process.{Kinds, Outcome, Choice, Model, SameProcess}
+use Rattle.process_core.specs.Process.Outcome.{Bad, Good}
 use Rattle.frac_core.specs.Fraction.{Fraction, unit}
 
 -- why there is no process: a range is empty, or the first value is outside a range that isn't

@@ -1,0 +1,127 @@
+-- One branch more, and the end.
+use Rattle.std.proofs.Common.{◌≡◌, ℕ, ◌+◌, ◌<◌, ℤ, Option, IsErrAnd, List, [], ◌∷◌, ◌++◌, map, Bool, true, false, not, cond, ◌||◌, if◌then◌else◌, Result, Ok, Err, length, slice_set, get_or, take, drop, refl, sym, ap, ap₂, subst, ◌∙◌, take-append-drop}
+use Rattle.std.specs.List.{list_any, position_or_len, filter}
+use Rattle.std.specs.Ordering.{int_eq}
+use Rattle.std.specs.Cmp.Lexicographic.{pointwise}
+use Rattle.std.proofs.lemmas.List.{map-append, take_more}
+use Rattle.indexmap.specs.IndexSet.{insert_key}
+use Rattle.frac_core.specs.Fraction.{Fraction, nought, plus, is_wide, same_number}
+use Rattle.frac_core.specs.Sums.{total}
+use Rattle.frac_core.specs.Results.{narrow, from_narrow}
+use Rattle.frac_core.specs.declared.fraction.FracFail.{FracFail}
+use Rattle.frac_core.specs.declared.fraction.FracFail.TheVariants as F
+use Rattle.process_core.specs.Process.{Branch}
+use Rattle.process_core.specs.Ready.{Values}
+use Rattle.process_core.specs.Bounds.{Excess}
+use Rattle.process_core.specs.Equal.{equal_states, equal_states_is}
+use Rattle.process_core.specs.Merged.{weights_to, targets_of, merged, is_merging_wide}
+use Rattle.process_core.specs.Merging.{key_of, IsSummed, AddsBranch}
+use Rattle.process_core.specs.Answers.{Answers, only_wide}
+use Rattle.process_core.specs.declared.data.StepFail.{StepFail}
+use Rattle.process_core.specs.declared.data.StepFail.TheVariants.{Memory, Wide, TooMany}
+use Rattle.process_core.proofs.Targets.{any-map, place-map, entry, opened, opened_at, summed_more, targets_more, narrow_more, merging_wide, merging_narrow}
+use Rattle.process_core.proofs.Keys.{key_test}
+
+any_agree : {A : Type 0} (p q : A → Bool) → ((x : A) → p x ≡ q x) → (xs : List A) → list_any p xs ≡ list_any q xs
+any_agree p q h [] = refl
+any_agree p q h (x ∷ xs) = ap₂ (λ a b. a || b) (h x) (any_agree p q h xs)
+
+wide_from : (x : Fraction) (f : FracFail) → narrow x ≡ Err f → is_wide x ≡ true
+wide_from x f h = by_test (is_wide x) refl h
+  where
+    by_test : (b : Bool) → b ≡ is_wide x → ◌≡◌ {A = Result Fraction FracFail} (if b then Err F.Wide else Ok x) (Err f) → is_wide x ≡ true
+    by_test true e k = sym e
+    by_test false e k = absurd cc
+
+module _ (done : List (Branch Fraction Values)) (b : Branch Fraction Values) (keys : List (List ℤ)) (sums : List (Branch Fraction Values)) (h : IsSummed done keys sums) where
+  any_there : list_any (pointwise int_eq (key_of b.target)) keys ≡ list_any (equal_states b.target) (targets_of equal_states done)
+  any_there =
+      ap (list_any (pointwise int_eq (key_of b.target))) h.keys_are ∙ any-map (pointwise int_eq (key_of b.target)) key_of (targets_of equal_states done)
+      ∙ any_agree _ (equal_states b.target) (key_test b.target) (targets_of equal_states done)
+
+  place_there : position_or_len (pointwise int_eq (key_of b.target)) keys ≡ position_or_len (equal_states b.target) (targets_of equal_states done)
+  place_there =
+      ap (position_or_len (pointwise int_eq (key_of b.target))) h.keys_are
+      ∙ place-map (equal_states b.target) (pointwise int_eq (key_of b.target)) key_of (key_test b.target) (targets_of equal_states done)
+
+  keys_there : insert_key (pointwise int_eq) keys (key_of b.target) ≡ map key_of (targets_of equal_states (done ++ b ∷ []))
+  keys_there =
+      ap₂ (λ t l. if t then l else l ++ key_of b.target ∷ []) any_there h.keys_are
+      ∙ by_test (list_any (equal_states b.target) (targets_of equal_states done))
+      ∙ sym (ap (map key_of) (targets_more equal_states equal_states_is done b))
+    where
+      by_test : (t : Bool) →
+          (if t then map key_of (targets_of equal_states done) else map key_of (targets_of equal_states done) ++ key_of b.target ∷ [])
+          ≡ map key_of (if t then targets_of equal_states done else targets_of equal_states done ++ b.target ∷ [])
+      by_test true = refl
+      by_test false = sym (map-append key_of (targets_of equal_states done) (b.target ∷ []))
+
+  sums_there : (if list_any (pointwise int_eq (key_of b.target)) keys then sums else sums ++ record { probability = nought; target = b.target; rewards = [] } ∷ []) ≡ opened equal_states equal_states_is b.target done
+  sums_there = ap₂ (λ t l. if t then l else l ++ record { probability = nought; target = b.target; rewards = [] } ∷ []) any_there h.sums_are
+
+  module _ (next : List (Branch Fraction Values)) (i : ℕ) (e : Branch Fraction Values)
+      (next_is : next ≡ (if list_any (pointwise int_eq (key_of b.target)) keys then sums else sums ++ record { probability = nought; target = b.target; rewards = [] } ∷ []))
+      (i_is : i ≡ position_or_len (pointwise int_eq (key_of b.target)) keys) (e_is : e ≡ get_or next i e) where
+    entry_there : e ≡ entry equal_states equal_states_is (total (weights_to equal_states b.target done)) b.target
+    entry_there =
+        e_is ∙ ap₂ (λ l n. get_or l n e) (next_is ∙ sums_there) (i_is ∙ place_there) ∙ opened_at equal_states equal_states_is b.target done e
+
+    pub adds : (sum : Fraction) (last : List (Branch Fraction Values)) (more : List (List ℤ)) → narrow (plus e.probability b.probability) ≡ Ok sum →
+        more ≡ insert_key (pointwise int_eq) keys (key_of b.target) → last ≡ slice_set next i (record { probability = sum; target = e.target; rewards = e.rewards }) → IsSummed (done ++ b ∷ []) more last
+    adds sum last more n m l =
+        let at : Branch Fraction Values → Fraction = λ x. plus x.probability b.probability in
+        let sum_is = from_narrow (at e) sum n in
+        let w = total (weights_to equal_states b.target done) in
+        let sum_now : sum ≡ plus w b.probability = sum_is.0 ∙ ap at entry_there in
+        record {
+          keys_are = m ∙ keys_there;
+          sums_are =
+              l ∙ ap₂ (λ x y. slice_set x y (record { probability = sum; target = e.target; rewards = e.rewards })) (next_is ∙ sums_there) (i_is ∙ place_there)
+              ∙ ap (λ (x : Branch Fraction Values). slice_set (opened equal_states equal_states_is b.target done) (position_or_len (equal_states b.target) (targets_of equal_states done)) (record { probability = sum; target = x.target; rewards = x.rewards })) entry_there
+              ∙ ap (λ x. slice_set (opened equal_states equal_states_is b.target done) (position_or_len (equal_states b.target) (targets_of equal_states done)) (entry equal_states equal_states_is x b.target)) sum_now
+              ∙ summed_more equal_states equal_states_is done b;
+          narrow = narrow_more equal_states equal_states_is done b h.narrow (ap is_wide (sym sum_now) ∙ sum_is.1);
+        }
+
+    pub adds_wide : (f : FracFail) → narrow (plus e.probability b.probability) ≡ Err f → is_wide (plus (total (weights_to equal_states b.target done)) b.probability) ≡ true
+    adds_wide f n = ap (λ (x : Branch Fraction Values). is_wide (plus x.probability b.probability)) (sym entry_there) ∙ wide_from (plus e.probability b.probability) f n
+
+-- ---- a call that failed
+pub fails_as : {X : Type 0} (P : X → Type 0) (done rest all : List (Branch Fraction Values)) (b : Branch Fraction Values) (keys more : List (List ℤ)) (sums last : List (Branch Fraction Values)) (f : StepFail) →
+    IsSummed done keys sums → (IsSummed done keys sums → AddsBranch done b more last (Err f)) → all ≡ (done ++ b ∷ []) ++ rest →
+    Answers (only_wide (is_merging_wide equal_states all)) P (Err f)
+fails_as P done rest all b keys more sums last (Memory m) h k e = tt
+fails_as P done rest all b keys more sums last Wide h k e =
+    ap only_wide (ap (is_merging_wide equal_states) e ∙ merging_wide equal_states equal_states_is done rest b h.narrow (k h))
+fails_as P done rest all b keys more sums last TooMany h k e = absurd (k h)
+
+-- ---- the end
+filter-map : {A B : Type 0} (p : B → Bool) (f : A → B) (xs : List A) → filter p (map f xs) ≡ map f (filter (λ x. p (f x)) xs)
+filter-map p f [] = refl
+filter-map p f (x ∷ xs) = ap (λ r. cond (p (f x)) (f x ∷ r) r) (filter-map p f xs) ∙ pulled (p (f x))
+  where
+    pulled : (b : Bool) → cond b (f x ∷ map f (filter (λ x. p (f x)) xs)) (map f (filter (λ x. p (f x)) xs)) ≡ map f (cond b (x ∷ filter (λ x. p (f x)) xs) (filter (λ x. p (f x)) xs))
+    pulled true = refl
+    pulled false = refl
+
+pub ends_narrow : (done : List (Branch Fraction Values)) (keys : List (List ℤ)) (sums : List (Branch Fraction Values)) → IsSummed done keys sums → only_wide (is_merging_wide equal_states done) ≡ only_wide false
+ends_narrow done keys sums h = ap only_wide (merging_narrow equal_states equal_states_is done h.narrow)
+
+pub ends : {B : Type 0} (seen : B → Branch Fraction Values) (done : List (Branch Fraction Values)) (keys : List (List ℤ)) (sums kept : List B) → IsSummed done keys (map seen sums) →
+    kept ≡ filter (λ x. not (same_number (seen x).probability nought)) sums → map seen kept ≡ merged equal_states done
+ends seen done keys sums kept h e =
+    ap (map seen) e ∙ sym (filter-map (λ b. not (same_number b.probability nought)) seen sums) ∙ ap (filter (λ b. not (same_number b.probability nought))) h.sums_are
+
+pub handed_on : {X : Type 0} (e : Option Excess) (P : X → Type 0) (f : StepFail) (r : Result X StepFail) → IsErrAnd r (λ g. g ≡ f) → Answers e P (Err f) → Answers e P r
+handed_on e P f (Ok x) h k = absurd h
+handed_on e P f (Err g) h k = subst (λ g. Answers e P (Err g)) (sym h) k
+
+-- the branches so far, this one, and the rest
+pub parted : {B : Type 0} (seen : B → Branch Fraction Values) (xs : List B) (i : ℕ) (b : B) → i < length xs → b ≡ get_or xs i b →
+    map seen xs ≡ (map seen (take i xs) ++ seen b ∷ []) ++ map seen (drop (i + 1) xs)
+parted seen xs i b l e =
+    ap (map seen) (sym (take-append-drop (i + 1) xs)) ∙ map-append seen (take (i + 1) xs) (drop (i + 1) xs)
+    ∙ ap (λ l. l ++ map seen (drop (i + 1) xs)) (so_far seen xs i b l e)
+  where
+    so_far : {B : Type 0} (seen : B → Branch Fraction Values) (xs : List B) (i : ℕ) (b : B) → i < length xs → b ≡ get_or xs i b → map seen (take (i + 1) xs) ≡ map seen (take i xs) ++ seen b ∷ []
+    so_far seen xs i b l e = ap (map seen) (take_more xs i b l) ∙ map-append seen (take i xs) (get_or xs i b ∷ []) ∙ ap (λ x. map seen (take i xs) ++ seen x ∷ []) (sym e)

@@ -1,0 +1,4 @@
+pub mod Targets
+pub mod Keys
+pub mod Adding
+pub mod MergedOnce

@@ -1,0 +1,115 @@
+// What is seen of a process at a state: states, branches, choices and marks.
+
+ghost use Rattle.std.specs.Prelude.{◌≡◌};
+
+use bridge_io::{List, Text};
+use frac_core::Frac;
+use op_trees::Value;
+use std::alloc::AllocError;
+
+/// A state: a value for each column.
+#[derive(Drop)]
+pub struct State {
+    pub values: List<Value>,
+}
+
+/// The kinds of faults that a choice has: something in it is undefined, a value is assigned outside its range, or the
+/// probabilities of a participant are no distribution.
+#[derive(Clone, Copy, Debug, PartialEq, Eq)]
+pub struct Bad {
+    pub undef: bool,
+    pub range: bool,
+    pub weight: bool,
+}
+
+/// One way that a choice may go: its probability, the state that it leads to, and a reward for each structure.
+#[derive(Drop)]
+pub struct Branch {
+    pub weight: Frac,
+    pub target: State,
+    pub rewards: List<Frac>,
+}
+
+/// What a choice leads to: a distribution, given by its branches in order, or nothing that has a meaning.
+#[derive(Drop)]
+pub enum Outcome {
+    Good(List<Branch>),
+    Faulty(Bad),
+}
+
+/// A choice with its label, if it has one.
+#[derive(Drop)]
+pub struct Choice {
+    pub label: Option<Text>,
+    pub outcome: Outcome,
+}
+
+/// A label or a reward at a state; `None` is undefined.
+#[derive(Clone, Copy, Debug)]
+pub enum Mark {
+    Truth(Option<bool>),
+    Number(Option<Frac>),
+}
+
+/// Why the choices or marks of a state aren't given.
+#[derive(Debug, Drop)]
+pub enum StepFail {
+    /// Want of memory.
+    Memory(AllocError),
+    /// A value that is needed passes the bound of fractions.
+    Wide,
+    /// There are more choices or branches than are given of a state.
+    TooMany,
+}
+
+/// What may be wrong with a model under given constants.
+#[derive(Clone, Copy, Debug, PartialEq, Eq)]
+pub enum FaultKind {
+    /// A constant is undefined.
+    ConstUndef,
+    /// A bound of a variable is undefined.
+    BoundUndef,
+    /// The low bound of a variable is above the high one.
+    EmptyRange,
+    /// The first value of a variable is undefined.
+    InitUndef,
+    /// The first value of a variable is outside its range.
+    InitOutside,
+}
+
+/// A fault, and the constant or variable that has it.
+#[derive(Drop)]
+pub struct InstanceFault {
+    pub kind: FaultKind,
+    pub name: Text,
+}
+
+/// A value for a constant that the model leaves open.
+#[derive(Drop)]
+pub struct Given {
+    pub name: Text,
+    pub value: Value,
+}
+
+/// Why a model under given constants can't be stepped.
+#[derive(Drop)]
+pub enum StartFail {
+    /// Want of memory.
+    Memory(AllocError),
+    /// A value that is needed passes the bound of fractions.
+    Wide,
+    /// The model has these faults.
+    Faults(List<InstanceFault>),
+    /// The given constant of this number isn't open or has another type; or, at their count, an open one isn't given.
+    Word(usize),
+}
+
+impl From<AllocError> for StepFail {
+    ghost use Rattle.process_core.specs.declared.data.StepFail.TheVariants.{Memory};
+
+    ghost from_gives = { λ e r. r ≡ Memory e };
+
+    fn from(e: AllocError) -> StepFail {
+        StepFail::Memory(e)
+    }
+}

@@ -1,0 +1,98 @@
+// A process with two states: off, where it begins, and on.
+
+use bridge_io::{List, Text};
+use frac_core::Frac;
+use op_trees::Value;
+use process_core::{Branch, Choice, Mark, Outcome, State, StepFail, Steps};
+use std::alloc::{AllocError, Global};
+
+/// A switch with one column, `on`, and two marks: the label `lit` and the reward `cost`. Its one choice turns it, with
+/// reward 1.
+pub struct Switch;
+
+impl Steps for Switch {
+    ghost use Rattle.process_tests.specs.Switch.{switch, switch_is};
+
+    ghost process = { λ s. switch };
+
+    ghost lawful = { λ s. switch_is };
+
+    fn columns(&self) -> usize {
+        1
+    }
+
+    fn column_text(&self, alloc: Global, i: usize) -> Result<Text, AllocError> {
+        Text::copy_of(alloc, "on")
+    }
+
+    fn valid(&self, s: &State) -> bool {
+        position(s).is_some()
+    }
+
+    fn initial(&self, s: &State) -> bool {
+        position(s) == Some(false)
+    }
+
+    fn first(&self, alloc: Global) -> Result<State, AllocError> {
+        state(alloc, false)
+    }
+
+    fn choices(&self, alloc: Global, s: &State) -> Result<List<Choice>, StepFail> {
+        let on = position(s) == Some(true);
+        let mut rewards = List::new(alloc);
+        rewards.push(Frac::one())?;
+        let mut branches = List::new(alloc);
+        branches.push(Branch {
+            weight: Frac::one(),
+            target: state(alloc, !on)?,
+            rewards,
+        })?;
+        let mut choices = List::new(alloc);
+        choices.push(Choice {
+            label: Some(Text::copy_of(alloc, "turn")?),
+            outcome: Outcome::Good(branches),
+        })?;
+        Ok(choices)
+    }
+
+    fn mark_count(&self) -> usize {
+        2
+    }
+
+    fn mark_name(&self, alloc: Global, i: usize) -> Result<Text, AllocError> {
+        if i == 0 {
+            Text::copy_of(alloc, "lit")
+        } else {
+            Text::copy_of(alloc, "cost")
+        }
+    }
+
+    fn marks(&self, alloc: Global, s: &State) -> Result<List<Mark>, StepFail> {
+        let mut marks = List::new(alloc);
+        marks.push(Mark::Truth(position(s)))?;
+        marks.push(Mark::Number(Some(Frac::zero())))?;
+        Ok(marks)
+    }
+}
+
+ghost use Rattle.std.specs.Prelude.{◌≡◌, ◌∷◌, [], IfOk};
+ghost use Rattle.op_trees.specs.declared.tree.Value.TheVariants as values;
+ghost use Rattle.process_tests.specs.Switch.{position_of};
+
+/// Whether the switch is on, where this is a state.
+fn position(s: &State) -> Option<bool>
+    ensures { result ≡ position_of s.now.values }
+{
+    match s.values.as_slice() {
+        [Value::Truth(on)] => Some(*on),
+        _ => None,
+    }
+}
+
+fn state(alloc: Global, on: bool) -> Result<State, AllocError>
+    ensures { IfOk result (λ s. s.values ≡ values.Truth on ∷ []) }
+{
+    let mut values = List::new(alloc);
+    values.push(Value::Truth(on))?;
+    Ok(State { values })
+}
