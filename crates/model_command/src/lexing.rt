@@ -76,7 +76,7 @@ pub(crate) fn small_tokens(alloc: Global, bytes: &[u8]) -> Result<Vec<Found>, St
     ensures { Lexes bytes.now result }
 {
     reader_laws();
-    let mut found = Vec::new(alloc);
+    let mut found = Vec::with_capacity(alloc, bytes.len() / 2)?;
     let mut at = 0;
     'tokens: while at <= bytes.len() {
         let Ok(token) = next_token(bytes, at) else {

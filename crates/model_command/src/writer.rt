@@ -8,6 +8,9 @@ use crate::pieces::{Piece, push_pieces};
 use crate::trees::{SmallCommand, SmallJani, SmallPair, SmallVar};
 use std::alloc::{AllocError, Global};
 
+// About the bytes of an edge with two tests and two writes. A longer text makes the buffer grow.
+const EDGE_ROOM: usize = 300;
+
 fn push_comma(out: &mut Vec<u8>) -> Result<(), AllocError>
     ensures { OnOk result (out.new.items ≡ out.old.items ++ 44 ∷ []) }
 {
@@ -366,7 +369,8 @@ fn push_end(out: &mut Vec<u8>, name: &str) -> Result<(), AllocError>
 pub(crate) fn write_model(alloc: Global, model: &SmallJani) -> Result<Vec<u8>, AllocError>
     ensures { IfOk result (λ text. text.items ≡ jani_text model.now) }
 {
-    let mut out = Vec::new(alloc);
+    let items = model.variables.len().saturating_add(model.edges.len());
+    let mut out = Vec::with_capacity(alloc, items.saturating_mul(EDGE_ROOM))?;
     let name = model.automaton.as_str();
     push_head(&mut out)?;
     push_vars(&mut out, model.variables.as_slice())?;
