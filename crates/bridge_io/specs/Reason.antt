@@ -1,4 +1,5 @@
 -- The number and the name of each reason, as a refusal line shows them.
+-- (The table is this project's own.)
 use Rattle.std.specs.Prelude.{ℕ, List, codes}
 use Rattle.bridge_io.specs.declared.reason.Reason.{Reason}
 use Rattle.bridge_io.specs.declared.reason.Reason.TheVariants.{TooLong, BadByte, BadNumber, Syntax, TooDeep, OtherKind, LeftOut, TwiceNamed, Unknown, Cycle, RenameMissing, RenameOfRenamed, WrongType, NotConstant, ForeignWrite, SyncGlobalWrite, WrittenTwice, Nothing, TooLarge, JsonSyntax, TwiceMember, MissingMember, UnknownMember, WrongShape, OtherFeature, UnboundedVariable, RealVariable, TransientRead, TransientInitial, TransientTwoAutomata, LabelOnEdge, BranchReward, TwoRewardWriters, SharedWrite, BadVector, InputEnable, InitialSet, NoDestination, RepeatedAutomaton, PropertyLeftOut, RowSyntax, NotYet}

@@ -1,4 +1,6 @@
 -- The canonical text of a small JANI tree.
+-- (jani-model specification, "Models", "Variables", "Automata", "Edges", "Expressions", "Compositions". The order of the
+-- members is a rule of this project.)
 use Rattle.std.specs.Prelude.{ℕ, List, [], ◌∷◌, map, codes}
 use Rattle.model_command.specs.declared.trees.SmallVar.{SmallVar}
 use Rattle.model_command.specs.declared.trees.SmallPair.{SmallPair}

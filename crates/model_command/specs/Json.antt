@@ -1,4 +1,5 @@
 -- JSON values of strings, whole numbers, arrays and objects, and their text without spaces.
+-- (RFC 8259, sections 2, 4, 5, 6 and 7. Which of its texts is written for a value is a rule of this project.)
 use Rattle.std.specs.Prelude.{ℕ, Bool, not, ◌&&◌, zero, suc, ◌+◌, ◌/◌, ◌%◌, ◌==◌, nat_lt, if◌then◌else◌, List, [], ◌∷◌, ◌++◌}
 use Rattle.std.specs.List.{flat_map}
 

@@ -1,4 +1,5 @@
 -- The rules of small files, and their limits but for those of names and numbers, which stand with the tokens.
+-- (PRISM manual, "The PRISM Language": "Modules and Variables", "Commands". The limits are this project's own.)
 use Rattle.std.specs.Prelude.{ℕ, ◌+◌, ◌*◌, ◌-◌, Bool, true, not, ◌&&◌, nat_lt, nat_le, List, [], ◌∷◌, length, take, codes}
 use Rattle.std.specs.List.{list_all, list_any, sum_by}
 use Rattle.std.specs.Str.{bytes_eq}

@@ -1,4 +1,5 @@
 -- The tokens of the small form: its words and symbols, names and whole numbers.
+-- (PRISM manual, "The PRISM Language": "Modules and Variables", "Identifiers". The 38 digits are this project's own.)
 use Rattle.std.specs.Prelude.{ℕ, ◌+◌, ◌-◌, ◌*◌, ◌^◌, nat_lt, if◌then◌else◌, List, [], ◌∷◌, take, drop, Option, Some, None, Bool, true, false}
 use Rattle.std.specs.Str.{is_utf8}
 use Rattle.model_command.specs.declared.tokens.Mark.{Mark}

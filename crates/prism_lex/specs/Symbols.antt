@@ -1,4 +1,5 @@
 -- The symbols of one, two and three bytes, and the longest at the front of a text.
+-- (PRISM manual, "The PRISM Language": the symbols of its expressions, commands and renamings.)
 use Rattle.std.specs.Prelude.{ℕ, ◌&&◌, ◌==◌, List, Option, Some, None, get_or, if◌then◌else◌}
 use Rattle.prism_lex.specs.declared.symbols.Symbol.{Symbol}
 use Rattle.prism_lex.specs.declared.symbols.Symbol.TheVariants.{Semicolon, Colon, Comma, Dots, LeftParenthesis, RightParenthesis, LeftBracket, RightBracket, LeftBrace, RightBrace, Equal, Unequal, Less, AtMost, Greater, AtLeast, Plus, Minus, Star, Slash, Prime, And, Or, Not, Implies, Iff, Arrow, Question}
