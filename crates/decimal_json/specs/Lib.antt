@@ -1,0 +1,10 @@
+pub mod Lang
+pub mod Number
+pub mod Characters
+pub mod Strings
+pub mod Grammar
+pub mod States
+pub mod Faults
+pub mod Text
+pub mod Reached
+pub mod Proper

@@ -1,0 +1,16 @@
+//! JSON texts (RFC 8259) with exact decimals and a place for everything: `read_json` gives the value that bytes spell or
+//! their least fault, `write_json` the canonical text of a value.
+#![tactic(auto)]
+
+mod brackets;
+mod chars;
+mod feed;
+mod machine;
+mod members;
+mod number;
+mod tree;
+mod write;
+
+pub use feed::read_json;
+pub use tree::{Json, Member};
+pub use write::write_json;

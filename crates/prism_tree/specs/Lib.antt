@@ -1,0 +1,6 @@
+pub mod Operators
+pub mod OperatorLaws
+pub mod Syntax
+pub mod Lang
+pub mod Grammar
+pub mod Faults

@@ -1,0 +1,13 @@
+//! The abstract syntax of the PRISM language for Markov decision processes, its operators and its grammar. The grammar is
+//! a relation between lists of tokens and trees, and its faults are stated beside it.
+#![tactic(auto)]
+
+mod operator;
+mod syntax;
+
+pub use operator::PrismOp;
+pub use syntax::{
+    CopiedModule, ItemOn, NamePair, Pe, PlainModule, PrismBranch, PrismCommand, PrismConst,
+    PrismFile, PrismFormula, PrismItem, PrismLabel, PrismModule, PrismRange, PrismRewards,
+    PrismVar, PrismWrite,
+};
