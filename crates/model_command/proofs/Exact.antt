@@ -5,7 +5,8 @@ use Rattle.std.proofs.Common.{length-append, IsSome}
 use Rattle.std.specs.Io.KnownBytes.{prepend_known}
 use Rattle.bridge_io.specs.Outside.{Lefts}
 use Rattle.model_command.specs.Words.{IsTranslation, HasForm, IsWrongAt}
-use Rattle.model_command.specs.Translation.{IsSmallFile}
+use Rattle.bridge_io.specs.declared.reason.Fault.{Fault}
+use Rattle.model_command.specs.Translation.{IsSmallFile, IsLeast}
 use Rattle.model_command.specs.Outcome.{status_of}
 use Rattle.model_command.specs.Run.{IsCause, IsWhole, IsRefusal}
 use Rattle.model_command.specs.declared.outcome.Outcome.{Outcome}
@@ -45,6 +46,11 @@ too_long_told lefts now name bytes read had was on = of (now name) was on
         let same : read ++ rest ≡ bytes = cc in
         omega (arith, length-append read rest, ap length same)
 
+-- bytes that have a fault are no small file
+pub least_not_small : (bytes : List ℕ) (f : Fault) → IsLeast bytes f → IsSmallFile bytes → ⊥
+least_not_small bytes f (inl least) small = least.faulty small.0
+least_not_small bytes f (inr not_yet) small = not_yet.none small
+
 small_kept : (lefts : Lefts) (after : Option Lefts) (name bytes : List ℕ) (reason : Reason) (place : Place) → lefts name ≡ Some bytes → IsSmallFile bytes → length bytes ≤ 16777216 → IsRefusal (Some lefts) after name reason place → ⊥
 small_kept lefts None name bytes reason place had small within (inl r) = absurd r.1.2
 small_kept lefts (Some now) name bytes reason place had small within (inl r) =
@@ -53,8 +59,7 @@ small_kept lefts (Some now) name bytes reason place had small within (inl r) =
     let many : length t.0 ≡ 16777216 + 1 = t.1 in
     absurd (omega arith)
 small_kept lefts after name bytes reason place had small within (inr r) =
-    let w = r.2 in
-    w.2 (subst IsSmallFile (sym (whole_bytes lefts after name bytes w.0 had w.1)) small)
+    least_not_small r.0 r.1 r.3 (subst IsSmallFile (sym (whole_bytes lefts after name bytes r.0 had r.2)) small)
 
 module _ {S : Type 0} (left : S → Option Lefts) (faults : S → ℕ) (steady : S → List ℕ → Type 0) (words : List (List ℕ)) (old new : S) (answer : ℕ)
     (lefts : Lefts) (name bytes : List ℕ) (told : left old ≡ Some lefts) (had : lefts name ≡ Some bytes) (form : IsTranslation words name) (small : IsSmallFile bytes) (within : length bytes ≤ 16777216) where

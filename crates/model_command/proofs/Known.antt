@@ -6,7 +6,7 @@ use Rattle.model_command.specs.declared.names.Names.{Names}
 use Rattle.model_command.specs.declared.trees.SmallVar.{SmallVar}
 use Rattle.model_command.specs.declared.trees.SmallPair.{SmallPair}
 use Rattle.model_command.specs.declared.trees.SmallCommand.{SmallCommand}
-use Rattle.model_command.specs.declared.trees.SmallPrism.{SmallPrism}
+use Rattle.model_command.specs.SmallForm.{Small}
 use Rattle.model_command.specs.NamesOf.{AreNamesOf, is_known, keeps_rules}
 use Rattle.model_command.specs.Rules.{is_free, are_distinct, are_once, is_proper_pair, are_proper_pairs, is_proper_command, is_within_limits, is_proper}
 
@@ -37,7 +37,7 @@ and_false true = refl
 and_false false = refl
 
 -- all other rules are kept, and so it is the commands that decide
-commands_decide : (t : SmallPrism) (names : Names) (b : Bool) → AreNamesOf names t.vars → is_free t.«module» ≡ true → list_all (λ v. is_free v.name) t.vars ≡ true → is_within_limits t ≡ true
+commands_decide : (t : Small) (names : Names) (b : Bool) → AreNamesOf names t.vars → is_free t.name ≡ true → list_all (λ v. is_free v.name) t.vars ≡ true → is_within_limits t ≡ true
     → b ≡ list_all (keeps_rules names) t.commands → b ≡ is_proper t
 unfolding is_proper
 commands_decide t names b of free proper within e =
@@ -50,7 +50,7 @@ commands_decide t names b of free proper within e =
     symm : {x y : Bool} → x ≡ y → y ≡ x
     symm e = cc
 
-pub decided : {E : Type 0} (t : SmallPrism) (names : Names) (r : Result Bool E) → AreNamesOf names t.vars → is_free t.«module» ≡ true → list_all (λ v. is_free v.name) t.vars ≡ true → is_within_limits t ≡ true
+pub decided : {E : Type 0} (t : Small) (names : Names) (r : Result Bool E) → AreNamesOf names t.vars → is_free t.name ≡ true → list_all (λ v. is_free v.name) t.vars ≡ true → is_within_limits t ≡ true
     → IfOk r (λ b. b ≡ list_all (keeps_rules names) t.commands) → IfOk r (λ b. b ≡ is_proper t)
 decided t names (Ok b) of free proper within e = commands_decide t names b of free proper within e
 decided t names (Err e) of free proper within h = tt

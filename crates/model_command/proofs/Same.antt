@@ -1,11 +1,14 @@
 -- The translation means the same.
 use Rattle.std.proofs.Common.{arith, ◌≡◌, ℕ, ℤ, List, [], ◌∷◌, ◌++◌, refl, sym, ap, ap₂, subst, ◌∙◌, map}
-use Rattle.std.specs.Prelude.{Bool, true, false, ◌&&◌, IsTrue, None, cond}
+use Rattle.std.specs.Prelude.{Bool, true, false, ◌&&◌, IsTrue, Option, Some, None, cond}
+use Rattle.std.specs.Option.{option_map}
+use Rattle.prism_tree.specs.Syntax.{File}
 use Rattle.std.specs.List.{flat_map, list_all, list_any, sum_by}
 use Rattle.std.proofs.lemmas.List.{map-append}
 use Rattle.model_command.specs.declared.trees.SmallVar.{SmallVar}
 use Rattle.model_command.specs.declared.trees.SmallCommand.{SmallCommand}
-use Rattle.model_command.specs.declared.trees.SmallPrism.{SmallPrism}
+use Rattle.model_command.specs.SmallForm.{Small, small_in}
+use Rattle.model_command.specs.Translation.{parts_of, IsImage}
 use Rattle.model_command.specs.declared.trees.SmallJani.{SmallJani}
 use Rattle.process_core.specs.Process.{Outcome, Choice, outcome_image, choice_image, IsIn, SameAt}
 use Rattle.process_core.specs.Process.Outcome.{Bad, Good}
@@ -60,7 +63,7 @@ onto_state vars u h =
     (u.values, p.1, ap (λ ls. record { locations = ls; values = u.values }) (home_is u.locations p.0))
 
 -- a tree and the tree that has its lists
-of_lists : (t : SmallPrism) (v : Unit {0}) → SameAt (prism_model t) (jani_model (record { automaton = t.«module»; variables = t.vars; edges = t.commands })) (λ l. l) at_home v
+of_lists : (t : Small) (v : Unit {0}) → SameAt (prism_model t) (jani_model (record { automaton = t.name; variables = t.vars; edges = t.commands })) (λ l. l) at_home v
 of_lists t v = record {
   into = λ s h. h;
   one = λ s u _ _ e. ap (λ x. x.values) e;
@@ -70,14 +73,19 @@ of_lists t v = record {
   choices = λ s h. record { weighs = λ g. ap (λ l. sum_by g l) (same_choices t.vars s t.commands) };
 }
 
-pub same_process : (t : SmallPrism) (j : SmallJani) → IsShape t j → IsSame t j
+pub same_process : (t : Small) (j : SmallJani) → IsShape t j → IsSame t j
 same_process t j shape =
-    let e : ◌≡◌ {A = SmallJani} (record { automaton = t.«module»; variables = t.vars; edges = t.commands }) j = sym (all_same j t shape) in
+    let e : ◌≡◌ {A = SmallJani} (record { automaton = t.name; variables = t.vars; edges = t.commands }) j = sym (all_same j t shape) in
     subst (IsSame t) e (record { faults = λ v f. (λ h. subst (IsIn f) (map_id (faults_from 0 t.vars)) h, λ h. subst (IsIn f) (sym (map_id (faults_from 0 t.vars))) h); process = λ v none. of_lists t v })
   where
     map_id : (fs : List Fault) → map (λ f. f) fs ≡ fs
     map_id [] = refl
     map_id (f ∷ fs) = ap (λ gs. f ∷ gs) (map_id fs)
 
-    all_same : (j : SmallJani) (t : SmallPrism) → IsShape t j → j ≡ record { automaton = t.«module»; variables = t.vars; edges = t.commands }
-    all_same j t s = ap (λ a. record { automaton = a; variables = j.variables; edges = j.edges }) s.automaton ∙ ap₂ (λ v e. record { automaton = t.«module»; variables = v; edges = e }) s.variables s.edges
+    all_same : (j : SmallJani) (t : Small) → IsShape t j → j ≡ record { automaton = t.name; variables = t.vars; edges = t.commands }
+    all_same j t s = ap (λ a. record { automaton = a; variables = j.variables; edges = j.edges }) s.automaton ∙ ap₂ (λ v e. record { automaton = t.name; variables = v; edges = e }) s.variables s.edges
+
+-- what a file of the small form is translated to
+pub image : (x : File) (r : Option SmallJani) → option_map parts_of r ≡ small_in x → IsImage x r
+image x None e = sym e
+image x (Some j) e = (parts_of j, sym e, record { automaton = refl; variables = refl; edges = refl }, same_process (parts_of j) j (record { automaton = refl; variables = refl; edges = refl }))

@@ -1,7 +1,7 @@
 -- What a run answers and writes where all is told.
-use Rattle.std.proofs.Common.{arith, ◌≡◌, ◌∙◌, sym, ap, subst, ℕ, ◌+◌, ◌<◌, ◌≤◌, List, [], ◌++◌, length, take, Option, Some, None, inl, inr}
+use Rattle.std.proofs.Common.{arith, ◌≡◌, ◌∙◌, refl, sym, ap, subst, ℕ, ◌+◌, ◌<◌, ◌≤◌, List, [], ◌++◌, length, take, Option, Some, None, inl, inr}
 use Rattle.std.proofs.Common.{length-append, IsSome, append-nil}
-use Rattle.std.specs.Prelude.{true, false, nat_lt, cond, codes, ◌==◌, count_by}
+use Rattle.std.specs.Prelude.{codes, ◌==◌, count_by}
 use Rattle.std.specs.List.{after_last}
 use Rattle.bridge_io.specs.ReadFail.{IsTooLong}
 use Rattle.bridge_io.specs.declared.transfer.ReadFail.TheVariants.{TooLong as TooLongAt}
@@ -11,15 +11,17 @@ use Rattle.bridge_io.specs.Outside.{Lefts}
 use Rattle.bridge_io.specs.Place.{line_at, column_at}
 use Rattle.bridge_io.specs.Reason.{number_of, name_of}
 use Rattle.bridge_io.specs.declared.reason.Reason.{Reason}
+use Rattle.bridge_io.specs.declared.reason.Reason.TheVariants.{TooLong}
+use Rattle.bridge_io.specs.declared.reason.Fault.{Fault}
 use Rattle.bridge_io.specs.declared.place.Place.{Place}
 use Rattle.model_command.specs.Words.{IsTranslation}
-use Rattle.model_command.specs.Translation.{IsSmallFile, Translates}
-use Rattle.model_command.specs.Outcome.{status_of, text_of, line_of, name_in, refusal_line}
+use Rattle.model_command.specs.Translation.{IsLeast, Translates}
+use Rattle.model_command.specs.Outcome.{status_of, text_of, line_of, name_in, place_in, refusal_line}
 use Rattle.model_command.specs.Run.{IsCause, IsWhole, IsRefusal, EndsWith}
-use Rattle.model_command.specs.Headline.{IsAccepted, IsHeadline, fault_line}
+use Rattle.model_command.specs.Headline.{IsAccepted, IsHeadline, IsFault, fault_line}
 use Rattle.model_command.specs.declared.outcome.Outcome.{Outcome}
 use Rattle.model_command.specs.declared.outcome.Outcome.TheVariants.{Done, Refused, Words, ReadFault, NoMemory}
-use Rattle.model_command.proofs.Exact.{whole_bytes, same_name, wrong_not_form}
+use Rattle.model_command.proofs.Exact.{whole_bytes, same_name, wrong_not_form, least_not_small}
 
 appended : (xs : List ℕ) (now : Option (List ℕ)) (more : List ℕ) → Appends (Some xs) now more → now ≡ Some (xs ++ more)
 appended xs None more h = absurd h
@@ -49,35 +51,43 @@ front_of lefts now name bytes read had was on many = of (now name) was on
           column = ap (λ l. 1 + length (after_last (λ b. b == 10) l)) fronts;
         }
 
-long_line : (name bytes : List ℕ) → 16777216 < length bytes → fault_line name bytes ≡ refusal_line name (record { line = line_at bytes 16777216; column = column_at bytes 16777216 }) 1 (codes "TooLong")
-long_line name bytes long = let e : nat_lt 16777216 (length bytes) ≡ true = grind arith in ap (λ b. cond b (refusal_line name (record { line = line_at bytes 16777216; column = column_at bytes 16777216 }) 1 (codes "TooLong")) (refusal_line name (record { line = 1; column = 1 }) 42 (codes "NotYet"))) e
-
-short_line : (name bytes : List ℕ) → length bytes ≤ 16777216 → fault_line name bytes ≡ refusal_line name (record { line = 1; column = 1 }) 42 (codes "NotYet")
-short_line name bytes short = let e : nat_lt 16777216 (length bytes) ≡ false = grind arith in ap (λ b. cond b (refusal_line name (record { line = line_at bytes 16777216; column = column_at bytes 16777216 }) 1 (codes "TooLong")) (refusal_line name (record { line = 1; column = 1 }) 42 (codes "NotYet"))) e
-
 same_place : (p : Place) (l k : ℕ) → p.line ≡ l → p.column ≡ k → p ≡ record { line = l; column = k }
 same_place p l k a b = ap (λ x. record { line = x; column = p.column }) a ∙ ap (λ x. record { line = l; column = x }) b
 
 module _ (lefts : Lefts) (after : Option Lefts) (name bytes : List ℕ) (had : lefts name ≡ Some bytes) where
-  -- why the file isn't accepted, and the line that says so
-  refusal : (reason : Reason) (place : Place) → IsRefusal (Some lefts) after name reason place →
-      (IsAccepted bytes → ⊥) × (refusal_line name place (number_of reason) (name_of reason) ≡ fault_line name bytes)
+  -- why the file isn't accepted: its fault, and the line that tells it
+  abbrev Refusal : Reason → Place → Type 0
+  Refusal reason place = (IsAccepted bytes → ⊥) × ((f : Fault) × IsFault bytes f × (refusal_line name place (number_of reason) (name_of reason) ≡ fault_line name bytes f))
+
+  abbrev too_long : Fault
+  too_long = record { reason = TooLong; at = 16777216 }
+
+  refusal : (reason : Reason) (place : Place) → IsRefusal (Some lefts) after name reason place → Refusal reason place
   refusal reason place (inl r) = of after r.1
     where
-      of : (after : Option Lefts) → IsTooLong (Some lefts) after name 16777216 (TooLongAt place) → (IsAccepted bytes → ⊥) × (refusal_line name place (number_of reason) (name_of reason) ≡ fault_line name bytes)
+      of : (after : Option Lefts) → IsTooLong (Some lefts) after name 16777216 (TooLongAt place) → (IsAccepted bytes → ⊥) × ((f : Fault) × IsFault bytes f × (refusal_line name place (number_of reason) (name_of reason) ≡ fault_line name bytes f))
       of None t = absurd t.2
       of (Some now) t =
           let f = front_of lefts now name bytes t.0 had t.2.was t.3 t.1 in (
             λ acc. let le : length bytes ≤ 16777216 = acc.0 in let gt : 16777216 < length bytes = f.long in absurd (omega arith),
-            ap (λ r. refusal_line name place (number_of r) (name_of r)) r.0
-                ∙ ap (λ (p : Place). refusal_line name p 1 (codes "TooLong")) (same_place place _ _ (t.4 ∙ f.line) (t.5 ∙ f.column)) ∙ sym (long_line name bytes f.long),
+            (
+              too_long,
+              record { long = λ _. refl; short = λ le. let gt : 16777216 < length bytes = f.long in absurd (omega arith) },
+              ap (λ q. refusal_line name place (number_of q) (name_of q)) r.0
+                  ∙ ap (λ (p : Place). refusal_line name p 1 (codes "TooLong")) (same_place place _ _ (t.4 ∙ f.line) (t.5 ∙ f.column)),
+            ),
           )
   refusal reason place (inr r) =
-      let w = r.2 in
-      let same : w.0 ≡ bytes = whole_bytes lefts after name bytes w.0 had w.1 in
-      let short : length bytes ≤ 16777216 = subst (λ b. length b ≤ 16777216) same w.1.within in (
-        λ acc. w.2 (subst IsSmallFile (sym same) acc.1),
-        ap (λ q. refusal_line name place (number_of q) (name_of q)) r.0 ∙ ap (λ (p : Place). refusal_line name p 42 (codes "NotYet")) r.1 ∙ sym (short_line name bytes short),
+      let same : r.0 ≡ bytes = whole_bytes lefts after name bytes r.0 had r.2 in
+      let short : length bytes ≤ 16777216 = subst (λ b. length b ≤ 16777216) same r.2.within in
+      let least : IsLeast bytes r.1 = subst (λ b. IsLeast b r.1) same r.3 in
+      let there : place ≡ place_in bytes (r.1).at = subst (λ b. place ≡ place_in b (r.1).at) same r.5 in (
+        λ acc. least_not_small bytes r.1 least acc.1,
+        (
+          r.1,
+          record { long = λ gt. absurd (omega (arith, gt, short)); short = λ _. least },
+          ap (λ q. refusal_line name place (number_of q) (name_of q)) r.4 ∙ ap (λ (p : Place). refusal_line name p (number_of (r.1).reason) (name_of (r.1).reason)) there,
+        ),
       )
 
   done : (text : List ℕ) → ((read : List ℕ) × IsWhole (Some lefts) after name read × Translates read text) → IsAccepted bytes × Translates bytes text
@@ -85,7 +95,7 @@ module _ (lefts : Lefts) (after : Option Lefts) (name bytes : List ℕ) (had : l
       let same : w.0 ≡ bytes = whole_bytes lefts after name bytes w.0 had w.1 in
       let all : Translates bytes text = subst (λ b. Translates b text) same w.2 in
       let short : length bytes ≤ 16777216 = subst (λ b. length b ≤ 16777216) same w.1.within in
-      ((short, (all.0, all.2.read)), all)
+      ((short, (all.3.read.clean, (all.0, all.3.read.spells, (all.1, all.3.small_form)))), all)
 
   module _ (was said : List ℕ) (out err : Option (List ℕ)) (answer : ℕ) where
     is_done : (text : List ℕ) → IsAccepted bytes × Translates bytes text → answer ≡ 0 → out ≡ Some (was ++ text) → err ≡ Some (said ++ []) → IsHeadline bytes name was said out err answer
@@ -95,11 +105,11 @@ module _ (lefts : Lefts) (after : Option Lefts) (name bytes : List ℕ) (had : l
       refused = λ none. absurd (none d.0);
     }
 
-    is_refused : (line : List ℕ) → (IsAccepted bytes → ⊥) × (line ≡ fault_line name bytes) → answer ≡ 2 → out ≡ Some (was ++ []) → err ≡ Some (said ++ line) → IsHeadline bytes name was said out err answer
+    is_refused : (line : List ℕ) → (IsAccepted bytes → ⊥) × ((f : Fault) × IsFault bytes f × (line ≡ fault_line name bytes f)) → answer ≡ 2 → out ≡ Some (was ++ []) → err ≡ Some (said ++ line) → IsHeadline bytes name was said out err answer
     is_refused line r two o e = record {
       exactly = (λ zero. absurd (not_both zero two), λ acc. absurd (r.0 acc));
       accepted = λ zero. absurd (not_both zero two);
-      refused = λ _. (two, o ∙ ap Some (append-nil was), e ∙ ap (λ l. Some (said ++ l)) r.1);
+      refused = λ _. (two, o ∙ ap Some (append-nil was), (r.1.0, r.1.1, e ∙ ap (λ l. Some (said ++ l)) r.1.2));
     }
       where
         not_both : answer ≡ 0 → answer ≡ 2 → ⊥

@@ -10,7 +10,7 @@ use Rattle.std.specs.Ordering.{int_eq}
 use Rattle.model_command.specs.declared.trees.SmallVar.{SmallVar}
 use Rattle.model_command.specs.declared.trees.SmallPair.{SmallPair}
 use Rattle.model_command.specs.declared.trees.SmallCommand.{SmallCommand}
-use Rattle.model_command.specs.declared.trees.SmallPrism.{SmallPrism}
+use Rattle.model_command.specs.SmallForm.{Small}
 use Rattle.model_command.specs.declared.trees.SmallJani.{SmallJani}
 use Rattle.model_command.specs.Jani.{jani_text}
 use Rattle.process_core.specs.Process.{Kinds, Outcome, Choice, Model, SameProcess}
@@ -101,7 +101,7 @@ abbrev pub choice_of : {S : Type 0} → (List ℤ → S) → List SmallVar → L
 choice_of at vars s c = if list_all (holds vars s) c.tests then record { label = None; outcome = outcome_of at vars c s } ∷ [] else []
 
 -- PRISM: a state is the values of the variables
-abbrev pub prism_model : SmallPrism → Model (Unit {0}) Fault ⊥ Fraction ⊥ (List ℤ)
+abbrev pub prism_model : Small → Model (Unit {0}) Fault ⊥ Fraction ⊥ (List ℤ)
 prism_model t = record {
   faults = λ v. faults_from 0 t.vars;
   is_state = λ v s. are_values t.vars s;
@@ -136,13 +136,13 @@ jani_model j = record {
 
 -- One automaton for the module, one variable for each variable and one edge for each command, in order, with the same
 -- tests and writes in order.
-pub record IsShape (t : SmallPrism) (j : SmallJani) : Type 0 where
-  pub automaton : j.automaton ≡ t.«module»
+pub record IsShape (t : Small) (j : SmallJani) : Type 0 where
+  pub automaton : j.automaton ≡ t.name
   pub variables : j.variables ≡ t.vars
   pub edges : j.edges ≡ t.commands
 
 -- the same process, states being at the one location and the other things keeping their places
-abbrev pub IsSame : SmallPrism → SmallJani → Type 0
+abbrev pub IsSame : Small → SmallJani → Type 0
 IsSame t j = SameProcess (prism_model t) (jani_model j) (λ f. f) (λ l. l) at_home
 
 -- different models have different texts

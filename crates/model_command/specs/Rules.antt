@@ -1,4 +1,4 @@
--- The rules of small files, and their limits but for those of names and numbers, which stand with the tokens.
+-- The rules of small files, and their limits but for those of names, numbers and tokens, which all files have.
 -- (PRISM manual, "The PRISM Language": "Modules and Variables", "Commands". The limits are this project's own.)
 use Rattle.std.specs.Prelude.{ℕ, ◌+◌, ◌*◌, ◌-◌, Bool, true, not, ◌&&◌, nat_lt, nat_le, List, [], ◌∷◌, length, take, codes}
 use Rattle.std.specs.List.{list_all, list_any, sum_by}
@@ -6,7 +6,7 @@ use Rattle.std.specs.Str.{bytes_eq}
 use Rattle.model_command.specs.declared.trees.SmallVar.{SmallVar}
 use Rattle.model_command.specs.declared.trees.SmallPair.{SmallPair}
 use Rattle.model_command.specs.declared.trees.SmallCommand.{SmallCommand}
-use Rattle.model_command.specs.declared.trees.SmallPrism.{SmallPrism}
+use Rattle.model_command.specs.SmallForm.{Small}
 
 abbrev pub is_declared : List SmallVar → List ℕ → Bool
 is_declared vars name = list_any (λ v. bytes_eq v.name name) vars
@@ -50,10 +50,10 @@ abbrev pub nodes_of : SmallCommand → ℕ
 nodes_of c = (4 * length c.tests - 1) + length c.writes
 
 -- at most 200,000 commands, and at most 2,000,000 expression nodes, of which a variable has three
-unfoldable pub is_within_limits : SmallPrism → Bool
+unfoldable pub is_within_limits : Small → Bool
 is_within_limits t = nat_le (length t.commands) 200000 && nat_le (3 * length t.vars + sum_by nodes_of t.commands) 2000000
 
-unfoldable pub is_proper : SmallPrism → Bool
+unfoldable pub is_proper : Small → Bool
 is_proper t =
-    is_free t.«module» && (are_distinct t.vars && (list_all (λ v. is_free v.name) t.vars
+    is_free t.name && (are_distinct t.vars && (list_all (λ v. is_free v.name) t.vars
     && (list_all (is_proper_command t.vars) t.commands && is_within_limits t)))

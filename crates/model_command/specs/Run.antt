@@ -5,11 +5,12 @@ use Rattle.bridge_io.specs.Outside.{HasFailed, Lefts, Takes, IsSpent, AppendsFro
 use Rattle.bridge_io.specs.ReadFail.{IsTooLong}
 use Rattle.bridge_io.specs.declared.transfer.ReadFail.TheVariants.{TooLong as TooLongAt}
 use Rattle.bridge_io.specs.declared.reason.Reason.{Reason}
-use Rattle.bridge_io.specs.declared.reason.Reason.TheVariants.{TooLong, NotYet}
+use Rattle.bridge_io.specs.declared.reason.Reason.TheVariants.{TooLong}
+use Rattle.bridge_io.specs.declared.reason.Fault.{Fault}
 use Rattle.bridge_io.specs.declared.place.Place.{Place}
 use Rattle.model_command.specs.Words.{IsTranslation, IsWrongAt}
-use Rattle.model_command.specs.Translation.{Translates, IsSmallFile}
-use Rattle.model_command.specs.Outcome.{status_of, line_of, text_of, name_in}
+use Rattle.model_command.specs.Translation.{Translates, IsLeast}
+use Rattle.model_command.specs.Outcome.{status_of, line_of, text_of, name_in, place_in}
 use Rattle.model_command.specs.declared.outcome.Outcome.{Outcome}
 use Rattle.model_command.specs.declared.outcome.Outcome.TheVariants.{Done, Refused, Words, ReadFault, NoMemory}
 
@@ -19,12 +20,11 @@ pub record IsWhole (before after : Option Lefts) (name bytes : List ℕ) : Type 
   pub spent : IsSpent after name
   pub within : length bytes ≤ 16777216
 
--- The file is longer than the limit, or it was read and isn't small.
+-- The file is longer than the limit, or it was read and this is its least fault.
 abbrev pub IsRefusal : Option Lefts → Option Lefts → List ℕ → Reason → Place → Type 0
 IsRefusal before after name reason place =
     ((reason ≡ TooLong) × IsTooLong before after name 16777216 (TooLongAt place))
-    ⊎ ((reason ≡ NotYet) × (place ≡ record { line = 1; column = 1 })
-    × ((bytes : List ℕ) × IsWhole before after name bytes × (IsSmallFile bytes → ⊥)))
+    ⊎ ((bytes : List ℕ) × (f : Fault) × IsWhole before after name bytes × IsLeast bytes f × (reason ≡ f.reason) × (place ≡ place_in bytes f.at))
 
 -- why a run ends so
 abbrev pub IsCause : {S : Type 0} → (S → Option Lefts) → (S → ℕ) → (S → List ℕ → Type 0) → List (List ℕ) → S → S → Outcome → Type 0

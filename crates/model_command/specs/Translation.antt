@@ -1,10 +1,13 @@
 -- A small file, and its translation.
-use Rattle.std.specs.Prelude.{◌≡◌, ℕ, List, [], ◌∷◌, ◌++◌, IsTrue, Result, Ok, Err}
-use Rattle.model_command.specs.declared.tokens.Stop.{Stop}
-use Rattle.model_command.specs.declared.tokens.Stop.TheVariants.{Memory, NotSmall}
-use Rattle.model_command.specs.declared.trees.SmallPrism.{SmallPrism}
-use Rattle.model_command.specs.SmallForm.{prism_tokens, AllOf, IsSmall}
-use Rattle.model_command.specs.Lexing.{SmallTokens}
+use Rattle.std.specs.Prelude.{◌≡◌, ◌⊎◌, ℕ, List, [], ◌∷◌, ◌++◌, IsTrue, Option, Some, None, Result, Ok, Err}
+use Rattle.bridge_io.specs.declared.reason.Fault.{Fault}
+use Rattle.bridge_io.specs.declared.reason.Reason.TheVariants.{NotYet}
+use Rattle.bridge_io.specs.declared.reason.Refused.{Refused}
+use Rattle.bridge_io.specs.declared.reason.Refused.TheVariants as R
+use Rattle.prism_tree.specs.Syntax.{File}
+use Rattle.prism_tree.specs.Faults.{Spells, SyntaxFaults}
+use Rattle.prism_parse.specs.Parsed.{IsSpelled, IsLeastFault}
+use Rattle.model_command.specs.SmallForm.{Small, small_in, AllOf}
 use Rattle.model_command.specs.declared.trees.SmallJani.{SmallJani}
 use Rattle.model_command.specs.Jani.{jani_text}
 use Rattle.model_command.specs.Meaning.{IsShape, IsSame}
@@ -13,14 +16,14 @@ use Rattle.model_command.specs.declared.trees.SmallPair.{SmallPair}
 use Rattle.model_command.specs.declared.trees.SmallCommand.{SmallCommand}
 use Rattle.model_command.specs.Rules.{is_declared, are_distinct, are_once, is_proper}
 
--- The tokens of the bytes spell the tree, which keeps the rules and the limits.
-pub record Spells (bytes : List ℕ) (tree : SmallPrism) : Type 0 where
-  pub spelled : SmallTokens bytes (prism_tokens tree)
-  pub proper : IsTrue (is_proper tree)
+-- The tree has the small form with these parts, which keep the rules and the limits.
+pub record IsSmall (tree : File) (small : Small) : Type 0 where
+  pub form : small_in tree ≡ Some small
+  pub proper : IsTrue (is_proper small)
 
--- small files: the bytes spell a tree
+-- small files: the bytes have no fault, and spell a tree of the small form
 abbrev pub IsSmallFile : List ℕ → Type 0
-IsSmallFile bytes = (tree : SmallPrism) × Spells bytes tree
+IsSmallFile bytes = SyntaxFaults bytes [] × ((tree : File) × Spells bytes tree × ((small : Small) × IsSmall tree small))
 
 abbrev pub AreDeclared : List SmallVar → List SmallPair → Type 0
 AreDeclared vars ps = AllOf (λ (p : SmallPair). IsTrue (is_declared vars p.name)) ps
@@ -37,30 +40,42 @@ pub record IsClean (vars : List SmallVar) (edges : List SmallCommand) : Type 0 w
 abbrev pub SpellsJani : List ℕ → SmallJani → Type 0
 SpellsJani text model = text ≡ jani_text model ++ 10 ∷ []
 
--- The bytes spell one tree, the text spells one model, and the model is the tree's translation and means the same.
-pub record IsTranslated (bytes text : List ℕ) (tree : SmallPrism) (model : SmallJani) : Type 0 where
-  pub read : Spells bytes tree
-  pub one_read : (other : SmallPrism) → Spells bytes other → other ≡ tree
+-- The bytes have no fault and spell one tree, which is small; the text spells one model; and the model is the translation of
+-- what the tree consists of, and means the same.
+pub record IsTranslated (bytes text : List ℕ) (tree : File) (small : Small) (model : SmallJani) : Type 0 where
+  pub read : IsSpelled bytes tree
+  pub small_form : IsSmall tree small
   pub written : SpellsJani text model
   pub one_written : (other : SmallJani) → SpellsJani text other → other ≡ model
   pub clean : IsClean model.variables model.edges
-  pub shape : IsShape tree model
-  pub same : IsSame tree model
+  pub shape : IsShape small model
+  pub same : IsSame small model
 
 abbrev pub Translates : List ℕ → List ℕ → Type 0
-Translates bytes text = (tree : SmallPrism) × (model : SmallJani) × IsTranslated bytes text tree model
+Translates bytes text = (tree : File) × (small : Small) × (model : SmallJani) × IsTranslated bytes text tree small model
 
--- The bytes spell this tree by the grammar, and no other.
-pub record IsReadFrom (bytes : List ℕ) (tree : SmallPrism) : Type 0 where
-  pub spelled : SmallTokens bytes (prism_tokens tree)
-  pub one : (other : SmallPrism) → IsSmall other → SmallTokens bytes (prism_tokens other) → other ≡ tree
+-- the parts of the model
+abbrev pub parts_of : SmallJani → Small
+parts_of j = record { name = j.automaton; vars = j.variables; commands = j.edges }
 
--- The bytes spell no tree by the grammar.
-abbrev pub SpellsNone : List ℕ → Type 0
-SpellsNone bytes = (tree : SmallPrism) → IsSmall tree → SmallTokens bytes (prism_tokens tree) → ⊥
+-- The file has the small form and this is its translation, which means the same; or it doesn't have it.
+abbrev pub IsImage : File → Option SmallJani → Type 0
+IsImage tree None = small_in tree ≡ None
+IsImage tree (Some model) = (small : Small) × (small_in tree ≡ Some small) × IsShape small model × IsSame small model
 
--- the one tree, or none, unless memory ran out
-abbrev pub GivesTree : List ℕ → Result SmallPrism Stop → Type 0
-GivesTree bytes (Ok tree) = IsReadFrom bytes tree
-GivesTree bytes (Err NotSmall) = SpellsNone bytes
-GivesTree bytes (Err Memory) = Unit {0}
+-- The bytes have no fault, but aren't a small file: that is said at their start.
+pub record IsNotYet (bytes : List ℕ) (f : Fault) : Type 0 where
+  pub reason : f.reason ≡ NotYet
+  pub start : f.at ≡ 0
+  pub clean : SyntaxFaults bytes []
+  pub none : IsSmallFile bytes → ⊥
+
+-- the least fault of bytes that aren't a small file
+abbrev pub IsLeast : List ℕ → Fault → Type 0
+IsLeast bytes f = IsLeastFault bytes f ⊎ IsNotYet bytes f
+
+-- The bytes were translated to a text, or refused at their least fault; want of memory may come at any time.
+abbrev pub Judged : List ℕ → Result (List ℕ) Refused → Type 0
+Judged bytes (Ok text) = Translates bytes text
+Judged bytes (Err (R.Memory e)) = Unit {0}
+Judged bytes (Err (R.At f)) = IsLeast bytes f

@@ -11,7 +11,7 @@ ghost use Rattle.model_command.specs.Headline.{IsHeadline};
 use crate::outcome::Outcome;
 use crate::translation::translate;
 use crate::words::{file_of, name_of};
-use bridge_io::{List, Place, ReadFail, Reason, Shelf, Sink, read_all, write_whole};
+use bridge_io::{List, ReadFail, Reason, Refused, Shelf, Sink, place_of, read_all, write_whole};
 use std::alloc::Global;
 
 // The most bytes of a file.
@@ -26,7 +26,7 @@ const WRITE_FAULT: u8 = 5;
 /// | status | when | on `out` | on `err`, each line with its LF |
 /// |---|---|---|---|
 /// | 0 | the file is small, and was translated | the JANI text and LF | nothing |
-/// | 2 | the file is longer than 16,777,216 bytes, or isn't small | nothing | `FILE:LINE:COLUMN: reason NO Name` |
+/// | 2 | the file is longer than 16,777,216 bytes, or has a fault of its tokens or grammar, or isn't small | nothing | `FILE:LINE:COLUMN: reason NO Name` |
 /// | 3 | the words are of no form | nothing | `bridge: word K`, K being the first word with which no form goes on |
 /// | 4 | a read failed | nothing | `bridge: read fault FILE` |
 /// | 5 | a write failed | a front of the text | a front of `bridge: write fault`, or of the line, where `err` failed |
@@ -110,9 +110,11 @@ fn judge<H: Shelf>(alloc: Global, words: &[String], shelf: &mut H) -> Outcome
         Err(ReadFail::TooLong(place)) => return Outcome::Refused(Reason::TooLong, place),
     };
     match translate(alloc, bytes.as_slice()) {
-        Ok(Some(text)) => Outcome::Done(text),
-        Ok(None) => Outcome::Refused(Reason::NotYet, Place { line: 1, column: 1 }),
-        Err(_) => Outcome::NoMemory,
+        Ok(text) => Outcome::Done(text),
+        Err(Refused::At(fault)) => {
+            Outcome::Refused(fault.reason, place_of(bytes.as_slice(), fault.at))
+        }
+        Err(Refused::Memory(_)) => Outcome::NoMemory,
     }
 }
 

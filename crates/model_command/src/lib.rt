@@ -4,13 +4,11 @@
 #![tactic(auto)]
 
 mod command;
-mod lexing;
 mod names;
 mod outcome;
 mod pieces;
-mod reader;
 mod rules;
-mod tokens;
+mod small;
 mod translation;
 mod trees;
 mod words;
@@ -18,6 +16,5 @@ mod writer;
 
 pub use command::run;
 pub use outcome::Outcome;
-pub use tokens::Mark;
 pub use translation::{one_tree, translated};
-pub use trees::{SmallCommand, SmallJani, SmallPair, SmallPrism, SmallVar};
+pub use trees::{SmallCommand, SmallJani, SmallPair, SmallVar};

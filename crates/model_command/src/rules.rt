@@ -3,9 +3,10 @@ ghost use Rattle.std.specs.Prelude.{◌≡◌, ◌<◌, ◌≤◌, ◌^◌, leng
 ghost use Rattle.std.specs.List.{sum_by, list_all};
 ghost use Rattle.model_command.specs.Rules.{nodes_of, is_written, are_distinct, are_once, is_free, is_within_limits, is_proper};
 ghost use Rattle.model_command.specs.NamesOf.{AreNamesOf, is_known, keeps_rules};
+ghost use Rattle.model_command.specs.Translation.{parts_of};
 
 use crate::names::Names;
-use crate::trees::{SmallCommand, SmallPair, SmallPrism, SmallVar};
+use crate::trees::{SmallCommand, SmallJani, SmallPair, SmallVar};
 use std::alloc::{AllocError, Global};
 
 // Up to so many writes are compared with one another.
@@ -155,29 +156,29 @@ fn nodes_in(commands: &[SmallCommand]) -> u128
 }
 
 #[tactic(auto, unfolding(crate::specs::Rules::is_within_limits))]
-fn is_within_limits(t: &SmallPrism) -> bool
-    ensures { result ≡ is_within_limits t.now }
+fn is_within_limits(t: &SmallJani) -> bool
+    ensures { result ≡ is_within_limits (parts_of t.now) }
 {
-    if t.commands.len() > 200_000 {
+    if t.edges.len() > 200_000 {
         return false;
     }
-    let vars = t.vars.len() as u128;
-    3 * vars + nodes_in(t.commands.as_slice()) <= 2_000_000
+    let vars = t.variables.len() as u128;
+    3 * vars + nodes_in(t.edges.as_slice()) <= 2_000_000
 }
 
-/// Whether a tree keeps the rules and the limits of small files.
+/// Whether the parts of a model keep the rules and the limits of small files.
 #[tactic(auto, unfolding(crate::specs::Rules::is_proper))]
-pub(crate) fn is_proper(alloc: Global, t: &SmallPrism) -> Result<bool, AllocError>
-    ensures { IfOk result (λ proper. proper ≡ is_proper t.now) }
+pub(crate) fn is_proper(alloc: Global, t: &SmallJani) -> Result<bool, AllocError>
+    ensures { IfOk result (λ proper. proper ≡ is_proper (parts_of t.now)) }
 {
-    if !is_free(t.module.as_str()) {
+    if !is_free(t.automaton.as_str()) {
         return Ok(false);
     }
-    let Some(names) = names_of(alloc, t.vars.as_slice())? else {
+    let Some(names) = names_of(alloc, t.variables.as_slice())? else {
         return Ok(false);
     };
-    if !are_free(t.vars.as_slice()) || !is_within_limits(t) {
+    if !are_free(t.variables.as_slice()) || !is_within_limits(t) {
         return Ok(false);
     }
-    are_proper_commands(alloc, &names, t.commands.as_slice())
+    are_proper_commands(alloc, &names, t.edges.as_slice())
 }

@@ -1,27 +1,28 @@
 //! The translation of a small file.
-ghost use Rattle.std.specs.Prelude.{◌≡◌, ◌≤◌, IfOk, MatchOption, length};
-ghost use Rattle.model_command.specs.Meaning.{IsShape, IsSame, OneTree};
-ghost use Rattle.model_command.specs.Translation.{IsSmallFile, Translates, GivesTree};
+ghost use Rattle.std.specs.Prelude.{◌≡◌, ◌∷◌, [], ◌++◌, IfOk};
+ghost use Rattle.prism_tree.specs.Syntax.{file_of};
+ghost use Rattle.model_command.specs.Jani.{jani_text};
+ghost use Rattle.model_command.specs.Meaning.{OneTree};
+ghost use Rattle.model_command.specs.Translation.{IsImage, Judged};
+ghost use Rattle.bridge_io.specs.declared.reason.Refused.TheVariants as R;
+ghost use Rattle.bridge_io.specs.declared.reason.Reason.TheVariants.{NotYet};
 
-use crate::lexing::{one_small_list, small_tokens};
-use crate::reader::read;
 use crate::rules::is_proper;
-use crate::tokens::{Stop, Tokens};
-use crate::trees::{SmallJani, SmallPrism};
+use crate::small::small_in;
+use crate::trees::SmallJani;
 use crate::writer::write_model;
-use bridge_io::List;
+use bridge_io::{Fault, List, Reason, Refused};
+use prism_parse::parse;
+use prism_tree::PrismFile;
 use std::alloc::{AllocError, Global};
 
-/// The model that a small file is translated to: it has the file's shape, and means the same process.
-pub fn translated(tree: SmallPrism) -> SmallJani
-    ensures shape { IsShape tree result }
-    ensures same { IsSame tree result }
+/// The model that a file of the small form is translated to: it has the shape of what the file consists of, and means the
+/// same process. None where the file doesn't have that form. The only error is want of memory.
+#[tactic(auto, using(crate::proofs::Same::image))]
+pub fn translated(alloc: Global, file: &PrismFile) -> Result<Option<SmallJani>, AllocError>
+    ensures { IfOk result (IsImage (file_of file.now)) }
 {
-    SmallJani {
-        automaton: tree.module,
-        variables: tree.vars,
-        edges: tree.commands,
-    }
+    small_in(alloc, file)
 }
 
 /// Two different models have different texts.
@@ -29,41 +30,40 @@ pub fn one_tree()
     ensures { OneTree }
 {}
 
-/// The text that the bytes are translated to; none where they aren't a small file.
-pub(crate) fn translate(alloc: Global, bytes: &[u8]) -> Result<Option<List<u8>>, AllocError>
-    requires { length bytes.now ≤ 16777216 }
-    ensures { IfOk result (λ found. MatchOption found (IsSmallFile bytes.now → ⊥) (Translates bytes.now)) }
+/// The text that the bytes are translated to, or their least fault.
+pub(crate) fn translate(alloc: Global, bytes: &[u8]) -> Result<List<u8>, Refused>
+    ensures { Judged bytes.now result }
 {
     one_tree();
-    let tree = match small_tree(alloc, bytes) {
-        Ok(tree) => tree,
-        Err(Stop::Memory) => return Err(AllocError),
-        Err(Stop::NotSmall) => return Ok(None),
+    let file = match parse(alloc, bytes) {
+        Ok(file) => file,
+        Err(refused) => return Err(refused),
     };
-    if !is_proper(alloc, &tree)? {
-        return Ok(None);
+    let Some(model) = translated(alloc, &file)? else {
+        return Err(not_yet());
+    };
+    if !is_proper(alloc, &model)? {
+        return Err(not_yet());
     }
-    let model = translated(tree);
-    let mut text = write_model(alloc, &model)?;
-    text.push(b'\n')?;
-    Ok(Some(List::from_vec(text)))
+    let text = written(alloc, &model)?;
+    Ok(text)
 }
 
-// The tree that the bytes spell.
-fn small_tree(alloc: Global, bytes: &[u8]) -> Result<SmallPrism, Stop>
-    requires { length bytes.now ≤ 16777216 }
-    ensures { GivesTree bytes.now result }
+// The text of the model and LF.
+fn written(alloc: Global, model: &SmallJani) -> Result<List<u8>, AllocError>
+    ensures { IfOk result (λ text. text ≡ jani_text model.now ++ 10 ∷ []) }
 {
-    one_small_list();
-    let found = match small_tokens(alloc, bytes) {
-        Ok(found) => found,
-        Err(stop) => return Err(stop),
-    };
-    read(
-        alloc,
-        Tokens {
-            bytes,
-            found: &found,
-        },
-    )
+    let mut text = write_model(alloc, model)?;
+    text.push(b'\n')?;
+    Ok(List::from_vec(text))
+}
+
+// The file has no fault, but isn't small.
+fn not_yet() -> Refused
+    ensures { result ≡ R.At (record { reason = NotYet; at = 0 }) }
+{
+    Refused::At(Fault {
+        reason: Reason::NotYet,
+        at: 0,
+    })
 }

@@ -1,5 +1,5 @@
-//! The trees of the small form: one PRISM module whose unlabelled commands compare variables with numbers and
-//! assign numbers to them, and the JANI model of one automaton that it is translated to.
+//! What small files are translated to: a JANI model of one automaton, whose edges compare variables with numbers and
+//! assign numbers to them.
 use bridge_io::{List, Text};
 
 /// A bounded variable: its name, its least and its greatest value, and its first one.
@@ -23,14 +23,6 @@ pub struct SmallPair {
 pub struct SmallCommand {
     pub tests: List<SmallPair>,
     pub writes: List<SmallPair>,
-}
-
-/// A PRISM file of one module.
-#[derive(Drop)]
-pub struct SmallPrism {
-    pub module: Text,
-    pub vars: List<SmallVar>,
-    pub commands: List<SmallCommand>,
 }
 
 /// A JANI model of one automaton, which has one location. The variables are global.

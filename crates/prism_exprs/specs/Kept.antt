@@ -1,0 +1,59 @@
+-- The tokens that the code keeps, as the grammar sees them.
+use Rattle.std.specs.Prelude.{ℕ, ◌-◌, Bool, false, List, map, take, drop, Option, Some, None, slice_get, if◌then◌else◌}
+use Rattle.std.specs.Str.{is_utf8}
+use Rattle.prism_lex.specs.declared.token.TokenKind.{TokenKind}
+use Rattle.prism_lex.specs.declared.token.TokenKind.TheVariants as K
+use Rattle.prism_lex.specs.Tokens.{Lexeme}
+use Rattle.prism_lex.specs.declared.words.Reserved.{Reserved}
+use Rattle.prism_lex.specs.declared.symbols.Symbol.{Symbol as PrismSymbol}
+use Rattle.prism_lex.specs.contracts.words.Reserved.{the_type as words}
+use Rattle.prism_lex.specs.contracts.symbols.Symbol.{the_type as symbols}
+use denote.Enum.Bare.{sameb}
+use Rattle.prism_tree.specs.declared.operator.PrismOp.{PrismOp}
+use Rattle.prism_tree.specs.Grammar.{infix_at}
+use Rattle.prism_exprs.specs.declared.tokens.Kept.{Kept}
+use Rattle.prism_exprs.specs.declared.tokens.Kept.TheVariants.{Word, Symbol, Ident, Quoted, Number}
+use Rattle.prism_exprs.specs.declared.tokens.Found.{Found}
+use Rattle.prism_exprs.specs.declared.tokens.Literal.{Literal}
+use Rattle.prism_exprs.specs.declared.tokens.Tokens.{Tokens}
+
+abbrev pub text_at : List ℕ → ℕ → ℕ → List ℕ
+text_at bytes at end = take (end - at) (drop at bytes)
+
+abbrev pub made : TokenKind → List ℕ → ℕ → Lexeme
+made kind text at = record { kind = kind; text = text; at = at }
+
+-- A name that is no text, or a number that is no literal, is seen as an end, which no grammar reads.
+abbrev pub name_at : TokenKind → List ℕ → ℕ → Lexeme
+name_at kind text at = if is_utf8 text then made kind text at else made K.End text at
+
+abbrev pub literal_at : List ℕ → Option Literal → ℕ → Lexeme
+literal_at bytes None at = made K.End (text_at bytes at at) at
+literal_at bytes (Some n) at = made (K.Number n.value) (text_at bytes at n.end) at
+
+abbrev pub lexeme_by : List ℕ → List Literal → Kept → ℕ → ℕ → Lexeme
+lexeme_by bytes literals (Word r) at end = made (K.Word r) (text_at bytes at end) at
+lexeme_by bytes literals (Symbol s) at end = made (K.Symbol s) (text_at bytes at end) at
+lexeme_by bytes literals Ident at end = name_at K.Ident (text_at bytes at end) at
+lexeme_by bytes literals Quoted at end = name_at K.Quoted (text_at bytes at end) at
+lexeme_by bytes literals Number at end = literal_at bytes (slice_get literals end) at
+
+abbrev pub lexeme_at : List ℕ → List Literal → Found → Lexeme
+lexeme_at bytes literals f = lexeme_by bytes literals f.kind f.at f.end
+
+abbrev pub seen : Tokens → List Lexeme
+seen t = map (lexeme_at t.bytes.now t.literals.now) t.found.now
+
+-- ---- what the code looks at
+
+abbrev pub kept_symbol : Kept → PrismSymbol → Bool
+kept_symbol (Symbol a) b = sameb symbols a b
+kept_symbol k b = false
+
+abbrev pub kept_word : Kept → Reserved → Bool
+kept_word (Word a) b = sameb words a b
+kept_word k b = false
+
+abbrev pub kept_infix : Kept → Option (ℕ × PrismOp)
+kept_infix (Symbol s) = infix_at s
+kept_infix k = None

@@ -1,0 +1,69 @@
+-- Which tokens go on with an expression of a level, and which begin one: what a reader of expressions looks at.
+use Rattle.std.specs.Prelude.{◌≡◌, ℕ, ◌<◌, nat_lt, Bool, true, false, ◌||◌, Option, Some, None}
+use Rattle.prism_lex.specs.declared.token.TokenKind.{TokenKind}
+use Rattle.prism_lex.specs.declared.token.TokenKind.TheVariants as K
+use Rattle.prism_lex.specs.declared.words.Reserved.TheVariants as W
+use Rattle.prism_lex.specs.declared.symbols.Symbol.{Symbol}
+use Rattle.prism_lex.specs.declared.symbols.Symbol.TheVariants as S
+use Rattle.op_trees.specs.Tree.{Two}
+use Rattle.prism_tree.specs.declared.operator.PrismOp.{PrismOp}
+use Rattle.prism_tree.specs.Syntax.{Expression}
+use Rattle.prism_tree.specs.Lang.{Lang, gives, ◌>>=◌, ◌>>◌, folding}
+use Rattle.prism_exprs.specs.Reading.{is_kind}
+use Rattle.prism_tree.specs.Grammar.{symbol, infix_of, joined_by, operand, argument, level, expr}
+
+abbrev pub is_symbol : Symbol → TokenKind → Bool
+is_symbol s k = is_kind (K.Symbol s) k
+
+-- an operator of a level below n
+abbrev pub binds_below : ℕ → Option (ℕ × PrismOp) → Bool
+binds_below n None = false
+binds_below n (Some p) = nat_lt p.0 n
+
+-- The operators of the levels below n go on with what level n reads. So does '(', which makes a function of a name;
+-- behind another operand it cannot stand.
+abbrev pub more : ℕ → TokenKind → Bool
+more n k = is_symbol S.LeftParenthesis k || binds_below n (infix_of k)
+
+-- the tokens that go on with an expression
+abbrev pub goes_on : TokenKind → Bool
+goes_on k = is_symbol S.Question k || more 10 k
+
+-- those that go on with an argument of min and max
+abbrev pub lists_on : TokenKind → Bool
+lists_on k = is_symbol S.Comma k || goes_on k
+
+-- the tokens that begin an operand without a prefix
+abbrev pub begins_prim : TokenKind → Bool
+begins_prim (K.Word W.True) = true
+begins_prim (K.Word W.False) = true
+begins_prim (K.Word W.Min) = true
+begins_prim (K.Word W.Max) = true
+begins_prim (K.Number d) = true
+begins_prim K.Ident = true
+begins_prim (K.Symbol S.LeftParenthesis) = true
+begins_prim k = false
+
+-- the tokens that begin what a level reads
+pub data CanBegin (n : ℕ) (k : TokenKind) : Type 0 where
+  operand_itself : begins_prim k ≡ true → CanBegin n k
+  minus_sign : 0 < n → k ≡ K.Symbol S.Minus → CanBegin n k
+  not_sign : 5 < n → k ≡ K.Symbol S.Not → CanBegin n k
+
+-- what a chain of a level reads behind its first operand
+abbrev pub others : ℕ → Expression → Lang Expression
+others n e = folding joined_by (operand n (level expr n)) e
+
+-- { , E } behind an expression, to the left, each node at this offset
+abbrev pub more_arguments : PrismOp → ℕ → Expression → Lang Expression
+more_arguments o at e = folding (λ x y. Two at o x y) (argument expr) e
+
+-- ( E , E { , E } ), what stands behind the words min and max at this offset
+unfoldable pub listed : PrismOp → ℕ → Lang Expression
+listed o at = do
+  symbol S.LeftParenthesis
+  a ← expr
+  b ← argument expr
+  e ← more_arguments o at (Two at o a b)
+  symbol S.RightParenthesis
+  gives e

@@ -1,0 +1,4 @@
+pub mod Kept
+pub mod Reading
+pub mod Levels
+pub mod Scope

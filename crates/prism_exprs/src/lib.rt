@@ -1,0 +1,11 @@
+//! The reader of PRISM expressions: tokens as they are kept, and the expressions that they spell.
+#![tactic(auto)]
+
+mod expressions;
+mod limit;
+mod parts;
+mod tokens;
+
+pub use limit::parse_outer;
+pub use parts::{next_is, read_symbol};
+pub use tokens::{Cause, Found, Kept, Literal, Stop, Tokens};

@@ -1,0 +1,139 @@
+// The tokens that are still to be read, as they are kept, and why reading stops.
+ghost use Rattle.std.specs.Prelude.{◌≡◌, map, IfSome, IfNone, true, false, slice_get};
+ghost use Rattle.std.specs.Option.{option_map};
+ghost use Rattle.std.specs.Str.{is_utf8};
+ghost use Rattle.prism_lex.specs.Tokens.{Lexeme};
+ghost use Rattle.prism_exprs.specs.Kept.{text_at, lexeme_at, seen};
+ghost use Rattle.prism_exprs.specs.declared.tokens.Stop.TheVariants.{Memory};
+
+use frac_core::Decimal;
+use prism_lex::{Reserved, Symbol};
+use std::alloc::{AllocError, AllocFailed};
+
+/// What a token is. The value of a number is one of the literals of the file, by its number there.
+#[derive(Clone, Copy, Debug, PartialEq, Eq)]
+pub enum Kept {
+    /// A reserved word.
+    Word(Reserved),
+    /// A symbol.
+    Symbol(Symbol),
+    /// An identifier.
+    Ident,
+    /// A name between quotes.
+    Quoted,
+    /// A number.
+    Number,
+}
+
+/// A token: what it is, where it begins, and where it ends.
+#[derive(Clone, Copy, Debug)]
+pub struct Found {
+    /// What it is.
+    pub kind: Kept,
+    /// The offset of its first byte.
+    pub at: u32,
+    /// The offset behind its last byte; of a number its place among the literals.
+    pub end: u32,
+}
+
+/// A number of the file: its value, and where it ends.
+#[derive(Clone, Copy, Debug)]
+pub struct Literal {
+    /// Its value.
+    pub value: Decimal,
+    /// The offset behind its last byte.
+    pub end: u32,
+}
+
+/// The tokens that are still to be read, and the text in which they stand.
+#[derive(Clone, Copy)]
+pub struct Tokens<'a> {
+    /// The bytes of the file.
+    pub bytes: &'a [u8],
+    /// The numbers of the file.
+    pub literals: &'a [Literal],
+    /// The tokens that are still to be read.
+    pub found: &'a [Found],
+}
+
+/// Why nothing was read.
+#[derive(Drop)]
+pub enum Stop<'a> {
+    /// There was no memory.
+    Memory,
+    /// The first of these tokens cannot stand there, or the end, where there are none.
+    At(Tokens<'a>, Cause),
+}
+
+/// What the place of a token that cannot stand there tells.
+#[derive(Clone, Copy, Debug, PartialEq, Eq)]
+pub enum Cause {
+    /// No more than that.
+    Form,
+    /// An expression has too many tokens.
+    Deep,
+    /// An item could stand there.
+    Item,
+    /// The type of a variable could stand there.
+    Type,
+}
+
+impl<'a> From<AllocError> for Stop<'a> {
+    ghost from_gives = { λ _ e. e ≡ Memory };
+
+    fn from(_: AllocError) -> Stop<'a> {
+        Stop::Memory
+    }
+}
+
+impl<'a, T: Drop> From<AllocFailed<T>> for Stop<'a> {
+    ghost from_gives = { λ _ e. e ≡ Memory };
+
+    fn from(_: AllocFailed<T>) -> Stop<'a> {
+        Stop::Memory
+    }
+}
+
+impl<'a> Tokens<'a> {
+    /// Other tokens of the same text.
+    pub fn with(self, found: &'a [Found]) -> Tokens<'a>
+        ensures { seen result ≡ map (lexeme_at self.entry.bytes.now self.entry.literals.now) found.now }
+    {
+        Tokens {
+            bytes: self.bytes,
+            literals: self.literals,
+            found,
+        }
+    }
+
+    /// The text of a name; none where there is no such text.
+    pub fn text(self, token: Found) -> &'a [u8]
+        ensures { result.now ≡ text_at self.entry.bytes.now token.at token.end }
+    {
+        let from = (token.at as usize).min(self.bytes.len());
+        let rest = self.bytes.split_at(from).1;
+        let room = (token.end as usize).saturating_sub(token.at as usize);
+        rest.split_at(room.min(rest.len())).0
+    }
+
+    /// The text of a name; none where its bytes are no text, and the grammar sees an end.
+    pub fn name(self, token: Found) -> Option<&'a str>
+        ensures some { IfSome result (λ name. (name.now ≡ text_at self.entry.bytes.now token.at token.end) × (is_utf8 name.now ≡ true)) }
+        ensures none { IfNone result (is_utf8 (text_at self.entry.bytes.now token.at token.end) ≡ false) }
+    {
+        match str::from_utf8(self.text(token)) {
+            Ok(name) => Some(name),
+            Err(_) => None,
+        }
+    }
+
+    /// The value of a number; none where it is no literal of the file, and the grammar sees an end.
+    pub fn number(self, token: Found) -> Option<Decimal>
+        ensures { result ≡ option_map (λ n. n.value) (slice_get self.entry.literals.now token.end) }
+    {
+        match self.literals.get(token.end as usize) {
+            Some(literal) => Some(literal.value),
+            None => None,
+        }
+    }
+}

@@ -1,0 +1,114 @@
+-- Languages that are the same, kinds that differ, and what a token closes.
+use Rattle.std.proofs.Common.{◌≡◌, Bool, true, false, List, [], ◌++◌, Some, None, refl, sym, ap, subst, ◌∙◌, append_assoc, inl, inr}
+use Rattle.std.specs.Prelude.{◌⊎◌, ◌||◌}
+use Rattle.prism_lex.specs.declared.token.TokenKind.{TokenKind}
+use Rattle.prism_lex.specs.declared.token.TokenKind.TheVariants as K
+use Rattle.prism_lex.specs.declared.symbols.Symbol.TheVariants as S
+use Rattle.prism_lex.specs.Tokens.{Lexeme}
+use Rattle.prism_tree.specs.Lang.{Lang, token, gives, ◌>>=◌, ◌>>◌, optional}
+use Rattle.prism_exprs.specs.Reading.{none, is_kind, same_kind}
+use Rattle.prism_exprs.specs.Levels.{goes_on}
+use Rattle.prism_exprs.specs.Scope.{Scope, expressions}
+use Rattle.prism_exprs.proofs.Laws.{IsOne, HasWord, token_follows, then_one, then_word, step_one, token_one, token_word, gives_one, gives_word}
+use Rattle.prism_exprs.proofs.Choice.{Same, Opens, token_opens, then_opens, or_word}
+use Rattle.prism_exprs.proofs.Cut.{gives_or_one}
+use Rattle.prism_exprs.proofs.Exprs.{one_within, gives_follows, second_false}
+use Rattle.prism_items.specs.Parts.{closed_by, expression_from}
+use Rattle.prism_items.proofs.Leading.{Leads, leads_on, same_leads}
+use Rattle.prism_items.proofs.Expressions.{expressions_one}
+
+-- ---- the same languages
+
+pub same_trans : {A : Type 0} {L M N : Lang A} → Same L M → Same M N → Same L N
+same_trans p q = record { to = λ w x h. q.to w x (p.to w x h); from = λ w x h. p.from w x (q.from w x h) }
+
+pub same_sym : {A : Type 0} {L M : Lang A} → Same L M → Same M L
+same_sym p = record { to = p.from; from = p.to }
+
+pub same_one : {A : Type 0} {L M : Lang A} {more : TokenKind → Bool} → Same L M → IsOne M more → IsOne L more
+same_one p l = record { one = λ w z v y a b g h. l.one w z v y a b (p.to w a g) (p.to v b h) }
+
+pub assoc : {A B D : Type 0} (L : Lang A) (M : A → Lang B) (N : B → Lang D) → Same ((L >>= M) >>= N) (L >>= λ x. M x >>= N)
+unfolding ◌>>=◌
+assoc L M N = record {
+  to = λ w y h. let i = h.4 in (i.0, i.1, i.2 ++ h.2, h.3 ∙ ap (λ (u : List Lexeme). u ++ h.2) i.3 ∙ append_assoc i.1 i.2 h.2, i.4, (h.0, i.2, h.2, refl, i.5, h.5));
+  from = λ w y h. let i = h.5 in (i.0, h.1 ++ i.1, i.2, h.3 ∙ ap (λ (u : List Lexeme). h.1 ++ u) i.3 ∙ sym (append_assoc h.1 i.1 i.2), (h.0, h.1, i.1, refl, h.4, i.4), i.5);
+}
+
+pub same_then : {A B : Type 0} (L : Lang A) (M N : A → Lang B) → ((x : A) → Same (M x) (N x)) → Same (L >>= M) (L >>= N)
+unfolding ◌>>=◌
+same_then L M N s = record {
+  to = λ w y h. (h.0, h.1, h.2, h.3, h.4, (s h.0).to h.2 y h.5);
+  from = λ w y h. (h.0, h.1, h.2, h.3, h.4, (s h.0).from h.2 y h.5);
+}
+
+pub gives_then : {A B : Type 0} (a : A) (M : A → Lang B) → Same (gives a >>= M) (M a)
+unfolding ◌>>=◌ gives
+gives_then {A} a M = record {
+  to = λ w y h.
+      let F : List Lexeme → Type 0 = λ u. M a u y in
+      let G : A → Type 0 = λ x. M x h.2 y in
+      subst F (sym (h.3 ∙ ap (λ (u : List Lexeme). u ++ h.2) h.4.0)) (subst G h.4.1 h.5);
+  from = λ w y h. (a, [], w, refl, (refl, refl), h);
+}
+
+-- ---- kinds
+
+pub differ : (a b : TokenKind) → same_kind b b ≡ true → same_kind a b ≡ false → (k : TokenKind) → k ≡ a → k ≡ b → ⊥
+differ a b e f k g h =
+    let F : TokenKind → Type 0 = λ j. same_kind j b ≡ false in
+    let n : same_kind b b ≡ false = subst F (sym g ∙ h) f in
+    let m : same_kind b b ≡ true = e in
+    absurd cc
+
+pub either_way : {P Q R : Type 0} → (P → Q → ⊥) → (P → R → ⊥) → P → Q ⊎ R → ⊥
+either_way f g p (inl q) = f p q
+either_way f g p (inr r) = g p r
+
+pub opens_in : {A : Type 0} {L : Lang A} (P Q : TokenKind → Type 0) → Opens L P → ((k : TokenKind) → P k → Q k) → Opens L Q
+opens_in P Q o h w a p = let n = o w a p in (n.0, n.1, n.2, h (n.0).kind n.3)
+
+-- a test that a kind passes, at a token of this kind
+pub passes : (test : TokenKind → Bool) (kind : TokenKind) (b : Bool) → test kind ≡ b → (k : TokenKind) → k ≡ kind → test k ≡ b
+passes test kind b e k h = let F : TokenKind → Type 0 = λ j. test j ≡ b in subst F (sym h) e
+
+-- ---- what a token closes
+
+pub closed_one : {A : Type 0} (k : TokenKind) (m : TokenKind → Bool) {L : Lang A} → IsOne L m → m k ≡ false → IsOne (closed_by k L) none
+unfolding closed_by
+closed_one k m l h = then_one m l (λ x. step_one _ (token_one k) (λ t. gives_one x none)) (token_follows m k _ none h)
+
+pub closed_word : {A : Type 0} (k : TokenKind) {L : Lang A} → HasWord L → HasWord (closed_by k L)
+unfolding closed_by
+closed_word k l = then_word l (λ x. then_word (token_word k) (λ t. gives_word x))
+
+pub closed-same : {A B : Type 0} (k : TokenKind) (L : Lang A) (N : A → Lang B) → Same (L >>= λ x. token k >>= λ t. N x) (closed_by k L >>= N)
+unfolding closed_by
+closed-same k L N =
+    same_sym (same_trans (assoc L _ _) (same_then L _ _ (λ x. same_trans (assoc (token k) _ _) (same_then (token k) _ _ (λ t. gives_then x N)))))
+
+-- The part that comes next is read with the token that closes it.
+pub closing : {A B : Type 0} (k : TokenKind) (K : Lang A) (N : A → Lang B) {L : Lang B} {more : TokenKind → Bool} {ts us : List Lexeme} → Leads more L ts (K >>= λ x. token k >>= λ t. N x) us → Leads more L ts (closed_by k K >>= N) us
+closing k K N {more = more} {us = us} l = leads_on l (same_leads more us (closed-same k K N))
+
+-- The two parts that come next are read together.
+pub grouping : {A B D : Type 0} (K : Lang A) (M : A → Lang B) (N : B → Lang D) {L : Lang D} {more : TokenKind → Bool} {ts us : List Lexeme} → Leads more L ts (K >>= λ x. M x >>= N) us → Leads more L ts ((K >>= M) >>= N) us
+grouping K M N {more = more} {us = us} l = leads_on l (same_leads more us (same_sym (assoc K M N)))
+
+-- ---- an expression that may be missing
+
+or_left : (a b : Bool) → a ≡ true → (a || b) ≡ true
+or_left true b h = refl
+or_left false b h = absurd cc
+
+pub optional_one : (s : Scope) (k : TokenKind) → same_kind k k ≡ true → IsOne (optional (token k >> expressions s)) (expression_from k)
+optional_one s k same =
+    gives_or_one None (λ j. j ≡ k) (then_opens _ _ (then_opens _ _ (token_opens k))) (λ j h. or_left _ _ (let F : TokenKind → Type 0 = λ i. same_kind i k ≡ true in subst F (sym h) same))
+    (one_within (λ j h. second_false (is_kind k j) _ h) (then_one goes_on (step_one _ (token_one k) (λ t. expressions_one s)) (λ x. gives_one (Some x) goes_on) (gives_follows (λ x. Some x) goes_on)))
+
+pub optional_word : {A : Type 0} (L : Lang A) → HasWord (optional L)
+optional_word L = or_word _ _ (gives_word None)
+
+-- [ K E ] ;
+pub ended_one : (s : Scope) (k : TokenKind) → same_kind k k ≡ true → expression_from k (K.Symbol S.Semicolon) ≡ false → IsOne (closed_by (K.Symbol S.Semicolon) (optional (token k >> expressions s))) none
+ended_one s k same h = closed_one _ (expression_from k) (optional_one s k same) h

@@ -1,0 +1,13 @@
+pub mod Expressions
+pub mod Leading
+pub mod Seen
+pub mod Closing
+pub mod Declaring
+pub mod Choosing
+pub mod Lacking
+pub mod Updating
+pub mod Splitting
+pub mod Building
+pub mod Rewarding
+pub mod Sectioning
+pub mod Filing

@@ -1,0 +1,177 @@
+// Constants, formulas, labels and variables.
+ghost use Rattle.std.specs.Prelude.{◌≡◌};
+ghost use Rattle.std.specs.Option.{option_map};
+ghost use Rattle.op_trees.specs.Tree.{tree};
+ghost use Rattle.prism_lex.specs.declared.token.TokenKind.TheVariants as K;
+ghost use Rattle.prism_lex.specs.declared.words.Reserved.TheVariants as W;
+ghost use Rattle.prism_lex.specs.declared.symbols.Symbol.TheVariants as S;
+ghost use Rattle.prism_tree.specs.Lang.{◌>>◌, optional};
+ghost use Rattle.prism_tree.specs.Grammar.{word, symbol, const_type, const_item, formula_item, label_item, range, var, global_item};
+ghost use Rattle.prism_tree.specs.Syntax.{const_of, formula_of, label_of, range_of, var_of};
+ghost use Rattle.prism_exprs.specs.Kept.{seen};
+ghost use Rattle.prism_exprs.specs.Reading.{none};
+ghost use Rattle.prism_exprs.specs.Scope.{ParsesIn, expressions};
+ghost use Rattle.prism_items.specs.Parts.{in_scope, domain, value_part, start_part, kept_type, type_front};
+
+use crate::readers::{read_name, read_quoted, read_symbol, read_word, symbol_next, word_next};
+use op_trees::Ty;
+use prism_exprs::{Cause, Kept, Stop, Tokens, parse_outer};
+use prism_lex::{Reserved, Symbol};
+use prism_tree::{Pe, PrismConst, PrismFormula, PrismLabel, PrismRange, PrismVar};
+use std::alloc::Global;
+
+/// The type of constants that a token is.
+fn type_of(kind: Kept) -> Option<Ty>
+    ensures { result ≡ kept_type kind }
+{
+    match kind {
+        Kept::Word(Reserved::Int) => Some(Ty::Int),
+        Kept::Word(Reserved::Double) => Some(Ty::Real),
+        Kept::Word(Reserved::BoolWord) => Some(Ty::Bool),
+        _ => None,
+    }
+}
+
+/// The type that stands next, which is int where none does, and the tokens behind it.
+fn read_type<'a>(tokens: Tokens<'a>) -> (Ty, Tokens<'a>)
+    ensures { (result.0, seen result.1) ≡ type_front (seen tokens.entry) }
+{
+    let Some((first, rest)) = tokens.found.split_first() else {
+        return (Ty::Int, tokens);
+    };
+    let Some(ty) = type_of(first.kind) else {
+        return (Ty::Int, tokens);
+    };
+    (ty, tokens.with(rest))
+}
+
+/// `[ = E ] ;`
+fn parse_value<'a>(alloc: Global, tokens: Tokens<'a>) -> Result<(Option<Pe>, Tokens<'a>), Stop<'a>>
+    ensures { ParsesIn (option_map tree) (in_scope value_part) none (seen tokens.entry) result }
+{
+    if !symbol_next(tokens, Symbol::Equal) {
+        let (_end, rest) = read_symbol(tokens, Symbol::Semicolon)?;
+        return Ok((None, rest));
+    }
+    let (_equal, rest) = read_symbol(tokens, Symbol::Equal)?;
+    let (value, rest) = parse_outer(alloc, rest)?;
+    let (_close, rest) = read_symbol(rest, Symbol::Semicolon)?;
+    Ok((Some(value), rest))
+}
+
+/// `const [ int | double | bool ] Ident [ = E ] ;`
+pub(crate) fn parse_const<'a>(
+    alloc: Global,
+    tokens: Tokens<'a>,
+) -> Result<(PrismConst, Tokens<'a>), Stop<'a>>
+    ensures { ParsesIn const_of (in_scope const_item) none (seen tokens.entry) result }
+{
+    let (_const, rest) = read_word(tokens, Reserved::Const)?;
+    let (ty, rest) = read_type(rest);
+    let (name, rest) = read_name(alloc, rest)?;
+    let (value, rest) = parse_value(alloc, rest)?;
+    Ok((PrismConst { name, ty, value }, rest))
+}
+
+/// `formula Ident = E ;`
+pub(crate) fn parse_formula<'a>(
+    alloc: Global,
+    tokens: Tokens<'a>,
+) -> Result<(PrismFormula, Tokens<'a>), Stop<'a>>
+    ensures { ParsesIn formula_of (in_scope formula_item) none (seen tokens.entry) result }
+{
+    let (_formula, rest) = read_word(tokens, Reserved::Formula)?;
+    let (name, rest) = read_name(alloc, rest)?;
+    let (_equal, rest) = read_symbol(rest, Symbol::Equal)?;
+    let (body, rest) = parse_outer(alloc, rest)?;
+    let (_close, rest) = read_symbol(rest, Symbol::Semicolon)?;
+    Ok((PrismFormula { name, body }, rest))
+}
+
+/// `label Quoted = E ;`
+pub(crate) fn parse_label<'a>(
+    alloc: Global,
+    tokens: Tokens<'a>,
+) -> Result<(PrismLabel, Tokens<'a>), Stop<'a>>
+    ensures { ParsesIn label_of (in_scope label_item) none (seen tokens.entry) result }
+{
+    let (_label, rest) = read_word(tokens, Reserved::Label)?;
+    let (name, rest) = read_quoted(alloc, rest)?;
+    let (_equal, rest) = read_symbol(rest, Symbol::Equal)?;
+    let (body, rest) = parse_outer(alloc, rest)?;
+    let (_close, rest) = read_symbol(rest, Symbol::Semicolon)?;
+    Ok((PrismLabel { name, body }, rest))
+}
+
+/// `[ E .. E ]`
+fn parse_range<'a>(alloc: Global, tokens: Tokens<'a>) -> Result<(PrismRange, Tokens<'a>), Stop<'a>>
+    ensures { ParsesIn range_of (in_scope range) none (seen tokens.entry) result }
+{
+    let (_left, rest) = read_symbol(tokens, Symbol::LeftBracket)?;
+    let (low, rest) = parse_outer(alloc, rest)?;
+    let (_dots, rest) = read_symbol(rest, Symbol::Dots)?;
+    let (high, rest) = parse_outer(alloc, rest)?;
+    let (_right, rest) = read_symbol(rest, Symbol::RightBracket)?;
+    Ok((PrismRange { low, high }, rest))
+}
+
+/// `[ E .. E ]` or `bool`. Where the word `int` stands a variable without bounds would go on.
+fn parse_domain<'a>(
+    alloc: Global,
+    tokens: Tokens<'a>,
+) -> Result<(Option<PrismRange>, Tokens<'a>), Stop<'a>>
+    ensures { ParsesIn (option_map range_of) (in_scope domain) none (seen tokens.entry) result }
+{
+    if symbol_next(tokens, Symbol::LeftBracket) {
+        let (range, rest) = parse_range(alloc, tokens)?;
+        return Ok((Some(range), rest));
+    }
+    if word_next(tokens, Reserved::BoolWord) {
+        let (_bool, rest) = read_word(tokens, Reserved::BoolWord)?;
+        return Ok((None, rest));
+    }
+    if word_next(tokens, Reserved::Int) {
+        return Err(Stop::At(tokens, Cause::Type));
+    }
+    Err(Stop::At(tokens, Cause::Form))
+}
+
+/// `[ init E ] ;`
+fn parse_start<'a>(alloc: Global, tokens: Tokens<'a>) -> Result<(Option<Pe>, Tokens<'a>), Stop<'a>>
+    ensures { ParsesIn (option_map tree) (in_scope start_part) none (seen tokens.entry) result }
+{
+    if !word_next(tokens, Reserved::Init) {
+        let (_end, rest) = read_symbol(tokens, Symbol::Semicolon)?;
+        return Ok((None, rest));
+    }
+    let (_init, rest) = read_word(tokens, Reserved::Init)?;
+    let (start, rest) = parse_outer(alloc, rest)?;
+    let (_close, rest) = read_symbol(rest, Symbol::Semicolon)?;
+    Ok((Some(start), rest))
+}
+
+/// `Ident : ( [ E .. E ] | bool ) [ init E ] ;`
+pub(crate) fn parse_var<'a>(
+    alloc: Global,
+    tokens: Tokens<'a>,
+) -> Result<(PrismVar, Tokens<'a>), Stop<'a>>
+    ensures { ParsesIn var_of (in_scope var) none (seen tokens.entry) result }
+{
+    let (name, rest) = read_name(alloc, tokens)?;
+    let (_colon, rest) = read_symbol(rest, Symbol::Colon)?;
+    let (range, rest) = parse_domain(alloc, rest)?;
+    let (start, rest) = parse_start(alloc, rest)?;
+    Ok((PrismVar { name, range, start }, rest))
+}
+
+/// `global Var`
+pub(crate) fn parse_global<'a>(
+    alloc: Global,
+    tokens: Tokens<'a>,
+) -> Result<(PrismVar, Tokens<'a>), Stop<'a>>
+    ensures { ParsesIn var_of (in_scope global_item) none (seen tokens.entry) result }
+{
+    let (_global, rest) = read_word(tokens, Reserved::Global)?;
+    let (var, rest) = parse_var(alloc, rest)?;
+    Ok((var, rest))
+}

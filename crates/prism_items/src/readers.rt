@@ -1,0 +1,192 @@
+// One token, and what stands next.
+ghost use Rattle.std.specs.Prelude.{◌≡◌, IfSome, IfNone, Some, None, drop};
+ghost use Rattle.prism_lex.specs.declared.token.TokenKind.TheVariants as K;
+ghost use Rattle.prism_tree.specs.Grammar.{symbol, word, name, quoted, unquoted};
+ghost use Rattle.prism_exprs.specs.Kept.{seen, lexeme_at};
+ghost use Rattle.prism_exprs.specs.Reading.{none, starts, is_kind};
+ghost use Rattle.prism_exprs.specs.Scope.{ParsesIn};
+ghost use Rattle.prism_items.specs.Parts.{text_if, all_but};
+
+use bridge_io::{Named, Text};
+use prism_exprs::{Cause, Found, Kept, Stop, Tokens};
+use prism_lex::{Reserved, Symbol};
+use std::alloc::Global;
+use std::str::from_utf8;
+
+/// Whether this symbol stands next.
+pub(crate) fn symbol_next(tokens: Tokens, wanted: Symbol) -> bool
+    ensures { result ≡ starts (is_kind (K.Symbol wanted)) (seen tokens.entry) }
+{
+    match tokens.found.first() {
+        Some(first) => match first.kind {
+            Kept::Symbol(symbol) => symbol == wanted,
+            _ => false,
+        },
+        None => false,
+    }
+}
+
+/// Whether this word stands next.
+pub(crate) fn word_next(tokens: Tokens, wanted: Reserved) -> bool
+    ensures { result ≡ starts (is_kind (K.Word wanted)) (seen tokens.entry) }
+{
+    match tokens.found.first() {
+        Some(first) => match first.kind {
+            Kept::Word(word) => word == wanted,
+            _ => false,
+        },
+        None => false,
+    }
+}
+
+/// Whether a token stands next, but not this word.
+pub(crate) fn other_next(tokens: Tokens, closing: Reserved) -> bool
+    ensures { result ≡ starts (all_but (K.Word closing)) (seen tokens.entry) }
+{
+    match tokens.found.first() {
+        Some(_) => !word_next(tokens, closing),
+        None => false,
+    }
+}
+
+/// The tokens behind the one that stands next.
+pub(crate) fn behind<'a>(tokens: Tokens<'a>) -> Tokens<'a>
+    ensures { seen result ≡ drop 1 (seen tokens.entry) }
+{
+    match tokens.found.split_first() {
+        Some((_, rest)) => tokens.with(rest),
+        None => tokens,
+    }
+}
+
+/// Whether a name stands next.
+pub(crate) fn name_next(tokens: Tokens) -> bool
+    ensures { result ≡ starts (is_kind K.Ident) (seen tokens.entry) }
+{
+    match tokens.found.first() {
+        Some(first) => identifier(tokens, *first).is_some(),
+        None => false,
+    }
+}
+
+/// Whether a quoted name stands next.
+pub(crate) fn quoted_next(tokens: Tokens) -> bool
+    ensures { result ≡ starts (is_kind K.Quoted) (seen tokens.entry) }
+{
+    match tokens.found.first() {
+        Some(first) => quotation(tokens, *first).is_some(),
+        None => false,
+    }
+}
+
+/// The text of a token, if it is an identifier.
+fn identifier<'a>(tokens: Tokens<'a>, found: Found) -> Option<&'a str>
+    ensures some { IfSome result (λ text. text_if K.Ident (lexeme_at tokens.entry.bytes.now tokens.entry.literals.now found) ≡ Some text.now) }
+    ensures none { IfNone result (text_if K.Ident (lexeme_at tokens.entry.bytes.now tokens.entry.literals.now found) ≡ None) }
+{
+    match found.kind {
+        Kept::Ident => match from_utf8(tokens.text(found)) {
+            Ok(text) => Some(text),
+            Err(_) => None,
+        },
+        _ => None,
+    }
+}
+
+/// The text of a token, if it is a quoted name.
+fn quotation<'a>(tokens: Tokens<'a>, found: Found) -> Option<&'a str>
+    ensures some { IfSome result (λ text. text_if K.Quoted (lexeme_at tokens.entry.bytes.now tokens.entry.literals.now found) ≡ Some text.now) }
+    ensures none { IfNone result (text_if K.Quoted (lexeme_at tokens.entry.bytes.now tokens.entry.literals.now found) ≡ None) }
+{
+    match found.kind {
+        Kept::Quoted => match from_utf8(tokens.text(found)) {
+            Ok(text) => Some(text),
+            Err(_) => None,
+        },
+        _ => None,
+    }
+}
+
+/// One symbol.
+pub(crate) fn read_symbol<'a>(
+    tokens: Tokens<'a>,
+    wanted: Symbol,
+) -> Result<(Found, Tokens<'a>), Stop<'a>>
+    ensures { ParsesIn (lexeme_at tokens.entry.bytes.now tokens.entry.literals.now) (λ s. symbol wanted) none (seen tokens.entry) result }
+{
+    let Some((first, rest)) = tokens.found.split_first() else {
+        return Err(Stop::At(tokens, Cause::Form));
+    };
+    if !symbol_next(tokens, wanted) {
+        return Err(Stop::At(tokens, Cause::Form));
+    }
+    Ok((*first, tokens.with(rest)))
+}
+
+/// One word.
+pub(crate) fn read_word<'a>(
+    tokens: Tokens<'a>,
+    wanted: Reserved,
+) -> Result<(Found, Tokens<'a>), Stop<'a>>
+    ensures { ParsesIn (lexeme_at tokens.entry.bytes.now tokens.entry.literals.now) (λ s. word wanted) none (seen tokens.entry) result }
+{
+    let Some((first, rest)) = tokens.found.split_first() else {
+        return Err(Stop::At(tokens, Cause::Form));
+    };
+    if !word_next(tokens, wanted) {
+        return Err(Stop::At(tokens, Cause::Form));
+    }
+    Ok((*first, tokens.with(rest)))
+}
+
+/// One name.
+pub(crate) fn read_name<'a>(
+    alloc: Global,
+    tokens: Tokens<'a>,
+) -> Result<(Named, Tokens<'a>), Stop<'a>>
+    ensures { ParsesIn (λ x. x) (λ s. name) none (seen tokens.entry) result }
+{
+    let Some((first, rest)) = tokens.found.split_first() else {
+        return Err(Stop::At(tokens, Cause::Form));
+    };
+    let Some(text) = identifier(tokens, *first) else {
+        return Err(Stop::At(tokens, Cause::Form));
+    };
+    let name = Text::copy_of(alloc, text)?;
+    let at = first.at as usize;
+    Ok((Named { name, at }, tokens.with(rest)))
+}
+
+/// What stands between the first byte of a text and its last; none where this is no text.
+fn between(text: &str) -> Option<&str>
+    ensures { IfSome result (λ inner. inner.now ≡ unquoted text.now) }
+{
+    let (_, behind) = text.as_bytes().split_first()?;
+    let (_, inner) = behind.split_last()?;
+    match from_utf8(inner) {
+        Ok(name) => Some(name),
+        Err(_) => None,
+    }
+}
+
+/// One quoted name, without its quotes.
+pub(crate) fn read_quoted<'a>(
+    alloc: Global,
+    tokens: Tokens<'a>,
+) -> Result<(Named, Tokens<'a>), Stop<'a>>
+    ensures { ParsesIn (λ x. x) (λ s. quoted) none (seen tokens.entry) result }
+{
+    let Some((first, rest)) = tokens.found.split_first() else {
+        return Err(Stop::At(tokens, Cause::Form));
+    };
+    let Some(text) = quotation(tokens, *first) else {
+        return Err(Stop::At(tokens, Cause::Form));
+    };
+    // Between quotes stands a text, so this does not come to pass with tokens of a file.
+    let Some(inner) = between(text) else {
+        return Err(Stop::Memory);
+    };
+    let name = Text::copy_of(alloc, inner)?;
+    let at = first.at as usize;
+    Ok((Named { name, at }, tokens.with(rest)))
+}

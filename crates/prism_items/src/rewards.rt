@@ -1,0 +1,101 @@
+// Rewards.
+ghost use Rattle.std.specs.Prelude.{◌≡◌, map};
+ghost use Rattle.prism_lex.specs.declared.token.TokenKind.TheVariants as K;
+ghost use Rattle.prism_lex.specs.declared.words.Reserved.TheVariants as W;
+ghost use Rattle.prism_tree.specs.Lang.{many};
+ghost use Rattle.prism_tree.specs.Grammar.{reward, rewards_item, on_action};
+ghost use Rattle.prism_tree.specs.Syntax.{item_of, rewards_of};
+ghost use Rattle.prism_exprs.specs.Kept.{seen};
+ghost use Rattle.prism_exprs.specs.Reading.{none};
+ghost use Rattle.prism_exprs.specs.Scope.{ParsesIn};
+ghost use Rattle.prism_items.specs.Parts.{in_scope, gain, gains, all_but};
+
+use crate::modules::parse_action;
+use crate::readers::{other_next, quoted_next, read_quoted, read_symbol, read_word, symbol_next};
+use bridge_io::{List, Named};
+use prism_exprs::{Stop, Tokens, parse_outer};
+use prism_lex::{Reserved, Symbol};
+use prism_tree::{ItemOn, PrismItem, PrismRewards};
+use std::alloc::Global;
+
+/// What a reward is given for, by the action in its brackets.
+fn on_action(action: Option<Named>) -> ItemOn
+    ensures { result ≡ on_action action }
+{
+    match action {
+        Some(name) => ItemOn::Action(name),
+        None => ItemOn::Silent,
+    }
+}
+
+/// `E : E ;`
+fn parse_gain<'a>(
+    alloc: Global,
+    on: ItemOn,
+    tokens: Tokens<'a>,
+) -> Result<(PrismItem, Tokens<'a>), Stop<'a>>
+    ensures { ParsesIn item_of (in_scope (gain on)) none (seen tokens.entry) result }
+{
+    let (guard, rest) = parse_outer(alloc, tokens)?;
+    let (_colon, rest) = read_symbol(rest, Symbol::Colon)?;
+    let (value, rest) = parse_outer(alloc, rest)?;
+    let (_close, rest) = read_symbol(rest, Symbol::Semicolon)?;
+    Ok((PrismItem { on, guard, value }, rest))
+}
+
+/// `[ '[' [ Ident ] ']' ] E : E ;`
+fn parse_reward<'a>(alloc: Global, tokens: Tokens<'a>) -> Result<(PrismItem, Tokens<'a>), Stop<'a>>
+    ensures { ParsesIn item_of (in_scope reward) none (seen tokens.entry) result }
+{
+    if !symbol_next(tokens, Symbol::LeftBracket) {
+        return parse_gain(alloc, ItemOn::InState, tokens);
+    }
+    let (_left, rest) = read_symbol(tokens, Symbol::LeftBracket)?;
+    let (action, rest) = parse_action(alloc, rest)?;
+    parse_gain(alloc, on_action(action), rest)
+}
+
+/// `{ RItem }`
+fn parse_items<'a>(
+    alloc: Global,
+    tokens: Tokens<'a>,
+) -> Result<(List<PrismItem>, Tokens<'a>), Stop<'a>>
+    ensures { ParsesIn (map item_of) (in_scope (λ E V. many (reward E V))) (all_but (K.Word W.Endrewards)) (seen tokens.entry) result }
+{
+    let mut items = List::new(alloc);
+    let mut rest = tokens;
+    'each: while other_next(rest, Reserved::Endrewards) {
+        let (item, behind) = parse_reward(alloc, rest)?;
+        items.push(item)?;
+        rest = behind;
+    }
+    Ok((items, rest))
+}
+
+/// `{ RItem } endrewards`
+fn parse_gains<'a>(
+    alloc: Global,
+    name: Option<Named>,
+    tokens: Tokens<'a>,
+) -> Result<(PrismRewards, Tokens<'a>), Stop<'a>>
+    ensures { ParsesIn rewards_of (in_scope (gains name)) none (seen tokens.entry) result }
+{
+    let (items, rest) = parse_items(alloc, tokens)?;
+    let (_end, rest) = read_word(rest, Reserved::Endrewards)?;
+    Ok((PrismRewards { name, items }, rest))
+}
+
+/// `rewards [ Quoted ] { RItem } endrewards`
+pub(crate) fn parse_rewards<'a>(
+    alloc: Global,
+    tokens: Tokens<'a>,
+) -> Result<(PrismRewards, Tokens<'a>), Stop<'a>>
+    ensures { ParsesIn rewards_of (in_scope rewards_item) none (seen tokens.entry) result }
+{
+    let (_rewards, rest) = read_word(tokens, Reserved::Rewards)?;
+    if !quoted_next(rest) {
+        return parse_gains(alloc, None, rest);
+    }
+    let (name, rest) = read_quoted(alloc, rest)?;
+    parse_gains(alloc, Some(name), rest)
+}

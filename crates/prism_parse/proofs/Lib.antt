@@ -1,0 +1,9 @@
+mod Reached
+mod Told
+mod Stopped
+mod Seen
+mod Places
+mod Whole
+mod Fitting
+mod Grows
+mod Single

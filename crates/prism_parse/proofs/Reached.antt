@@ -1,0 +1,148 @@
+-- A reader that keeps tokens: what it has kept are the tokens up to an offset, and go on with the next.
+use Rattle.std.proofs.Common.{arith, ◌≡◌, ℕ, zero, suc, ◌+◌, ◌<◌, ◌≤◌, Bool, true, false, List, [], ◌∷◌, ◌++◌, map, length, refl, sym, ap, ap₂, subst, ◌∙◌}
+use Rattle.std.specs.Prelude.{Option, Some, None, ◌&&◌, ◌||◌, slice_get, if◌then◌else◌}
+use Rattle.std.specs.List.{list_all}
+use Rattle.std.specs.Str.{IsAscii, is_utf8}
+use Rattle.std.proofs.lemmas.Str.{IsUtf8-from_ascii, is_utf8-from_IsUtf8}
+use Rattle.std.proofs.lemmas.List.{map-append, length-append}
+use Rattle.prism_lex.specs.declared.token.Token.{Token}
+use Rattle.prism_lex.specs.declared.token.TokenKind.{TokenKind}
+use Rattle.prism_lex.specs.declared.token.TokenKind.TheVariants as K
+use Rattle.prism_lex.specs.Automaton.{is_letter, is_digit}
+use Rattle.prism_lex.specs.Tokens.{Lexeme, is_name, IsKind, lexeme_of, Continues, end_of}
+use Rattle.prism_lex.specs.Laws.{Reaches, NextGoesOn}
+use Rattle.prism_exprs.specs.declared.tokens.Kept.{Kept}
+use Rattle.prism_exprs.specs.declared.tokens.Kept.TheVariants.{Word, Symbol, Ident, Quoted, Number}
+use Rattle.prism_exprs.specs.declared.tokens.Found.{Found}
+use Rattle.prism_exprs.specs.declared.tokens.Literal.{Literal}
+use Rattle.prism_exprs.specs.Kept.{text_at, made, name_at, literal_at, lexeme_by, lexeme_at}
+use Rattle.prism_parse.specs.Lexed.{kept_kind, literals_by, literals_with, end_by, kept_end}
+
+-- ---- a name is a text
+
+both : (a b : Bool) → (a && b) ≡ true → (a ≡ true) × (b ≡ true)
+both true b e = (refl, e)
+both false b e = absurd cc
+
+letter_small : (b : ℕ) → is_letter b ≡ true → b < 128
+letter_small b e = grind (arith, e)
+
+part_small : (b : ℕ) → (is_letter b || is_digit b) ≡ true → b < 128
+part_small b e = grind (arith, e)
+
+parts_ascii : (bs : List ℕ) → list_all (λ c. is_letter c || is_digit c) bs ≡ true → IsAscii bs
+parts_ascii [] e i = omega arith
+parts_ascii (b ∷ bs) e zero = part_small b (both _ _ e).0
+parts_ascii (b ∷ bs) e (suc i) = parts_ascii bs (both _ _ e).1 i
+
+name_ascii : (bs : List ℕ) → is_name bs ≡ true → IsAscii bs
+name_ascii [] e i = absurd cc
+name_ascii (b ∷ bs) e zero = letter_small b (both _ _ e).0
+name_ascii (b ∷ bs) e (suc i) = parts_ascii bs (both _ _ e).1 i
+
+before_quote : (bs : List ℕ) → IsAscii bs → IsAscii (bs ++ 34 ∷ [])
+before_quote [] h zero = omega arith
+before_quote [] h (suc i) = omega arith
+before_quote (b ∷ bs) h zero = h zero
+before_quote (b ∷ bs) h (suc i) = before_quote bs (λ j. h (suc j)) i
+
+quoted_ascii : (bs : List ℕ) → is_name bs ≡ true → IsAscii (34 ∷ (bs ++ 34 ∷ []))
+quoted_ascii bs e zero = omega arith
+quoted_ascii bs e (suc i) = before_quote bs (name_ascii bs e) i
+
+ascii_text : (w : List ℕ) → IsAscii w → is_utf8 w ≡ true
+ascii_text w h = is_utf8-from_IsUtf8 w (IsUtf8-from_ascii w h)
+
+quoted_text : (w bs : List ℕ) → w ≡ 34 ∷ (bs ++ 34 ∷ []) → is_name bs ≡ true → is_utf8 w ≡ true
+quoted_text w bs e n = ap is_utf8 e ∙ ascii_text (34 ∷ (bs ++ 34 ∷ [])) (quoted_ascii bs n)
+
+-- ---- what is kept of one token
+
+get_more : {X : Type 0} (xs ys : List X) (i : ℕ) (x : X) → slice_get xs i ≡ Some x → slice_get (xs ++ ys) i ≡ Some x
+get_more [] ys i x e = absurd cc
+get_more (y ∷ xs) ys zero x e = e
+get_more (y ∷ xs) ys (suc i) x e = get_more xs ys i x e
+
+get_last : {X : Type 0} (xs : List X) (x : X) → slice_get (xs ++ x ∷ []) (length xs) ≡ Some x
+get_last [] x = refl
+get_last (y ∷ xs) x = get_last xs x
+
+some_same : (j k : Kept) → Some j ≡ Some k → k ≡ j
+some_same j k e = cc
+
+named : (k : TokenKind) (w : List ℕ) (at : ℕ) → is_utf8 w ≡ true → name_at k w at ≡ made k w at
+named k w at e = ap (λ (b : Bool). if b then made k w at else made K.End w at) e
+
+kept_same : (bytes : List ℕ) (literals : List Literal) (kind : TokenKind) (at end : ℕ) (k : Kept) → IsKind (text_at bytes at end) kind → kept_kind kind ≡ Some k
+    → lexeme_by bytes (literals_by literals kind end) k at (end_by literals kind end) ≡ made kind (text_at bytes at end) at
+kept_same bytes literals (K.Word r) at end k is e = ap (λ (j : Kept). lexeme_by bytes literals j at end) (some_same (Word r) k e)
+kept_same bytes literals (K.Symbol s) at end k is e = ap (λ (j : Kept). lexeme_by bytes literals j at end) (some_same (Symbol s) k e)
+kept_same bytes literals K.Ident at end k is e =
+    ap (λ (j : Kept). lexeme_by bytes literals j at end) (some_same Ident k e) ∙ named K.Ident (text_at bytes at end) at (ascii_text _ (name_ascii _ is.0))
+kept_same bytes literals K.Quoted at end k is e =
+    ap (λ (j : Kept). lexeme_by bytes literals j at end) (some_same Quoted k e) ∙ named K.Quoted (text_at bytes at end) at (quoted_text _ is.0 is.1 is.2)
+kept_same bytes literals (K.Number d) at end k is e =
+    let n : Literal = record { value = d; end = end } in
+    ap (λ (j : Kept). lexeme_by bytes (literals ++ n ∷ []) j at (length literals)) (some_same Number k e)
+    ∙ ap (λ (o : Option Literal). literal_at bytes o at) (get_last literals n)
+kept_same bytes literals K.End at end k is e = absurd is
+
+-- ---- a literal more changes no token
+
+literal_more : (bytes : List ℕ) (literals more : List Literal) (at end : ℕ) (o : Option Literal) → slice_get literals end ≡ o → ((literal_at bytes o at).kind ≡ K.End → ⊥)
+    → literal_at bytes (slice_get (literals ++ more) end) at ≡ literal_at bytes o at
+literal_more bytes literals more at end None e h = absurd (h refl)
+literal_more bytes literals more at end (Some n) e h = ap (λ (o : Option Literal). literal_at bytes o at) (get_more literals more end n e)
+
+lexeme_more : (bytes : List ℕ) (literals more : List Literal) (k : Kept) (at end : ℕ) → ((lexeme_by bytes literals k at end).kind ≡ K.End → ⊥)
+    → lexeme_by bytes (literals ++ more) k at end ≡ lexeme_by bytes literals k at end
+lexeme_more bytes literals more (Word r) at end h = refl
+lexeme_more bytes literals more (Symbol s) at end h = refl
+lexeme_more bytes literals more Ident at end h = refl
+lexeme_more bytes literals more Quoted at end h = refl
+lexeme_more bytes literals more Number at end h = literal_more bytes literals more at end (slice_get literals end) refl h
+
+no_end : (l : Lexeme) → IsKind l.text l.kind → l.kind ≡ K.End → ⊥
+no_end l is e = let F : TokenKind → Type 0 = λ k. IsKind l.text k in subst F e is
+
+all_more : (bytes : List ℕ) (literals more : List Literal) (found : List Found) (from to : ℕ) → Reaches bytes from (map (lexeme_at bytes literals) found) to
+    → map (lexeme_at bytes (literals ++ more)) found ≡ map (lexeme_at bytes literals) found
+all_more bytes literals more [] from to r = refl
+all_more bytes literals more (f ∷ fs) from to r =
+    ap₂ (λ (l : Lexeme) (ls : List Lexeme). l ∷ ls) (lexeme_more bytes literals more f.kind f.at f.end (no_end (lexeme_at bytes literals f) r.0.kind))
+    (all_more bytes literals more fs (end_of (lexeme_at bytes literals f)) to r.2)
+
+all_with : (bytes : List ℕ) (literals : List Literal) (kind : TokenKind) (end : ℕ) (found : List Found) (to : ℕ) → Reaches bytes 0 (map (lexeme_at bytes literals) found) to
+    → map (lexeme_at bytes (literals_by literals kind end)) found ≡ map (lexeme_at bytes literals) found
+all_with bytes literals (K.Number d) end found to r = all_more bytes literals (record { value = d; end = end } ∷ []) found 0 to r
+all_with bytes literals (K.Word w) end found to r = refl
+all_with bytes literals (K.Symbol s) end found to r = refl
+all_with bytes literals K.Ident end found to r = refl
+all_with bytes literals K.Quoted end found to r = refl
+all_with bytes literals K.End end found to r = refl
+
+-- ---- a step of the reader
+
+pub one_kept : NextGoesOn → (bytes : List ℕ) (literals : List Literal) (found : List Found) (to : ℕ) (t : Token) (k : Kept) → Reaches bytes 0 (map (lexeme_at bytes literals) found) to → Continues bytes to t
+    → kept_kind t.kind ≡ Some k → Reaches bytes 0 (map (lexeme_at bytes (literals_with literals t)) (found ++ record { kind = k; at = t.at; end = kept_end literals t } ∷ [])) t.end
+one_kept goes_on bytes literals found to t k r next e =
+    let F : List Lexeme → Type 0 = λ ls. Reaches bytes 0 ls t.end in
+    let same : map (lexeme_at bytes (literals_with literals t)) (found ++ record { kind = k; at = t.at; end = kept_end literals t } ∷ [])
+    ≡ map (lexeme_at bytes literals) found ++ lexeme_of bytes t ∷ [] =
+    map-append (lexeme_at bytes (literals_with literals t)) found _
+    ∙ ap₂ (λ (ls : List Lexeme) (l : Lexeme). ls ++ l ∷ []) (all_with bytes literals t.kind t.end found to r) (kept_same bytes literals t.kind t.at t.end k next.next.kind e) in
+    subst F (sym same) (goes_on bytes 0 to _ t r next)
+
+literals_few : (literals : List Literal) (kind : TokenKind) (end : ℕ) → length (literals_by literals kind end) ≤ length literals + 1
+literals_few literals (K.Number d) end = simp length-append (omega arith)
+literals_few literals (K.Word w) end = omega arith
+literals_few literals (K.Symbol s) end = omega arith
+literals_few literals K.Ident end = omega arith
+literals_few literals K.Quoted end = omega arith
+literals_few literals K.End end = omega arith
+
+pub literals_behind : (literals : List Literal) (bytes : List ℕ) (to : ℕ) (t : Token) → length literals ≤ to → Continues bytes to t → length (literals_with literals t) ≤ t.end
+literals_behind literals bytes to t h next = let a = literals_few literals t.kind t.end in let b = next.behind in let d = next.some in omega arith
+
+pub not_end : (kind : TokenKind) (k : Kept) → kept_kind kind ≡ Some k → kind ≡ K.End → ⊥
+not_end kind k e h = let same : kept_kind K.End ≡ Some k = ap kept_kind (sym h) ∙ e in absurd cc

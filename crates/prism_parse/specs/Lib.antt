@@ -1,0 +1,4 @@
+pub mod Parsed
+pub mod Lexed
+pub mod Reasons
+pub mod Laws

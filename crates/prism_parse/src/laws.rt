@@ -1,0 +1,11 @@
+// What holds of the faults of PRISM files.
+ghost use Rattle.prism_parse.specs.Laws.{OneSyntax};
+
+use prism_lex::one_list;
+
+/// Bytes have one list of faults of their tokens and grammar at most. Nothing is done.
+pub fn one_syntax()
+    ensures { OneSyntax }
+{
+    one_list();
+}

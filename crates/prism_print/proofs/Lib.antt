@@ -1,0 +1,14 @@
+pub mod Digits
+pub mod Steps
+pub mod Worth
+pub mod Stands
+pub mod Pieces
+pub mod Spelling
+pub mod Lexed
+pub mod SpelledTrees
+pub mod Neat
+pub mod Templates
+pub mod SpelledFiles
+pub mod Back
+pub mod Keeping
+pub mod KeptFiles

@@ -1,0 +1,4 @@
+use Rattle.prism_print.proofs.numbers.+write_padded.Given as goal
+
+abbrev pub decreases-write_padded : goal.decreases-write_padded
+decreases-write_padded l = l.width

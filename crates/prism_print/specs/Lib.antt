@@ -1,0 +1,6 @@
+pub mod Numbers
+pub mod Text
+pub mod Parts
+pub mod Printable
+pub mod Same
+pub mod Laws

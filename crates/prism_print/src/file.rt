@@ -1,0 +1,33 @@
+// The text of a file.
+
+ghost use Rattle.std.specs.Prelude.{◌≡◌, IfOk};
+ghost use Rattle.prism_tree.specs.Syntax.{file_of};
+ghost use Rattle.prism_print.specs.Text.{file_text};
+ghost use Rattle.prism_print.specs.Printable.{IsPrintable};
+ghost use Rattle.prism_print.specs.Same.{SpellsFile};
+
+use crate::parts::write_list;
+use bridge_io::List;
+use prism_tree::PrismFile;
+use std::alloc::{AllocError, Global};
+
+/// The canonical text of a file: its kind, and then the constants, the global variables, the formulas, each module, the
+/// labels and each reward structure, with an empty line before each group that there is. The text spells the same file,
+/// offsets aside, where names are identifiers, those of labels and reward structures what a quoted name may hold,
+/// literals are in normal form and not negative, each node has as many operands as its operator, each command has a
+/// branch, each branch of a command with several has a probability, and each copy has a pair. The only error is want of
+/// memory.
+pub fn print(alloc: Global, file: &PrismFile) -> Result<List<u8>, AllocError>
+    ensures text { IfOk result (λ text. text ≡ file_text (file_of file.now)) }
+    ensures back { IsPrintable (file_of file.now) → IfOk result (λ text. SpellsFile text (file_of file.now)) }
+{
+    let mut out = Vec::new(alloc);
+    out.extend_from_slice(b"mdp\n")?;
+    write_list(&mut out, b"\n", b"", file.constants.as_slice())?;
+    write_list(&mut out, b"\nglobal ", b"global ", file.globals.as_slice())?;
+    write_list(&mut out, b"\n", b"", file.formulas.as_slice())?;
+    write_list(&mut out, b"\n", b"\n", file.modules.as_slice())?;
+    write_list(&mut out, b"\n", b"", file.labels.as_slice())?;
+    write_list(&mut out, b"\n", b"\n", file.rewards.as_slice())?;
+    Ok(List::from_vec(out))
+}

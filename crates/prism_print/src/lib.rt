@@ -1,0 +1,15 @@
+//! The canonical text of a PRISM file. It spells the same file, offsets aside, where names are names, literals are in
+//! normal form and nodes have their operands, as in every file that a text spells.
+#![tactic(auto)]
+
+mod commands;
+mod declarations;
+mod expressions;
+mod file;
+mod laws;
+mod modules;
+mod numbers;
+mod parts;
+
+pub use file::print;
+pub use laws::printable_law;
