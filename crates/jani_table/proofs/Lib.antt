@@ -1,0 +1,3 @@
+pub mod Soonest
+pub mod Values
+pub mod Walk

@@ -1,0 +1,10 @@
+pub mod Node
+pub mod NodeLaws
+pub mod Operators
+pub mod OperatorLaws
+pub mod Table
+pub mod Words
+pub mod Faults
+pub mod Least
+pub mod Parts
+pub mod Laws

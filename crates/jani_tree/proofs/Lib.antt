@@ -1,0 +1,11 @@
+pub mod Operation
+pub mod Lists
+pub mod Types
+pub mod Copies
+pub mod Unique
+pub mod Members
+pub mod Again
+pub mod Bare
+pub mod Same
+pub mod Formed
+pub mod Normal

@@ -1,0 +1,7 @@
+use Rattle.jani_tree.proofs.read.from_json.Goals as goal
+
+pub returns-clause-only : goal.returns-clause-only
+returns-clause-only c = c.in_ok-tree.ensures.only
+
+pub returns-clause-form : goal.returns-clause-form
+returns-clause-form c = c.in_ok-tree.ensures.form

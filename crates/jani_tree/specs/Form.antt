@@ -1,0 +1,107 @@
+-- The form of the trees that are read: no name is empty, each literal is in normal form, each node has its operator's number
+-- of operands, and each edge has a destination.
+use Rattle.std.specs.Prelude.{◌≡◌, List, [], ◌∷◌, true, Option}
+use Rattle.bridge_io.specs.declared.reason.Named.{Named}
+use Rattle.frac_core.specs.declared.decimal.Decimal.{Decimal}
+use Rattle.frac_core.specs.Decimal.{is_normal}
+use Rattle.op_trees.specs.Tree.{Truth, Number, Name, One, Two, Three}
+use Rattle.jani_table.specs.Operators.{arity}
+use Rattle.jani_table.specs.Node.{Node, null, truth, number, text, array, object, Nodes, no_nodes, more_nodes, Fields, no_fields, field}
+use Rattle.jani_tree.specs.Syntax.{Expression, Const, VarKind, boolean, integer, number as real, real_bounded, one_sided, bounded, Var, Write, Location, Destination, Edge, Automaton, Vector, File}
+use Rattle.jani_tree.specs.Canonical.{OfSome, OfAll}
+
+abbrev pub HasItems : {A : Type 0} → List A → Type 0
+HasItems [] = ⊥
+HasItems (x ∷ xs) = Unit {0}
+
+abbrev pub IsNormal : Decimal → Type 0
+IsNormal d = is_normal d ≡ true
+
+-- each literal of a value is in normal form
+abbrev mutual
+  pub NormalNode : Node → Type 0
+  NormalNode (null at) = Unit {0}
+  NormalNode (truth at b) = Unit {0}
+  NormalNode (number at d) = IsNormal d
+  NormalNode (text at s) = Unit {0}
+  NormalNode (array at vs) = NormalNodes vs
+  NormalNode (object at ms close) = NormalFields ms
+
+  pub NormalNodes : Nodes → Type 0
+  NormalNodes no_nodes = Unit {0}
+  NormalNodes (more_nodes v vs) = NormalNode v × NormalNodes vs
+
+  pub NormalFields : Fields → Type 0
+  NormalFields no_fields = Unit {0}
+  NormalFields (field n v rest) = NormalNode v × NormalFields rest
+
+abbrev pub NameForm : Named → Type 0
+NameForm n = HasItems n.name
+
+abbrev pub ExprForm : Expression → Type 0
+ExprForm (Truth at b) = Unit {0}
+ExprForm (Number at d) = IsNormal d
+ExprForm (Name at x) = HasItems x
+ExprForm (One at o a) = (arity o ≡ 1) × ExprForm a
+ExprForm (Two at o a b) = (arity o ≡ 2) × ExprForm a × ExprForm b
+ExprForm (Three at o a b c) = (arity o ≡ 3) × ExprForm a × ExprForm b × ExprForm c
+
+abbrev pub KindForm : VarKind → Type 0
+KindForm boolean = Unit {0}
+KindForm integer = Unit {0}
+KindForm real = Unit {0}
+KindForm real_bounded = Unit {0}
+KindForm one_sided = Unit {0}
+KindForm (bounded low high) = ExprForm low × ExprForm high
+
+pub record ConstRead (c : Const) : Type 0 where
+  pub name : NameForm c.name
+  pub value : OfSome ExprForm c.value
+
+pub record VarRead (x : Var) : Type 0 where
+  pub name : NameForm x.name
+  pub kind : KindForm x.kind
+  pub start : OfSome ExprForm x.start
+
+pub record WriteRead (w : Write) : Type 0 where
+  pub target : NameForm w.target
+  pub value : ExprForm w.value
+
+pub record LocationRead (l : Location) : Type 0 where
+  pub name : NameForm l.name
+  pub values : OfAll WriteRead l.values
+
+pub record DestinationRead (d : Destination) : Type 0 where
+  pub location : NameForm d.location
+  pub weight : OfSome ExprForm d.weight
+  pub writes : OfAll WriteRead d.writes
+
+pub record EdgeRead (e : Edge) : Type 0 where
+  pub location : NameForm e.location
+  pub action : OfSome NameForm e.action
+  pub guard : OfSome ExprForm e.guard
+  pub destinations : OfAll DestinationRead e.destinations
+  pub some : HasItems e.destinations
+
+pub record AutomatonRead (a : Automaton) : Type 0 where
+  pub name : NameForm a.name
+  pub variables : OfAll VarRead a.variables
+  pub locations : OfAll LocationRead a.locations
+  pub initial : OfAll NameForm a.initial
+  pub edges : OfAll EdgeRead a.edges
+
+abbrev pub PartForm : Option Named → Type 0
+PartForm p = OfSome NameForm p
+
+pub record VectorRead (x : Vector) : Type 0 where
+  pub parts : OfAll PartForm x.parts
+  pub result : OfSome NameForm x.result
+
+pub record FileRead (f : File) : Type 0 where
+  pub actions : OfAll NameForm f.actions
+  pub constants : OfAll ConstRead f.constants
+  pub variables : OfAll VarRead f.variables
+  pub automata : OfAll AutomatonRead f.automata
+  pub elements : OfAll NameForm f.elements
+  pub vectors : OfAll VectorRead f.vectors
+  pub properties : NormalNode f.properties

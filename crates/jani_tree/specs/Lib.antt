@@ -1,0 +1,6 @@
+pub mod Syntax
+pub mod Jani
+pub mod Faults
+pub mod Canonical
+pub mod Places
+pub mod Form

@@ -1,0 +1,285 @@
+// Trees of values without faults: expressions, names, lists of objects.
+ghost use Rattle.std.specs.Prelude.{◌≡◌, [], Option, Some, IfOk, IsSomeAnd, IsTrue, map};
+ghost use Rattle.bridge_io.specs.declared.reason.Named.{Named};
+ghost use Rattle.std.specs.Option.{option_map};
+ghost use Rattle.op_trees.specs.Tree.{tree};
+ghost use Rattle.jani_table.specs.declared.table.Form.{Form};
+ghost use Rattle.jani_table.specs.declared.table.Form.TheVariants as F;
+ghost use Rattle.jani_table.specs.declared.key.Key.TheVariants as K;
+ghost use Rattle.jani_table.specs.Node.{Node, node};
+ghost use Rattle.jani_table.specs.Table.{item_form};
+ghost use Rattle.jani_table.specs.Faults.{faults, is_known, is_needed, part, part_form};
+ghost use Rattle.jani_table.specs.Parts.{is_plain, kind_of, item_of, is_list_form};
+ghost use Rattle.jani_tree.specs.Jani.{IsBoxed, IsExpr, IsItems, IsKeyed, IsList, IsNamed, IsPart, IsText, Optional};
+
+use crate::syntax::Je;
+use bridge_io::{List, Named, Text};
+use decimal_json::Json;
+use jani_table::{
+    Form, Key, Kind, Operands, items_of, named_operator, operand_count, optional_part, required_of,
+    required_part, text_of,
+};
+use op_trees::Expr;
+use std::alloc::{AllocError, Global};
+
+/// The tree of an expression.
+#[tactic(auto, using(crate::proofs::Operation::operation_clean))]
+pub fn expression(alloc: Global, value: &Json) -> Result<Je, AllocError>
+    requires { faults F.Expression (node value.now) ≡ [] }
+    ensures { IfOk result (λ e. IsExpr (node value.now) (tree e)) }
+{
+    match value {
+        Json::Truth(at, b) => Ok(Expr::Truth(*at, *b)),
+        Json::Number(at, d) => Ok(Expr::Number(*at, *d)),
+        Json::Str(at, s) => {
+            let name = Text::copy_of(alloc, s.as_str())?;
+            Ok(Expr::Name(*at, name))
+        }
+        Json::Object(at, members, _) => match named_operator(members.as_slice()) {
+            Some(op) => match operand_count(op) {
+                Operands::One => {
+                    let a = expression(alloc, required_of(Kind::Unary, Key::Exp, value))?;
+                    Ok(Expr::One(*at, op, Box::new(alloc, a)?))
+                }
+                Operands::Two => {
+                    let a = expression(alloc, required_of(Kind::Binary, Key::Left, value))?;
+                    let b = expression(alloc, required_of(Kind::Binary, Key::Right, value))?;
+                    Ok(Expr::Two(*at, op, Box::new(alloc, a)?, Box::new(alloc, b)?))
+                }
+                Operands::Three => {
+                    let a = expression(alloc, required_of(Kind::Choice, Key::If, value))?;
+                    let b = expression(alloc, required_of(Kind::Choice, Key::Then, value))?;
+                    let c = expression(alloc, required_of(Kind::Choice, Key::Else, value))?;
+                    Ok(Expr::Three(
+                        *at,
+                        op,
+                        Box::new(alloc, a)?,
+                        Box::new(alloc, b)?,
+                        Box::new(alloc, c)?,
+                    ))
+                }
+            },
+            None => unreachable!(),
+        },
+        Json::Null(_) => unreachable!(),
+        Json::Array(_, _) => unreachable!(),
+    }
+}
+
+/// The expression of a required member.
+pub fn expression_of(alloc: Global, form: Form, key: Key, value: &Json) -> Result<Je, AllocError>
+    requires plain { IsTrue (is_plain form) }
+    requires known { IsTrue (is_known (kind_of form) key) }
+    requires needed { IsTrue (is_needed (kind_of form) key) }
+    requires form { part_form (kind_of form) key ≡ F.Expression }
+    requires clean { faults form (node value.now) ≡ [] }
+    ensures { IfOk result (λ e. IsSomeAnd (part key (node value.now)) (λ w. IsExpr w (tree e))) }
+{
+    expression(alloc, required_part(form, key, value))
+}
+
+/// The expression of a member that may be missing.
+pub fn optional_expression(
+    alloc: Global,
+    form: Form,
+    key: Key,
+    value: &Json,
+) -> Result<Option<Je>, AllocError>
+    requires plain { IsTrue (is_plain form) }
+    requires known { IsTrue (is_known (kind_of form) key) }
+    requires form { part_form (kind_of form) key ≡ F.Expression }
+    requires clean { faults form (node value.now) ≡ [] }
+    ensures { IfOk result (λ e. Optional IsExpr (part key (node value.now)) (option_map tree e)) }
+{
+    match optional_part(form, key, value) {
+        Some(w) => Ok(Some(expression(alloc, w)?)),
+        None => Ok(None),
+    }
+}
+
+/// The expression of a guard or a probability that may be missing.
+pub fn optional_boxed(
+    alloc: Global,
+    form: Form,
+    key: Key,
+    value: &Json,
+) -> Result<Option<Je>, AllocError>
+    requires plain { IsTrue (is_plain form) }
+    requires known { IsTrue (is_known (kind_of form) key) }
+    requires form { part_form (kind_of form) key ≡ F.Boxed }
+    requires clean { faults form (node value.now) ≡ [] }
+    ensures { IfOk result (λ e. Optional IsBoxed (part key (node value.now)) (option_map tree e)) }
+{
+    match optional_part(form, key, value) {
+        Some(w) => Ok(Some(expression_of(alloc, Form::Boxed, Key::Exp, w)?)),
+        None => Ok(None),
+    }
+}
+
+fn name_in(alloc: Global, value: &Json) -> Result<Named, AllocError>
+    requires { faults F.Name (node value.now) ≡ [] }
+    ensures { IfOk result (λ n. IsNamed (node value.now) n) }
+{
+    let (at, s) = text_of(Form::Name, value);
+    let name = Text::copy_of(alloc, s)?;
+    Ok(Named { name, at })
+}
+
+/// The name of a required member.
+pub fn name_of(alloc: Global, form: Form, key: Key, value: &Json) -> Result<Named, AllocError>
+    requires plain { IsTrue (is_plain form) }
+    requires known { IsTrue (is_known (kind_of form) key) }
+    requires needed { IsTrue (is_needed (kind_of form) key) }
+    requires form { part_form (kind_of form) key ≡ F.Name }
+    requires clean { faults form (node value.now) ≡ [] }
+    ensures { IfOk result (λ n. IsKeyed key (node value.now) n) }
+{
+    name_in(alloc, required_part(form, key, value))
+}
+
+/// The name of a member that may be missing.
+pub fn optional_name(
+    alloc: Global,
+    form: Form,
+    key: Key,
+    value: &Json,
+) -> Result<Option<Named>, AllocError>
+    requires plain { IsTrue (is_plain form) }
+    requires known { IsTrue (is_known (kind_of form) key) }
+    requires form { part_form (kind_of form) key ≡ F.Name }
+    requires clean { faults form (node value.now) ≡ [] }
+    ensures { IfOk result (λ n. Optional IsNamed (part key (node value.now)) n) }
+{
+    match optional_part(form, key, value) {
+        Some(w) => Ok(Some(name_in(alloc, w)?)),
+        None => Ok(None),
+    }
+}
+
+/// The comment of an object.
+pub fn note_of(alloc: Global, form: Form, value: &Json) -> Result<Option<Text>, AllocError>
+    requires plain { IsTrue (is_plain form) }
+    requires known { IsTrue (is_known (kind_of form) K.Comment) }
+    requires form { part_form (kind_of form) K.Comment ≡ F.Text }
+    requires clean { faults form (node value.now) ≡ [] }
+    ensures { IfOk result (λ s. Optional IsText (part K.Comment (node value.now)) s) }
+{
+    match optional_part(form, Key::Comment, value) {
+        Some(w) => {
+            let (_, s) = text_of(Form::Text, w);
+            Ok(Some(Text::copy_of(alloc, s)?))
+        }
+        None => Ok(None),
+    }
+}
+
+/// A tree that is built of a value without faults.
+pub trait Build: Drop {
+    ghost Tree: { Type 0 };
+
+    ghost seen: { Self → Tree };
+
+    ghost form: { Form };
+
+    ghost is: { Node → Tree → Type 0 };
+
+    /// The tree of a value. `Err` is want of memory.
+    fn build(alloc: Global, value: &Json) -> Result<Self, AllocError>
+        requires { faults form (node value.now) ≡ [] }
+        ensures { IfOk result (λ x. is (node value.now) (seen x)) };
+}
+
+/// The trees of the items of a list.
+pub fn items<T: Build>(alloc: Global, form: Form, value: &Json) -> Result<List<T>, AllocError>
+    requires form { item_form form ≡ Some T.form }
+    requires clean { faults form (node value.now) ≡ [] }
+    ensures { IfOk result (λ xs. IsItems T.is (node value.now) (map T.seen xs)) }
+{
+    let mut trees = List::new(alloc);
+    'items: for x in items_of(form, value) {
+        let tree = T::build(alloc, x)?;
+        trees.push(tree)?;
+    }
+    Ok(trees)
+}
+
+/// The trees of the items of a member, none where it is missing.
+pub fn list<T: Build>(
+    alloc: Global,
+    form: Form,
+    items_form: Form,
+    key: Key,
+    value: &Json,
+) -> Result<List<T>, AllocError>
+    requires plain { IsTrue (is_plain form) }
+    requires known { IsTrue (is_known (kind_of form) key) }
+    requires form { part_form (kind_of form) key ≡ items_form }
+    requires item { item_form items_form ≡ Some T.form }
+    requires clean { faults form (node value.now) ≡ [] }
+    ensures { IfOk result (λ xs. IsList T.is (part key (node value.now)) (map T.seen xs)) }
+{
+    match optional_part(form, key, value) {
+        Some(w) => items(alloc, items_form, w),
+        None => Ok(List::new(alloc)),
+    }
+}
+
+/// The names of objects that have each a name as the member with this key.
+pub fn names_of(
+    alloc: Global,
+    form: Form,
+    item: Form,
+    key: Key,
+    value: &Json,
+) -> Result<List<Named>, AllocError>
+    requires form { item_form form ≡ Some item }
+    requires plain { IsTrue (is_plain item) }
+    requires known { IsTrue (is_known (kind_of item) key) }
+    requires needed { IsTrue (is_needed (kind_of item) key) }
+    requires name { part_form (kind_of item) key ≡ F.Name }
+    requires clean { faults form (node value.now) ≡ [] }
+    ensures { IfOk result (λ xs. IsItems (IsKeyed key) (node value.now) xs) }
+{
+    let mut names = List::new(alloc);
+    'items: for x in items_of(form, value) {
+        let name = name_of(alloc, item, key, x)?;
+        names.push(name)?;
+    }
+    Ok(names)
+}
+
+impl Build for Named {
+    ghost Tree = { Named };
+
+    ghost seen = { λ n. n };
+
+    ghost form = { F.Name };
+
+    ghost is = { IsNamed };
+
+    fn build(alloc: Global, value: &Json) -> Result<Named, AllocError> {
+        name_in(alloc, value)
+    }
+}
+
+impl Build for Option<Named> {
+    ghost Tree = { Option Named };
+
+    ghost seen = { λ n. n };
+
+    ghost form = { F.NameOrNull };
+
+    ghost is = { IsPart };
+
+    #[tactic(auto, using(crate::proofs::Operation::part_name))]
+    fn build(alloc: Global, value: &Json) -> Result<Option<Named>, AllocError> {
+        match value {
+            Json::Null(_) => Ok(None),
+            Json::Str(_, _) => Ok(Some(name_in(alloc, value)?)),
+            Json::Truth(_, _) => unreachable!(),
+            Json::Number(_, _) => unreachable!(),
+            Json::Array(_, _) => unreachable!(),
+            Json::Object(_, _, _) => unreachable!(),
+        }
+    }
+}

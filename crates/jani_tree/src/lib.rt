@@ -1,0 +1,20 @@
+//! The abstract syntax of JANI files (jani-model specification, version 1): the tree that a JSON value spells, or the least
+//! fault of the value's shape; and the canonical value of a tree.
+#![tactic(auto)]
+
+mod build;
+mod copy;
+mod laws;
+mod objects;
+mod read;
+mod syntax;
+mod write;
+
+pub use jani_table::JaniOp;
+pub use laws::places_law;
+pub use read::from_json;
+pub use syntax::{
+    JaniAutomaton, JaniConst, JaniDestination, JaniEdge, JaniFile, JaniKind, JaniLocation, JaniVar,
+    JaniVector, JaniWrite, Je,
+};
+pub use write::to_json;

@@ -1,0 +1,682 @@
+// The canonical value of a tree.
+ghost use Rattle.std.specs.Prelude.{◌≡◌, IfOk, OnOk, Option, Some, map};
+ghost use Rattle.std.specs.Option.{option_map};
+ghost use Rattle.bridge_io.specs.declared.reason.Named.{Named};
+ghost use Rattle.op_trees.specs.Tree.{tree};
+ghost use Rattle.jani_table.specs.declared.key.Key.TheVariants as K;
+ghost use Rattle.jani_table.specs.Node.{Node, fields, no_fields, node, text};
+ghost use Rattle.jani_table.specs.Words.{ty_text};
+ghost use Rattle.jani_tree.specs.Syntax.{bounded, Automaton, Const, Destination, Edge, Location, Var, Vector, Write, automaton_of, const_of, destination_of, edge_of, file_of, kind_of, location_of, var_of, vector_of, write_of};
+ghost use Rattle.jani_tree.specs.Jani.{IsFile};
+ghost use Rattle.jani_tree.specs.Canonical.{FileForm, automaton_node, bounded_word, boxed_node, const_node, destination_node, edge_node, expr_node, features_node, file_node, flag_node, head_members, keyed_node, kind_node, list_node, location_node, name_node, part_node, some_list, system_node, var_node, vector_node, version_node, with_entry, with_maybe, with_members, word, write_node};
+
+use crate::copy::copy_json;
+use crate::syntax::{
+    JaniAutomaton, JaniConst, JaniDestination, JaniEdge, JaniFile, JaniKind, JaniLocation, JaniVar,
+    JaniVector, JaniWrite, Je,
+};
+use bridge_io::{List, Named, Text};
+use decimal_json::{Json, Member};
+use frac_core::Decimal;
+use jani_table::{Feature, Key, ty_text};
+use op_trees::{Expr, Ty};
+use std::alloc::{AllocError, Global};
+
+// ---- members
+
+/// Adds a member at the end; its key stands at 0.
+fn add(alloc: Global, members: &mut List<Member>, key: Key, value: Json) -> Result<(), AllocError>
+    ensures { OnOk result (fields members.new ≡ with_entry (fields members.old) key (node value)) }
+{
+    let name = Text::copy_of(alloc, key.text())?;
+    members.push(Member {
+        key: Named { name, at: 0 },
+        value,
+    })?;
+    Ok(())
+}
+
+/// The same, if there is a value.
+fn add_some(
+    alloc: Global,
+    members: &mut List<Member>,
+    key: Key,
+    value: Option<Json>,
+) -> Result<(), AllocError>
+    ensures { OnOk result (fields members.new ≡ with_maybe (fields members.old) key (option_map node value)) }
+{
+    match value {
+        Some(value) => add(alloc, members, key, value),
+        None => Ok(()),
+    }
+}
+
+fn text_json(alloc: Global, at: usize, s: &str) -> Result<Json, AllocError>
+    ensures { IfOk result (λ v. node v ≡ text at s.now) }
+{
+    Ok(Json::Str(at, Text::copy_of(alloc, s)?))
+}
+
+fn name_json(alloc: Global, n: &Named) -> Result<Json, AllocError>
+    ensures { IfOk result (λ v. node v ≡ name_node n.now) }
+{
+    text_json(alloc, n.at, n.name.as_str())
+}
+
+fn some_name(alloc: Global, n: &Option<Named>) -> Result<Option<Json>, AllocError>
+    ensures { IfOk result (λ v. option_map node v ≡ option_map name_node n.now) }
+{
+    match n {
+        Some(n) => Ok(Some(name_json(alloc, n)?)),
+        None => Ok(None),
+    }
+}
+
+fn some_note(alloc: Global, note: &Option<Text>) -> Result<Option<Json>, AllocError>
+    ensures { IfOk result (λ v. option_map node v ≡ option_map word note.now) }
+{
+    match note {
+        Some(s) => Ok(Some(text_json(alloc, 0, s.as_str())?)),
+        None => Ok(None),
+    }
+}
+
+fn keyed_json(alloc: Global, key: Key, n: &Named) -> Result<Json, AllocError>
+    ensures { IfOk result (λ v. node v ≡ keyed_node key n.now) }
+{
+    let mut members = List::new(alloc);
+    add(alloc, &mut members, key, name_json(alloc, n)?)?;
+    Ok(Json::Object(0, members, 0))
+}
+
+// ---- expressions
+
+fn expression_json(alloc: Global, e: &Je) -> Result<Json, AllocError>
+    ensures { IfOk result (λ v. node v ≡ expr_node (tree e.now)) }
+{
+    match e {
+        Expr::Truth(at, b) => Ok(Json::Truth(*at, *b)),
+        Expr::Number(at, d) => Ok(Json::Number(*at, *d)),
+        Expr::Name(at, x) => Ok(Json::Str(*at, Text::copy_of(alloc, x.as_str())?)),
+        Expr::One(at, op, a) => {
+            let mut members = List::new(alloc);
+            add(
+                alloc,
+                &mut members,
+                Key::Op,
+                text_json(alloc, 0, op.text())?,
+            )?;
+            add(alloc, &mut members, Key::Exp, expression_json(alloc, a)?)?;
+            Ok(Json::Object(*at, members, 0))
+        }
+        Expr::Two(at, op, a, b) => {
+            let mut members = List::new(alloc);
+            add(
+                alloc,
+                &mut members,
+                Key::Op,
+                text_json(alloc, 0, op.text())?,
+            )?;
+            add(alloc, &mut members, Key::Left, expression_json(alloc, a)?)?;
+            add(alloc, &mut members, Key::Right, expression_json(alloc, b)?)?;
+            Ok(Json::Object(*at, members, 0))
+        }
+        Expr::Three(at, op, a, b, c) => {
+            let mut members = List::new(alloc);
+            add(
+                alloc,
+                &mut members,
+                Key::Op,
+                text_json(alloc, 0, op.text())?,
+            )?;
+            add(alloc, &mut members, Key::If, expression_json(alloc, a)?)?;
+            add(alloc, &mut members, Key::Then, expression_json(alloc, b)?)?;
+            add(alloc, &mut members, Key::Else, expression_json(alloc, c)?)?;
+            Ok(Json::Object(*at, members, 0))
+        }
+    }
+}
+
+fn some_expression(alloc: Global, e: &Option<Je>) -> Result<Option<Json>, AllocError>
+    ensures { IfOk result (λ v. option_map node v ≡ option_map expr_node (option_map tree e.now)) }
+{
+    match e {
+        Some(e) => Ok(Some(expression_json(alloc, e)?)),
+        None => Ok(None),
+    }
+}
+
+fn boxed_json(alloc: Global, e: &Je) -> Result<Json, AllocError>
+    ensures { IfOk result (λ v. node v ≡ boxed_node (tree e.now)) }
+{
+    let mut members = List::new(alloc);
+    add(alloc, &mut members, Key::Exp, expression_json(alloc, e)?)?;
+    Ok(Json::Object(0, members, 0))
+}
+
+fn some_boxed(alloc: Global, e: &Option<Je>) -> Result<Option<Json>, AllocError>
+    ensures { IfOk result (λ v. option_map node v ≡ option_map boxed_node (option_map tree e.now)) }
+{
+    match e {
+        Some(e) => Ok(Some(boxed_json(alloc, e)?)),
+        None => Ok(None),
+    }
+}
+
+// ---- lists
+
+/// A tree that has a canonical value.
+trait Written: Drop {
+    ghost Tree: { Type 0 };
+
+    ghost seen: { Self → Tree };
+
+    ghost shown: { Tree → Node };
+
+    /// The canonical value. `Err` is want of memory.
+    fn json(&self, alloc: Global) -> Result<Json, AllocError>
+        ensures { IfOk result (λ v. node v ≡ shown (seen self.now)) };
+}
+
+fn list_json<T: Written>(alloc: Global, at: usize, trees: &List<T>) -> Result<Json, AllocError>
+    ensures { IfOk result (λ v. node v ≡ list_node T.shown at (map T.seen trees.now)) }
+{
+    let mut items = List::new(alloc);
+    'items: for x in trees.as_slice() {
+        let item = x.json(alloc)?;
+        items.push(item)?;
+    }
+    Ok(Json::Array(at, items))
+}
+
+/// A list, if it has items.
+fn some_json<T: Written>(alloc: Global, trees: &List<T>) -> Result<Option<Json>, AllocError>
+    ensures { IfOk result (λ v. option_map node v ≡ some_list T.shown (map T.seen trees.now)) }
+{
+    if trees.len() == 0 {
+        return Ok(None);
+    }
+    Ok(Some(list_json(alloc, 0, trees)?))
+}
+
+/// Objects that have each a name.
+fn keyed_list(alloc: Global, at: usize, key: Key, names: &List<Named>) -> Result<Json, AllocError>
+    ensures { IfOk result (λ v. node v ≡ list_node (keyed_node key) at names.now) }
+{
+    let mut items = List::new(alloc);
+    'items: for n in names.as_slice() {
+        let item = keyed_json(alloc, key, n)?;
+        items.push(item)?;
+    }
+    Ok(Json::Array(at, items))
+}
+
+impl Written for Named {
+    ghost Tree = { Named };
+
+    ghost seen = { λ n. n };
+
+    ghost shown = { name_node };
+
+    fn json(&self, alloc: Global) -> Result<Json, AllocError> {
+        name_json(alloc, self)
+    }
+}
+
+impl Written for Option<Named> {
+    ghost Tree = { Option Named };
+
+    ghost seen = { λ n. n };
+
+    ghost shown = { part_node };
+
+    fn json(&self, alloc: Global) -> Result<Json, AllocError> {
+        match self {
+            Some(n) => name_json(alloc, n),
+            None => Ok(Json::Null(0)),
+        }
+    }
+}
+
+fn names_json(alloc: Global, names: &List<Named>) -> Result<Json, AllocError>
+    ensures { IfOk result (λ v. node v ≡ list_node name_node 0 names.now) }
+{
+    let list = list_json(alloc, 0, names)?;
+    Ok(list)
+}
+
+fn parts_json(alloc: Global, at: usize, parts: &List<Option<Named>>) -> Result<Json, AllocError>
+    ensures { IfOk result (λ v. node v ≡ list_node part_node at parts.now) }
+{
+    let list = list_json(alloc, at, parts)?;
+    Ok(list)
+}
+
+// ---- constants and variables
+
+impl Written for JaniConst {
+    ghost Tree = { Const };
+
+    ghost seen = { const_of };
+
+    ghost shown = { const_node };
+
+    fn json(&self, alloc: Global) -> Result<Json, AllocError> {
+        let mut members = List::new(alloc);
+        add(
+            alloc,
+            &mut members,
+            Key::Name,
+            name_json(alloc, &self.name)?,
+        )?;
+        add(
+            alloc,
+            &mut members,
+            Key::Type,
+            text_json(alloc, 0, ty_text(self.ty))?,
+        )?;
+        add_some(
+            alloc,
+            &mut members,
+            Key::Value,
+            some_expression(alloc, &self.value)?,
+        )?;
+        add_some(
+            alloc,
+            &mut members,
+            Key::Comment,
+            some_note(alloc, &self.note)?,
+        )?;
+        Ok(Json::Object(0, members, 0))
+    }
+}
+
+/// The first members of a bounded type.
+fn range_json(alloc: Global, ty: Ty) -> Result<List<Member>, AllocError>
+    ensures { IfOk result (λ ms. fields ms ≡ with_entry (with_entry no_fields K.Kind bounded_word) K.Base (word (ty_text ty))) }
+{
+    let mut members = List::new(alloc);
+    add(
+        alloc,
+        &mut members,
+        Key::Kind,
+        text_json(alloc, 0, "bounded")?,
+    )?;
+    add(
+        alloc,
+        &mut members,
+        Key::Base,
+        text_json(alloc, 0, ty_text(ty))?,
+    )?;
+    Ok(members)
+}
+
+fn bounded_json(alloc: Global, at: usize, low: &Je, high: &Je) -> Result<Json, AllocError>
+    ensures { IfOk result (λ v. node v ≡ kind_node at (bounded (tree low.now) (tree high.now))) }
+{
+    let mut members = range_json(alloc, Ty::Int)?;
+    add(
+        alloc,
+        &mut members,
+        Key::LowerBound,
+        expression_json(alloc, low)?,
+    )?;
+    add(
+        alloc,
+        &mut members,
+        Key::UpperBound,
+        expression_json(alloc, high)?,
+    )?;
+    Ok(Json::Object(at, members, 0))
+}
+
+fn kind_json(alloc: Global, at: usize, kind: &JaniKind) -> Result<Json, AllocError>
+    ensures { IfOk result (λ v. node v ≡ kind_node at (kind_of kind.now)) }
+{
+    match kind {
+        JaniKind::Bool => text_json(alloc, at, ty_text(Ty::Bool)),
+        JaniKind::Int => text_json(alloc, at, ty_text(Ty::Int)),
+        JaniKind::Real => text_json(alloc, at, ty_text(Ty::Real)),
+        JaniKind::RealBounded => Ok(Json::Object(at, range_json(alloc, Ty::Real)?, 0)),
+        JaniKind::OneSided => Ok(Json::Object(at, range_json(alloc, Ty::Int)?, 0)),
+        JaniKind::Bounded(low, high) => bounded_json(alloc, at, low, high),
+    }
+}
+
+fn flag_json(flag: bool) -> Option<Json>
+    ensures { option_map node result ≡ flag_node flag }
+{
+    match flag {
+        true => Some(Json::Truth(0, true)),
+        false => None,
+    }
+}
+
+impl Written for JaniVar {
+    ghost Tree = { Var };
+
+    ghost seen = { var_of };
+
+    ghost shown = { var_node };
+
+    fn json(&self, alloc: Global) -> Result<Json, AllocError> {
+        let mut members = List::new(alloc);
+        add(
+            alloc,
+            &mut members,
+            Key::Name,
+            name_json(alloc, &self.name)?,
+        )?;
+        add(
+            alloc,
+            &mut members,
+            Key::Type,
+            kind_json(alloc, self.kind_at, &self.kind)?,
+        )?;
+        add_some(
+            alloc,
+            &mut members,
+            Key::Transient,
+            flag_json(self.transient),
+        )?;
+        add_some(
+            alloc,
+            &mut members,
+            Key::InitialValue,
+            some_expression(alloc, &self.start)?,
+        )?;
+        add_some(
+            alloc,
+            &mut members,
+            Key::Comment,
+            some_note(alloc, &self.note)?,
+        )?;
+        Ok(Json::Object(0, members, 0))
+    }
+}
+
+// ---- automata
+
+impl Written for JaniWrite {
+    ghost Tree = { Write };
+
+    ghost seen = { write_of };
+
+    ghost shown = { write_node };
+
+    fn json(&self, alloc: Global) -> Result<Json, AllocError> {
+        let mut members = List::new(alloc);
+        add(
+            alloc,
+            &mut members,
+            Key::Ref,
+            name_json(alloc, &self.target)?,
+        )?;
+        add(
+            alloc,
+            &mut members,
+            Key::Value,
+            expression_json(alloc, &self.value)?,
+        )?;
+        Ok(Json::Object(0, members, 0))
+    }
+}
+
+impl Written for JaniLocation {
+    ghost Tree = { Location };
+
+    ghost seen = { location_of };
+
+    ghost shown = { location_node };
+
+    fn json(&self, alloc: Global) -> Result<Json, AllocError> {
+        let mut members = List::new(alloc);
+        add(
+            alloc,
+            &mut members,
+            Key::Name,
+            name_json(alloc, &self.name)?,
+        )?;
+        add_some(
+            alloc,
+            &mut members,
+            Key::TransientValues,
+            some_json(alloc, &self.values)?,
+        )?;
+        Ok(Json::Object(0, members, 0))
+    }
+}
+
+impl Written for JaniDestination {
+    ghost Tree = { Destination };
+
+    ghost seen = { destination_of };
+
+    ghost shown = { destination_node };
+
+    fn json(&self, alloc: Global) -> Result<Json, AllocError> {
+        let mut members = List::new(alloc);
+        add(
+            alloc,
+            &mut members,
+            Key::Location,
+            name_json(alloc, &self.location)?,
+        )?;
+        add_some(
+            alloc,
+            &mut members,
+            Key::Probability,
+            some_boxed(alloc, &self.weight)?,
+        )?;
+        add_some(
+            alloc,
+            &mut members,
+            Key::Assignments,
+            some_json(alloc, &self.writes)?,
+        )?;
+        Ok(Json::Object(0, members, 0))
+    }
+}
+
+impl Written for JaniEdge {
+    ghost Tree = { Edge };
+
+    ghost seen = { edge_of };
+
+    ghost shown = { edge_node };
+
+    fn json(&self, alloc: Global) -> Result<Json, AllocError> {
+        let mut members = List::new(alloc);
+        add(
+            alloc,
+            &mut members,
+            Key::Location,
+            name_json(alloc, &self.location)?,
+        )?;
+        add_some(
+            alloc,
+            &mut members,
+            Key::Action,
+            some_name(alloc, &self.action)?,
+        )?;
+        add_some(
+            alloc,
+            &mut members,
+            Key::Guard,
+            some_boxed(alloc, &self.guard)?,
+        )?;
+        let destinations = list_json(alloc, self.at, &self.destinations)?;
+        add(alloc, &mut members, Key::Destinations, destinations)?;
+        Ok(Json::Object(0, members, 0))
+    }
+}
+
+impl Written for JaniAutomaton {
+    ghost Tree = { Automaton };
+
+    ghost seen = { automaton_of };
+
+    ghost shown = { automaton_node };
+
+    fn json(&self, alloc: Global) -> Result<Json, AllocError> {
+        let mut members = List::new(alloc);
+        add(
+            alloc,
+            &mut members,
+            Key::Name,
+            name_json(alloc, &self.name)?,
+        )?;
+        add_some(
+            alloc,
+            &mut members,
+            Key::Variables,
+            some_json(alloc, &self.variables)?,
+        )?;
+        add(
+            alloc,
+            &mut members,
+            Key::Locations,
+            list_json(alloc, 0, &self.locations)?,
+        )?;
+        add(
+            alloc,
+            &mut members,
+            Key::InitialLocations,
+            names_json(alloc, &self.initial)?,
+        )?;
+        add(
+            alloc,
+            &mut members,
+            Key::Edges,
+            list_json(alloc, 0, &self.edges)?,
+        )?;
+        Ok(Json::Object(0, members, 0))
+    }
+}
+
+// ---- the composition and the file
+
+impl Written for JaniVector {
+    ghost Tree = { Vector };
+
+    ghost seen = { vector_of };
+
+    ghost shown = { vector_node };
+
+    fn json(&self, alloc: Global) -> Result<Json, AllocError> {
+        let mut members = List::new(alloc);
+        add(
+            alloc,
+            &mut members,
+            Key::Synchronise,
+            parts_json(alloc, self.at, &self.parts)?,
+        )?;
+        add_some(
+            alloc,
+            &mut members,
+            Key::Result,
+            some_name(alloc, &self.result)?,
+        )?;
+        Ok(Json::Object(0, members, 0))
+    }
+}
+
+fn system_json(alloc: Global, file: &JaniFile) -> Result<Json, AllocError>
+    ensures { IfOk result (λ v. node v ≡ system_node file.now.elements file.now.elements_at (map vector_of file.now.vectors)) }
+{
+    let mut members = List::new(alloc);
+    let elements = keyed_list(alloc, file.elements_at, Key::Automaton, &file.elements)?;
+    add(alloc, &mut members, Key::Elements, elements)?;
+    add(
+        alloc,
+        &mut members,
+        Key::Syncs,
+        list_json(alloc, 0, &file.vectors)?,
+    )?;
+    Ok(Json::Object(0, members, 0))
+}
+
+fn features_json(alloc: Global) -> Result<Json, AllocError>
+    ensures { IfOk result (λ v. node v ≡ features_node) }
+{
+    let mut items = List::new(alloc);
+    items.push(text_json(alloc, 0, Feature::DerivedOperators.text())?)?;
+    items.push(text_json(alloc, 0, Feature::StateExitRewards.text())?)?;
+    Ok(Json::Array(0, items))
+}
+
+fn version_json() -> Json
+    ensures { node result ≡ version_node }
+{
+    Json::Number(
+        0,
+        Decimal {
+            real: false,
+            negative: false,
+            digits: 1,
+            exponent: 0,
+        },
+    )
+}
+
+/// The members before the declarations.
+fn head_json(alloc: Global) -> Result<List<Member>, AllocError>
+    ensures { IfOk result (λ ms. fields ms ≡ with_members no_fields head_members) }
+{
+    let mut members = List::new(alloc);
+    add(alloc, &mut members, Key::JaniVersion, version_json())?;
+    add(
+        alloc,
+        &mut members,
+        Key::Name,
+        text_json(alloc, 0, "model")?,
+    )?;
+    add(alloc, &mut members, Key::Type, text_json(alloc, 0, "mdp")?)?;
+    add(alloc, &mut members, Key::Features, features_json(alloc)?)?;
+    Ok(members)
+}
+
+fn file_json(alloc: Global, file: &JaniFile) -> Result<Json, AllocError>
+    ensures { IfOk result (λ v. node v ≡ file_node (file_of file.now)) }
+{
+    let mut members = head_json(alloc)?;
+    let actions = keyed_list(alloc, 0, Key::Name, &file.actions)?;
+    add(alloc, &mut members, Key::Actions, actions)?;
+    add(
+        alloc,
+        &mut members,
+        Key::Constants,
+        list_json(alloc, 0, &file.constants)?,
+    )?;
+    add(
+        alloc,
+        &mut members,
+        Key::Variables,
+        list_json(alloc, 0, &file.variables)?,
+    )?;
+    add(
+        alloc,
+        &mut members,
+        Key::Properties,
+        copy_json(alloc, &file.properties)?,
+    )?;
+    add(
+        alloc,
+        &mut members,
+        Key::Automata,
+        list_json(alloc, 0, &file.automata)?,
+    )?;
+    add(alloc, &mut members, Key::System, system_json(alloc, file)?)?;
+    Ok(Json::Object(0, members, 0))
+}
+
+/// The canonical value of a tree: members in one order; names, expressions and the lists whose offset is kept at their own
+/// offsets, all else at 0. It spells the same tree, if each node has its operator's number of operands, and each bounded
+/// type is an int with both bounds. `Err` is want of memory.
+pub fn to_json(alloc: Global, file: &JaniFile) -> Result<Json, AllocError>
+    ensures value { IfOk result (λ v. node v ≡ file_node (file_of file.now)) }
+    ensures again { IfOk result (λ v. FileForm (file_of file.now) → IsFile (node v) (file_of file.now)) }
+{
+    let value = file_json(alloc, file)?;
+    Ok(value)
+}

@@ -1,0 +1,11 @@
+use Rattle.std.proofs.Common.{ap₂}
+use Rattle.prism_tree.specs.Syntax.{Branch, write_of}
+use Rattle.prism_flat.specs.Rewritten.{rewritten_write}
+use Rattle.prism_flat.specs.Tables.{rewriting}
+use Rattle.prism_flat.proofs.Steps.{zipped}
+use Rattle.prism_flat.proofs.parts.PrismBranchRewritten.rewritten.Goals as goal
+
+pub returns : goal.returns
+returns c =
+    ap₂ {C = Branch} (λ p ws. record { weight = p; writes = ws }) c.in_ok-optional.ensures
+    (zipped write_of (rewritten_write (rewriting c.args.rewriter.now)) c.as_slice.result.now _ c.in_ok-all_rewritten.field-0 c.as_slice.ensures c.in_ok-all_rewritten.ensures)

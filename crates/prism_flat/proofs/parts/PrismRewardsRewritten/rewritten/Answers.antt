@@ -1,0 +1,11 @@
+use Rattle.std.proofs.Common.{ap₂}
+use Rattle.prism_tree.specs.Syntax.{Rewards, item_of}
+use Rattle.prism_flat.specs.Rewritten.{rewritten_item}
+use Rattle.prism_flat.specs.Tables.{rewriting}
+use Rattle.prism_flat.proofs.Steps.{zipped}
+use Rattle.prism_flat.proofs.parts.PrismRewardsRewritten.rewritten.Goals as goal
+
+pub returns : goal.returns
+returns c =
+    ap₂ {C = Rewards} (λ n is. record { name = n; items = is }) c.in_ok-copy_of_name.ensures
+    (zipped item_of (rewritten_item (rewriting c.args.rewriter.now)) c.as_slice.result.now _ c.in_ok-all_rewritten.field-0 c.as_slice.ensures c.in_ok-all_rewritten.ensures)

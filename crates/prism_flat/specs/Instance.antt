@@ -1,0 +1,155 @@
+-- A model under a valuation as plain data: what its constants and the ranges and first values of its variables come out as.
+-- Which faults it has, what its states are, and whether it is wide, follow from that alone, for PRISM and JANI alike.
+-- (PRISM manual, "The PRISM Language": "Constants", "Modules And Variables"; jani-model specification, "Models". Which
+-- faults an instance has, and their order, is a rule of this project.)
+use Rattle.std.specs.Prelude.{ℕ, ◌+◌, List, [], ◌∷◌, ◌++◌, map, Bool, true, false, not, ◌&&◌, ◌||◌, Option, Some, None, is_none, if◌then◌else◌, unwrap_or}
+use Rattle.std.specs.List.{list_any}
+use Rattle.std.specs.declared.cmp.Ordering.{Ordering}
+use Rattle.std.specs.declared.cmp.Ordering.TheVariants as C
+use Rattle.frac_core.specs.Fraction.{Fraction, compare, is_whole}
+use Rattle.op_trees.specs.Seen.{Seen}
+use Rattle.op_trees.specs.declared.tree.Value.{Value}
+use Rattle.op_trees.specs.declared.tree.Value.TheVariants as V
+use Rattle.process_core.specs.Ready.{Values, Name}
+use Rattle.process_core.specs.Choices.{number_of}
+use Rattle.process_core.specs.Equal.{equal_values}
+use Rattle.process_core.specs.declared.data.FaultKind.{FaultKind}
+use Rattle.process_core.specs.declared.data.FaultKind.TheVariants.{ConstUndef, BoundUndef, EmptyRange, InitUndef, InitOutside}
+
+-- a value for each constant that a model leaves open
+abbrev pub Valuation : Type 0
+Valuation = Name → Option Value
+
+-- the values of a variable: truth values, or the whole numbers between two bounds
+pub data Domain : Type 0 where
+  Truths : Domain
+  Between : Seen → Seen → Domain
+
+-- a variable: its name, its values, and the one that it begins with
+pub record Column : Type 0 where
+  pub name : Name
+  pub domain : Domain
+  pub first : Seen
+
+-- a model under a valuation: its constants and its variables in order
+pub record Scene : Type 0 where
+  pub constants : List Seen
+  pub columns : List Column
+
+-- ---- ranges
+pub record Range : Type 0 where
+  pub low : Fraction
+  pub high : Fraction
+
+-- the range between two bounds, where both are defined
+abbrev pub range_between : Option Fraction → Option Fraction → Option Range
+range_between (Some l) (Some h) = Some (record { low = l; high = h })
+range_between (Some l) None = None
+range_between None h = None
+
+abbrev pub range_from : Seen → Seen → Option Range
+range_from l h = range_between (number_of l.value) (number_of h.value)
+
+abbrev pub is_greater : Ordering → Bool
+is_greater C.Greater = true
+is_greater o = false
+
+abbrev pub is_above : Fraction → Fraction → Bool
+is_above x y = is_greater (compare x y)
+
+abbrev pub is_empty : Range → Bool
+is_empty r = is_above r.low r.high
+
+-- a whole number between the bounds
+abbrev pub has_value : Range → Value → Bool
+has_value r (V.Truth b) = false
+has_value r (V.Number q) = is_whole q && (not (is_above r.low q) && not (is_above q r.high))
+
+abbrev pub range_has : Option Range → Value → Bool
+range_has None v = false
+range_has (Some r) v = has_value r v
+
+-- a value of the domain
+abbrev pub is_in : Domain → Value → Bool
+is_in Truths (V.Truth b) = true
+is_in Truths (V.Number q) = false
+is_in (Between l h) v = range_has (range_from l h) v
+
+-- ---- instance faults
+-- a fault, and the number of the constant or of the variable that has it
+pub record Fault : Type 0 where
+  pub kind : FaultKind
+  pub place : ℕ
+
+abbrev pub fault_of : FaultKind → ℕ → Fault
+fault_of kind i = record { kind = kind; place = i }
+
+-- what each member gives with its number, in order
+abbrev pub numbered : {X Y : Type 0} → (ℕ → X → List Y) → ℕ → List X → List Y
+numbered f i [] = []
+numbered f i (x ∷ xs) = f i x ++ numbered f (i + 1) xs
+
+abbrev pub only_if : {X : Type 0} → Bool → X → List X
+only_if b x = if b then (x ∷ []) else []
+
+abbrev pub constant_faults : ℕ → Seen → List Fault
+constant_faults i s = only_if (is_none s.value) (fault_of ConstUndef i)
+
+abbrev pub range_faults : ℕ → Option Range → List Fault
+range_faults i None = fault_of BoundUndef i ∷ []
+range_faults i (Some r) = only_if (is_empty r) (fault_of EmptyRange i)
+
+abbrev pub domain_faults : ℕ → Domain → List Fault
+domain_faults i Truths = []
+domain_faults i (Between l h) = range_faults i (range_from l h)
+
+-- outside a range that is defined and not empty
+abbrev pub range_lacks : Option Range → Value → Bool
+range_lacks None v = false
+range_lacks (Some r) v = not (is_empty r) && not (has_value r v)
+
+abbrev pub is_outside : Domain → Value → Bool
+is_outside Truths v = false
+is_outside (Between l h) v = range_lacks (range_from l h) v
+
+abbrev pub first_faults : ℕ → Domain → Option Value → List Fault
+first_faults i d None = fault_of InitUndef i ∷ []
+first_faults i d (Some v) = only_if (is_outside d v) (fault_of InitOutside i)
+
+abbrev pub column_faults : ℕ → Column → List Fault
+column_faults i c = domain_faults i c.domain ++ first_faults i c.domain c.first.value
+
+-- those of the constants, then those of the variables, each in order
+abbrev pub instance_faults : Scene → List Fault
+instance_faults k = numbered constant_faults 0 k.constants ++ numbered column_faults 0 k.columns
+
+-- ---- wide instances: something that a constant, a bound or a first value needs passes the bound of fractions
+abbrev pub is_wide_domain : Domain → Bool
+is_wide_domain Truths = false
+is_wide_domain (Between l h) = l.wide || h.wide
+
+abbrev pub is_wide_instance : Scene → Bool
+is_wide_instance k = list_any (λ s. s.wide) k.constants || list_any (λ c. is_wide_domain c.domain || c.first.wide) k.columns
+
+-- ---- states
+-- a value of its domain for each variable
+abbrev pub is_state : List Column → Values → Bool
+is_state [] [] = true
+is_state [] (v ∷ s) = false
+is_state (c ∷ cs) [] = false
+is_state (c ∷ cs) (v ∷ s) = is_in c.domain v && is_state cs s
+
+abbrev pub is_first : Option Value → Value → Bool
+is_first None v = false
+is_first (Some w) v = equal_values w v
+
+-- each variable has its first value
+abbrev pub is_initial : List Column → Values → Bool
+is_initial [] [] = true
+is_initial [] (v ∷ s) = false
+is_initial (c ∷ cs) [] = false
+is_initial (c ∷ cs) (v ∷ s) = is_first c.first.value v && is_initial cs s
+
+-- the first values, where all are defined
+abbrev pub first_values : Scene → Values
+first_values k = map (λ c. unwrap_or c.first.value (V.Truth false)) k.columns

@@ -1,0 +1,11 @@
+pub mod Instance
+pub mod Scene
+pub mod Moment
+pub mod Process
+pub mod Kept
+pub mod FlatLaws
+pub mod ConstantLaws
+pub mod Rewritten
+pub mod Filling
+pub mod Tables
+pub mod Renamings

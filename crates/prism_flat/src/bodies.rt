@@ -1,0 +1,68 @@
+// The bodies of formulas, written out.
+
+ghost use Rattle.std.specs.Prelude.{◌≡◌, ◌<◌, List, ℕ, All, length, map, Some, None, IfOk, OnOk, bytes_eq, if◌then◌else◌};
+ghost use Rattle.op_trees.specs.Tree.{tree};
+ghost use Rattle.prism_tree.specs.Syntax.{formula_of};
+ghost use Rattle.prism_names.specs.Places.{at_places};
+ghost use Rattle.prism_flat.specs.Filling.{bodies_after};
+ghost use Rattle.prism_flat.specs.Tables.{body_in};
+
+use indexmap::IndexMap;
+use op_trees::{Bodies, substitute};
+use prism_tree::{Pe, PrismFormula, PrismOp};
+use std::alloc::{AllocError, Global};
+
+/// Bodies of names.
+#[derive(Drop)]
+pub(crate) struct Table<'a> {
+    bodies: IndexMap<&'a str, Pe>,
+}
+
+impl<'a> Bodies<PrismOp> for Table<'a> {
+    ghost use Rattle.prism_flat.specs.Tables.{body_in};
+
+    ghost bodies = { body_in };
+
+    fn body(&self, name: &str) -> Option<&Pe> {
+        self.bodies.get(name)
+    }
+}
+
+impl<'a> Table<'a> {
+    fn new(alloc: Global) -> Table<'a>
+        ensures { (x : List ℕ) → body_in result x ≡ None }
+    {
+        Table {
+            bodies: IndexMap::new(alloc),
+        }
+    }
+
+    fn insert(&mut self, name: &'a str, body: Pe) -> Result<(), AllocError>
+        ensures { OnOk result
+            ((x : List ℕ) → body_in self.new x ≡ (if bytes_eq name.now x then Some (tree body) else body_in self.old x)) }
+    {
+        match self.bodies.insert(name, body) {
+            Ok(_) => Ok(()),
+            Err(_) => Err(AllocError),
+        }
+    }
+}
+
+/// The bodies of the formulas at these places, in each of which the names of those before it are replaced.
+pub(crate) fn written_bodies<'a>(
+    alloc: Global,
+    formulas: &'a [PrismFormula],
+    places: &[usize],
+) -> Result<Table<'a>, AllocError>
+    requires { All (λ i. i < length formulas.now) places.now }
+    ensures { IfOk result
+        (λ table. (x : List ℕ) → body_in table x ≡ bodies_after (at_places (map formula_of formulas.now) places.now) x) }
+{
+    let mut table = Table::new(alloc);
+    for place in places {
+        let formula = &formulas[*place];
+        let body = substitute(alloc, &formula.body, &table)?;
+        table.insert(formula.name.name.as_str(), body)?;
+    }
+    Ok(table)
+}

@@ -1,0 +1,169 @@
+// Expressions and names with formulas written out and names replaced.
+
+ghost use Rattle.std.specs.Prelude.{◌≡◌, IfOk};
+ghost use Rattle.std.specs.Option.{option_map};
+ghost use Rattle.op_trees.specs.Tree.{renamed, substituted, tree};
+ghost use Rattle.prism_tree.specs.Syntax.{range_of};
+ghost use Rattle.prism_flat.specs.Rewritten.{rewritten_name, rewritten_range};
+ghost use Rattle.prism_flat.specs.Tables.{body_in, name_in, rewriting};
+
+use crate::bodies::Table;
+use crate::renaming::Renaming;
+use bridge_io::{Named, Text};
+use op_trees::{Bodies, Expr};
+use prism_tree::{Pe, PrismRange};
+use std::alloc::{AllocError, Global};
+
+/// Bodies that names are replaced by, and new names for what is left.
+#[derive(Clone, Copy)]
+pub(crate) struct Rewriter<'a, 't> {
+    pub(crate) bodies: &'a Table<'t>,
+    pub(crate) renaming: &'a Renaming<'t>,
+}
+
+impl<'a, 't> Rewriter<'a, 't> {
+    /// An expression rewritten.
+    pub(crate) fn expression(&self, alloc: Global, e: &Pe) -> Result<Pe, AllocError>
+        ensures { IfOk result (λ r. tree r ≡ (rewriting self.now).expression (tree e.now)) }
+    {
+        written(alloc, e, self.bodies, self.renaming)
+    }
+
+    /// An expression rewritten, where there is one.
+    pub(crate) fn optional(&self, alloc: Global, e: &Option<Pe>) -> Result<Option<Pe>, AllocError>
+        ensures { IfOk result (λ r. option_map tree r ≡ option_map (rewriting self.now).expression (option_map tree e.now)) }
+    {
+        match e {
+            Some(e) => Ok(Some(self.expression(alloc, e)?)),
+            None => Ok(None),
+        }
+    }
+
+    /// A range rewritten, where there is one.
+    pub(crate) fn range(
+        &self,
+        alloc: Global,
+        range: &Option<PrismRange>,
+    ) -> Result<Option<PrismRange>, AllocError>
+        ensures { IfOk result
+            (λ r. option_map range_of r ≡ option_map (rewritten_range (rewriting self.now)) (option_map range_of range.now)) }
+    {
+        match range {
+            Some(range) => Ok(Some(PrismRange {
+                low: self.expression(alloc, &range.low)?,
+                high: self.expression(alloc, &range.high)?,
+            })),
+            None => Ok(None),
+        }
+    }
+
+    /// The name of a variable that is declared, or of an action.
+    pub(crate) fn name(&self, alloc: Global, n: &Named) -> Result<Named, AllocError>
+        ensures { IfOk result (λ r. r ≡ rewritten_name (rewriting self.now).name n.now) }
+    {
+        named(alloc, self.renaming.new_name(n.name.as_str()), n.at)
+    }
+
+    /// The name of an action, where there is one.
+    pub(crate) fn action(
+        &self,
+        alloc: Global,
+        n: &Option<Named>,
+    ) -> Result<Option<Named>, AllocError>
+        ensures { IfOk result (λ r. r ≡ option_map (rewritten_name (rewriting self.now).name) n.now) }
+    {
+        match n {
+            Some(n) => Ok(Some(self.name(alloc, n)?)),
+            None => Ok(None),
+        }
+    }
+
+    /// The name of a variable that is written.
+    pub(crate) fn target(&self, alloc: Global, n: &Named) -> Result<Named, AllocError>
+        ensures { IfOk result (λ r. r ≡ rewritten_name (rewriting self.now).target n.now) }
+    {
+        let name = n.name.as_str();
+        if self.bodies.body(name).is_some() {
+            named(alloc, name, n.at)
+        } else {
+            named(alloc, self.renaming.new_name(name), n.at)
+        }
+    }
+}
+
+/// A name at an offset.
+pub(crate) fn named(alloc: Global, name: &str, at: usize) -> Result<Named, AllocError>
+    ensures { IfOk result (λ r. r ≡ record { name = name.now; at = at }) }
+{
+    Ok(Named {
+        name: Text::copy_of(alloc, name)?,
+        at,
+    })
+}
+
+/// An expression in which names are replaced.
+fn renamed(alloc: Global, e: &Pe, renaming: &Renaming) -> Result<Pe, AllocError>
+    ensures { IfOk result (λ r. tree r ≡ renamed (name_in renaming.now) (tree e.now)) }
+{
+    match e {
+        Expr::Truth(at, b) => Ok(Expr::Truth(*at, *b)),
+        Expr::Number(at, d) => Ok(Expr::Number(*at, *d)),
+        Expr::Name(at, x) => {
+            let name = renaming.new_name(x.as_str());
+            Ok(Expr::Name(*at, Text::copy_of(alloc, name)?))
+        }
+        Expr::One(at, o, a) => Ok(Expr::One(
+            *at,
+            *o,
+            Box::new(alloc, renamed(alloc, a, renaming)?)?,
+        )),
+        Expr::Two(at, o, a, b) => Ok(Expr::Two(
+            *at,
+            *o,
+            Box::new(alloc, renamed(alloc, a, renaming)?)?,
+            Box::new(alloc, renamed(alloc, b, renaming)?)?,
+        )),
+        Expr::Three(at, o, a, b, c) => Ok(Expr::Three(
+            *at,
+            *o,
+            Box::new(alloc, renamed(alloc, a, renaming)?)?,
+            Box::new(alloc, renamed(alloc, b, renaming)?)?,
+            Box::new(alloc, renamed(alloc, c, renaming)?)?,
+        )),
+    }
+}
+
+/// An expression in which names that have bodies are replaced by them, and then all names are replaced.
+fn written(alloc: Global, e: &Pe, bodies: &Table, renaming: &Renaming) -> Result<Pe, AllocError>
+    ensures { IfOk result (λ r. tree r ≡ renamed (name_in renaming.now) (substituted (body_in bodies.now) (tree e.now))) }
+{
+    match e {
+        Expr::Truth(at, b) => Ok(Expr::Truth(*at, *b)),
+        Expr::Number(at, d) => Ok(Expr::Number(*at, *d)),
+        Expr::Name(at, x) => match bodies.body(x.as_str()) {
+            Some(body) => Ok(renamed(alloc, body, renaming)?),
+            None => {
+                let name = renaming.new_name(x.as_str());
+                Ok(Expr::Name(*at, Text::copy_of(alloc, name)?))
+            }
+        },
+        Expr::One(at, o, a) => Ok(Expr::One(
+            *at,
+            *o,
+            Box::new(alloc, written(alloc, a, bodies, renaming)?)?,
+        )),
+        Expr::Two(at, o, a, b) => Ok(Expr::Two(
+            *at,
+            *o,
+            Box::new(alloc, written(alloc, a, bodies, renaming)?)?,
+            Box::new(alloc, written(alloc, b, bodies, renaming)?)?,
+        )),
+        Expr::Three(at, o, a, b, c) => Ok(Expr::Three(
+            *at,
+            *o,
+            Box::new(alloc, written(alloc, a, bodies, renaming)?)?,
+            Box::new(alloc, written(alloc, b, bodies, renaming)?)?,
+            Box::new(alloc, written(alloc, c, bodies, renaming)?)?,
+        )),
+    }
+}
