@@ -244,9 +244,6 @@ back_as x t b c e f g h k d p =
     let w = h (sym g ∙ k) d p in
     writes_as p _ _ _ _ (sym e) (record { meant = w.meant; end = w.end; spells = w.spells; holds = w.holds ∙ sym f })
 
-inner : Json-F J M → Json-F Json Member
-inner y = map-Json J M Json Member (λ e. e.0) (λ e. e.0) y
-
 layers : (y : Json-F J M) → IsBack (roll-Json (map-Json J M Json Member (λ e. e.0) (λ e. e.0) y))
 layers (layer.Null at) = back_as _ _ _ _ (fold-roll-Json _ _ value_step member_step (layer.Null at)) (fold-roll-Json _ _ bare_step bare_member_step (layer.Null at)) (fold-roll-Json _ _ proper_step proper_member (layer.Null at)) (λ k d p. null_writes d p)
 layers (layer.Truth at true) = back_as _ _ _ _ (fold-roll-Json _ _ value_step member_step (layer.Truth at true)) (fold-roll-Json _ _ bare_step bare_member_step (layer.Truth at true)) (fold-roll-Json _ _ proper_step proper_member (layer.Truth at true)) (λ k d p. truth_writes d p true)

@@ -1,34 +1,81 @@
 -- The members of an object, found by their keys.
-use Rattle.std.proofs.Common.{◌≡◌, ℕ, Bool, true, false, List, [], ◌∷◌, ◌++◌, map, String, Global, string_bytes, refl, ap, ◌∙◌}
+use Rattle.std.proofs.Common.{◌≡◌, ℕ, zero, suc, ◌<◌, ◌≤◌, Bool, true, false, ◌||◌, List, [], ◌∷◌, ◌++◌, map, take, drop, length, String, string_bytes, refl, sym, ap, ◌∙◌, arith}
 use Rattle.std.specs.Prelude.{Option, Some, None, is_some, bytes_eq}
+use Rattle.std.specs.Global.{Box, Global}
 use Rattle.std.specs.Map.{lookup}
+use Rattle.std.proofs.lemmas.List.{take-append-drop, length-append, drop_all}
+use Rattle.indexmap.specs.IndexMap.{IndexMap, get_by}
 use Rattle.decimal_json.specs.declared.tree.Member.{Member}
-use Rattle.decimal_json.specs.declared.members.Held.{Held}
 use Rattle.decimal_json.specs.Grammar.{is_among, names}
+use Rattle.decimal_json.specs.Kept.{late_names}
 
-abbrev pub member_of : String Global × Held → Member
-member_of e = record { key = record { name = string_bytes e.0; at = e.1.at }; value = e.1.value }
+-- ---- among names
 
-has_more : (s : List ℕ) (e : String Global × Held) (es : List (String Global × Held)) → is_some (lookup (λ k. bytes_eq s (string_bytes k)) es) ≡ is_among (names (map member_of es)) s →
-    is_some (lookup (λ k. bytes_eq s (string_bytes k)) (e ∷ es)) ≡ is_among (names (map member_of (e ∷ es))) s
-has_more s e es rest = go (bytes_eq s (string_bytes e.0)) refl
+pub among_append : (xs ys : List (List ℕ)) (s : List ℕ) → is_among (xs ++ ys) s ≡ is_among xs s || is_among ys s
+among_append [] ys s = refl
+among_append (x ∷ xs) ys s = go (bytes_eq s x) (among_append xs ys s)
   where
-    go : (b : Bool) → bytes_eq s (string_bytes e.0) ≡ b → is_some (lookup (λ k. bytes_eq s (string_bytes k)) (e ∷ es)) ≡ is_among (names (map member_of (e ∷ es))) s
-    go true h = rw h refl
-    go false h = rw h rest
+    go : (b : Bool) → is_among (xs ++ ys) s ≡ is_among xs s || is_among ys s → b || is_among (xs ++ ys) s ≡ (b || is_among xs s) || is_among ys s
+    go true h = refl
+    go false h = h
 
-pub has_is : (s : List ℕ) (es : List (String Global × Held)) → is_some (lookup (λ k. bytes_eq s (string_bytes k)) es) ≡ is_among (names (map member_of es)) s
-has_is s [] = refl
-has_is s (e ∷ es) = has_more s e es (has_is s es)
+pub map_append : {A B : Type 0} (f : A → B) (xs ys : List A) → map f (xs ++ ys) ≡ map f xs ++ map f ys
+map_append f [] ys = refl
+map_append f (x ∷ xs) ys = ap (λ u. f x ∷ u) (map_append f xs ys)
+
+or_false : (a b c : Bool) → c ≡ a || b → a ≡ false → c ≡ b
+or_false false b c h e = h
+or_false true b c h e = absurd cc
+
+-- ---- one after another
+
+-- ---- the first few, and the later ones
+
+module _ (list : List Member) (n : ℕ) where
+  parted : (s : List ℕ) → is_among (names list) s ≡ is_among (names (take n list)) s || is_among (names (drop n list)) s
+  parted s = ap (λ (u : List Member). is_among (names u) s) (sym (take-append-drop n list)) ∙ ap (λ (u : List (List ℕ)). is_among u s) (map_append (λ m. m.key.name) (take n list) (drop n list)) ∙ among_append (names (take n list)) (names (drop n list)) s
+
+  -- a further member among the first few
+  pub none_later : (m : Member) (more : List Member) (late : List (List ℕ)) → more ≡ list ++ m ∷ [] → length list < n → late ≡ names (drop n list) → late ≡ names (drop n more)
+  none_later m more late e l f =
+      f ∙ ap names (drop_all n list (omega (arith, l))) ∙ sym (ap (λ (u : List Member). names (drop n u)) e ∙ ap names (drop_all n (list ++ m ∷ []) (let a = length-append list (m ∷ []) in omega (arith, a, l))))
+
+  -- and behind them
+  pub one_later : (m : Member) (more : List Member) (late later : List (List ℕ)) → more ≡ list ++ m ∷ [] → n ≤ length list → late ≡ names (drop n list) → later ≡ late ++ m.key.name ∷ [] → later ≡ names (drop n more)
+  one_later m more late later e l f g =
+      g ∙ ap (λ (u : List (List ℕ)). u ++ m.key.name ∷ []) f ∙ sym (map_append (λ k. k.key.name) (drop n list) (m ∷ [])) ∙ ap names (sym (drop_more n list (m ∷ []) l)) ∙ ap (λ (u : List Member). names (drop n u)) (sym e)
+    where
+      drop_more : (n : ℕ) (xs ys : List Member) → n ≤ length xs → drop n (xs ++ ys) ≡ drop n xs ++ ys
+      drop_more zero xs ys h = refl
+      drop_more (suc n) [] ys h = absurd (omega arith)
+      drop_more (suc n) (x ∷ xs) ys h = drop_more n xs ys (omega arith)
+
+-- ---- in the map
 
 none_of : {A : Type 0} (o : Option A) → is_some o ≡ false → o ≡ None
 none_of None e = refl
 none_of (Some x) e = absurd cc
 
--- a key that no member has is not found
-pub absent : (s : List ℕ) (es : List (String Global × Held)) → is_among (names (map member_of es)) s ≡ false → lookup (λ k. bytes_eq s (string_bytes k)) es ≡ None
-absent s es h = none_of _ (has_is s es ∙ h)
+found_in : (s : List ℕ) (es : List (String Global × Unit {0})) → is_some (lookup (λ k. bytes_eq s (string_bytes k)) es) ≡ is_among (map (λ e. string_bytes e.0) es) s
+found_in s [] = refl
+found_in s (e ∷ es) = go (bytes_eq s (string_bytes e.0)) refl (found_in s es)
+  where
+    go : (b : Bool) → bytes_eq s (string_bytes e.0) ≡ b → is_some (lookup (λ k. bytes_eq s (string_bytes k)) es) ≡ is_among (map (λ e. string_bytes e.0) es) s → is_some (lookup (λ k. bytes_eq s (string_bytes k)) (e ∷ es)) ≡ is_among (map (λ e. string_bytes e.0) (e ∷ es)) s
+    go true h r = rw h refl
+    go false h r = rw h r
 
-pub map_append : {A B : Type 0} (f : A → B) (xs ys : List A) → map f (xs ++ ys) ≡ map f xs ++ map f ys
-map_append f [] ys = refl
-map_append f (x ∷ xs) ys = ap (λ u. f x ∷ u) (map_append f xs ys)
+module _ {S : Type 0} where
+  pub found_late_name : (late : Option (Box (IndexMap (String Global) (Unit {0}) S))) (b : Box (IndexMap (String Global) (Unit {0}) S)) (m : IndexMap (String Global) (Unit {0}) S) (s : List ℕ) (f : Bool) → late ≡ Some b → m ≡ b.value → f ≡ is_some (get_by (λ k. bytes_eq s (string_bytes k)) m) → f ≡ is_among (late_names late) s
+  found_late_name late b m s f e g h =
+      h ∙ found_in s m.entries ∙ ap (λ (x : IndexMap (String Global) (Unit {0}) S). is_among (map (λ e. string_bytes e.0) x.entries) s) g ∙ ap (λ (x : Option (Box (IndexMap (String Global) (Unit {0}) S))). is_among (late_names x) s) (sym e)
+
+  pub not_in_map : (m : IndexMap (String Global) (Unit {0}) S) (s : List ℕ) → is_among (map (λ e. string_bytes e.0) m.entries) s ≡ false → lookup (λ k. bytes_eq s (string_bytes k)) m.entries ≡ None
+  not_in_map m s h = none_of _ (found_in s m.entries ∙ h)
+
+  pub same_names : (m : IndexMap (String Global) (Unit {0}) S) (b : Box (IndexMap (String Global) (Unit {0}) S)) → m ≡ b.value → map (λ e. string_bytes e.0) m.entries ≡ late_names (Some b)
+  same_names m b e = ap (λ (x : IndexMap (String Global) (Unit {0}) S). map (λ e. string_bytes e.0) x.entries) e
+
+  pub noted_is : (m : IndexMap (String Global) (Unit {0}) S) (k : String Global) (more : List (String Global × Unit {0})) (names : List (List ℕ)) (key : List ℕ) → more ≡ m.entries ++ (k, tt) ∷ [] → map (λ e. string_bytes e.0) m.entries ≡ names → string_bytes k ≡ key → map (λ e. string_bytes e.0) more ≡ names ++ key ∷ []
+  noted_is m k more names key e f g =
+      ap (λ (u : List (String Global × Unit {0})). map (λ e. string_bytes e.0) u) e ∙ map_append (λ (x : String Global × Unit {0}). string_bytes x.0) m.entries ((k, tt) ∷ [])
+      ∙ ap (λ (u : List (List ℕ)). u ++ string_bytes k ∷ []) f ∙ ap (λ (u : List ℕ). names ++ u ∷ []) g

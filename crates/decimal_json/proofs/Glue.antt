@@ -119,10 +119,6 @@ module _ (gs : List Frame) (x : Json) (p : Place) where
   pub open_object_close : (at : ℕ) (o : List Member × Named) (more : List Member) → more ≡ o.0 ++ record { key = o.1; value = x } ∷ [] → Turns p 0x7d (next p) (closes (InObject at o ∷ reverse gs) x) (closes (reverse gs) (Object at more p.at))
   open_object_close at o more m = let F : List Member → Type 0 = λ u. Turns p 0x7d (next p) (closes (InObject at o ∷ reverse gs) x) (closes (reverse gs) (Object at u p.at)) in subst F (sym m) (s.object_close at o.0 o.1 (reverse gs) x p)
 
--- the innermost bracket is taken out
-pub popped_goes : (at c : ℕ) (fs gs : List Frame) (o : Option Frame) (f : Frame) (x : Json) (r : Result State Stop) → (o ≡ Some f → fs ≡ gs ++ f ∷ []) → o ≡ Some f → Goes at c (closes (f ∷ reverse gs) x) r → Goes at c (closes (reverse fs) x) r
-popped_goes at c fs gs o f x r e h g = pushed (λ u. Goes at c (closes u x) r) gs fs f (e h) g
-
 -- the place at an offset at which nothing is noted
 some_place : ℕ → Place
 some_place at = record { at = at; marks = [] }

@@ -18,3 +18,7 @@ pub mod Numerals
 pub mod Reading
 pub mod Yields
 pub mod Back
+pub mod Single
+pub mod Passing
+pub mod Chains
+pub mod Whole

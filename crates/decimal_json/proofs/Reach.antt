@@ -1,5 +1,5 @@
 -- From steps to whole texts.
-use Rattle.std.proofs.Common.{◌≡◌, ℕ, zero, suc, ◌+◌, ◌<◌, ◌≤◌, Bool, true, false, List, [], ◌∷◌, ◌++◌, length, length-append, take, reverse, refl, sym, ap, subst, ◌∙◌, arith, inl, inr, append_assoc}
+use Rattle.std.proofs.Common.{◌≡◌, ℕ, zero, suc, ◌+◌, ◌<◌, ◌≤◌, Bool, true, false, List, [], ◌∷◌, ◌++◌, length, take, reverse, refl, sym, ap, subst, ◌∙◌, arith, inl, inr, append_assoc}
 use Rattle.bridge_io.specs.declared.reason.Reason.{Reason}
 use Rattle.bridge_io.specs.declared.reason.Reason.TheVariants.{JsonSyntax, BadNumber}
 use Rattle.bridge_io.specs.Reason.{number_of}
@@ -544,9 +544,6 @@ pub next_byte : (seen piece more : List ℕ) (i c k : ℕ) → i < length piece 
 next_byte seen piece more i c k l e a =
     ap (λ j. take j (seen ++ (piece ++ more))) (let b = a in omega (arith, b)) ∙ take_past seen (piece ++ more) (i + 1) ∙ ap (λ u. seen ++ u) (take_front piece more (i + 1) (omega arith) ∙ e)
     ∙ sym (append_assoc seen (take i piece) (c ∷ [])) ∙ ap (λ u. u ++ c ∷ []) (sym (ap (λ j. take j (seen ++ (piece ++ more))) a ∙ take_past seen (piece ++ more) i ∙ ap (λ u. seen ++ u) (take_front piece more i (omega arith))))
-
-pub next_within : (seen piece more : List ℕ) (i k : ℕ) → i < length piece → k ≡ length seen + i → k < length (seen ++ (piece ++ more))
-next_within seen piece more i k l a = let b = length-append seen (piece ++ more) in let c = length-append piece more in omega (arith, a, b, c, l)
 
 pub least_bytes : (u v : List ℕ) (i : ℕ) (w : Reason) → u ≡ v → IsLeast v i w → IsLeast u i w
 least_bytes u v i w e h = let F : List ℕ → Type 0 = λ b. IsLeast b i w in subst F (sym e) h

@@ -1,21 +1,18 @@
 -- The canonical text, piece by piece.
-use Rattle.std.proofs.Common.{◌/◌, ◌%◌, ◌^◌, ◌-◌, cond, nat_lt, ◌≡◌, ℕ, ◌+◌, List, [], ◌∷◌, ◌++◌, map, refl, sym, ap, ◌∙◌, append_assoc, take, length, ◌<◌, ◌≤◌, arith, zero, suc}
+use Rattle.std.proofs.Common.{◌/◌, ◌%◌, ◌^◌, ◌-◌, cond, nat_lt, ◌≡◌, ℕ, ◌+◌, List, [], ◌∷◌, ◌++◌, map, refl, sym, ap, ◌∙◌, append_assoc, take, drop, length, nat_eq, subst, ◌<◌, ◌≤◌, arith, zero, suc}
 use Rattle.std.specs.Prelude.{codes, Bool, true, false, ℤ, pos, negsuc, decimal, ◌<ℤ◌, unsigned_abs}
-use Rattle.std.specs.List.{concat}
 use Rattle.std.proofs.Math.Nat.{pow-suc}
+use Rattle.std.proofs.Math.Seq.{take-add}
+use Rattle.std.proofs.Math.ListN.{get_or}
 use Rattle.std.proofs.lemmas.Bool.Decides.{nat_tests}
 use Rattle.std.proofs.lemmas.Int.{ints}
-use Rattle.frac_core.specs.declared.decimal.Decimal.{Decimal}
 use Rattle.decimal_json.specs.declared.tree.Json.{Json}
 use Rattle.decimal_json.specs.declared.tree.Member.{Member}
 use Rattle.decimal_json.specs.declared.tree.Json.TheOpen as layer
-use Rattle.decimal_json.specs.declared.tree.Json.TheVariants.{Null, Truth, Number, Str, Array, Object, rolls-Null, rolls-Array, rolls-Object, rolls-Truth, rolls-Number, rolls-Str}
+use Rattle.decimal_json.specs.declared.tree.Json.TheVariants.{Array, Object, rolls-Array, rolls-Object}
 use Rattle.decimal_json.specs.declared.tree.Json.{fold-roll-Json}
 use Rattle.decimal_json.specs.declared.tree.Json.TheFolds.{fold_out-Member}
-use Rattle.decimal_json.specs.Text.{padded, real_text, number_text, escaped_byte, escaped, value_step, member_step, text_of, member_text, with_commas, behind_commas, quoted}
-
-pub text_Null : (at : ℕ) → text_of (Null at) ≡ codes "null"
-text_Null at = ap text_of (sym (rolls-Null at)) ∙ fold-roll-Json _ _ value_step member_step (layer.Null at)
+use Rattle.decimal_json.specs.Text.{padded, real_text, escaped_byte, is_bare, AllBare, escaped, value_step, member_step, text_of, member_text, with_commas, behind_commas, quoted}
 
 pub text_Array : (at : ℕ) (xs : List Json) → text_of (Array at xs) ≡ 0x5b ∷ (with_commas (map text_of xs) ++ 0x5d ∷ [])
 text_Array at xs = ap text_of (sym (rolls-Array at xs)) ∙ fold-roll-Json _ _ value_step member_step (layer.Array at xs)
@@ -34,9 +31,6 @@ behind_snoc (s ∷ ts) t = ap (λ u. 0x2c ∷ (s ++ u)) (behind_snoc ts t) ∙ a
 map_snoc : {X : Type 0} (f : X → List ℕ) (xs : List X) (x : X) → map f (xs ++ x ∷ []) ≡ map f xs ++ f x ∷ []
 map_snoc f [] x = refl
 map_snoc f (y ∷ xs) x = ap (λ u. f y ∷ u) (map_snoc f xs x)
-
-pub text_Str : (at : ℕ) (t : List ℕ) → text_of (Str at t) ≡ quoted t
-text_Str at t = ap text_of (sym (rolls-Str at t)) ∙ fold-roll-Json _ _ value_step member_step (layer.Str at t)
 
 commas_snoc : (s : List ℕ) (ts : List (List ℕ)) (t : List ℕ) → with_commas ((s ∷ ts) ++ t ∷ []) ≡ with_commas (s ∷ ts) ++ 0x2c ∷ t
 commas_snoc s ts t = ap (λ u. s ++ u) (behind_snoc ts t) ∙ sym (append_assoc s (behind_commas ts) (0x2c ∷ t))
@@ -74,15 +68,6 @@ closing {X = X} f start out end b d xs i o e l =
 pub member_is : (m : Member) → member_text m ≡ quoted m.key.name ++ 0x3a ∷ text_of m.value
 member_is m = fold_out-Member _ _ value_step member_step m
 
-pub text_true : (at : ℕ) → text_of (Truth at true) ≡ codes "true"
-text_true at = ap text_of (sym (rolls-Truth at true)) ∙ fold-roll-Json _ _ value_step member_step (layer.Truth at true)
-
-pub text_false : (at : ℕ) → text_of (Truth at false) ≡ codes "false"
-text_false at = ap text_of (sym (rolls-Truth at false)) ∙ fold-roll-Json _ _ value_step member_step (layer.Truth at false)
-
-pub text_Number : (at : ℕ) (d : Decimal) → text_of (Number at d) ≡ number_text d
-text_Number at d = ap text_of (sym (rolls-Number at d)) ∙ fold-roll-Json _ _ value_step member_step (layer.Number at d)
-
 -- ---- reals, by the exponent's sign and size
 
 pub text_zero : (n : ℕ) (z : ℤ) → z ≡ pos 0 → real_text n z ≡ decimal n ++ codes ".0"
@@ -115,19 +100,54 @@ positive (suc k) = let h = positive k in let e = pow-suc 10 k in omega arith
 
 -- ---- strings
 
-concat_snoc : (xs : List (List ℕ)) (x : List ℕ) → concat (xs ++ x ∷ []) ≡ concat xs ++ x
-concat_snoc [] x = append_nil x
-concat_snoc (y ∷ xs) x = ap (λ u. y ++ u) (concat_snoc xs x) ∙ sym (append_assoc y (concat xs) x)
-
-pub escaped_snoc : (s : List ℕ) (c : ℕ) → escaped (s ++ c ∷ []) ≡ escaped s ++ escaped_byte c
-escaped_snoc s c = ap concat (map_snoc escaped_byte s c) ∙ concat_snoc (map escaped_byte s) (escaped_byte c)
-
-pub escaped_more : (start bytes out end : List ℕ) (i c : ℕ) → out ≡ start ++ 0x22 ∷ escaped (take i bytes) → take (i + 1) bytes ≡ take i bytes ++ c ∷ [] → end ≡ out ++ escaped_byte c → end ≡ start ++ 0x22 ∷ escaped (take (i + 1) bytes)
-escaped_more start bytes out end i c o t e =
-    e ∙ ap (λ (u : List ℕ). u ++ escaped_byte c) o ∙ append_assoc start (0x22 ∷ escaped (take i bytes)) (escaped_byte c)
-    ∙ ap (λ (u : List ℕ). start ++ 0x22 ∷ u) (sym (escaped_snoc (take i bytes) c) ∙ ap escaped (sym t))
-
 pub pushes : (mid o1 o2 end name text : List ℕ) → o1 ≡ mid ++ quoted name → o2 ≡ o1 ++ 0x3a ∷ [] → end ≡ o2 ++ text → end ≡ mid ++ (quoted name ++ 0x3a ∷ text)
 pushes mid o1 o2 end name text a b c =
     c ∙ ap (λ (u : List ℕ). u ++ text) (b ∙ ap (λ (u : List ℕ). u ++ 0x3a ∷ []) a)
     ∙ append_assoc (mid ++ quoted name) (0x3a ∷ []) text ∙ append_assoc mid (quoted name) (0x3a ∷ text)
+
+-- ---- bytes without an escape
+
+bare_byte : (c : ℕ) → is_bare c ≡ true → escaped_byte c ≡ c ∷ []
+bare_byte c h = let l = above c h in rw (quote c h, slash c h, none c 8 l (omega arith), none c 12 l (omega arith), none c 10 l (omega arith), none c 13 l (omega arith), none c 9 l (omega arith), low c l) refl
+  where
+    none : (c k : ℕ) → 32 ≤ c → k < 32 → nat_eq c k ≡ false
+    none c k h l = grind (arith, nat_tests)
+
+    above : (c : ℕ) → is_bare c ≡ true → 32 ≤ c
+    above c h = grind (arith, nat_tests, h)
+
+    quote : (c : ℕ) → is_bare c ≡ true → nat_eq c 34 ≡ false
+    quote c h = grind (arith, nat_tests, h)
+
+    slash : (c : ℕ) → is_bare c ≡ true → nat_eq c 92 ≡ false
+    slash c h = grind (arith, nat_tests, h)
+
+    low : (c : ℕ) → 32 ≤ c → nat_lt c 32 ≡ false
+    low c h = grind (arith, nat_tests)
+
+bare_text : (w : List ℕ) → AllBare w → escaped w ≡ w
+bare_text [] h = refl
+bare_text (c ∷ w) h = ap (λ u. u ++ escaped w) (bare_byte c h.0) ∙ ap (λ u. c ∷ u) (bare_text w h.1)
+
+bare_snoc : (w : List ℕ) (c : ℕ) → AllBare w → is_bare c ≡ true → AllBare (w ++ c ∷ [])
+bare_snoc [] c h e = (e, tt)
+bare_snoc (b ∷ w) c h e = (h.0, bare_snoc w c h.1 e)
+
+pub bare_more : (w v : List ℕ) (c : ℕ) → w ≡ v ++ c ∷ [] → AllBare v → is_bare c ≡ true → AllBare w
+bare_more w v c e h k = let F : List ℕ → Type 0 = λ u. AllBare u in subst F (sym e) (bare_snoc v c h k)
+
+pub bare_pushed : (out end w : List ℕ) → AllBare w → end ≡ out ++ w → end ≡ out ++ escaped w
+bare_pushed out end w h e = e ∙ ap (λ u. out ++ u) (sym (bare_text w h))
+
+escaped_join : (v w : List ℕ) → escaped (v ++ w) ≡ escaped v ++ escaped w
+escaped_join [] w = refl
+escaped_join (c ∷ v) w = ap (λ u. escaped_byte c ++ u) (escaped_join v w) ∙ sym (append_assoc (escaped_byte c) (escaped v) (escaped w))
+
+pub escaped_on : (start bytes rest out end : List ℕ) (i m : ℕ) → rest ≡ drop i bytes → out ≡ start ++ 0x22 ∷ escaped (take i bytes) → end ≡ out ++ escaped (take m rest) → end ≡ start ++ 0x22 ∷ escaped (take (i + m) bytes)
+escaped_on start bytes rest out end i m r o e =
+    e ∙ ap (λ (u : List ℕ). u ++ escaped (take m rest)) o ∙ append_assoc start (0x22 ∷ escaped (take i bytes)) (escaped (take m rest))
+    ∙ ap (λ (u : List ℕ). start ++ 0x22 ∷ u) (sym (escaped_join (take i bytes) (take m rest)) ∙ ap escaped (ap (λ (u : List ℕ). take i bytes ++ take m u) r ∙ sym (take-add i m bytes)))
+
+pub one_byte : (w : List ℕ) → 0 < length w → escaped (take 1 w) ≡ escaped_byte (get_or w 0 0)
+one_byte [] l = absurd (omega arith)
+one_byte (c ∷ w) l = append_nil (escaped_byte c)

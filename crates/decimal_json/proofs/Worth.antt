@@ -167,11 +167,11 @@ fits_power v s c m e f g h = let F : Stage → Type 0 = λ u. Fits (record { rea
 pub fits_start : Fits (record { real = false; negative = false; digits = 0; places = 0; less = false; power = 0 }) nothing
 fits_start = record { real = refl; negative = refl; digits = refl; places = refl; less = refl; power = inl refl }
 
-pub adds_some : (v w : Parts) (s : Stage) (c : ℕ) (r : Option Parts) → Adds v s c r → r ≡ Some w → (g : Reading) → Fits v g → Fits w (added (Some s) c g)
-adds_some v w s c r h e g f = (let F : Option Parts → Type 0 = λ o. Adds v s c o in subst F e h) g f
+pub adds_some : (v w : Parts) (s : Stage) (c : ℕ) (b : Bool) → Adds v s c (if b then Some w else None) → b ≡ true → (g : Reading) → Fits v g → Fits w (added (Some s) c g)
+adds_some v w s c b h e g f = (let F : Bool → Type 0 = λ k. Adds v s c (if k then Some w else None) in subst F e h) g f
 
-pub adds_none : (v : Parts) (s : Stage) (c : ℕ) (r : Option Parts) → Adds v s c r → r ≡ None → (g : Reading) → Fits v g → 10 ^ 38 ≤ (added (Some s) c g).digits
-adds_none v s c r h e g f = (let F : Option Parts → Type 0 = λ o. Adds v s c o in subst F e h) g f
+pub adds_none : (v w : Parts) (s : Stage) (c : ℕ) (b : Bool) → Adds v s c (if b then Some w else None) → b ≡ false → (g : Reading) → Fits v g → 10 ^ 38 ≤ (added (Some s) c g).digits
+adds_none v w s c b h e g f = (let F : Bool → Type 0 = λ k. Adds v s c (if k then Some w else None) in subst F e h) g f
 
 reading_cons : (t : List ℕ) (b : ℕ) (bs : List ℕ) → t ≡ b ∷ bs → reading t ≡ followed (first b) (added (first b) b nothing) bs
 reading_cons t b bs e = ap (λ u. reading u) e

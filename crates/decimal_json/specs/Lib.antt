@@ -8,3 +8,6 @@ pub mod Faults
 pub mod Text
 pub mod Reached
 pub mod Proper
+pub mod Laws
+pub mod Kept
+pub mod Whole

@@ -43,6 +43,11 @@ is_end Letter = false
 is_end Sign = false
 is_end Power = true
 
+-- these bytes lead from this stage to that
+abbrev pub RunsOn : Stage → List ℕ → Stage → Type 0
+RunsOn s [] u = u ≡ s
+RunsOn s (c ∷ w) u = (v : Stage) × (onward s c ≡ Some v) × RunsOn v w u
+
 -- these bytes end a number that has come this far
 abbrev pub ends : Option Stage → List ℕ → Bool
 ends None w = false

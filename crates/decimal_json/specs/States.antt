@@ -1,5 +1,5 @@
 -- What may follow in each state of the reader, as a language; and what a step and the end give.
-use Rattle.std.specs.Prelude.{◌≡◌, ◌⊎◌, ℕ, suc, ◌+◌, ◌≤◌, List, [], ◌∷◌, ◌++◌, reverse, Result, Ok, Err, length, string_bytes, Option, None, Some}
+use Rattle.std.specs.Prelude.{◌≡◌, ◌⊎◌, ℕ, suc, ◌+◌, ◌<◌, ◌≤◌, List, [], ◌∷◌, ◌++◌, reverse, Result, Ok, Err, length, Option, None, Some}
 use Rattle.bridge_io.specs.declared.reason.Reason.{Reason}
 use Rattle.decimal_json.specs.declared.tree.Json.{Json}
 use Rattle.decimal_json.specs.declared.tree.Json.TheVariants.{Str, Array, Object}
@@ -20,7 +20,7 @@ use Rattle.decimal_json.specs.declared.chars.Within.{Within}
 use Rattle.decimal_json.specs.Strings.{chars_rest}
 use Rattle.decimal_json.specs.Number.{number_rest, number_mark, worth, beyond, is_end, onward}
 use Rattle.decimal_json.specs.declared.tree.Json.TheVariants.{Number}
-use Rattle.decimal_json.specs.Grammar.{ws, byte, exactly, listed, next_item, names, same_state, also, key_mark, member, value}
+use Rattle.decimal_json.specs.Grammar.{is_space, ws, byte, exactly, listed, next_item, names, same_state, also, key_mark, member, value}
 
 -- what may follow a value in these brackets, the innermost first
 unfoldable pub closes : List Frame → Json → Lang Json
@@ -114,8 +114,8 @@ goes_on (modes.First at) fs = begin_items at fs
 goes_on (modes.FirstKey at) fs = begin_members at fs
 goes_on (modes.Key at done) fs = begin_key at done fs
 goes_on (modes.Colon at o) fs = begin_colon at o.0 o.1 fs
-goes_on (modes.InKey at done from t s) fs = in_key at done from t (string_bytes s) fs
-goes_on (modes.InString at t s) fs = in_string at t (string_bytes s) fs
+goes_on (modes.InKey at done from t s) fs = in_key at done from t s fs
+goes_on (modes.InString at t s) fs = in_string at t s fs
 goes_on (modes.Word bytes x) fs = in_word bytes.now x fs
 goes_on (modes.InNumber at n) fs = in_number at n.stage n.text fs
 goes_on (modes.After x) fs = closes fs x
@@ -233,3 +233,36 @@ TooFarEnd m from = ⊥
 abbrev pub Finishes : State → Result (Option Json) ℕ → Type 0
 Finishes s (Ok r) = Over (rest s) r × Settles s.mode
 Finishes s (Err from) = TooFarEnd s.mode from
+
+-- ---- several bytes
+
+-- spaces change nothing here
+abbrev pub waits : Mode → Bool
+waits modes.Value = true
+waits (modes.First at) = true
+waits (modes.FirstKey at) = true
+waits (modes.Key at done) = true
+waits (modes.Colon at o) = true
+waits (modes.InKey at done from t s) = false
+waits (modes.InString at t s) = false
+waits (modes.Word bytes x) = false
+waits (modes.InNumber at n) = false
+waits (modes.After x) = true
+
+abbrev pub AllSpaces : List ℕ → Type 0
+AllSpaces [] = Unit {0}
+AllSpaces (c ∷ w) = (is_space c ≡ true) × AllSpaces w
+
+-- steps over the bytes lead from this state to that
+abbrev pub Along : ℕ → List ℕ → State → State → Type 0
+Along at [] s t = t ≡ s
+Along at (c ∷ w) s t = (u : State) × Steps at c s (Ok u) × Along (at + 1) w u t
+
+-- What several steps give: some bytes are taken, at least one; or some, and then a step that is none.
+abbrev pub Advances : ℕ → List ℕ → State → Result (ℕ × State) (ℕ × Stop) → Type 0
+Advances at w s (Ok r) = (a b : List ℕ) × (w ≡ a ++ b) × (length a ≡ r.0) × (0 < r.0) × Along at a s r.1
+Advances at w s (Err r) = (a b : List ℕ) × (c : ℕ) × (w ≡ a ++ c ∷ b) × (length a ≡ r.0) × (u : State) × Along at a s u × Halts (at + r.0) c u r.1
+
+-- what a step behind a front of the bytes gives
+abbrev pub Behind : ℕ → Result State Stop → Result (ℕ × State) (ℕ × Stop) → Type 0
+Behind n answer result = (at : ℕ) (a b : List ℕ) (c : ℕ) (s u : State) → length a ≡ n → Along at a s u → Steps (at + n) c u answer → Advances at (a ++ c ∷ b) s result

@@ -1,5 +1,5 @@
 -- The canonical text of a JSON value: no spaces, numbers and strings in one form each.
-use Rattle.std.specs.Prelude.{ℕ, zero, suc, ◌+◌, ◌/◌, ◌%◌, ◌^◌, ℤ, pos, negsuc, true, false, nat_eq, nat_lt, List, [], ◌∷◌, ◌++◌, codes, decimal, map, if◌then◌else◌}
+use Rattle.std.specs.Prelude.{◌≡◌, Bool, not, ◌&&◌, ℕ, zero, suc, ◌+◌, ◌/◌, ◌%◌, ◌^◌, ℤ, pos, negsuc, true, false, nat_eq, nat_lt, List, [], ◌∷◌, ◌++◌, codes, decimal, map, if◌then◌else◌}
 use Rattle.std.specs.List.{concat}
 use Rattle.frac_core.specs.declared.decimal.Decimal.{Decimal}
 use Rattle.decimal_json.specs.declared.tree.Json.{Json}
@@ -41,6 +41,14 @@ escaped_byte c =
     else if nat_eq c 8 then codes "\\b" else if nat_eq c 12 then codes "\\f" else if nat_eq c 10 then codes "\\n"
     else if nat_eq c 13 then codes "\\r" else if nat_eq c 9 then codes "\\t"
     else if nat_lt c 32 then codes "\\u00" ++ (hex_digit (c / 16) ∷ hex_digit (c % 16) ∷ []) else c ∷ []
+
+-- a byte that has no escape
+abbrev pub is_bare : ℕ → Bool
+is_bare c = not (nat_lt c 32) && not (nat_eq c 34) && not (nat_eq c 92)
+
+abbrev pub AllBare : List ℕ → Type 0
+AllBare [] = Unit {0}
+AllBare (c ∷ w) = (is_bare c ≡ true) × AllBare w
 
 abbrev pub escaped : List ℕ → List ℕ
 escaped s = concat (map escaped_byte s)

@@ -6,8 +6,6 @@ ghost use Rattle.decimal_json.specs.declared.chars.Escape.TheVariants.{Unit1, Lo
 ghost use Rattle.decimal_json.specs.Characters.{is_hex, digit, short};
 ghost use Rattle.decimal_json.specs.Strings.{is_plain, shifted, is_tail, is_second, escape_onward, bytes_onward, begin_char, onward, escape_ended, bytes_ended, ended, character, is_between, in_utf8};
 
-use std::alloc::AllocError;
-
 /// How far the character now read has come.
 #[derive(Clone, Copy, Debug)]
 pub enum Within {
@@ -46,7 +44,7 @@ pub enum Encoded {
 }
 
 /// An ASCII character that stands for itself.
-fn is_plain(c: u8) -> bool
+pub fn is_plain(c: u8) -> bool
     ensures { result ≡ is_plain c }
 {
     c >= 32 && c <= 127 && c != b'"' && c != b'\\'
@@ -332,14 +330,4 @@ pub fn closes(within: Within, c: u8) -> bool
     ensures { result ≡ is_between within && nat_eq c 34 }
 {
     matches!(within, Within::Between) && c == b'"'
-}
-
-/// A text with the character that a byte ends, if it ends one.
-pub fn extended(mut text: String, within: Within, c: u8) -> Result<String, AllocError>
-    ensures { IfOk result (λ longer. string_bytes longer ≡ string_bytes text ++ in_utf8 (ended within c)) }
-{
-    if let Some(found) = ended(within, c) {
-        text.push(found)?;
-    }
-    Ok(text)
 }

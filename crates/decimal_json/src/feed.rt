@@ -7,7 +7,8 @@ ghost use Rattle.decimal_json.specs.Reached.{StandsFor, Room};
 ghost use Rattle.decimal_json.specs.declared.feed.Feed.TheVariants.{Reading};
 
 use crate::brackets::Brackets;
-use crate::machine::{Mode, State, Stop, finish, step};
+use crate::machine::{Mode, State, Stop, finish};
+use crate::strides::advance;
 use crate::tree::Json;
 use bridge_io::{Fault, Reason, Refused};
 use std::alloc::{AllocError, Global};
@@ -42,13 +43,17 @@ fn read_piece(alloc: Global, at: usize, start: State, piece: &[u8]) -> Feed
     ensures { (seen : List ℕ) → StandsFor (Reading at start) seen → StandsFor result (seen ++ piece.now) }
 {
     let mut state = start;
-    for (i, c) in piece.iter().enumerate() {
-        match step(alloc, at + i, state, *c) {
-            Ok(next) => state = next,
-            Err(Stop::Memory) => return Feed::Starved,
-            Err(Stop::Here) => return Feed::Broken(at + i, Reason::JsonSyntax),
-            Err(Stop::TooFar(from)) => return Feed::Broken(from, Reason::BadNumber),
-            Err(Stop::At(from, reason)) => return Feed::Broken(from, reason),
+    let mut i = 0usize;
+    while i < piece.len() {
+        match advance(alloc, at + i, state, &piece[i..]) {
+            Ok((n, next)) => {
+                i += n;
+                state = next;
+            }
+            Err((_, Stop::Memory)) => return Feed::Starved,
+            Err((n, Stop::Here)) => return Feed::Broken(at + i + n, Reason::JsonSyntax),
+            Err((_, Stop::TooFar(from))) => return Feed::Broken(from, Reason::BadNumber),
+            Err((_, Stop::At(from, reason))) => return Feed::Broken(from, reason),
         }
     }
     Feed::Reading(at + piece.len(), state)

@@ -5,12 +5,17 @@
 mod brackets;
 mod chars;
 mod feed;
+mod laws;
+mod letters;
 mod machine;
 mod members;
 mod number;
+mod series;
+mod strides;
 mod tree;
 mod write;
 
 pub use feed::read_json;
+pub use laws::one_value;
 pub use tree::{Json, Member};
 pub use write::write_json;

@@ -1,18 +1,19 @@
 // The reader as a machine that takes a byte a step: what may stand next, and the brackets that are open. Each state has a
 // language, what may follow it, and a step goes from the language of one state to that of the next.
 
-ghost use Rattle.std.specs.Prelude.{◌≡◌, ◌≢◌, false, ℕ, ◌+◌, [], ◌∷◌, ◌++◌, length, reverse, IfOk, MatchResult, codes, string_bytes};
+ghost use Rattle.std.specs.Prelude.{◌≡◌, ◌≢◌, false, ℕ, ◌+◌, [], ◌∷◌, ◌++◌, length, reverse, IfOk, MatchResult, codes};
 ghost use Rattle.decimal_json.specs.Grammar.{is_space, value, text};
 ghost use Rattle.decimal_json.specs.declared.brackets.Frame.TheVariants.{InArray, InObject};
 ghost use Rattle.decimal_json.specs.declared.machine.Mode.TheVariants.{InNumber};
 ghost use Rattle.decimal_json.specs.States.{Goes, Finishes, begin_value, begin_now, closes, rest, begin_items, begin_members, begin_key, begin_colon, in_string, in_key, in_word, Numbers, Steps, Quiet};
 
 use crate::brackets::{Brackets, Frame};
-use crate::chars::{Within, closes, extended, onward as char_onward};
+use crate::chars::{Within, closes, onward as char_onward};
+use crate::letters::Letters;
 use crate::members::{Members, Pending};
 use crate::number::{Digits, first, first_digit, is_end, measure, next_digit, onward, verdict};
 use crate::tree::Json;
-use bridge_io::{List, Reason, Text};
+use bridge_io::{List, Reason};
 use std::alloc::{AllocError, Global};
 
 /// A space, a tab, a line feed or a carriage return.
@@ -36,9 +37,9 @@ pub enum Mode {
     /// The colon behind a key.
     Colon(usize, Pending),
     /// The rest of a key: of which object, behind which members, from where on, and its text so far.
-    InKey(usize, Members, usize, Within, String),
+    InKey(usize, Members, usize, Within, Letters),
     /// The rest of a string from this offset on, and its text so far.
-    InString(usize, Within, String),
+    InString(usize, Within, Letters),
     /// The rest of a word, which stands for this value.
     Word(&'static [u8], Json),
     /// The rest of the number from this offset on.
@@ -132,7 +133,7 @@ fn begin(alloc: Global, at: usize, frames: Brackets, c: u8) -> Result<State, Sto
             frames,
         }),
         b'"' => Ok(State {
-            mode: Mode::InString(at, Within::Between, String::new(alloc)),
+            mode: Mode::InString(at, Within::Between, Letters::new(alloc)),
             frames,
         }),
         _ => begin_rest(alloc, at, frames, c),
@@ -140,7 +141,7 @@ fn begin(alloc: Global, at: usize, frames: Brackets, c: u8) -> Result<State, Sto
 }
 
 /// A value is to begin.
-fn in_value(alloc: Global, at: usize, frames: Brackets, c: u8) -> Result<State, Stop>
+pub fn in_value(alloc: Global, at: usize, frames: Brackets, c: u8) -> Result<State, Stop>
     ensures { Goes at c (begin_value (reverse frames)) result }
 {
     if is_space(c) {
@@ -179,7 +180,7 @@ fn in_first(
 }
 
 /// A first key or the end of the object is to come.
-fn in_first_key(
+pub fn in_first_key(
     alloc: Global,
     at: usize,
     start: usize,
@@ -205,7 +206,7 @@ fn in_first_key(
                 Members::new(alloc),
                 at,
                 Within::Between,
-                String::new(alloc),
+                Letters::new(alloc),
             ),
             frames,
         }),
@@ -214,7 +215,7 @@ fn in_first_key(
 }
 
 /// A further key is to come.
-fn in_next_key(
+pub fn in_next_key(
     alloc: Global,
     at: usize,
     start: usize,
@@ -234,7 +235,7 @@ fn in_next_key(
         return Err(Stop::Here);
     }
     Ok(State {
-        mode: Mode::InKey(start, members, at, Within::Between, String::new(alloc)),
+        mode: Mode::InKey(start, members, at, Within::Between, Letters::new(alloc)),
         frames,
     })
 }
@@ -266,7 +267,7 @@ fn in_colon(
 }
 
 /// Behind a value of an array.
-fn in_array(
+pub fn in_array(
     start: usize,
     mut items: List<Json>,
     value: Json,
@@ -298,7 +299,7 @@ fn in_array(
 }
 
 /// Behind the value of a member.
-fn in_object(
+pub fn in_object(
     alloc: Global,
     at: usize,
     start: usize,
@@ -313,17 +314,16 @@ fn in_object(
 {
     match c {
         b',' => {
-            let members = pending.with(value)?;
+            let members = pending.with(alloc, value)?;
             Ok(State {
                 mode: Mode::Key(start, members),
                 frames,
             })
         }
         b'}' => {
-            let members = pending.with(value)?;
-            let list = members.into_list(alloc)?;
+            let members = pending.with(alloc, value)?;
             Ok(State {
-                mode: Mode::After(Json::Object(start, list, at)),
+                mode: Mode::After(Json::Object(start, members.into_list(), at)),
                 frames,
             })
         }
@@ -332,7 +332,7 @@ fn in_object(
 }
 
 /// Behind a value.
-fn in_after(
+pub fn in_after(
     alloc: Global,
     at: usize,
     value: Json,
@@ -358,18 +358,18 @@ fn in_after(
 }
 
 /// Inside a string that is a value.
-fn in_text(
+pub fn in_text(
     start: usize,
     within: Within,
-    text: String,
+    text: Letters,
     frames: Brackets,
     c: u8,
 ) -> Result<State, Stop>
-    ensures { (at : ℕ) → Goes at c (in_string start within (string_bytes text) (reverse frames)) result }
+    ensures { (at : ℕ) → Goes at c (in_string start within text (reverse frames)) result }
 {
     match char_onward(within, c) {
         Some(next) => {
-            let longer = extended(text, within, c)?;
+            let longer = text.with_end(within, c)?;
             Ok(State {
                 mode: Mode::InString(start, next, longer),
                 frames,
@@ -380,7 +380,7 @@ fn in_text(
                 return Err(Stop::Here);
             }
             Ok(State {
-                mode: Mode::After(Json::Str(start, Text::from_string(text))),
+                mode: Mode::After(Json::Str(start, text.into_text())),
                 frames,
             })
         }
@@ -388,21 +388,21 @@ fn in_text(
 }
 
 /// Inside a key.
-fn in_key(
+pub fn in_key(
     at: usize,
     start: usize,
     members: Members,
     from: usize,
     within: Within,
-    text: String,
+    text: Letters,
     frames: Brackets,
     c: u8,
 ) -> Result<State, Stop>
-    ensures { Goes at c (in_key start members from within (string_bytes text) (reverse frames)) result }
+    ensures { Goes at c (in_key start members from within text (reverse frames)) result }
 {
     match char_onward(within, c) {
         Some(next) => {
-            let longer = extended(text, within, c)?;
+            let longer = text.with_end(within, c)?;
             Ok(State {
                 mode: Mode::InKey(start, members, from, next, longer),
                 frames,
@@ -449,7 +449,7 @@ fn in_word(
 }
 
 /// Inside a number.
-fn in_number(
+pub fn in_number(
     alloc: Global,
     at: usize,
     start: usize,

@@ -1,30 +1,34 @@
 // The members of an object while it is read, found by their keys.
 
-ghost use Rattle.std.specs.Prelude.{◌≡◌, [], ◌∷◌, ◌++◌, false, IfOk, string_bytes};
+ghost use Rattle.std.specs.Prelude.{◌≡◌, [], ◌∷◌, ◌++◌, false, Some, IfOk};
 ghost use Rattle.decimal_json.specs.Grammar.{is_among, names};
+ghost use Rattle.decimal_json.specs.Kept.{late_names};
 
+use crate::letters::Letters;
 use crate::tree::{Json, Member};
-use bridge_io::{List, Named, Text};
+use bridge_io::{List, Named};
 use indexmap::IndexMap;
 use std::alloc::{AllocError, Global};
 use std::marker::Model;
 
-/// A member but for the name of its key: where the key stands, and the value.
-#[derive(Drop)]
-pub struct Held {
-    at: usize,
-    value: Json,
-}
+/// So many members are gone through for a key; the names of later ones are kept in a map besides.
+const FEW: usize = 8;
+
+/// The names of the members behind the first few, if there are any.
+type Late = Option<Box<IndexMap<String, ()>>>;
 
 /// The members that are whole. Contracts see the list of them.
 #[derive(Drop)]
 pub struct Members {
-    held: IndexMap<String, Held>,
+    list: List<Member>,
+    late: Late,
 }
 
 impl Model for Members {
-    ghost use Rattle.std.specs.Prelude.{List, map, string_bytes};
+    ghost use Rattle.std.specs.Prelude.{◌≡◌, List, drop};
     ghost use Rattle.decimal_json.specs.declared.tree.Member.{Member};
+    ghost use Rattle.decimal_json.specs.Grammar.{names};
+    ghost use Rattle.decimal_json.specs.Kept.{late_names};
     ghost use Rattle.decimal_json.specs.contracts.tree.Json as json;
     ghost use Rattle.decimal_json.specs.contracts.tree.Member as member;
     ghost use Rattle.std.specs.Coded.{codes};
@@ -33,7 +37,55 @@ impl Model for Members {
 
     ghost coded = { Prim.hlevel (codes, json.the_row.coded, member.the_row.coded) };
 
-    ghost view = { λ m. map (λ e. record { key = record { name = string_bytes e.0; at = e.1.at }; value = e.1.value }) m.held.entries };
+    ghost view = { λ m. m.list };
+
+    ghost invariant = { λ m. late_names m.late ≡ names (drop 8 m.list) };
+}
+
+/// Whether one of these members has this key.
+fn among(members: &[Member], key: &str) -> bool
+    ensures { result ≡ is_among (names members.now) key.now }
+{
+    let mut left = members;
+    while let Some((member, rest)) = left.split_first() {
+        if key == member.key.name.as_str() {
+            return true;
+        }
+        left = rest;
+    }
+    false
+}
+
+/// Whether one of the later names is this key.
+fn among_late(late: &Late, key: &str) -> bool
+    ensures { result ≡ is_among (late_names late.now) key.now }
+{
+    match late {
+        None => false,
+        Some(map) => map.contains_key(key),
+    }
+}
+
+/// A map of the later names.
+fn opened(alloc: Global, late: Late) -> Result<Box<IndexMap<String, ()>>, AllocError>
+    ensures { IfOk result (λ map. late_names (Some map) ≡ late_names late) }
+{
+    match late {
+        None => Ok(Box::new(alloc, IndexMap::new(alloc))?),
+        Some(map) => Ok(map),
+    }
+}
+
+/// The later names and one more.
+fn noted(alloc: Global, late: Late, key: &str) -> Result<Late, AllocError>
+    requires { is_among (late_names late) key.now ≡ false }
+    ensures { IfOk result (λ more. late_names more ≡ late_names late ++ key.now ∷ []) }
+{
+    let mut map = opened(alloc, late)?;
+    match map.insert(String::from_str(alloc, key)?, ()) {
+        Ok(_) => Ok(Some(map)),
+        Err(_) => Err(AllocError),
+    }
 }
 
 impl Members {
@@ -42,7 +94,8 @@ impl Members {
         ensures { result ≡ [] }
     {
         Members {
-            held: IndexMap::new(alloc),
+            list: List::new(alloc),
+            late: None,
         }
     }
 
@@ -50,36 +103,39 @@ impl Members {
     pub fn has(&self, key: &str) -> bool
         ensures { result ≡ is_among (names self.now) key.now }
     {
-        self.held.contains_key(key)
+        let members = self.list.as_slice();
+        if members.len() <= FEW {
+            return among(members, key);
+        }
+        if among(&members[..FEW], key) {
+            return true;
+        }
+        among_late(&self.late, key)
     }
 
     /// These members and one more, whose key is none of theirs.
-    fn with(self, key: String, at: usize, value: Json) -> Result<Members, AllocError>
-        requires { is_among (names self) (string_bytes key) ≡ false }
-        ensures { IfOk result (λ all. all ≡ self ++ record { key = record { name = string_bytes key; at = at }; value = value } ∷ []) }
+    fn with(self, alloc: Global, member: Member) -> Result<Members, AllocError>
+        requires { is_among (names self) member.key.name ≡ false }
+        ensures { IfOk result (λ all. all ≡ self ++ member ∷ []) }
     {
-        let mut held = self.held;
-        match held.insert(key, Held { at, value }) {
-            Ok(_) => Ok(Members { held }),
-            Err(_) => Err(AllocError),
+        let mut list = self.list;
+        if list.len() < FEW {
+            list.push(member)?;
+            return Ok(Members {
+                list,
+                late: self.late,
+            });
         }
+        let late = noted(alloc, self.late, member.key.name.as_str())?;
+        list.push(member)?;
+        Ok(Members { list, late })
     }
 
     /// The list of the members.
-    pub fn into_list(self, alloc: Global) -> Result<List<Member>, AllocError>
-        ensures { IfOk result (λ list. list ≡ self) }
+    pub fn into_list(self) -> List<Member>
+        ensures { result ≡ self }
     {
-        let mut items = Vec::with_capacity(alloc, self.held.len())?;
-        for (key, held) in self.held {
-            items.push(Member {
-                key: Named {
-                    name: Text::from_string(key),
-                    at: held.at,
-                },
-                value: held.value,
-            })?;
-        }
-        Ok(List::from_vec(items))
+        self.list
     }
 }
 
@@ -87,12 +143,12 @@ impl Members {
 #[derive(Drop)]
 pub struct Pending {
     before: Members,
-    key: String,
+    key: Letters,
     at: usize,
 }
 
 impl Model for Pending {
-    ghost use Rattle.std.specs.Prelude.{◌≡◌, List, string_bytes, false};
+    ghost use Rattle.std.specs.Prelude.{◌≡◌, List, false};
     ghost use Rattle.decimal_json.specs.declared.tree.Member.{Member};
     ghost use Rattle.bridge_io.specs.declared.reason.Named.{Named};
     ghost use Rattle.decimal_json.specs.Grammar.{is_among, names};
@@ -105,25 +161,29 @@ impl Model for Pending {
 
     ghost coded = { Prim.hlevel (codes, json.the_row.coded, member.the_row.coded, named.the_row.coded) };
 
-    ghost view = { λ p. (p.before, record { name = string_bytes p.key; at = p.at }) };
+    ghost view = { λ p. (p.before, record { name = p.key; at = p.at }) };
 
-    ghost invariant = { λ p. is_among (names p.before) (string_bytes p.key) ≡ false };
+    ghost invariant = { λ p. is_among (names p.before) p.key ≡ false };
 }
 
 impl Pending {
     /// A key behind members that do not have it.
-    pub fn new(before: Members, key: String, at: usize) -> Pending
-        requires { is_among (names before) (string_bytes key) ≡ false }
+    pub fn new(before: Members, key: Letters, at: usize) -> Pending
+        requires { is_among (names before) key ≡ false }
         ensures members { result.0 ≡ before }
-        ensures name { result.1 ≡ record { name = string_bytes key; at = at } }
+        ensures name { result.1 ≡ record { name = key; at = at } }
     {
         Pending { before, key, at }
     }
 
     /// The members with this one, whose value is read.
-    pub fn with(self, value: Json) -> Result<Members, AllocError>
+    pub fn with(self, alloc: Global, value: Json) -> Result<Members, AllocError>
         ensures { IfOk result (λ all. all ≡ self.0 ++ record { key = self.1; value = value } ∷ []) }
     {
-        self.before.with(self.key, self.at, value)
+        let key = Named {
+            name: self.key.into_text(),
+            at: self.at,
+        };
+        self.before.with(alloc, Member { key, value })
     }
 }

@@ -1,6 +1,6 @@
 // Numbers a byte at a time (RFC 8259, section 6), and what they are worth.
 
-ghost use Rattle.std.specs.Prelude.{◌≡◌, true, false, ℕ, ◌+◌, ◌-◌, ◌*◌, ◌^◌, ◌<◌, ◌≤◌, ℤ, pos, ◌+ℤ◌, ◌-ℤ◌, nat_abs, if◌then◌else◌, IfSome, IfNone, IfOk, [], ◌∷◌, ◌++◌, length};
+ghost use Rattle.std.specs.Prelude.{◌≡◌, true, false, ℕ, ◌+◌, ◌-◌, ◌*◌, ◌^◌, ◌<◌, ◌≤◌, ℤ, pos, ◌+ℤ◌, ◌-ℤ◌, nat_abs, if◌then◌else◌, Some, None, IfSome, IfNone, IfOk, [], ◌∷◌, ◌++◌, length};
 ghost use Rattle.decimal_json.specs.Number.{first, onward, is_end, measured, Saturates, Adds, Normal, Strips};
 ghost use Rattle.decimal_json.specs.States.{verdict};
 
@@ -42,6 +42,7 @@ pub fn first(c: u8) -> Option<Stage>
 }
 
 /// The stage that a further byte leads to.
+#[inline(always)]
 pub fn onward(stage: Stage, c: u8) -> Option<Stage>
     ensures { result ≡ onward stage c }
 {
@@ -92,6 +93,7 @@ pub struct Parts {
 }
 
 /// The digits and one more; None where they have 38 already, the first of them not 0.
+#[inline(always)]
 fn longer(digits: u128, c: u8) -> Option<u128>
     ensures some { IfSome result (λ more. more ≡ digits * 10 + (c - 48)) }
     ensures none { IfNone result (10 ^ 37 ≤ digits) }
@@ -103,6 +105,7 @@ fn longer(digits: u128, c: u8) -> Option<u128>
 }
 
 /// The exponent with one more digit; from 10^30 on it stays, since it is past the limit whatever the digits are.
+#[inline(always)]
 fn saturated(power: u128, c: u8) -> u128
     ensures { (g : ℕ) → Saturates power g → Saturates result (g * 10 + (c - 48)) }
 {
@@ -112,38 +115,45 @@ fn saturated(power: u128, c: u8) -> u128
     power * 10 + u128::from(c.saturating_sub(48))
 }
 
-/// The parts with a further byte, which leads to this stage; None where the digits are more than 38.
-fn added(stage: Stage, c: u8, parts: Parts) -> Option<Parts>
-    requires { parts.places < 9223372036854775808 }
-    ensures { Adds parts stage c result }
+/// Adds a further byte, which leads to this stage; false where the digits are more than 38.
+#[inline(always)]
+fn add(parts: &mut Parts, stage: Stage, c: u8) -> bool
+    requires { parts.old.places < 9223372036854775808 }
+    ensures { Adds parts.old stage c (if result then Some parts.new else None) }
 {
     match stage {
-        Stage::Minus => Some(Parts {
-            negative: true,
-            ..parts
-        }),
-        Stage::Zero => Some(parts),
-        Stage::Whole => Some(Parts {
-            digits: longer(parts.digits, c)?,
-            ..parts
-        }),
-        Stage::Point | Stage::Letter => Some(Parts {
-            real: true,
-            ..parts
-        }),
-        Stage::Part => Some(Parts {
-            digits: longer(parts.digits, c)?,
-            places: parts.places + 1,
-            ..parts
-        }),
-        Stage::Sign => Some(Parts {
-            less: c == b'-',
-            ..parts
-        }),
-        Stage::Power => Some(Parts {
-            power: saturated(parts.power, c),
-            ..parts
-        }),
+        Stage::Minus => {
+            parts.negative = true;
+            true
+        }
+        Stage::Zero => true,
+        Stage::Whole => match longer(parts.digits, c) {
+            None => false,
+            Some(digits) => {
+                parts.digits = digits;
+                true
+            }
+        },
+        Stage::Point | Stage::Letter => {
+            parts.real = true;
+            true
+        }
+        Stage::Part => match longer(parts.digits, c) {
+            None => false,
+            Some(digits) => {
+                parts.digits = digits;
+                parts.places += 1;
+                true
+            }
+        },
+        Stage::Sign => {
+            parts.less = c == b'-';
+            true
+        }
+        Stage::Power => {
+            parts.power = saturated(parts.power, c);
+            true
+        }
     }
 }
 
@@ -258,14 +268,19 @@ pub fn measure(text: &[u8]) -> Option<Decimal>
         Some((head, tail)) => match first(*head) {
             None => normal(len, start),
             Some(begun) => {
-                let mut parts = added(begun, *head, start)?;
+                let mut parts = start;
+                if !add(&mut parts, begun, *head) {
+                    return None;
+                }
                 let mut stage = begun;
                 let mut left = tail;
                 while let Some((byte, rest)) = left.split_first() {
                     match onward(stage, *byte) {
                         None => break,
                         Some(next) => {
-                            parts = added(next, *byte, parts)?;
+                            if !add(&mut parts, next, *byte) {
+                                return None;
+                            }
                             stage = next;
                             left = rest;
                         }

@@ -1,8 +1,8 @@
 // The canonical text of a value.
 
-ghost use Rattle.std.specs.Prelude.{◌≡◌, ◌++◌, ◌≤◌, ◌<◌, ◌^◌, OnOk, IfOk, decimal, true};
+ghost use Rattle.std.specs.Prelude.{◌≡◌, ◌++◌, ◌≤◌, ◌<◌, ◌^◌, length, take, OnOk, IfOk, decimal, true};
 ghost use Rattle.decimal_json.specs.Proper.{is_proper, SpellsValue};
-ghost use Rattle.decimal_json.specs.Text.{padded, real_text, number_text, hex_digit, escaped_byte, quoted, text_of};
+ghost use Rattle.decimal_json.specs.Text.{padded, real_text, number_text, hex_digit, escaped_byte, is_bare, AllBare, escaped, quoted, text_of};
 
 use crate::tree::Json;
 use bridge_io::List;
@@ -113,13 +113,48 @@ fn push_escaped(out: &mut Vec<u8>, c: u8) -> Result<(), AllocError>
     }
 }
 
+/// A byte of a string that is written as it is.
+fn is_bare(c: u8) -> bool
+    ensures { result ≡ is_bare c }
+{
+    c >= 32 && c != b'"' && c != b'\\'
+}
+
+/// How many of the first bytes are written as they are.
+fn bare_front(bytes: &[u8]) -> usize
+    ensures { (result ≤ length bytes.now) × AllBare (take result bytes.now) }
+{
+    let mut n = 0usize;
+    while n < bytes.len() && is_bare(bytes[n]) {
+        n += 1;
+    }
+    n
+}
+
+/// Writes bytes of a string that stand as they are, or else one byte; and says how many.
+fn push_some(out: &mut Vec<u8>, bytes: &[u8]) -> Result<usize, AllocError>
+    requires { 0 < length bytes.now }
+    ensures count { IfOk result (λ n. (0 < n) × (n ≤ length bytes.now)) }
+    ensures text { IfOk result (λ n. out.new.items ≡ out.old.items ++ escaped (take n bytes.now)) }
+{
+    let n = bare_front(bytes);
+    if n > 0 {
+        out.extend_from_slice(&bytes[..n])?;
+        return Ok(n);
+    }
+    push_escaped(out, bytes[0])?;
+    Ok(1)
+}
+
 /// Writes a string between quotation marks.
 fn push_string(out: &mut Vec<u8>, text: &str) -> Result<(), AllocError>
     ensures { OnOk result (out.new.items ≡ out.old.items ++ quoted text.now) }
 {
     out.push(b'"')?;
-    for c in text.as_bytes() {
-        push_escaped(out, *c)?;
+    let bytes = text.as_bytes();
+    let mut n = 0usize;
+    while n < bytes.len() {
+        n += push_some(out, &bytes[n..])?;
     }
     out.push(b'"')?;
     Ok(())

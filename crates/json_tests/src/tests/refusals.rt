@@ -24,7 +24,7 @@ fn opened(alloc: Global, count: usize, behind: &[u8]) -> Result<Vec<u8>, AllocEr
 
 #[test]
 fn of_structure(rt: HostRuntime) {
-    let rows: [(&[u8], usize); 24] = [
+    let rows: [(&[u8], usize); 31] = [
         (b"", 0),
         (b" \n ", 3),
         (b"\xef\xbb\xbf{}", 0),
@@ -49,6 +49,13 @@ fn of_structure(rt: HostRuntime) {
         (b"{a:1}", 1),
         (b"{1:2}", 1),
         (b"{,}", 1),
+        (b"[1,2,x]", 5),
+        (b"[\"a\",\"b\"x]", 8),
+        (b"[\"a\",tru]", 8),
+        (b"{\"a\":1x}", 6),
+        (b"{\"a\":\"b\"\"c\"}", 8),
+        (b"{\"a\":1,2}", 7),
+        (b"{\"a\":1,\"b\"2}", 10),
     ];
     for (bytes, at) in rows {
         assert_eq!(rt; refusal(rt.alloc(), bytes), (20, at));
@@ -134,7 +141,7 @@ fn of_numbers(rt: HostRuntime) {
 
 #[test]
 fn of_keys(rt: HostRuntime) {
-    let rows: [(&[u8], u8, usize); 7] = [
+    let rows: [(&[u8], u8, usize); 10] = [
         (b"{\"a\":1,\"a\":2}", 21, 7),
         (b"{\"a\":1,\"a\":2,]", 21, 7),
         (b"{\"a\":1,\"\\u0061\":2}", 21, 7),
@@ -142,6 +149,21 @@ fn of_keys(rt: HostRuntime) {
         (b"{\"\":1,\"b\":2,\"\":3}", 21, 12),
         (b"[{\"a\":{\"b\":1,\"b\":2}}]", 21, 13),
         (b"{\"a\":1,\"a", 20, 9),
+        (
+            b"{\"a\":1,\"b\":2,\"c\":3,\"d\":4,\"e\":5,\"f\":6,\"g\":7,\"h\":8,\"i\":9,\"b\":0}",
+            21,
+            55,
+        ),
+        (
+            b"{\"a\":1,\"b\":2,\"c\":3,\"d\":4,\"e\":5,\"f\":6,\"g\":7,\"h\":8,\"i\":9,\"j\":0,\"i\":1}",
+            21,
+            61,
+        ),
+        (
+            b"{\"a\":1,\"b\":2,\"c\":3,\"d\":4,\"e\":5,\"f\":6,\"g\":7,\"h\":8,\"i\":9,\"j\":x}",
+            20,
+            59,
+        ),
     ];
     for (bytes, reason, at) in rows {
         assert_eq!(rt; refusal(rt.alloc(), bytes), (reason, at));

@@ -19,4 +19,4 @@ pub returns-in-102 : goal.returns-in-102
 returns-in-102 c p e = plain p _ _ 0x66 _ (λ k. exactly (codes "alse") >> closes (reverse c.args.frames) (Truth k false)) e c.in-102.is (s.now_false _ p)
 
 pub returns-in-34 : goal.returns-in-34
-returns-in-34 c p e = rw c.new.ensures.bytes (plain p _ _ 0x22 _ (λ k. in_string k Between [] (reverse c.args.frames)) e c.in-34.is (s.now_string _ p))
+returns-in-34 c p e = rw c.new.ensures (plain p _ _ 0x22 _ (λ k. in_string k Between [] (reverse c.args.frames)) e c.in-34.is (s.now_string _ p))

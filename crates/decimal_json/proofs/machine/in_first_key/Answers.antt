@@ -14,7 +14,7 @@ pub returns-in-125 : goal.returns-in-125
 returns-in-125 c p e = rw c.new.ensures (plain p _ _ 0x7d _ (λ k. closes (reverse c.args.frames) (Object c.args.start [] k)) e c.in-125.is (s.members_close _ _ p))
 
 pub returns-in-34 : goal.returns-in-34
-returns-in-34 c p e = rw c.new-in-34.ensures rw c.new-in-34-2.ensures.bytes (plain p _ _ 0x22 _ (λ k. in_key c.args.start [] k Between [] (reverse c.args.frames)) e c.in-34.is (s.members_quote _ _ p))
+returns-in-34 c p e = rw c.new-in-34.ensures rw c.new-in-34-2.ensures (plain p _ _ 0x22 _ (λ k. in_key c.args.start [] k Between [] (reverse c.args.frames)) e c.in-34.is (s.members_quote _ _ p))
 
 pub returns-in_default : goal.returns-in_default
 returns-in_default c p e = s.members_barred _ _ p _ (sym c.is_space.ensures ∙ c.if-is_space.false) (differs _ _ (λ f. omega arith)) (differs _ _ (λ f. omega arith))

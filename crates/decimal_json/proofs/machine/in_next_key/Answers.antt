@@ -13,4 +13,4 @@ pub returns-then-c-ne34 : goal.returns-then-c-ne34
 returns-then-c-ne34 c p e = s.key_barred _ _ _ p _ (sym c.is_space.ensures ∙ c.if-is_space.false) (differs _ _ (λ f. omega arith))
 
 pub returns : goal.returns
-returns c p e = rw c.new.ensures.bytes (plain p _ _ 0x22 _ (λ k. in_key c.args.start c.args.members k Between [] (reverse c.args.frames)) e (omega arith) (s.key_quote _ _ _ p))
+returns c p e = rw c.new.ensures (plain p _ _ 0x22 _ (λ k. in_key c.args.start c.args.members k Between [] (reverse c.args.frames)) e (omega arith) (s.key_quote _ _ _ p))

@@ -9,8 +9,8 @@ use Rattle.decimal_json.proofs.machine.in_object.Goals as goal
 pub returns-in_ok-members-in-44-clause-goes : goal.returns-in_ok-members-in-44-clause-goes
 returns-in_ok-members-in-44-clause-goes c p e = plain p _ _ 0x2c _ (λ k. begin_key c.args.start c.in_ok-members-in-44.members (reverse c.args.frames)) e c.in-44.is (open_object_comma c.args.frames _ p _ c.args.pending _ c.in_ok-members-in-44.ensures)
 
-pub returns-in_ok-list-in-125-clause-goes : goal.returns-in_ok-list-in-125-clause-goes
-returns-in_ok-list-in-125-clause-goes c p e = plain p _ _ 0x7d _ (λ k. closes (reverse c.args.frames) (Object c.args.start c.in_ok-list-in-125.list k)) e c.in-125.is (open_object_close c.args.frames _ p _ c.args.pending _ (c.in_ok-list-in-125.ensures ∙ c.in_ok-members-in-125.ensures))
+pub returns-in_ok-members-in-125-clause-goes : goal.returns-in_ok-members-in-125-clause-goes
+returns-in_ok-members-in-125-clause-goes c p e = plain p _ _ 0x7d _ (λ k. closes (reverse c.args.frames) (Object c.args.start c.into_list.result k)) e c.in-125.is (open_object_close c.args.frames _ p _ c.args.pending _ (c.into_list.ensures ∙ c.in_ok-members-in-125.ensures))
 
 pub returns-in_default-clause-goes : goal.returns-in_default-clause-goes
 returns-in_default-clause-goes c p e = s.object_bad _ _ _ _ _ p _ c.requires (differs _ _ (λ f. omega arith)) (differs _ _ (λ f. omega arith))

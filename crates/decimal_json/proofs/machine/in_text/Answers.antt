@@ -1,6 +1,5 @@
 use Rattle.std.proofs.Common.{refl, sym, ◌∙◌, reverse}
 use Rattle.decimal_json.specs.declared.tree.Json.TheVariants.{Str}
-use Rattle.std.specs.Prelude.{string_bytes}
 use Rattle.decimal_json.specs.States.{closes, in_string}
 use Rattle.decimal_json.proofs.Glue.{plain, closes_is, closes_not, text_closes}
 use Rattle.decimal_json.proofs.Steps as s
@@ -10,10 +9,10 @@ pub returns-then-not-closes : goal.returns-then-not-closes
 returns-then-not-closes c at p e = s.text_stuck _ _ _ _ p _ (sym c.onward.ensures ∙ c.in-None.is) (closes_not _ _ _ c.closes.ensures c.if-not-closes.true)
 
 pub returns-in_ok-longer-in-Some : goal.returns-in_ok-longer-in-Some
-returns-in_ok-longer-in-Some c at p e = plain p _ _ _ _ (λ k. in_string c.args.start c.in-Some.next (string_bytes c.in_ok-longer-in-Some.longer) (reverse c.args.frames)) e refl
+returns-in_ok-longer-in-Some c at p e = plain p _ _ _ _ (λ k. in_string c.args.start c.in-Some.next c.in_ok-longer-in-Some.longer (reverse c.args.frames)) e refl
     (rw c.in_ok-longer-in-Some.ensures (s.text_on _ _ _ _ _ p _ (sym c.onward.ensures ∙ c.in-Some.is)))
 
 pub returns-else-not-closes : goal.returns-else-not-closes
 returns-else-not-closes c at p e =
     let f = closes_is _ _ _ c.closes.ensures c.if-not-closes.false in
-    plain p _ _ 0x22 _ (λ k. closes (reverse c.args.frames) (Str c.args.start c.from_string.result)) e f.1 (rw c.from_string.ensures (text_closes _ _ _ _ p f.0))
+    plain p _ _ 0x22 _ (λ k. closes (reverse c.args.frames) (Str c.args.start c.into_text.result)) e f.1 (rw c.into_text.ensures (text_closes _ _ _ _ p f.0))

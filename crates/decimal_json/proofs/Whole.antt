@@ -1,0 +1,250 @@
+-- Values and members that stand whole.
+use Rattle.std.proofs.Common.{◌≡◌, ℕ, zero, suc, ◌+◌, ◌-◌, ◌<◌, ◌≤◌, Bool, true, false, ◌&&◌, nat_eq, List, [], ◌∷◌, ◌++◌, take, drop, length, reverse, refl, sym, ap, subst, ◌∙◌, arith}
+use Rattle.std.specs.Prelude.{Option, Some, IfSome, Result, Ok, Err}
+use Rattle.std.proofs.Math.ListN.{get_or}
+use Rattle.std.proofs.Math.Seq.{take-add}
+use Rattle.std.proofs.lemmas.List.{take_more, length-drop, get_or-drop, length-take-le}
+use Rattle.bridge_io.specs.declared.reason.Named.{Named}
+use Rattle.decimal_json.specs.declared.tree.Json.{Json}
+use Rattle.decimal_json.specs.declared.tree.Json.TheVariants.{Str}
+use Rattle.decimal_json.specs.declared.tree.Member.{Member}
+use Rattle.decimal_json.specs.declared.brackets.Frame.{Frame}
+use Rattle.decimal_json.specs.declared.brackets.Frame.TheVariants.{InArray, InObject}
+use Rattle.decimal_json.specs.declared.machine.Mode.TheVariants as modes
+use Rattle.decimal_json.specs.declared.machine.State.{State}
+use Rattle.decimal_json.specs.declared.machine.Stop.{Stop}
+use Rattle.decimal_json.specs.declared.machine.Stop.TheVariants.{Memory}
+use Rattle.decimal_json.specs.declared.chars.Within.{Within}
+use Rattle.decimal_json.specs.declared.chars.Within.TheVariants.{Between}
+use Rattle.decimal_json.specs.declared.series.Ahead.{Ahead}
+use Rattle.decimal_json.specs.Lang.{next, Turns}
+use Rattle.decimal_json.specs.Grammar.{is_among, names}
+use Rattle.decimal_json.specs.Strings.{is_between, Passes}
+use Rattle.decimal_json.specs.States.{Goes, Quiet, Steps, closes, begin_value, begin_key, begin_colon, Along, Advances, Behind}
+use Rattle.decimal_json.specs.Whole.{IsScalar, IsNaming, Looks, AfterValue, BeforeValue}
+use Rattle.decimal_json.proofs.Steps as s
+use Rattle.decimal_json.proofs.Glue.{plain, by_mode, pushed, open_array_comma, open_object_comma}
+use Rattle.decimal_json.proofs.Chains.{along_join, one, tail_is, advances_behind, advances_front, advances_memory, quote_step, text_along, key_along, text_ends, key_ends}
+
+-- ---- along the bytes
+
+pub take_head : (w : List ℕ) (k : ℕ) → 0 < length w → take (k + 1) w ≡ get_or w 0 0 ∷ take k (drop 1 w)
+take_head [] k l = absurd (omega arith)
+take_head (b ∷ v) k l = ap (λ i. take i (b ∷ v)) (one_more k)
+  where
+    one_more : (k : ℕ) → k + 1 ≡ suc k
+    one_more k = omega arith
+
+along_word : (v w : List ℕ) (at : ℕ) (s t : State) → v ≡ w → Along at v s t → Along at w s t
+along_word v w at s t e h = let F : List ℕ → Type 0 = λ x. Along at x s t in subst F e h
+
+along_at : (v : List ℕ) (i j : ℕ) (s t : State) → i ≡ j → Along i v s t → Along j v s t
+along_at v i j s t e h = let F : ℕ → Type 0 = λ x. Along x v s t in subst F e h
+
+pub steps_at : (i j c : ℕ) (s : State) (r : Result State Stop) → i ≡ j → Steps i c s r → Steps j c s r
+steps_at i j c s r e h = let F : ℕ → Type 0 = λ x. Steps x c s r in subst F e h
+
+pub steps_over : (i c d : ℕ) (s : State) (r : Result State Stop) → c ≡ d → Steps i c s r → Steps i d s r
+steps_over i c d s r e h = let F : ℕ → Type 0 = λ x. Steps i x s r in subst F e h
+
+-- a front of a front, and a front of what is behind it
+pub along_take : (w : List ℕ) (at n m : ℕ) (st t u : State) → n ≤ length w → Along at (take n w) st t → Along (at + n) (take m (drop n w)) t u → Along at (take (n + m) w) st u
+along_take w at n m st t u l h k =
+    along_word _ _ at st u (sym (take-add n m w)) (along_join (take n w) (take m (drop n w)) at st t u h (along_at (take m (drop n w)) (at + n) (at + length (take n w)) t u (ap (λ i. at + i) (sym (length-take-le n w l))) k))
+
+pub along_more : (w : List ℕ) (at n : ℕ) (st t u : State) → n < length w → Along at (take n w) st t → Steps (at + n) (get_or w n 0) t (Ok u) → Along at (take (n + 1) w) st u
+along_more w at n st t u l h k =
+    along_word _ _ at st u (sym (take_more w n 0 l)) (along_join (take n w) (get_or w n 0 ∷ []) at st t u h (one _ _ t u (steps_at (at + n) _ _ t (Ok u) (ap (λ i. at + i) (sym (length-take-le n w (omega (arith, l))))) k)))
+
+-- ---- a string
+
+text_whole_along : (w : List ℕ) (at n : ℕ) (now : Within) (before text : List ℕ) (b : Bool) (fs : List Frame) → get_or w 0 0 ≡ 34 → n + 1 < length w → Passes Between [] (take n (drop 1 w)) now before → b ≡ is_between now && nat_eq (get_or w (n + 1) 0) 34 → b ≡ true → text ≡ before →
+    Along at (take (n + 2) w) (record { mode = modes.Value; frames = fs }) (record { mode = modes.After (Str at text); frames = fs })
+text_whole_along w at n now before text b fs q l h e f g =
+    let i : Along at (take (n + 1) w) (record { mode = modes.Value; frames = fs }) (record { mode = modes.InString at now before; frames = fs }) =
+    along_word _ _ at _ _ (sym (take_head w n (omega (arith, l)))) (_, steps_over at 34 (get_or w 0 0) (record { mode = modes.Value; frames = fs }) (Ok (record { mode = modes.InString at Between []; frames = fs })) (sym q) (quote_step at fs), text_along (take n (drop 1 w)) (at + 1) at Between now [] before fs h) in
+    along_word _ _ at _ _ (ap (λ k. take k w) (two n)) (along_more w at (n + 1) _ (record { mode = modes.InString at now before; frames = fs }) (record { mode = modes.After (Str at text); frames = fs }) l i (text_ends _ at _ now before text fs b e f g))
+  where
+    two : (n : ℕ) → (n + 1) + 1 ≡ n + 2
+    two n = omega arith
+
+pub text_whole : (w rest start : List ℕ) (at n : ℕ) (now : Within) (before text : List ℕ) (b : Bool) → rest ≡ take (length w - 1) (drop 1 w) → start ≡ [] → get_or w 0 0 ≡ 34 → n + 2 < length w → Passes Between start (take n rest) now before → b ≡ is_between now && nat_eq (get_or w (n + 1) 0) 34 → b ≡ true → text ≡ before → IsScalar at w (Str at text) (n + 2)
+text_whole w rest start at n now before text b i j q l h e f g =
+    let P : List ℕ → Type 0 = λ x. Passes Between start (take n x) now before in
+    let Q : List ℕ → Type 0 = λ x. Passes Between x (take n (drop 1 w)) now before in
+    let k = subst Q j (subst P (i ∙ tail_is 1 w) h) in
+    record {
+      some = omega arith;
+      within = l;
+      follows = λ fs answer d r. (record { mode = modes.After (Str at text); frames = fs }, text_whole_along w at n now before text b fs q (omega (arith, l)) k e f g, by_mode _ _ (modes.After (Str at text)) (modes.After (Str at text)) fs answer refl tt d);
+    }
+
+-- ---- a key and its colon
+
+colon_step : (at start : ℕ) (o : List Member × Named) (fs : List Frame) → Steps at 0x3a (record { mode = modes.Colon start o; frames = fs }) (Ok (record { mode = modes.Value; frames = fs ++ InObject start o ∷ [] }))
+colon_step at start o fs = by_mode at 0x3a (modes.Colon start o) (modes.Colon start o) fs (Ok (record { mode = modes.Value; frames = fs ++ InObject start o ∷ [] })) refl tt
+    (λ p e. plain p at 0x3a 0x3a (begin_colon start o.0 o.1 (reverse fs)) (λ k. begin_value (reverse (fs ++ InObject start o ∷ []))) e refl (pushed (λ u. Turns p 0x3a (next p) (begin_colon start o.0 o.1 (reverse fs)) (begin_value u)) fs (fs ++ InObject start o ∷ []) (InObject start o) refl (s.colon_turns start o.0 o.1 (reverse fs) p)))
+
+pub naming : (w rest start : List ℕ) (at n : ℕ) (now : Within) (before : List ℕ) (b has : Bool) (done : List Member) (o : List Member × Named) → rest ≡ take (length w - 1) (drop 1 w) → start ≡ [] → n + 2 < length w → Passes Between start (take n rest) now before →
+    b ≡ is_between now && nat_eq (get_or w (n + 1) 0) 34 → b ≡ true → get_or w (n + 2) 0 ≡ 58 → has ≡ is_among (names done) before → has ≡ false → o.0 ≡ done → o.1 ≡ record { name = before; at = at } → IsNaming at w done o ((n + 2) + 1)
+naming w rest start at n now before b has done o i j l h e f z x y u v =
+    let P : List ℕ → Type 0 = λ x. Passes Between start (take n x) now before in
+    let Q : List ℕ → Type 0 = λ x. Passes Between x (take n (drop 1 w)) now before in
+    let k = subst Q j (subst P (i ∙ tail_is 1 w) h) in
+    let t = length-drop 1 w in
+    let c1 : get_or (drop 1 w) n 0 ≡ get_or w (n + 1) 0 = get_or-drop 1 w n 0 ∙ ap (λ m. get_or w m 0) (swap n) in
+    let c2 : get_or (drop 1 w) (n + 1) 0 ≡ get_or w (n + 2) 0 = get_or-drop 1 w (n + 1) 0 ∙ ap (λ m. get_or w m 0) (next_one n) in
+    record {
+      some = omega arith;
+      within = omega (arith, l);
+      follows = λ from fs.
+          let one_in = key_along (take n (drop 1 w)) (at + 1) from done at Between now [] before fs k in
+          let closed = along_more (drop 1 w) (at + 1) n (record { mode = modes.InKey from done at Between []; frames = fs }) (record { mode = modes.InKey from done at now before; frames = fs }) (record { mode = modes.Colon from o; frames = fs }) (omega (arith, l, t)) one_in (steps_over ((at + 1) + n) (get_or w (n + 1) 0) (get_or (drop 1 w) n 0) (record { mode = modes.InKey from done at now before; frames = fs }) (Ok (record { mode = modes.Colon from o; frames = fs })) (sym c1) (key_ends ((at + 1) + n) from done at (get_or w (n + 1) 0) now before fs o b has e f x y u v)) in
+          let opened = along_more (drop 1 w) (at + 1) (n + 1) (record { mode = modes.InKey from done at Between []; frames = fs }) (record { mode = modes.Colon from o; frames = fs }) (record { mode = modes.Value; frames = fs ++ InObject from o ∷ [] }) (omega (arith, l, t)) closed (steps_over ((at + 1) + (n + 1)) 58 (get_or (drop 1 w) (n + 1) 0) (record { mode = modes.Colon from o; frames = fs }) (Ok (record { mode = modes.Value; frames = fs ++ InObject from o ∷ [] })) (sym (c2 ∙ z)) (colon_step ((at + 1) + (n + 1)) from o fs)) in
+          (take ((n + 1) + 1) (drop 1 w), ap (λ m. take m w) (three n) ∙ take_head w ((n + 1) + 1) (omega (arith, l)), opened);
+    }
+  where
+    swap : (n : ℕ) → 1 + n ≡ n + 1
+    swap n = omega arith
+
+    next_one : (n : ℕ) → 1 + (n + 1) ≡ n + 2
+    next_one n = omega arith
+
+    three : (n : ℕ) → (n + 2) + 1 ≡ ((n + 1) + 1) + 1
+    three n = omega arith
+
+-- ---- behind a value
+
+pub after_memory : (at n c : ℕ) (fs : List Frame) (x : Json) → AfterValue at n c fs x (Err (0, Memory))
+after_memory at n c fs x base w st e l i h = advances_memory base w st (let a = l in omega (arith, a))
+
+pub after_behind : (at n c : ℕ) (fs gs : List Frame) (x : Json) (answer : Result State Stop) (result : Result (ℕ × State) (ℕ × Stop)) → gs ≡ fs → Goes at c (closes (reverse gs) x) answer → Quiet answer → Behind n answer result → AfterValue at n c fs x result
+after_behind at n c fs gs x answer result e g q b base w st f l i h =
+    let F : List Frame → Type 0 = λ u. Goes at c (closes (reverse u) x) answer in
+    let t = h answer (subst F e g) q in
+    advances_behind base n w st t.0 answer result l t.1 (steps_over (base + n) c (get_or w n 0) t.0 answer (sym i) (steps_at at (base + n) c t.0 answer (sym f) t.2)) b
+
+-- the same in one more bracket, whose frame is apart
+pub after_framed : (at n c : ℕ) (fs : List Frame) (f : Frame) (x : Json) (answer : Result State Stop) (result : Result (ℕ × State) (ℕ × Stop)) → Goes at c (closes (f ∷ reverse fs) x) answer → Quiet answer → Behind n answer result → AfterValue at n c (fs ++ f ∷ []) x result
+after_framed at n c fs f x answer result g q b = after_behind at n c (fs ++ f ∷ []) (fs ++ f ∷ []) x answer result refl (pushed (λ u. Goes at c (closes u x) answer) fs (fs ++ f ∷ []) f refl g) q b
+
+-- the comma behind an item
+pub item_comma : (at start : ℕ) (items more : List Json) (x : Json) (fs : List Frame) → more ≡ items ++ x ∷ [] → Goes at 0x2c (closes (reverse (fs ++ InArray start items ∷ [])) x) (Ok (record { mode = modes.Value; frames = fs ++ InArray start more ∷ [] }))
+item_comma at start items more x fs m = λ p e.
+    plain p at 0x2c 0x2c (closes (reverse (fs ++ InArray start items ∷ [])) x) (λ k. begin_value (reverse (fs ++ InArray start more ∷ []))) e refl
+    (pushed (λ u. Turns p 0x2c (next p) (closes u x) (begin_value (reverse (fs ++ InArray start more ∷ [])))) fs (fs ++ InArray start items ∷ []) (InArray start items) refl (open_array_comma fs x p (fs ++ InArray start more ∷ []) start items more m refl))
+
+-- the comma behind the value of a member
+pub member_comma : (at start : ℕ) (o : List Member × Named) (more : List Member) (x : Json) (fs : List Frame) → more ≡ o.0 ++ record { key = o.1; value = x } ∷ [] → Goes at 0x2c (closes (reverse (fs ++ InObject start o ∷ [])) x) (Ok (record { mode = modes.Key start more; frames = fs }))
+member_comma at start o more x fs m = λ p e.
+    plain p at 0x2c 0x2c (closes (reverse (fs ++ InObject start o ∷ [])) x) (λ k. begin_key start more (reverse fs)) e refl
+    (pushed (λ u. Turns p 0x2c (next p) (closes u x) (begin_key start more (reverse fs))) fs (fs ++ InObject start o ∷ []) (InObject start o) refl (open_object_comma fs x p start o more m))
+
+pub before_advances : (at n : ℕ) (fs : List Frame) (w : List ℕ) (st : State) (result : Result (ℕ × State) (ℕ × Stop)) → BeforeValue n fs result → n ≤ length w → 0 < n → Along at (take n w) st (record { mode = modes.Value; frames = fs }) → Advances at w st result
+before_advances at n fs w st (Ok r) h l z k =
+    let F : State → Type 0 = λ x. Along at (take r.0 w) st x in
+    let G : ℕ → Type 0 = λ x. Along at (take x w) st (record { mode = modes.Value; frames = fs }) in
+    advances_front at r.0 w st r.1 (let a = h.0 in omega (arith, a, l)) (let a = h.0 in omega (arith, a, z)) (subst F (sym h.1) (subst G (sym h.0) k))
+before_advances at n fs w st (Err r) h l z k = let F : ℕ × Stop → Type 0 = λ x. Advances at w st (Err x) in subst F (sym h) (advances_memory at w st (omega (arith, l, z)))
+
+pub advances_state : (at : ℕ) (w : List ℕ) (st t : State) (result : Result (ℕ × State) (ℕ × Stop)) → st ≡ t → Advances at w st result → Advances at w t result
+advances_state at w st t result e h = let F : State → Type 0 = λ x. Advances at w x result in subst F e h
+
+-- ---- further on in the bytes
+
+get_along : (bytes rest : List ℕ) (n k : ℕ) → rest ≡ drop n bytes → get_or rest k 0 ≡ get_or bytes (n + k) 0
+get_along bytes rest n k e = ap (λ (x : List ℕ). get_or x k 0) e ∙ get_or-drop n bytes k 0
+
+no_bytes : List ℕ
+no_bytes = []
+
+drop_none : (m : ℕ) → drop m no_bytes ≡ []
+unfolding no_bytes
+drop_none zero = refl
+drop_none (suc m) = refl
+
+suc_on : (n m : ℕ) → suc n + m ≡ suc (n + m)
+suc_on n m = omega arith
+
+drop_twice : (n m : ℕ) (xs : List ℕ) → drop m (drop n xs) ≡ drop (n + m) xs
+unfolding no_bytes
+drop_twice zero m xs = ap (λ k. drop k xs) (omega arith)
+drop_twice (suc n) m [] = drop_none m ∙ sym (drop_none (suc n + m))
+drop_twice (suc n) m (x ∷ xs) = drop_twice n m xs ∙ sym (ap (λ k. drop k (x ∷ xs)) (suc_on n m))
+
+pub drop_on : (bytes rest : List ℕ) (n m : ℕ) → rest ≡ drop n bytes → drop m rest ≡ drop (n + m) bytes
+drop_on bytes rest n m e = ap (λ (x : List ℕ). drop m x) e ∙ drop_twice n m bytes
+
+pub scalar_of : (p : ℕ) (w : List ℕ) (o : Option (Json × ℕ)) (x : Json) (n : ℕ) → o ≡ Some (x, n) → IfSome o (λ r. IsScalar p w r.0 r.1) → IsScalar p w x n
+scalar_of p w o x n e h = let F : Option (Json × ℕ) → Type 0 = λ k. IfSome k (λ r. IsScalar p w r.0 r.1) in subst F e h
+
+pub scalar_along : (bytes rest : List ℕ) (at p n size : ℕ) (x : Json) (fs : List Frame) (st : State) (answer : Result State Stop) → rest ≡ drop n bytes → p ≡ at + n → n ≤ length bytes → Along at (take n bytes) st (record { mode = modes.Value; frames = fs }) → IsScalar p rest x size →
+    Goes (at + (n + size)) (get_or bytes (n + size) 0) (closes (reverse fs) x) answer → Quiet answer → (u : State) × Along at (take (n + size) bytes) st u × Steps (at + (n + size)) (get_or bytes (n + size) 0) u answer
+scalar_along bytes rest at p n size x fs st answer e f l h i g q =
+    let c = get_along bytes rest n size e in
+    let a : p + size ≡ at + (n + size) = (let b = f in omega (arith, b)) in
+    let F : ℕ → Type 0 = λ k. Goes k (get_or bytes (n + size) 0) (closes (reverse fs) x) answer in
+    let G : ℕ → Type 0 = λ k. Goes (p + size) k (closes (reverse fs) x) answer in
+    let H : List ℕ → Type 0 = λ k. Along (at + n) (take size k) (record { mode = modes.Value; frames = fs }) (i.follows fs answer (subst G (sym c) (subst F (sym a) g)) q).0 in
+    let t = i.follows fs answer (subst G (sym c) (subst F (sym a) g)) q in (
+      t.0,
+      along_take bytes at n size st (record { mode = modes.Value; frames = fs }) t.0 l h (subst H e (along_at (take size rest) p (at + n) (record { mode = modes.Value; frames = fs }) t.0 f t.1)),
+      steps_over (at + (n + size)) (get_or rest size 0) (get_or bytes (n + size) 0) t.0 answer c (steps_at (p + size) (at + (n + size)) (get_or rest size 0) t.0 answer a t.2),
+    )
+
+pub scalar_within : (bytes rest : List ℕ) (p n size : ℕ) (x : Json) → rest ≡ drop n bytes → n ≤ length bytes → IsScalar p rest x size → n + size < length bytes
+scalar_within bytes rest p n size x e l i = let a = ap (λ (x : List ℕ). length x) e ∙ length-drop n bytes in let b = i.within in omega (arith, a, b, l)
+
+-- an item and the comma behind it
+pub item_more : (bytes rest : List ℕ) (at start n size : ℕ) (items list more : List Json) (x : Json) (fs : List Frame) → rest ≡ drop n bytes → n ≤ length bytes → Along at (take n bytes) (record { mode = modes.Value; frames = fs ++ InArray start items ∷ [] }) (record { mode = modes.Value; frames = fs ++ InArray start list ∷ [] }) →
+    IsScalar (at + n) rest x size → get_or bytes (n + size) 0 ≡ 44 → more ≡ list ++ x ∷ [] → Along at (take ((n + size) + 1) bytes) (record { mode = modes.Value; frames = fs ++ InArray start items ∷ [] }) (record { mode = modes.Value; frames = fs ++ InArray start more ∷ [] })
+item_more bytes rest at start n size items list more x fs e l h i c m =
+    let answer : Result State Stop = Ok (record { mode = modes.Value; frames = fs ++ InArray start more ∷ [] }) in
+    let F : ℕ → Type 0 = λ k. Goes (at + (n + size)) k (closes (reverse (fs ++ InArray start list ∷ [])) x) answer in
+    let t = scalar_along bytes rest at (at + n) n size x (fs ++ InArray start list ∷ []) (record { mode = modes.Value; frames = fs ++ InArray start items ∷ [] }) answer e refl l h i (subst F (sym c) (item_comma (at + (n + size)) start list more x fs m)) tt in
+    along_more bytes at (n + size) (record { mode = modes.Value; frames = fs ++ InArray start items ∷ [] }) t.0 (record { mode = modes.Value; frames = fs ++ InArray start more ∷ [] }) (scalar_within bytes rest (at + n) n size x e l i) t.1 t.2
+
+pub looks_of : (p : ℕ) (w : List ℕ) (done : List Member) (a b : Ahead) → a ≡ b → Looks p w done a → Looks p w done b
+looks_of p w done a b e h = let F : Ahead → Type 0 = λ k. Looks p w done k in subst F e h
+
+-- ---- a key further on
+
+pub steps_same : (at start : ℕ) (done : List Member) (st : State) (fs : List Frame) → Steps at 34 st (Ok (record { mode = modes.InKey start done at Between []; frames = fs })) → Steps (at + 0) 34 st (Ok (record { mode = modes.InKey start done (at + 0) Between []; frames = fs }))
+steps_same at start done st fs h = let F : ℕ → Type 0 = λ k. Steps k 34 st (Ok (record { mode = modes.InKey start done k Between []; frames = fs })) in subst F (none at) h
+  where
+    none : (n : ℕ) → n ≡ n + 0
+    none n = omega arith
+
+pub named_along : (bytes rest : List ℕ) (at start n m : ℕ) (done : List Member) (o : List Member × Named) (fs : List Frame) (st t : State) → rest ≡ drop n bytes → n < length bytes → get_or bytes n 0 ≡ 34 → Along at (take n bytes) st t → Steps (at + n) 34 t (Ok (record { mode = modes.InKey start done (at + n) Between []; frames = fs })) →
+    IsNaming (at + n) rest done o m → Along at (take (n + m) bytes) st (record { mode = modes.Value; frames = fs ++ InObject start o ∷ [] })
+named_along bytes rest at start n m done o fs st t e l q h k i =
+    let f = i.follows start fs in
+    let c : get_or rest 0 0 ≡ 34 = get_along bytes rest n 0 e ∙ ap (λ j. get_or bytes j 0) (same n) ∙ q in
+    let H : List ℕ → Type 0 = λ x. Along (at + n) (take m x) t (record { mode = modes.Value; frames = fs ++ InObject start o ∷ [] }) in
+    along_take bytes at n m st t (record { mode = modes.Value; frames = fs ++ InObject start o ∷ [] }) (omega (arith, l)) h
+    (subst H e (along_word (get_or rest 0 0 ∷ f.0) (take m rest) (at + n) t (record { mode = modes.Value; frames = fs ++ InObject start o ∷ [] }) (sym f.1)
+    (record { mode = modes.InKey start done (at + n) Between []; frames = fs }, steps_over (at + n) 34 (get_or rest 0 0) t (Ok (record { mode = modes.InKey start done (at + n) Between []; frames = fs })) (sym c) k, f.2)))
+  where
+    same : (n : ℕ) → n + 0 ≡ n
+    same n = omega arith
+
+pub named_within : (bytes rest : List ℕ) (p n m : ℕ) (done : List Member) (o : List Member × Named) → rest ≡ drop n bytes → n < length bytes → IsNaming p rest done o m → n + m ≤ length bytes
+named_within bytes rest p n m done o e l i = let a = ap (λ (x : List ℕ). length x) e ∙ length-drop n bytes in let b = i.within in omega (arith, a, b, l)
+
+-- the quotation mark of a key is taken, and no more
+pub key_open : (bytes : List ℕ) (at start n : ℕ) (done before : List Member) (fs : List Frame) (st t : State) (result : Result (ℕ × State) (ℕ × Stop)) → n < length bytes → get_or bytes n 0 ≡ 34 → Along at (take n bytes) st t → Steps (at + n) 34 t (Ok (record { mode = modes.InKey start done (at + n) Between []; frames = fs })) → before ≡ done →
+    result ≡ Ok (n + 1, record { mode = modes.InKey start before (at + n) Between []; frames = fs }) → Advances at bytes st result
+key_open bytes at start n done before fs st t result l q h k e f =
+    let F : List Member → Type 0 = λ x. Steps (at + n) 34 t (Ok (record { mode = modes.InKey start x (at + n) Between []; frames = fs })) in
+    let G : Result (ℕ × State) (ℕ × Stop) → Type 0 = λ x. Advances at bytes st x in
+    subst G (sym f) (advances_front at (n + 1) bytes st (record { mode = modes.InKey start before (at + n) Between []; frames = fs }) (omega (arith, l)) (omega arith)
+    (along_more bytes at n st t (record { mode = modes.InKey start before (at + n) Between []; frames = fs }) l h (steps_over (at + n) 34 (get_or bytes n 0) t (Ok (record { mode = modes.InKey start before (at + n) Between []; frames = fs })) (sym q) (subst F (sym e) k))))
+
+-- a member and the comma behind it
+pub member_more : (bytes : List ℕ) (at start k : ℕ) (o : List Member × Named) (more : List Member) (x : Json) (fs : List Frame) (st : State) → k < length bytes → get_or bytes k 0 ≡ 44 → more ≡ o.0 ++ record { key = o.1; value = x } ∷ [] →
+    ((answer : Result State Stop) → Goes (at + k) (get_or bytes k 0) (closes (reverse (fs ++ InObject start o ∷ [])) x) answer → Quiet answer → (u : State) × Along at (take k bytes) st u × Steps (at + k) (get_or bytes k 0) u answer) → Along at (take (k + 1) bytes) st (record { mode = modes.Key start more; frames = fs })
+member_more bytes at start k o more x fs st l c m f =
+    let answer : Result State Stop = Ok (record { mode = modes.Key start more; frames = fs }) in
+    let F : ℕ → Type 0 = λ i. Goes (at + k) i (closes (reverse (fs ++ InObject start o ∷ [])) x) answer in
+    let t = f answer (subst F (sym c) (member_comma (at + k) start o more x fs m)) tt in
+    along_more bytes at k st t.0 (record { mode = modes.Key start more; frames = fs }) l t.1 t.2
