@@ -4,18 +4,20 @@ headers and a C++ compiler are there, beside RapidJSON's tree.
 
     bench/json.py [--program crates/json_bench/out/json_bench] [--runs 3]
 
-For many small objects, long strings and numbers, and each size: the processor seconds of a run that only reads the file, the growth
-against the size before, the greatest memory over the file's size, the seconds of a run that reads it and writes it back, and the
-seconds of json.load and RapidJSON for reading. Each is the best of its runs. What is to be reached: growth at most 2.2 for each
-doubling, memory at most 20 times the file, reading no slower than json.load.
+For many small objects (as a JANI file nests them, and flat with the spaces of json.dump), long strings, numbers and an array of
+digits, and each size: the processor seconds of a run that only reads the file, the growth against the size before, the greatest
+memory over the file's size, the seconds of a run that reads it and writes it back, and the seconds of json.load and RapidJSON for
+reading. Each is the best of its runs. The first line tells what a run over the text `null` takes: that is the start of the process,
+which json.load, timed inside a running Python, is spared. What is to be reached: growth at most 2.2 for each doubling, memory at most
+20 times the file, reading no slower than json.load.
 """
 
-import argparse
 import os
 import shutil
 import subprocess
-import sys
 import tempfile
+
+from timing import LOAD, MEGA, growth, python, timed, words
 
 TREE = r"""
 #include <cstdio>
@@ -33,13 +35,16 @@ int main(int, char **words) {
 }
 """
 
-LOAD = "import json, time; s = time.process_time(); json.load(open(%r)); print(time.process_time() - s)"
-
 
 def objects(i):
     """A small object, as a JANI file lists variables."""
     return '{"name":"v%d","type":{"kind":"bounded","base":"int","lower-bound":0,"upper-bound":%d},"initial-value":%d}' % (
         i, i % 97, i % 7)
+
+
+def records(i):
+    """A flat object, with the spaces of json.dump."""
+    return '%s{"id": %d, "name": "item %d", "on": %s, "weight": %d.5}' % (" " if i else "", i, i, ("true", "false")[i % 2], i % 100)
 
 
 def strings(i):
@@ -54,6 +59,11 @@ def numbers(i):
     if i % 3 == 1:
         return "%d" % (i * 7919)
     return "%d.%d" % (i % 100, i % 1000)
+
+
+def digits(i):
+    """A whole number of one digit: the least text that a value can have."""
+    return "%d" % (i % 10)
 
 
 def write_array(make, size, name):
@@ -71,16 +81,6 @@ def write_array(make, size, name):
     return length + 1
 
 
-def timed(words, out):
-    """The processor seconds that a command took and the greatest memory that it held, in bytes."""
-    child = subprocess.Popen(words, stdout=out)
-    _, status, usage = os.wait4(child.pid, 0)
-    child.returncode = os.waitstatus_to_exitcode(status)
-    if child.returncode != 0:
-        sys.exit("%s ended with status %d" % (" ".join(words), child.returncode))
-    return usage.ru_utime + usage.ru_stime, usage.ru_maxrss * 1024
-
-
 def tree_program(room):
     """A program over RapidJSON's tree, or None where it can't be built."""
     compiler = shutil.which("c++") or shutil.which("g++") or shutil.which("clang++")
@@ -94,30 +94,27 @@ def tree_program(room):
 
 
 def main():
-    parser = argparse.ArgumentParser()
-    parser.add_argument("--program", default="crates/json_bench/out/json_bench")
-    parser.add_argument("--runs", type=int, default=3)
-    given = parser.parse_args()
-    program = os.path.abspath(given.program)
-    print("                MB     read    MB/s  growth  memory    back  json.load  RapidJSON")
+    program, runs = words("crates/json_bench/out/json_bench")
     with tempfile.TemporaryDirectory() as room:
         tree = tree_program(room)
-        for make in (objects, strings, numbers):
+        name = os.path.join(room, "null")
+        with open(name, "w") as f:
+            f.write("null")
+        start = min(timed([program, "read", name])[0] for _ in range(10 * runs))
+        print("start of the process: %.4f" % start)
+        print("                MB     read    MB/s  growth  memory    back  json.load  RapidJSON")
+        for make in (objects, records, strings, numbers, digits):
             before = None
             for size in (1, 2, 4, 8, 16):
                 name, result = os.path.join(room, "f"), os.path.join(room, "out")
-                length = write_array(make, size * 1_000_000, name)
-                read, memory = min(timed([program, "read", name], subprocess.DEVNULL) for _ in range(given.runs))
-                back = []
-                for _ in range(given.runs):
-                    with open(result, "wb") as out:
-                        back.append(timed([program, name], out))
-                load = min(float(subprocess.run([sys.executable, "-c", LOAD % name], capture_output=True, text=True,
-                                                check=True).stdout) for _ in range(given.runs))
-                other = None if tree is None else min(timed([tree, name], subprocess.DEVNULL)[0] for _ in range(given.runs))
+                length = write_array(make, size * MEGA, name)
+                read, memory = min(timed([program, "read", name]) for _ in range(runs))
+                back, held = min(timed([program, name], 0, result) for _ in range(runs))
+                load = min(python(LOAD, name) for _ in range(runs))
+                other = None if tree is None else min(timed([tree, name])[0] for _ in range(runs))
                 print("%-10s %7.1f %8.3f %7.1f %7s %6.1fx %7.3f %10.3f  %9s" % (
-                    make.__name__, length / 1e6, read, length / 1e6 / read, "" if before is None else "%.2f" % (read / before),
-                    max(memory, max(b[1] for b in back)) / length, min(b[0] for b in back), load,
+                    make.__name__, length / 1e6, read, length / 1e6 / read, growth(read, before),
+                    max(memory, held) / length, back, load,
                     "-" if other is None else "%.3f" % other), flush=True)
                 before = read
 

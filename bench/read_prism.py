@@ -4,21 +4,29 @@ ast.parse of a Python file and json.load of a JSON file of the same length.
 
     bench/read_prism.py [--program crates/bridge/out/bridge] [--runs 3]
 
-For each size: the seconds and MB/s of the best run, the growth against the size before, the greatest memory over the
-file's size, and the seconds of ast.parse and json.load. What is to be reached: growth at most 2.2 for each doubling, memory
-at most 20 times the file, less time than both. Then files that are refused before: 16 MB of `(`, and of one long sum.
+The files are of commands as models have them, of dense commands, which have short names and more operators, and of formulas.
+For each size: the processor seconds and MB/s of the best run, the growth against the size before, the greatest memory over the file's
+size, and the seconds of ast.parse and json.load. What is to be reached: growth at most 2.2 for each doubling, memory at most
+20 times the file, less time than both. Then files that are refused before: 16 MB of `(`, and of one long sum.
 """
 
-import argparse
 import os
-import subprocess
-import sys
 import tempfile
-import time
 
-MEGA = 1000000
+from timing import LOAD, MEGA, PARSE, growth, python, timed, words
+
+# Commands as PRISM's manual and its models of shared coins have them.
+COMMANDS = (
+    "  [] (pc1=0) -> 0.5 : (pc1'=1) & (coin1'=0) + 0.5 : (pc1'=1) & (coin1'=1);\n",
+    "  [] (pc1=1) & (coin1=0) & (counter>0) -> (counter'=counter-1) & (pc1'=2) & (coin1'=0);\n",
+    "  [] (pc1=1) & (coin1=1) & (counter<range) -> (counter'=counter+1) & (pc1'=2) & (coin1'=0);\n",
+    "  [] (pc1=2) & (counter<=left) -> (pc1'=3) & (coin1'=0);\n",
+    "  [done] (pc1=3) -> (pc1'=3);\n",
+)
 KINDS = {
-    "commands": ("mdp\nmodule network\n  x : [0..9] init 0;\n  y : [0..9] init 0;\n", "endmodule\nlabel \"done\" = x=9;\n",
+    "commands": ("mdp\nmodule coin\n  pc1 : [0..3] init 0;\n  coin1 : [0..1] init 0;\n  counter : [0..99] init 0;\n", "endmodule\nlabel \"done\" = pc1=3;\n",
+                 lambda i: COMMANDS[i % len(COMMANDS)]),
+    "dense commands": ("mdp\nmodule network\n  x : [0..9] init 0;\n  y : [0..9] init 0;\n", "endmodule\nlabel \"done\" = x=9;\n",
                  lambda i: "  [step] x<%d & (y>%d | !(x=y)) -> 0.25 : (x'=min(x+1,%d)) + 0.75 : (y'=y+1) & (x'=0);\n" % (i % 9 + 1, i % 7, i % 5 + 5)),
     "formulas": ("mdp\nmodule m\n  x : [0..9] init 0;\nendmodule\n", "",
                  lambda i: "formula f%d = x > %d ? (x + %d) * 2 / 3 - mod(x, %d) : floor(%d.5);\n" % (i, i % 10, i, i % 9 + 1, i)),
@@ -39,37 +47,8 @@ def file_of(size, front, back, line):
     return "".join(lines)
 
 
-def timed(words, wanted):
-    """The seconds that a command took, and the greatest memory that it held, in bytes."""
-    with open(os.devnull, "w") as nothing:
-        start = time.perf_counter()
-        child = subprocess.Popen(words, stdout=nothing, stderr=subprocess.PIPE)
-        said = child.stderr.read()
-        _, status, usage = os.wait4(child.pid, 0)
-        child.returncode = os.waitstatus_to_exitcode(status)
-    if wanted not in said:
-        sys.exit("%s: %r" % (" ".join(words), said))
-    return time.perf_counter() - start, usage.ru_maxrss * 1024
-
-
-LOAD = "import json, time; t = open(%r).read(); s = time.perf_counter(); json.loads(t); print(time.perf_counter() - s)"
-PARSE = "import ast, time; t = open(%r).read(); s = time.perf_counter(); ast.parse(t); print(time.perf_counter() - s)"
-
-
-def python(text, path):
-    return float(subprocess.run([sys.executable, "-c", text % path], stdout=subprocess.PIPE, check=True).stdout)
-
-
-def best(program, name, runs, wanted):
-    return min(timed([program, "to-jani", name], wanted) for _ in range(runs))
-
-
 def main():
-    parser = argparse.ArgumentParser()
-    parser.add_argument("--program", default="crates/bridge/out/bridge")
-    parser.add_argument("--runs", type=int, default=3)
-    given = parser.parse_args()
-    program = os.path.abspath(given.program)
+    program, runs = words("crates/bridge/out/bridge")
     os.chdir(tempfile.mkdtemp(prefix="bridge-bench-"))
     for kind, (front, back, line) in KINDS.items():
         print("%s\n    MB   seconds    MB/s  growth  memory  ast.parse  json.load" % kind)
@@ -79,15 +58,15 @@ def main():
             open("f", "w").write(text)
             open("f.py", "w").write(file_of(len(text), "", "", lambda i: "f%d = (x + %d) * 2 / 3 - mod(x, %d) if x > %d else floor(%d.5)\n" % (i, i, i % 9 + 1, i % 10, i)))
             open("f.json", "w").write(file_of(len(text) - 8, "[", "0]", lambda i: '{"ref":"x%d","value":{"op":"+","left":"y","right":%d}},' % (i % 10, i)))
-            seconds, memory = best(program, "f", given.runs, b"reason 42")
+            seconds, memory = min(timed([program, "to-jani", "f"], 2) for _ in range(runs))
             print("%6.1f  %8.3f  %6.1f  %6s  %5.1fx  %9.3f  %9.3f" % (
-                len(text) / MEGA, seconds, len(text) / MEGA / seconds, "%.2f" % (seconds / before) if before else "",
+                len(text) / MEGA, seconds, len(text) / MEGA / seconds, growth(seconds, before),
                 memory / len(text), python(PARSE, "f.py"), python(LOAD, "f.json")), flush=True)
             before = seconds
     print("refused\n    MB   seconds  memory")
     for name, text in (("(", "mdp const int a = " + "(" * (16 * MEGA)), ("x+x", "mdp const int a = x" + "+x" * (8 * MEGA))):
         open("f", "w").write(text)
-        seconds, memory = best(program, "f", given.runs, b"reason 5 TooDeep")
+        seconds, memory = min(timed([program, "to-jani", "f"], 2) for _ in range(runs))
         print("%6.1f  %8.3f  %5.1fx  %s" % (len(text) / MEGA, seconds, memory / len(text), name))
 
 

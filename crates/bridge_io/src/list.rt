@@ -69,12 +69,18 @@ impl<T> List<T> {
     }
 }
 
+// Up to so many items a list takes memory for no more than it has.
+const SHORT: usize = 4;
+
 impl<T: Drop> List<T> {
     /// Adds an item at the end. Where memory is refused the list stays as it was, and the item is let go.
     pub fn push(&mut self, item: T) -> Result<(), AllocError>
         ensures ok { OnOk result (self.new ≡ self.old ++ item ∷ []) }
         ensures err { OnErr result (self.new ≡ self.old) }
     {
+        if self.items.len() < SHORT {
+            self.items.reserve_exact(1)?;
+        }
         self.items.push(item)?;
         Ok(())
     }

@@ -150,7 +150,7 @@ space_step at c (modes.Word bytes x) fs w e = absurd cc
 space_step at c (modes.InNumber a n) fs w e = absurd cc
 space_step at c (modes.After x) fs w e = by_mode at c (modes.After x) (modes.After x) fs (Ok (record { mode = (modes.After x); frames = fs })) refl tt (λ p f. plain p _ _ _ _ (λ k. closes (reverse fs) x) f refl (after_space (reverse fs) x p c e))
 
-spaces_on : (w : List ℕ) (at : ℕ) (st : State) → waits st.mode ≡ true → AllSpaces w → Along at w st st
+pub spaces_on : (w : List ℕ) (at : ℕ) (st : State) → waits st.mode ≡ true → AllSpaces w → Along at w st st
 spaces_on [] at st h k = refl
 spaces_on (c ∷ w) at st h k = (st, space_step at c st.mode st.frames h k.0, spaces_on w (at + 1) st h k.1)
 

@@ -22,3 +22,4 @@ pub mod Single
 pub mod Passing
 pub mod Chains
 pub mod Whole
+pub mod Nested

@@ -3,10 +3,10 @@ use Rattle.std.proofs.Common.{◌≡◌, ℕ, zero, suc, ◌+◌, ◌-◌, ◌<�
 use Rattle.std.specs.Prelude.{Option, Some, IfSome, Result, Ok, Err}
 use Rattle.std.proofs.Math.ListN.{get_or}
 use Rattle.std.proofs.Math.Seq.{take-add}
-use Rattle.std.proofs.lemmas.List.{take_more, length-drop, get_or-drop, length-take-le}
+use Rattle.std.proofs.lemmas.List.{take_more, length-append, length-drop, get_or-drop, length-take-le}
 use Rattle.bridge_io.specs.declared.reason.Named.{Named}
 use Rattle.decimal_json.specs.declared.tree.Json.{Json}
-use Rattle.decimal_json.specs.declared.tree.Json.TheVariants.{Str}
+use Rattle.decimal_json.specs.declared.tree.Json.TheVariants.{Str, Array}
 use Rattle.decimal_json.specs.declared.tree.Member.{Member}
 use Rattle.decimal_json.specs.declared.brackets.Frame.{Frame}
 use Rattle.decimal_json.specs.declared.brackets.Frame.TheVariants.{InArray, InObject}
@@ -16,15 +16,15 @@ use Rattle.decimal_json.specs.declared.machine.Stop.{Stop}
 use Rattle.decimal_json.specs.declared.machine.Stop.TheVariants.{Memory}
 use Rattle.decimal_json.specs.declared.chars.Within.{Within}
 use Rattle.decimal_json.specs.declared.chars.Within.TheVariants.{Between}
-use Rattle.decimal_json.specs.declared.series.Ahead.{Ahead}
+use Rattle.decimal_json.specs.declared.ahead.Ahead.{Ahead}
 use Rattle.decimal_json.specs.Lang.{next, Turns}
-use Rattle.decimal_json.specs.Grammar.{is_among, names}
+use Rattle.decimal_json.specs.Grammar.{is_space, is_among, names}
 use Rattle.decimal_json.specs.Strings.{is_between, Passes}
-use Rattle.decimal_json.specs.States.{Goes, Quiet, Steps, closes, begin_value, begin_key, begin_colon, Along, Advances, Behind}
-use Rattle.decimal_json.specs.Whole.{IsScalar, IsNaming, Looks, AfterValue, BeforeValue}
+use Rattle.decimal_json.specs.States.{Goes, Quiet, Steps, closes, begin_value, begin_key, begin_colon, waits, AllSpaces, Along, Advances, Behind}
+use Rattle.decimal_json.specs.Whole.{HasRoom, IsWhole, Skips, IsNaming, Looks, AfterValue, BeforeValue}
 use Rattle.decimal_json.proofs.Steps as s
-use Rattle.decimal_json.proofs.Glue.{plain, by_mode, pushed, open_array_comma, open_object_comma}
-use Rattle.decimal_json.proofs.Chains.{along_join, one, tail_is, advances_behind, advances_front, advances_memory, quote_step, text_along, key_along, text_ends, key_ends}
+use Rattle.decimal_json.proofs.Glue.{plain, by_mode, pushed, open_array_comma, open_array_close, open_object_comma, after_space}
+use Rattle.decimal_json.proofs.Chains.{along_join, one, tail_is, advances_behind, advances_front, advances_memory, quote_step, spaces_on, text_along, key_along, text_ends, key_ends}
 
 -- ---- along the bytes
 
@@ -35,7 +35,7 @@ take_head (b ∷ v) k l = ap (λ i. take i (b ∷ v)) (one_more k)
     one_more : (k : ℕ) → k + 1 ≡ suc k
     one_more k = omega arith
 
-along_word : (v w : List ℕ) (at : ℕ) (s t : State) → v ≡ w → Along at v s t → Along at w s t
+pub along_word : (v w : List ℕ) (at : ℕ) (s t : State) → v ≡ w → Along at v s t → Along at w s t
 along_word v w at s t e h = let F : List ℕ → Type 0 = λ x. Along at x s t in subst F e h
 
 along_at : (v : List ℕ) (i j : ℕ) (s t : State) → i ≡ j → Along i v s t → Along j v s t
@@ -56,6 +56,85 @@ pub along_more : (w : List ℕ) (at n : ℕ) (st t u : State) → n < length w �
 along_more w at n st t u l h k =
     along_word _ _ at st u (sym (take_more w n 0 l)) (along_join (take n w) (get_or w n 0 ∷ []) at st t u h (one _ _ t u (steps_at (at + n) _ _ t (Ok u) (ap (λ i. at + i) (sym (length-take-le n w (omega (arith, l))))) k)))
 
+get_along : (bytes rest : List ℕ) (n k : ℕ) → rest ≡ drop n bytes → get_or rest k 0 ≡ get_or bytes (n + k) 0
+get_along bytes rest n k e = ap (λ (x : List ℕ). get_or x k 0) e ∙ get_or-drop n bytes k 0
+
+no_bytes : List ℕ
+no_bytes = []
+
+drop_none : (m : ℕ) → drop m no_bytes ≡ []
+unfolding no_bytes
+drop_none zero = refl
+drop_none (suc m) = refl
+
+suc_on : (n m : ℕ) → suc n + m ≡ suc (n + m)
+suc_on n m = omega arith
+
+drop_twice : (n m : ℕ) (xs : List ℕ) → drop m (drop n xs) ≡ drop (n + m) xs
+unfolding no_bytes
+drop_twice zero m xs = ap (λ k. drop k xs) (omega arith)
+drop_twice (suc n) m [] = drop_none m ∙ sym (drop_none (suc n + m))
+drop_twice (suc n) m (x ∷ xs) = drop_twice n m xs ∙ sym (ap (λ k. drop k (x ∷ xs)) (suc_on n m))
+
+pub drop_on : (bytes rest : List ℕ) (n m : ℕ) → rest ≡ drop n bytes → drop m rest ≡ drop (n + m) bytes
+drop_on bytes rest n m e = ap (λ (x : List ℕ). drop m x) e ∙ drop_twice n m bytes
+
+-- the bytes up to an offset are the value
+pub ended : (depth at n : ℕ) (w : List ℕ) (x : Json) → 0 < n → n < length w → ((fs : List Frame) → HasRoom depth fs → Along at (take n w) (record { mode = modes.Value; frames = fs }) (record { mode = modes.After x; frames = fs })) → IsWhole depth at w x n
+ended depth at n w x z l h = record {
+  some = z;
+  within = l;
+  follows = λ fs answer r g q. (record { mode = modes.After x; frames = fs }, h fs r, by_mode _ _ (modes.After x) (modes.After x) fs answer refl tt g);
+}
+
+-- ---- spaces
+
+-- spaces change nothing
+pub along_spaces : (w : List ℕ) (at n k : ℕ) (st t : State) → Skips w n k → waits t.mode ≡ true → Along at (take n w) st t → Along at (take k w) st t
+along_spaces w at n k st t s h a =
+    let l = s.within in
+    let e = s.end in
+    along_word _ _ at st t (ap (λ i. take i w) (sym e)) (along_take w at n s.count st t t (omega (arith, l, e)) a (spaces_on (take s.count (drop n w)) (at + n) t h s.spaces))
+
+no_more : (n : ℕ) → n ≡ n + 0
+no_more n = omega arith
+
+-- a value with the spaces behind it
+space_after : (at c : ℕ) (x : Json) (fs : List Frame) → is_space c ≡ true → Goes at c (closes (reverse fs) x) (Ok (record { mode = modes.After x; frames = fs }))
+space_after at c x fs h = λ p e. plain p at c c (closes (reverse fs) x) (λ k. closes (reverse fs) x) e refl (after_space (reverse fs) x p c h)
+
+trailed_by : (depth at n count : ℕ) (w : List ℕ) (x : Json) → AllSpaces (take count (drop n w)) → n + count < length w → IsWhole depth at w x n → IsWhole depth at w x (n + count)
+trailed_by depth at n zero w x s l h = let F : ℕ → Type 0 = λ k. IsWhole depth at w x k in subst F (no_more n) h
+trailed_by depth at n (suc k) w x s l h = ended depth at (n + suc k) w x (omega arith) l go
+  where
+    one_more : (k : ℕ) → suc k ≡ k + 1
+    one_more k = omega arith
+
+    past : (n k : ℕ) → (n + 1) + k ≡ n + suc k
+    past n k = omega arith
+
+    some : 0 < length (drop n w)
+    some = let a = length-drop n w in omega (arith, a, l)
+
+    split : take (suc k) (drop n w) ≡ get_or w n 0 ∷ take k (drop (n + 1) w)
+    split = ap (λ i. take i (drop n w)) (one_more k) ∙ take_head (drop n w) k some
+        ∙ ap (λ b. b ∷ take k (drop 1 (drop n w))) (get_or-drop n w 0 0 ∙ ap (λ i. get_or w i 0) (sym (no_more n))) ∙ ap (λ (u : List ℕ). get_or w n 0 ∷ take k u) (drop_twice n 1 w)
+
+    parts : (is_space (get_or w n 0) ≡ true) × AllSpaces (take k (drop (n + 1) w))
+    parts = let F : List ℕ → Type 0 = λ u. AllSpaces u in subst F split s
+
+    go : (fs : List Frame) → HasRoom depth fs → Along at (take (n + suc k) w) (record { mode = modes.Value; frames = fs }) (record { mode = modes.After x; frames = fs })
+    go fs r =
+        let t = h.follows fs (Ok (record { mode = modes.After x; frames = fs })) r (space_after (at + n) (get_or w n 0) x fs parts.0) tt in
+        let one_on = along_more w at n (record { mode = modes.Value; frames = fs }) t.0 (record { mode = modes.After x; frames = fs }) h.within t.1 t.2 in
+        along_word _ _ at _ _ (ap (λ i. take i w) (past n k)) (along_take w at (n + 1) k _ (record { mode = modes.After x; frames = fs }) (record { mode = modes.After x; frames = fs }) (omega (arith, l)) one_on (spaces_on (take k (drop (n + 1) w)) (at + (n + 1)) (record { mode = modes.After x; frames = fs }) refl parts.1))
+
+pub trailed : (depth at n end : ℕ) (w : List ℕ) (x : Json) → Skips w n end → end < length w → IsWhole depth at w x n → IsWhole depth at w x end
+trailed depth at n end w x s l h =
+    let F : ℕ → Type 0 = λ k. IsWhole depth at w x k in
+    let e = s.end in
+    subst F (sym e) (trailed_by depth at n s.count w x s.spaces (omega (arith, l, e)) h)
+
 -- ---- a string
 
 text_whole_along : (w : List ℕ) (at n : ℕ) (now : Within) (before text : List ℕ) (b : Bool) (fs : List Frame) → get_or w 0 0 ≡ 34 → n + 1 < length w → Passes Between [] (take n (drop 1 w)) now before → b ≡ is_between now && nat_eq (get_or w (n + 1) 0) 34 → b ≡ true → text ≡ before →
@@ -68,16 +147,12 @@ text_whole_along w at n now before text b fs q l h e f g =
     two : (n : ℕ) → (n + 1) + 1 ≡ n + 2
     two n = omega arith
 
-pub text_whole : (w rest start : List ℕ) (at n : ℕ) (now : Within) (before text : List ℕ) (b : Bool) → rest ≡ take (length w - 1) (drop 1 w) → start ≡ [] → get_or w 0 0 ≡ 34 → n + 2 < length w → Passes Between start (take n rest) now before → b ≡ is_between now && nat_eq (get_or w (n + 1) 0) 34 → b ≡ true → text ≡ before → IsScalar at w (Str at text) (n + 2)
+pub text_whole : (w rest start : List ℕ) (at n : ℕ) (now : Within) (before text : List ℕ) (b : Bool) → rest ≡ take (length w - 1) (drop 1 w) → start ≡ [] → get_or w 0 0 ≡ 34 → n + 2 < length w → Passes Between start (take n rest) now before → b ≡ is_between now && nat_eq (get_or w (n + 1) 0) 34 → b ≡ true → text ≡ before → IsWhole 0 at w (Str at text) (n + 2)
 text_whole w rest start at n now before text b i j q l h e f g =
     let P : List ℕ → Type 0 = λ x. Passes Between start (take n x) now before in
     let Q : List ℕ → Type 0 = λ x. Passes Between x (take n (drop 1 w)) now before in
     let k = subst Q j (subst P (i ∙ tail_is 1 w) h) in
-    record {
-      some = omega arith;
-      within = l;
-      follows = λ fs answer d r. (record { mode = modes.After (Str at text); frames = fs }, text_whole_along w at n now before text b fs q (omega (arith, l)) k e f g, by_mode _ _ (modes.After (Str at text)) (modes.After (Str at text)) fs answer refl tt d);
-    }
+    ended 0 at (n + 2) w (Str at text) (omega arith) l (λ fs r. text_whole_along w at n now before text b fs q (omega (arith, l)) k e f g)
 
 -- ---- a key and its colon
 
@@ -112,6 +187,19 @@ naming w rest start at n now before b has done o i j l h e f z x y u v =
 
     three : (n : ℕ) → (n + 2) + 1 ≡ ((n + 1) + 1) + 1
     three n = omega arith
+
+-- the key with the spaces behind its colon
+pub naming_on : (w : List ℕ) (at m k : ℕ) (done : List Member) (o : List Member × Named) → Skips w m k → IsNaming at w done o m → IsNaming at w done o k
+naming_on w at m k done o s h = record {
+  some = (let a = h.some in let e = s.end in omega (arith, a, e));
+  within = s.within;
+  follows = λ start fs.
+      let f = h.follows start fs in
+      let v : State = record { mode = modes.Value; frames = fs ++ InObject start o ∷ [] } in
+      let e = s.end in
+      let b = take s.count (drop m w) in
+      (f.0 ++ b, ap (λ i. take i w) e ∙ take-add m s.count w ∙ ap (λ (u : List ℕ). u ++ b) f.1, along_join f.0 b (at + 1) (record { mode = modes.InKey start done at Between []; frames = fs }) v v f.2 (spaces_on b ((at + 1) + length f.0) v refl s.spaces));
+}
 
 -- ---- behind a value
 
@@ -152,60 +240,77 @@ advances_state at w st t result e h = let F : State → Type 0 = λ x. Advances 
 
 -- ---- further on in the bytes
 
-get_along : (bytes rest : List ℕ) (n k : ℕ) → rest ≡ drop n bytes → get_or rest k 0 ≡ get_or bytes (n + k) 0
-get_along bytes rest n k e = ap (λ (x : List ℕ). get_or x k 0) e ∙ get_or-drop n bytes k 0
+pub whole_of : (depth p : ℕ) (w : List ℕ) (o : Option (Json × ℕ)) (x : Json) (n : ℕ) → o ≡ Some (x, n) → IfSome o (λ r. IsWhole depth p w r.0 r.1) → IsWhole depth p w x n
+whole_of depth p w o x n e h = let F : Option (Json × ℕ) → Type 0 = λ k. IfSome k (λ r. IsWhole depth p w r.0 r.1) in subst F e h
 
-no_bytes : List ℕ
-no_bytes = []
+-- a first byte that is taken where a value is to begin is taken from this state too
+abbrev pub Opens : ℕ → ℕ → List Frame → State → Type 0
+Opens at c fs t = (u : State) → Steps at c (record { mode = modes.Value; frames = fs }) (Ok u) → Steps at c t (Ok u)
 
-drop_none : (m : ℕ) → drop m no_bytes ≡ []
-unfolding no_bytes
-drop_none zero = refl
-drop_none (suc m) = refl
+opens_along : (w : List ℕ) (at : ℕ) (fs : List Frame) (t u : State) → 0 < length w → Opens at (get_or w 0 0) fs t → Along at w (record { mode = modes.Value; frames = fs }) u → Along at w t u
+opens_along [] at fs t u l o h = absurd (omega arith)
+opens_along (c ∷ w) at fs t u l o h = (h.0, o h.0 h.1, h.2)
 
-suc_on : (n m : ℕ) → suc n + m ≡ suc (n + m)
-suc_on n m = omega arith
-
-drop_twice : (n m : ℕ) (xs : List ℕ) → drop m (drop n xs) ≡ drop (n + m) xs
-unfolding no_bytes
-drop_twice zero m xs = ap (λ k. drop k xs) (omega arith)
-drop_twice (suc n) m [] = drop_none m ∙ sym (drop_none (suc n + m))
-drop_twice (suc n) m (x ∷ xs) = drop_twice n m xs ∙ sym (ap (λ k. drop k (x ∷ xs)) (suc_on n m))
-
-pub drop_on : (bytes rest : List ℕ) (n m : ℕ) → rest ≡ drop n bytes → drop m rest ≡ drop (n + m) bytes
-drop_on bytes rest n m e = ap (λ (x : List ℕ). drop m x) e ∙ drop_twice n m bytes
-
-pub scalar_of : (p : ℕ) (w : List ℕ) (o : Option (Json × ℕ)) (x : Json) (n : ℕ) → o ≡ Some (x, n) → IfSome o (λ r. IsScalar p w r.0 r.1) → IsScalar p w x n
-scalar_of p w o x n e h = let F : Option (Json × ℕ) → Type 0 = λ k. IfSome k (λ r. IsScalar p w r.0 r.1) in subst F e h
-
-pub scalar_along : (bytes rest : List ℕ) (at p n size : ℕ) (x : Json) (fs : List Frame) (st : State) (answer : Result State Stop) → rest ≡ drop n bytes → p ≡ at + n → n ≤ length bytes → Along at (take n bytes) st (record { mode = modes.Value; frames = fs }) → IsScalar p rest x size →
+-- what stands behind a value further on
+pub whole_along : (bytes rest : List ℕ) (depth at p n size : ℕ) (x : Json) (fs : List Frame) (st t : State) (answer : Result State Stop) → rest ≡ drop n bytes → p ≡ at + n → n ≤ length bytes → Along at (take n bytes) st t → Opens (at + n) (get_or bytes n 0) fs t → HasRoom depth fs → IsWhole depth p rest x size →
     Goes (at + (n + size)) (get_or bytes (n + size) 0) (closes (reverse fs) x) answer → Quiet answer → (u : State) × Along at (take (n + size) bytes) st u × Steps (at + (n + size)) (get_or bytes (n + size) 0) u answer
-scalar_along bytes rest at p n size x fs st answer e f l h i g q =
+whole_along bytes rest depth at p n size x fs st t answer e f l h o r i g q =
     let c = get_along bytes rest n size e in
     let a : p + size ≡ at + (n + size) = (let b = f in omega (arith, b)) in
     let F : ℕ → Type 0 = λ k. Goes k (get_or bytes (n + size) 0) (closes (reverse fs) x) answer in
     let G : ℕ → Type 0 = λ k. Goes (p + size) k (closes (reverse fs) x) answer in
-    let H : List ℕ → Type 0 = λ k. Along (at + n) (take size k) (record { mode = modes.Value; frames = fs }) (i.follows fs answer (subst G (sym c) (subst F (sym a) g)) q).0 in
-    let t = i.follows fs answer (subst G (sym c) (subst F (sym a) g)) q in (
-      t.0,
-      along_take bytes at n size st (record { mode = modes.Value; frames = fs }) t.0 l h (subst H e (along_at (take size rest) p (at + n) (record { mode = modes.Value; frames = fs }) t.0 f t.1)),
-      steps_over (at + (n + size)) (get_or rest size 0) (get_or bytes (n + size) 0) t.0 answer c (steps_at (p + size) (at + (n + size)) (get_or rest size 0) t.0 answer a t.2),
+    let z = i.follows fs answer r (subst G (sym c) (subst F (sym a) g)) q in
+    let H : List ℕ → Type 0 = λ k. Along (at + n) (take size k) t z.0 in
+    let c0 : get_or bytes n 0 ≡ get_or (take size rest) 0 0 = ap (λ k. get_or bytes k 0) (no_more n) ∙ sym (get_along bytes rest n 0 e) ∙ first_of size rest i.some in
+    let O : ℕ → Type 0 = λ k. Opens (at + n) k fs t in
+    let s = i.some in
+    let w = i.within in
+    let v = length-take-le size rest (omega (arith, w)) in (
+      z.0,
+      along_take bytes at n size st t z.0 l h (subst H e (opens_along (take size rest) (at + n) fs t z.0 (omega (arith, s, v)) (subst O c0 o) (along_at (take size rest) p (at + n) (record { mode = modes.Value; frames = fs }) z.0 f z.1))),
+      steps_over (at + (n + size)) (get_or rest size 0) (get_or bytes (n + size) 0) z.0 answer c (steps_at (p + size) (at + (n + size)) (get_or rest size 0) z.0 answer a z.2),
     )
+  where
+    first_of : (n : ℕ) (w : List ℕ) → 0 < n → get_or w 0 0 ≡ get_or (take n w) 0 0
+    first_of zero w l = absurd (omega arith)
+    first_of (suc n) [] l = refl
+    first_of (suc n) (b ∷ w) l = refl
 
-pub scalar_within : (bytes rest : List ℕ) (p n size : ℕ) (x : Json) → rest ≡ drop n bytes → n ≤ length bytes → IsScalar p rest x size → n + size < length bytes
-scalar_within bytes rest p n size x e l i = let a = ap (λ (x : List ℕ). length x) e ∙ length-drop n bytes in let b = i.within in omega (arith, a, b, l)
+pub whole_within : (bytes rest : List ℕ) (depth p n size : ℕ) (x : Json) → rest ≡ drop n bytes → n ≤ length bytes → IsWhole depth p rest x size → n + size < length bytes
+whole_within bytes rest depth p n size x e l i = let a = ap (λ (x : List ℕ). length x) e ∙ length-drop n bytes in let b = i.within in omega (arith, a, b, l)
 
 -- an item and the comma behind it
-pub item_more : (bytes rest : List ℕ) (at start n size : ℕ) (items list more : List Json) (x : Json) (fs : List Frame) → rest ≡ drop n bytes → n ≤ length bytes → Along at (take n bytes) (record { mode = modes.Value; frames = fs ++ InArray start items ∷ [] }) (record { mode = modes.Value; frames = fs ++ InArray start list ∷ [] }) →
-    IsScalar (at + n) rest x size → get_or bytes (n + size) 0 ≡ 44 → more ≡ list ++ x ∷ [] → Along at (take ((n + size) + 1) bytes) (record { mode = modes.Value; frames = fs ++ InArray start items ∷ [] }) (record { mode = modes.Value; frames = fs ++ InArray start more ∷ [] })
-item_more bytes rest at start n size items list more x fs e l h i c m =
+pub item_more : (bytes rest : List ℕ) (depth at start n size : ℕ) (list more : List Json) (x : Json) (fs : List Frame) (st t : State) → rest ≡ drop n bytes → n ≤ length bytes → Along at (take n bytes) st t → Opens (at + n) (get_or bytes n 0) (fs ++ InArray start list ∷ []) t → HasRoom depth (fs ++ InArray start list ∷ []) →
+    IsWhole depth (at + n) rest x size → get_or bytes (n + size) 0 ≡ 44 → more ≡ list ++ x ∷ [] → Along at (take ((n + size) + 1) bytes) st (record { mode = modes.Value; frames = fs ++ InArray start more ∷ [] })
+item_more bytes rest depth at start n size list more x fs st t e l h o r i c m =
     let answer : Result State Stop = Ok (record { mode = modes.Value; frames = fs ++ InArray start more ∷ [] }) in
     let F : ℕ → Type 0 = λ k. Goes (at + (n + size)) k (closes (reverse (fs ++ InArray start list ∷ [])) x) answer in
-    let t = scalar_along bytes rest at (at + n) n size x (fs ++ InArray start list ∷ []) (record { mode = modes.Value; frames = fs ++ InArray start items ∷ [] }) answer e refl l h i (subst F (sym c) (item_comma (at + (n + size)) start list more x fs m)) tt in
-    along_more bytes at (n + size) (record { mode = modes.Value; frames = fs ++ InArray start items ∷ [] }) t.0 (record { mode = modes.Value; frames = fs ++ InArray start more ∷ [] }) (scalar_within bytes rest (at + n) n size x e l i) t.1 t.2
+    let z = whole_along bytes rest depth at (at + n) n size x (fs ++ InArray start list ∷ []) st t answer e refl l h o r i (subst F (sym c) (item_comma (at + (n + size)) start list more x fs m)) tt in
+    along_more bytes at (n + size) st z.0 (record { mode = modes.Value; frames = fs ++ InArray start more ∷ [] }) (whole_within bytes rest depth (at + n) n size x e l i) z.1 z.2
 
-pub looks_of : (p : ℕ) (w : List ℕ) (done : List Member) (a b : Ahead) → a ≡ b → Looks p w done a → Looks p w done b
-looks_of p w done a b e h = let F : Ahead → Type 0 = λ k. Looks p w done k in subst F e h
+-- the last item and the end of the array behind it
+item_close : (at start : ℕ) (items more : List Json) (x : Json) (fs : List Frame) → more ≡ items ++ x ∷ [] → Goes at 0x5d (closes (reverse (fs ++ InArray start items ∷ [])) x) (Ok (record { mode = modes.After (Array start more); frames = fs }))
+item_close at start items more x fs m = λ p e.
+    plain p at 0x5d 0x5d (closes (reverse (fs ++ InArray start items ∷ [])) x) (λ k. closes (reverse fs) (Array start more)) e refl
+    (pushed (λ u. Turns p 0x5d (next p) (closes u x) (closes (reverse fs) (Array start more))) fs (fs ++ InArray start items ∷ []) (InArray start items) refl (open_array_close fs x p start items more m))
+
+pub item_last : (bytes rest : List ℕ) (depth at start n size : ℕ) (list more : List Json) (x : Json) (fs : List Frame) (st t : State) → rest ≡ drop n bytes → n ≤ length bytes → Along at (take n bytes) st t → Opens (at + n) (get_or bytes n 0) (fs ++ InArray start list ∷ []) t → HasRoom depth (fs ++ InArray start list ∷ []) →
+    IsWhole depth (at + n) rest x size → get_or bytes (n + size) 0 ≡ 93 → more ≡ list ++ x ∷ [] → Along at (take ((n + size) + 1) bytes) st (record { mode = modes.After (Array start more); frames = fs })
+item_last bytes rest depth at start n size list more x fs st t e l h o r i c m =
+    let answer : Result State Stop = Ok (record { mode = modes.After (Array start more); frames = fs }) in
+    let F : ℕ → Type 0 = λ k. Goes (at + (n + size)) k (closes (reverse (fs ++ InArray start list ∷ [])) x) answer in
+    let z = whole_along bytes rest depth at (at + n) n size x (fs ++ InArray start list ∷ []) st t answer e refl l h o r i (subst F (sym c) (item_close (at + (n + size)) start list more x fs m)) tt in
+    along_more bytes at (n + size) st z.0 (record { mode = modes.After (Array start more); frames = fs }) (whole_within bytes rest depth (at + n) n size x e l i) z.1 z.2
+
+-- room for brackets in one more
+pub room_more : (depth : ℕ) (fs : List Frame) (f : Frame) → HasRoom (depth + 1) fs → HasRoom depth (fs ++ f ∷ [])
+room_more depth fs f h z = let a = h (omega arith) in let b = length-append fs (f ∷ []) in omega (arith, a, b)
+
+pub room_in : (depth : ℕ) (fs : List Frame) (f : Frame) → (0 < depth → length fs + 1 + depth ≤ 1024) → HasRoom depth (fs ++ f ∷ [])
+room_in depth fs f h z = let a = h z in let b = length-append fs (f ∷ []) in omega (arith, a, b)
+
+pub looks_of : (depth p : ℕ) (w : List ℕ) (done : List Member) (a b : Ahead) → a ≡ b → Looks depth p w done a → Looks depth p w done b
+looks_of depth p w done a b e h = let F : Ahead → Type 0 = λ k. Looks depth p w done k in subst F e h
 
 -- ---- a key further on
 

@@ -10,29 +10,40 @@ use Rattle.decimal_json.specs.declared.machine.Mode.TheVariants as modes
 use Rattle.decimal_json.specs.declared.machine.State.{State}
 use Rattle.decimal_json.specs.declared.machine.Stop.{Stop}
 use Rattle.decimal_json.specs.declared.machine.Stop.TheVariants.{Memory}
-use Rattle.decimal_json.specs.declared.series.Ahead.{Ahead}
-use Rattle.decimal_json.specs.declared.series.Ahead.TheVariants.{Open, Named as Keyed, Valued}
-use Rattle.decimal_json.specs.States.{Goes, Quiet, Steps, closes, Along, Advances}
+use Rattle.decimal_json.specs.declared.ahead.Ahead.{Ahead}
+use Rattle.decimal_json.specs.declared.ahead.Ahead.TheVariants.{Open, Named as Keyed, Valued}
+use Rattle.decimal_json.specs.States.{Goes, Quiet, Steps, closes, AllSpaces, Along, Advances}
 
--- These bytes begin with the whole text of this value, so many bytes, and one stands behind it, which is taken as a byte
--- behind the value.
-pub record IsScalar (at : ℕ) (w : List ℕ) (x : Json) (n : ℕ) : Type 0 where
+-- brackets nested so deep may stand in these, if any
+abbrev pub HasRoom : ℕ → List Frame → Type 0
+HasRoom depth fs = 0 < depth → length fs + depth ≤ 1024
+
+-- These bytes begin with the whole text of this value, so many bytes with the spaces behind it, and one stands behind that,
+-- which is taken as a byte behind the value. Brackets are nested at most so deep in it.
+pub record IsWhole (depth at : ℕ) (w : List ℕ) (x : Json) (n : ℕ) : Type 0 where
   pub some : 0 < n
   pub within : n < length w
-  pub follows : (fs : List Frame) (answer : Result State Stop) → Goes (at + n) (get_or w n 0) (closes (reverse fs) x) answer → Quiet answer →
+  pub follows : (fs : List Frame) (answer : Result State Stop) → HasRoom depth fs → Goes (at + n) (get_or w n 0) (closes (reverse fs) x) answer → Quiet answer →
       (u : State) × Along at (take n w) (record { mode = modes.Value; frames = fs }) u × Steps (at + n) (get_or w n 0) u answer
 
--- Behind their first byte, the quotation mark, the bytes up to an offset are a key, which no member has, and its colon.
+-- from one offset up to another stand spaces
+pub record Skips (w : List ℕ) (from to : ℕ) : Type 0 where
+  pub count : ℕ
+  pub end : to ≡ from + count
+  pub within : to ≤ length w
+  pub spaces : AllSpaces (take count (drop from w))
+
+-- Behind their first byte, the quotation mark, the bytes up to an offset are a key, which no member has, its colon, and spaces.
 pub record IsNaming (at : ℕ) (w : List ℕ) (done : List Member) (o : List Member × Named) (m : ℕ) : Type 0 where
   pub some : 0 < m
   pub within : m ≤ length w
   pub follows : (start : ℕ) (fs : List Frame) → (a : List ℕ) × (take m w ≡ get_or w 0 0 ∷ a)
       × Along (at + 1) a (record { mode = modes.InKey start done at Between []; frames = fs }) (record { mode = modes.Value; frames = fs ++ InObject start o ∷ [] })
 
-abbrev pub Looks : ℕ → List ℕ → List Member → Ahead → Type 0
-Looks at w done (Open before) = before ≡ done
-Looks at w done (Keyed o m) = IsNaming at w done o m
-Looks at w done (Valued o m x n) = IsNaming at w done o m × IsScalar (at + m) (drop m w) x n
+abbrev pub Looks : ℕ → ℕ → List ℕ → List Member → Ahead → Type 0
+Looks depth at w done (Open before) = before ≡ done
+Looks depth at w done (Keyed o m) = IsNaming at w done o m
+Looks depth at w done (Valued o m x n) = IsNaming at w done o m × IsWhole depth (at + m) (drop m w) x n
 
 -- what a byte behind a value gives, with what leads up to the value before it
 abbrev pub AfterValue : ℕ → ℕ → ℕ → List Frame → Json → Result (ℕ × State) (ℕ × Stop) → Type 0

@@ -2,6 +2,7 @@
 //! their least fault, `write_json` the canonical text of a value.
 #![tactic(auto)]
 
+mod ahead;
 mod brackets;
 mod chars;
 mod feed;

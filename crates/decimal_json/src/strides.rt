@@ -1,14 +1,15 @@
 // The reader over several bytes at once.
 
-ghost use Rattle.std.specs.Prelude.{◌≡◌, ℕ, ◌+◌, ◌<◌, ◌≤◌, length, take};
+ghost use Rattle.std.specs.Prelude.{◌≡◌, ℕ, ◌+◌, ◌<◌, length};
 ghost use Rattle.decimal_json.specs.declared.machine.Mode.TheVariants.{Value, FirstKey, Key, InString, InKey};
-ghost use Rattle.decimal_json.specs.States.{waits, AllSpaces, Advances};
+ghost use Rattle.decimal_json.specs.States.{waits, Advances};
 
+use crate::ahead::spaces;
 use crate::brackets::{Brackets, Frame};
 use crate::chars::Within;
 use crate::letters::Letters;
 use crate::machine::{
-    Mode, State, Stop, in_first_key, in_key, in_next_key, in_text, in_value, is_space, step,
+    Mode, State, Stop, in_first_key, in_key, in_next_key, in_text, in_value, step,
 };
 use crate::members::Members;
 use crate::series::{Stride, behind, framed, items_along, members_along};
@@ -25,17 +26,6 @@ fn waits(mode: &Mode) -> bool
         Mode::InNumber(_, _) => false,
         _ => true,
     }
-}
-
-/// How many of the first bytes are spaces.
-fn spaces(bytes: &[u8]) -> usize
-    ensures { (result ≤ length bytes.now) × AllSpaces (take result bytes.now) }
-{
-    let mut n = 0usize;
-    while n < bytes.len() && is_space(bytes[n]) {
-        n += 1;
-    }
-    n
 }
 
 /// Inside a string that is a value.

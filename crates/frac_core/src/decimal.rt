@@ -15,8 +15,8 @@ pub struct Decimal {
     /// Whether the literal is a real; else it is an int.
     pub real: bool,
     pub negative: bool,
-    pub digits: u128,
     pub exponent: i32,
+    pub digits: u128,
 }
 
 impl Frac {

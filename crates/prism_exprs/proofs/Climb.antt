@@ -86,7 +86,7 @@ next_leads : (n : ℕ) (ts us : List Lexeme) (x : Expression) → Reads (level e
 unfolding chain
 next_leads n ts us x p = then_leads (others n) (more n) (more (suc n)) (level_one expr n expr_one) (folding_follows joined_by (operand_opens n (level expr n)) (repeats n) (λ x. x)) p
 
-stops_up : (n : ℕ) (ts : List Lexeme) (e : Stop) → prefix_at n ≡ None → Stops (level expr n) (more n) ts e → Stops (level expr (suc n)) (more (suc n)) ts e
+pub stops_up : (n : ℕ) (ts : List Lexeme) (e : Stop) → prefix_at n ≡ None → Stops (level expr n) (more n) ts e → Stops (level expr (suc n)) (more (suc n)) ts e
 unfolding chain
 stops_up n ts e h p =
     let F : Lang Expression → Type 0 = λ L. Stops L (more (suc n)) ts e in

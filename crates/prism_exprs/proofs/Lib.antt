@@ -12,6 +12,7 @@ pub mod Prims
 pub mod Conditionals
 pub mod Operands
 pub mod Numbers
+pub mod Alone
 pub mod Arguments
 pub mod Moves
 pub mod Occurring

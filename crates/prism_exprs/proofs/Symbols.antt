@@ -31,7 +31,7 @@ map_empty f (x ∷ xs) e = absurd (omega (arith, e))
 pub symbol_missing : (s : Symbol) (f : Found → Lexeme) (found : List Found) → length found ≡ 0 → Fails (symbol s) none (map f found) (map f found)
 symbol_missing s f found e = token_fails _ (λ t rest g h. let n : [] ≡ t ∷ rest = sym (map_empty f found e) ∙ g in cc)
 
-symbol_same : (bytes : List ℕ) (literals : List Literal) (x : Found) (s : Symbol) (b : Bool) → b ≡ kept_symbol x.kind s → same_kind (lexeme_at bytes literals x).kind (K.Symbol s) ≡ b
+pub symbol_same : (bytes : List ℕ) (literals : List Literal) (x : Found) (s : Symbol) (b : Bool) → b ≡ kept_symbol x.kind s → same_kind (lexeme_at bytes literals x).kind (K.Symbol s) ≡ b
 symbol_same bytes literals x s b e = symbol_kept bytes literals x.kind x.at x.end s ∙ sym e
 
 pub symbol_fails : (bytes : List ℕ) (literals : List Literal) (s : Symbol) (x : Found) (found xs : List Found) → found ≡ x ∷ xs → false ≡ kept_symbol x.kind s →

@@ -29,7 +29,7 @@ name_at kind text at = if is_utf8 text then made kind text at else made K.End te
 
 abbrev pub literal_at : List ℕ → Option Literal → ℕ → Lexeme
 literal_at bytes None at = made K.End (text_at bytes at at) at
-literal_at bytes (Some n) at = made (K.Number n.value) (text_at bytes at n.end) at
+literal_at bytes (Some n) at = made (K.Number n.value) (take n.length (drop at bytes)) at
 
 abbrev pub lexeme_by : List ℕ → List Literal → Kept → ℕ → ℕ → Lexeme
 lexeme_by bytes literals (Word r) at end = made (K.Word r) (text_at bytes at end) at

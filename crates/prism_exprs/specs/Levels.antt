@@ -1,5 +1,5 @@
 -- Which tokens go on with an expression of a level, and which begin one: what a reader of expressions looks at.
-use Rattle.std.specs.Prelude.{◌≡◌, ℕ, ◌<◌, nat_lt, Bool, true, false, ◌||◌, Option, Some, None}
+use Rattle.std.specs.Prelude.{◌≡◌, ℕ, ◌<◌, nat_lt, Bool, true, false, ◌||◌, List, ◌∷◌, map, Option, Some, None}
 use Rattle.prism_lex.specs.declared.token.TokenKind.{TokenKind}
 use Rattle.prism_lex.specs.declared.token.TokenKind.TheVariants as K
 use Rattle.prism_lex.specs.declared.words.Reserved.TheVariants as W
@@ -9,8 +9,13 @@ use Rattle.op_trees.specs.Tree.{Two}
 use Rattle.prism_tree.specs.declared.operator.PrismOp.{PrismOp}
 use Rattle.prism_tree.specs.Syntax.{Expression}
 use Rattle.prism_tree.specs.Lang.{Lang, gives, ◌>>=◌, ◌>>◌, folding}
-use Rattle.prism_exprs.specs.Reading.{is_kind}
-use Rattle.prism_tree.specs.Grammar.{symbol, infix_of, joined_by, operand, argument, level, expr}
+use Rattle.prism_exprs.specs.Reading.{Ends, is_kind}
+use Rattle.prism_exprs.specs.Kept.{lexeme_at, kept_symbol, kept_infix}
+use Rattle.prism_exprs.specs.declared.tokens.Kept.{Kept}
+use Rattle.prism_exprs.specs.declared.tokens.Kept.TheVariants.{Ident, Number}
+use Rattle.prism_exprs.specs.declared.tokens.Found.{Found}
+use Rattle.prism_exprs.specs.declared.tokens.Tokens.{Tokens}
+use Rattle.prism_tree.specs.Grammar.{symbol, infix_of, joined_by, operand, argument, level, expr, at_level}
 
 abbrev pub is_symbol : Symbol → TokenKind → Bool
 is_symbol s k = is_kind (K.Symbol s) k
@@ -32,6 +37,14 @@ goes_on k = is_symbol S.Question k || more 10 k
 -- those that go on with an argument of min and max
 abbrev pub lists_on : TokenKind → Bool
 lists_on k = is_symbol S.Comma k || goes_on k
+
+-- the operators of a level
+abbrev pub is_operator : Option PrismOp → Bool
+is_operator None = false
+is_operator (Some o) = true
+
+abbrev pub joins_at : ℕ → TokenKind → Bool
+joins_at n k = is_operator (at_level n (infix_of k))
 
 -- the tokens that begin an operand without a prefix
 abbrev pub begins_prim : TokenKind → Bool
@@ -67,3 +80,23 @@ listed o at = do
   e ← more_arguments o at (Two at o a b)
   symbol S.RightParenthesis
   gives e
+
+-- ---- operands that stand alone
+
+-- a number or an identifier
+abbrev pub kept_plain : Kept → Bool
+kept_plain Number = true
+kept_plain Ident = true
+kept_plain k = false
+
+-- the kept tokens that go on with an expression
+abbrev pub kept_goes_on : Kept → Bool
+kept_goes_on k = kept_symbol k S.Question || (kept_symbol k S.LeftParenthesis || binds_below 10 (kept_infix k))
+
+-- A number or an identifier stands next, and behind it nothing that goes on with an expression.
+pub record IsLeaf (t : Tokens) : Type 0 where
+  pub first : Found
+  pub others : List Found
+  pub parts : t.found.now ≡ first ∷ others
+  pub plain : kept_plain first.kind ≡ true
+  pub ends : Ends goes_on (map (lexeme_at t.bytes.now t.literals.now) others)

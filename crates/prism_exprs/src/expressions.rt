@@ -7,9 +7,10 @@ ghost use Rattle.prism_exprs.specs.Reading.{Parses, Ends};
 ghost use Rattle.prism_tree.specs.Grammar.{level, prim, expr, argument, one_argument, two_arguments, arguments, function_of};
 ghost use Rattle.prism_exprs.specs.Levels.{more, goes_on, lists_on, others, more_arguments, listed};
 
+use crate::leaf::{leaf_next, parse_leaf};
 use crate::parts::{
-    choice, closed, function_of, moved, next_is, offset_of, one, read_signs, read_symbol, two,
-    with_signs,
+    chain_next, choice, closed, function_of, moved, next_is, offset_of, one, read_signs,
+    read_symbol, two, with_signs,
 };
 use crate::tokens::{Cause, Kept, Stop, Tokens};
 use bridge_io::Text;
@@ -18,12 +19,23 @@ use prism_lex::{Reserved, Symbol};
 use prism_tree::{Pe, PrismOp};
 use std::alloc::Global;
 
-/// `Or5 [ ? E : E ]`
+/// `E`. An operand alone is read at once.
 #[cycle(expressions)]
 pub(crate) fn parse_expr<'a>(
     alloc: Global,
     tokens: Tokens<'a>,
 ) -> Result<(Pe, Tokens<'a>), Stop<'a>>
+    ensures { Parses tree expr goes_on (seen tokens.entry) result }
+{
+    if leaf_next(tokens) {
+        return parse_leaf(alloc, tokens);
+    }
+    parse_conditional(alloc, tokens)
+}
+
+/// `Or5 [ ? E : E ]`
+#[cycle(expressions)]
+fn parse_conditional<'a>(alloc: Global, tokens: Tokens<'a>) -> Result<(Pe, Tokens<'a>), Stop<'a>>
     ensures { Parses tree expr goes_on (seen tokens.entry) result }
 {
     let (test, rest) = parse_level(alloc, 10, tokens)?;
@@ -38,9 +50,25 @@ pub(crate) fn parse_expr<'a>(
     Ok((whole, rest))
 }
 
-/// What a level reads: signs, an operand, and the chains from the tightest level on.
+/// What a level reads. An operand alone is read at once.
 #[cycle(expressions)]
 fn parse_level<'a>(
+    alloc: Global,
+    height: u8,
+    tokens: Tokens<'a>,
+) -> Result<(Pe, Tokens<'a>), Stop<'a>>
+    requires { height ≤ 10 }
+    ensures { Parses tree (level expr height) (more height) (seen tokens.entry) result }
+{
+    if leaf_next(tokens) {
+        return parse_leaf(alloc, tokens);
+    }
+    parse_climb(alloc, height, tokens)
+}
+
+/// The same by its parts: signs, an operand, and the chains from the tightest level on.
+#[cycle(expressions)]
+fn parse_climb<'a>(
     alloc: Global,
     height: u8,
     tokens: Tokens<'a>,
@@ -56,9 +84,11 @@ fn parse_level<'a>(
     let mut left = with_signs(alloc, PrismOp::Not, signs, first)?;
     let mut behind = rest;
     for level in 6..height {
-        let (whole, after) = parse_chain(alloc, level, left, behind)?;
-        left = whole;
-        behind = after;
+        if chain_next(behind, level) {
+            let (whole, after) = parse_chain(alloc, level, left, behind)?;
+            left = whole;
+            behind = after;
+        }
     }
     Ok((left, behind))
 }
@@ -81,9 +111,11 @@ fn parse_low<'a>(
     let mut left = with_signs(alloc, PrismOp::Neg, signs, first)?;
     let mut behind = rest;
     for level in 1..height {
-        let (whole, after) = parse_chain(alloc, level, left, behind)?;
-        left = whole;
-        behind = after;
+        if chain_next(behind, level) {
+            let (whole, after) = parse_chain(alloc, level, left, behind)?;
+            left = whole;
+            behind = after;
+        }
     }
     Ok((left, behind))
 }

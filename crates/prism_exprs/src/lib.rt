@@ -2,6 +2,7 @@
 #![tactic(auto)]
 
 mod expressions;
+mod leaf;
 mod limit;
 mod parts;
 mod tokens;

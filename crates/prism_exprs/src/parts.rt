@@ -7,7 +7,7 @@ ghost use Rattle.prism_tree.specs.Syntax.{offset_of, moved};
 ghost use Rattle.prism_exprs.specs.Kept.{seen, lexeme_at, kept_symbol, kept_word, kept_infix};
 ghost use Rattle.prism_exprs.specs.Reading.{Parses, Reads, none, starts, is_kind};
 ghost use Rattle.prism_tree.specs.Grammar.{symbol, applied, at_level, function_of};
-ghost use Rattle.prism_exprs.specs.Levels.{more};
+ghost use Rattle.prism_exprs.specs.Levels.{more, joins_at};
 ghost use Rattle.prism_tree.specs.declared.operator.PrismOp.TheVariants as O;
 
 use crate::tokens::{Cause, Found, Kept, Stop, Tokens};
@@ -38,7 +38,7 @@ impl Kept {
     }
 
     /// The operator between two operands, and its level.
-    fn infix(self) -> Option<(u8, PrismOp)>
+    pub(crate) fn infix(self) -> Option<(u8, PrismOp)>
         ensures { result ≡ kept_infix self }
     {
         match self {
@@ -81,6 +81,19 @@ pub fn next_is(tokens: Tokens, wanted: Symbol) -> bool
     }
 }
 
+/// Whether an operator of this level stands next.
+pub(crate) fn chain_next(tokens: Tokens, level: u8) -> bool
+    ensures { result ≡ starts (joins_at level) (seen tokens.entry) }
+{
+    match tokens.found.first() {
+        Some(next) => match next.kind.operator(level) {
+            Some(_) => true,
+            None => false,
+        },
+        None => false,
+    }
+}
+
 /// One symbol, and the tokens behind it; where another token stands next, reading stops at that.
 pub fn read_symbol<'a>(tokens: Tokens<'a>, wanted: Symbol) -> Result<(Found, Tokens<'a>), Stop<'a>>
     ensures { Parses (lexeme_at tokens.entry.bytes.now tokens.entry.literals.now) (symbol wanted) none (seen tokens.entry) result }
@@ -95,6 +108,7 @@ pub fn read_symbol<'a>(tokens: Tokens<'a>, wanted: Symbol) -> Result<(Found, Tok
 }
 
 /// An operand behind which no `(` stands.
+#[inline(always)]
 pub(crate) fn closed<'a>(e: Pe, tokens: Tokens<'a>) -> Result<(Pe, Tokens<'a>), Stop<'a>>
     ensures { Parses tree (gives (tree e)) (more 0) (seen tokens.entry) result }
 {
@@ -131,6 +145,7 @@ pub(crate) fn offset_of(e: &Pe) -> usize
 }
 
 /// The same expression, with its node at another offset.
+#[inline(always)]
 pub(crate) fn moved(e: Pe, at: usize) -> Pe
     ensures { tree result ≡ moved at (tree e) }
 {
@@ -170,6 +185,7 @@ pub(crate) fn choice(alloc: Global, test: Pe, a: Pe, b: Pe) -> Result<Pe, AllocE
 }
 
 /// The same operator for each sign before an operand, each node at its sign.
+#[inline(always)]
 pub(crate) fn with_signs(
     alloc: Global,
     op: PrismOp,

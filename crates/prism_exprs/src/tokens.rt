@@ -36,13 +36,13 @@ pub struct Found {
     pub end: u32,
 }
 
-/// A number of the file: its value, and where it ends.
-#[derive(Clone, Copy, Debug)]
+/// A number of the file as it is written: its value, and how many bytes it has.
+#[derive(Clone, Copy, Debug, PartialEq, Eq)]
 pub struct Literal {
     /// Its value.
     pub value: Decimal,
-    /// The offset behind its last byte.
-    pub end: u32,
+    /// How many bytes it has.
+    pub length: u32,
 }
 
 /// The tokens that are still to be read, and the text in which they stand.

@@ -21,6 +21,7 @@ pub enum State {
 }
 
 /// The state that a byte leads to. What leads to digits is a digit.
+#[inline(always)]
 pub(crate) fn step(state: State, byte: u8) -> State
     ensures value { result ≡ step state byte }
     ensures digit { is_at_digit result ≡ true → (48 ≤ byte) × (byte ≤ 57) }

@@ -16,7 +16,7 @@ use Rattle.prism_exprs.specs.declared.tokens.Kept.TheVariants.{Word, Symbol, Ide
 use Rattle.prism_exprs.specs.declared.tokens.Found.{Found}
 use Rattle.prism_exprs.specs.declared.tokens.Literal.{Literal}
 use Rattle.prism_exprs.specs.Kept.{text_at, made, name_at, literal_at, lexeme_by, lexeme_at}
-use Rattle.prism_parse.specs.Lexed.{kept_kind, literals_by, literals_with, end_by, kept_end}
+use Rattle.prism_parse.specs.Lexed.{kept_kind, IsKeptEnd, Keeps}
 
 -- ---- a name is a text
 
@@ -63,29 +63,27 @@ get_more [] ys i x e = absurd cc
 get_more (y ∷ xs) ys zero x e = e
 get_more (y ∷ xs) ys (suc i) x e = get_more xs ys i x e
 
-get_last : {X : Type 0} (xs : List X) (x : X) → slice_get (xs ++ x ∷ []) (length xs) ≡ Some x
-get_last [] x = refl
-get_last (y ∷ xs) x = get_last xs x
-
 some_same : (j k : Kept) → Some j ≡ Some k → k ≡ j
 some_same j k e = cc
 
 named : (k : TokenKind) (w : List ℕ) (at : ℕ) → is_utf8 w ≡ true → name_at k w at ≡ made k w at
 named k w at e = ap (λ (b : Bool). if b then made k w at else made K.End w at) e
 
-kept_same : (bytes : List ℕ) (literals : List Literal) (kind : TokenKind) (at end : ℕ) (k : Kept) → IsKind (text_at bytes at end) kind → kept_kind kind ≡ Some k
-    → lexeme_by bytes (literals_by literals kind end) k at (end_by literals kind end) ≡ made kind (text_at bytes at end) at
-kept_same bytes literals (K.Word r) at end k is e = ap (λ (j : Kept). lexeme_by bytes literals j at end) (some_same (Word r) k e)
-kept_same bytes literals (K.Symbol s) at end k is e = ap (λ (j : Kept). lexeme_by bytes literals j at end) (some_same (Symbol s) k e)
-kept_same bytes literals K.Ident at end k is e =
-    ap (λ (j : Kept). lexeme_by bytes literals j at end) (some_same Ident k e) ∙ named K.Ident (text_at bytes at end) at (ascii_text _ (name_ascii _ is.0))
-kept_same bytes literals K.Quoted at end k is e =
-    ap (λ (j : Kept). lexeme_by bytes literals j at end) (some_same Quoted k e) ∙ named K.Quoted (text_at bytes at end) at (quoted_text _ is.0 is.1 is.2)
-kept_same bytes literals (K.Number d) at end k is e =
-    let n : Literal = record { value = d; end = end } in
-    ap (λ (j : Kept). lexeme_by bytes (literals ++ n ∷ []) j at (length literals)) (some_same Number k e)
-    ∙ ap (λ (o : Option Literal). literal_at bytes o at) (get_last literals n)
-kept_same bytes literals K.End at end k is e = absurd is
+kept_same : (bytes : List ℕ) (literals : List Literal) (kind : TokenKind) (at end place : ℕ) (k : Kept) → IsKind (text_at bytes at end) kind → IsKeptEnd literals kind at end place → kept_kind kind ≡ Some k
+    → lexeme_by bytes literals k at place ≡ made kind (text_at bytes at end) at
+kept_same bytes literals (K.Word r) at end place k is p e =
+    ap (λ (j : Kept). lexeme_by bytes literals j at place) (some_same (Word r) k e) ∙ ap (λ (n : ℕ). lexeme_by bytes literals (Word r) at n) p
+kept_same bytes literals (K.Symbol s) at end place k is p e =
+    ap (λ (j : Kept). lexeme_by bytes literals j at place) (some_same (Symbol s) k e) ∙ ap (λ (n : ℕ). lexeme_by bytes literals (Symbol s) at n) p
+kept_same bytes literals K.Ident at end place k is p e =
+    ap (λ (j : Kept). lexeme_by bytes literals j at place) (some_same Ident k e) ∙ ap (λ (n : ℕ). lexeme_by bytes literals Ident at n) p
+    ∙ named K.Ident (text_at bytes at end) at (ascii_text _ (name_ascii _ is.0))
+kept_same bytes literals K.Quoted at end place k is p e =
+    ap (λ (j : Kept). lexeme_by bytes literals j at place) (some_same Quoted k e) ∙ ap (λ (n : ℕ). lexeme_by bytes literals Quoted at n) p
+    ∙ named K.Quoted (text_at bytes at end) at (quoted_text _ is.0 is.1 is.2)
+kept_same bytes literals (K.Number d) at end place k is p e =
+    ap (λ (j : Kept). lexeme_by bytes literals j at place) (some_same Number k e) ∙ ap (λ (o : Option Literal). literal_at bytes o at) p
+kept_same bytes literals K.End at end place k is p e = absurd is
 
 -- ---- a literal more changes no token
 
@@ -112,37 +110,26 @@ all_more bytes literals more (f ∷ fs) from to r =
     ap₂ (λ (l : Lexeme) (ls : List Lexeme). l ∷ ls) (lexeme_more bytes literals more f.kind f.at f.end (no_end (lexeme_at bytes literals f) r.0.kind))
     (all_more bytes literals more fs (end_of (lexeme_at bytes literals f)) to r.2)
 
-all_with : (bytes : List ℕ) (literals : List Literal) (kind : TokenKind) (end : ℕ) (found : List Found) (to : ℕ) → Reaches bytes 0 (map (lexeme_at bytes literals) found) to
-    → map (lexeme_at bytes (literals_by literals kind end)) found ≡ map (lexeme_at bytes literals) found
-all_with bytes literals (K.Number d) end found to r = all_more bytes literals (record { value = d; end = end } ∷ []) found 0 to r
-all_with bytes literals (K.Word w) end found to r = refl
-all_with bytes literals (K.Symbol s) end found to r = refl
-all_with bytes literals K.Ident end found to r = refl
-all_with bytes literals K.Quoted end found to r = refl
-all_with bytes literals K.End end found to r = refl
-
 -- ---- a step of the reader
 
-pub one_kept : NextGoesOn → (bytes : List ℕ) (literals : List Literal) (found : List Found) (to : ℕ) (t : Token) (k : Kept) → Reaches bytes 0 (map (lexeme_at bytes literals) found) to → Continues bytes to t
-    → kept_kind t.kind ≡ Some k → Reaches bytes 0 (map (lexeme_at bytes (literals_with literals t)) (found ++ record { kind = k; at = t.at; end = kept_end literals t } ∷ [])) t.end
-one_kept goes_on bytes literals found to t k r next e =
+pub one_kept : NextGoesOn → (bytes : List ℕ) (literals after : List Literal) (found : List Found) (to : ℕ) (t : Token) (k : Kept) (place : ℕ) → Reaches bytes 0 (map (lexeme_at bytes literals) found) to → Continues bytes to t
+    → Keeps literals t after place → kept_kind t.kind ≡ Some k → Reaches bytes 0 (map (lexeme_at bytes after) (found ++ record { kind = k; at = t.at; end = place } ∷ [])) t.end
+one_kept goes_on bytes literals after found to t k place r next keeps e =
     let F : List Lexeme → Type 0 = λ ls. Reaches bytes 0 ls t.end in
-    let same : map (lexeme_at bytes (literals_with literals t)) (found ++ record { kind = k; at = t.at; end = kept_end literals t } ∷ [])
-    ≡ map (lexeme_at bytes literals) found ++ lexeme_of bytes t ∷ [] =
-    map-append (lexeme_at bytes (literals_with literals t)) found _
-    ∙ ap₂ (λ (ls : List Lexeme) (l : Lexeme). ls ++ l ∷ []) (all_with bytes literals t.kind t.end found to r) (kept_same bytes literals t.kind t.at t.end k next.next.kind e) in
+    let before : map (lexeme_at bytes after) found ≡ map (lexeme_at bytes literals) found =
+    ap (λ (ls : List Literal). map (lexeme_at bytes ls) found) keeps.more ∙ all_more bytes literals keeps.added found 0 to r in
+    let same : map (lexeme_at bytes after) (found ++ record { kind = k; at = t.at; end = place } ∷ []) ≡ map (lexeme_at bytes literals) found ++ lexeme_of bytes t ∷ [] =
+    map-append (lexeme_at bytes after) found _
+    ∙ ap₂ (λ (ls : List Lexeme) (l : Lexeme). ls ++ l ∷ []) before (kept_same bytes after t.kind t.at t.end place k next.next.kind keeps.place e) in
     subst F (sym same) (goes_on bytes 0 to _ t r next)
 
-literals_few : (literals : List Literal) (kind : TokenKind) (end : ℕ) → length (literals_by literals kind end) ≤ length literals + 1
-literals_few literals (K.Number d) end = simp length-append (omega arith)
-literals_few literals (K.Word w) end = omega arith
-literals_few literals (K.Symbol s) end = omega arith
-literals_few literals K.Ident end = omega arith
-literals_few literals K.Quoted end = omega arith
-literals_few literals K.End end = omega arith
-
-pub literals_behind : (literals : List Literal) (bytes : List ℕ) (to : ℕ) (t : Token) → length literals ≤ to → Continues bytes to t → length (literals_with literals t) ≤ t.end
-literals_behind literals bytes to t h next = let a = literals_few literals t.kind t.end in let b = next.behind in let d = next.some in omega arith
+pub literals_behind : (literals after : List Literal) (bytes : List ℕ) (to : ℕ) (t : Token) (place : ℕ) → length literals ≤ to → Continues bytes to t → Keeps literals t after place → length after ≤ t.end
+literals_behind literals after bytes to t place h next keeps =
+    let a : length after ≡ length literals + length keeps.added = ap length keeps.more ∙ length-append literals keeps.added in
+    let b = next.behind in
+    let d = next.some in
+    let f = keeps.few in
+    omega arith
 
 pub not_end : (kind : TokenKind) (k : Kept) → kept_kind kind ≡ Some k → kind ≡ K.End → ⊥
 not_end kind k e h = let same : kept_kind K.End ≡ Some k = ap kept_kind (sym h) ∙ e in absurd cc

@@ -1,5 +1,5 @@
 -- The tokens of a text, as they are kept.
-use Rattle.std.specs.Prelude.{ℕ, ◌≤◌, List, [], ◌∷◌, ◌++◌, length, map, Option, Some, None}
+use Rattle.std.specs.Prelude.{◌≡◌, ℕ, ◌-◌, ◌≤◌, List, [], ◌++◌, length, map, slice_get, Option, Some, None}
 use Rattle.bridge_io.specs.declared.reason.Refused.{Refused}
 use Rattle.bridge_io.specs.declared.reason.Refused.TheVariants.{Memory, At}
 use Rattle.prism_lex.specs.declared.token.Token.{Token}
@@ -22,21 +22,24 @@ kept_kind K.Quoted = Some Quoted
 kept_kind (K.Number d) = Some Number
 kept_kind K.End = None
 
--- the literals with those of one token more
-abbrev pub literals_by : List Literal → TokenKind → ℕ → List Literal
-literals_by ls (K.Number d) end = ls ++ record { value = d; end = end } ∷ []
-literals_by ls k end = ls
+-- The literals with perhaps one more, and a place at which this one stands.
+pub record Holds (literals : List Literal) (literal : Literal) (after : List Literal) (place : ℕ) : Type 0 where
+  pub added : List Literal
+  pub more : after ≡ literals ++ added
+  pub few : length added ≤ 1
+  pub at : slice_get after place ≡ Some literal
 
-abbrev pub literals_with : List Literal → Token → List Literal
-literals_with ls t = literals_by ls t.kind t.end
+-- where a token ends, or of a number a place at which its literal stands
+abbrev pub IsKeptEnd : List Literal → TokenKind → ℕ → ℕ → ℕ → Type 0
+IsKeptEnd ls (K.Number d) at end place = slice_get ls place ≡ Some (record { value = d; length = end - at })
+IsKeptEnd ls k at end place = place ≡ end
 
--- where a token ends, or of a number its place among the literals
-abbrev pub end_by : List Literal → TokenKind → ℕ → ℕ
-end_by ls (K.Number d) end = length ls
-end_by ls k end = end
-
-abbrev pub kept_end : List Literal → Token → ℕ
-kept_end ls t = end_by ls t.kind t.end
+-- The literals with perhaps one more, and what is kept of the end of a token.
+pub record Keeps (literals : List Literal) (t : Token) (after : List Literal) (end : ℕ) : Type 0 where
+  pub added : List Literal
+  pub more : after ≡ literals ++ added
+  pub few : length added ≤ 1
+  pub place : IsKeptEnd after t.kind t.at t.end end
 
 -- These are the tokens of the bytes, which have no fault.
 pub record IsLexed (bytes : List ℕ) (literals : List Literal) (found : List Found) : Type 0 where

@@ -1,6 +1,6 @@
 // The tokens of a text, as they are kept.
-ghost use Rattle.std.specs.Prelude.{◌≡◌, ◌≤◌, ◌<◌, ◌^◌, IfOk, IfErr, OnOk, length};
-ghost use Rattle.prism_parse.specs.Lexed.{kept_kind, kept_end, literals_with, IsLexed, IsTokenRefusal};
+ghost use Rattle.std.specs.Prelude.{◌≡◌, ◌≤◌, ◌<◌, ◌^◌, true, IfOk, IfErr, length, slice_get, Some};
+ghost use Rattle.prism_parse.specs.Lexed.{kept_kind, Holds, Keeps, IsLexed, IsTokenRefusal};
 
 use bridge_io::{List, Refused};
 use prism_exprs::{Found, Kept, Literal};
@@ -28,21 +28,65 @@ fn kept_kind(kind: TokenKind) -> Option<Kept>
     }
 }
 
-// Where a token ends, or of a number, which becomes the last literal, its place among the literals.
-fn keep_end(literals: &mut List<Literal>, token: Token) -> Result<u32, AllocError>
+// How many places of literals are remembered.
+const SLOTS: usize = 256;
+
+// Where the place of a literal is remembered.
+fn slot_of(literal: Literal) -> usize
+    ensures { result < 256 }
+{
+    let digits = (literal.value.digits % 16) as usize;
+    let length = literal.length as usize % 16;
+    digits + 16 * length
+}
+
+// Whether the literal stands at this place.
+fn is_at(literals: &List<Literal>, place: u32, literal: Literal) -> bool
+    ensures { result ≡ true → slice_get literals.now place ≡ Some literal }
+{
+    match literals.get(place as usize) {
+        Some(found) => *found == literal,
+        None => false,
+    }
+}
+
+// A place at which the literal stands, which becomes the last one where the remembered place has another.
+fn keep_literal(
+    literals: &mut List<Literal>,
+    places: &mut [u32; SLOTS],
+    literal: Literal,
+) -> Result<u32, AllocError>
+    requires { length literals.old < 2 ^ 32 }
+    ensures { IfOk result (λ place. Holds literals.old literal literals.new place) }
+{
+    let slot = slot_of(literal);
+    let known = places[slot];
+    if is_at(literals, known, literal) {
+        return Ok(known);
+    }
+    let place = literals.len() as u32;
+    literals.push(literal)?;
+    places[slot] = place;
+    Ok(place)
+}
+
+// Where a token ends, or of a number a place at which its literal stands.
+fn keep_end(
+    literals: &mut List<Literal>,
+    places: &mut [u32; SLOTS],
+    token: Token,
+) -> Result<u32, AllocError>
+    requires order { token.at ≤ token.end }
     requires end { token.end < 2 ^ 32 }
     requires room { length literals.old < 2 ^ 32 }
-    ensures literals { OnOk result (literals.new ≡ literals_with literals.old token) }
-    ensures end { IfOk result (λ end. end ≡ kept_end literals.old token) }
+    ensures { IfOk result (λ end. Keeps literals.old token literals.new end) }
 {
-    let end = token.end as u32;
     match token.kind {
         TokenKind::Number(value) => {
-            let place = literals.len() as u32;
-            literals.push(Literal { value, end })?;
-            Ok(place)
+            let length = (token.end - token.at) as u32;
+            keep_literal(literals, places, Literal { value, length })
         }
-        _ => Ok(end),
+        _ => Ok(token.end as u32),
     }
 }
 
@@ -57,6 +101,7 @@ pub(crate) fn read_tokens(alloc: Global, bytes: &[u8]) -> Result<Lexed, Refused>
     }
     let mut found = List::with_capacity(alloc, bytes.len() / 2 + 1)?;
     let mut literals = List::new(alloc);
+    let mut places = [0; SLOTS];
     let mut at = 0;
     'tokens: loop {
         let token = match next_token(bytes, at) {
@@ -66,7 +111,7 @@ pub(crate) fn read_tokens(alloc: Global, bytes: &[u8]) -> Result<Lexed, Refused>
         let Some(kind) = kept_kind(token.kind) else {
             return Ok(Lexed { found, literals });
         };
-        let end = keep_end(&mut literals, token)?;
+        let end = keep_end(&mut literals, &mut places, token)?;
         found.push(Found {
             kind,
             at: token.at as u32,

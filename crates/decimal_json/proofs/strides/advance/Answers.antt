@@ -3,7 +3,7 @@ use Rattle.decimal_json.proofs.Chains.{advances_first, advances_mode, spaces_alo
 use Rattle.decimal_json.proofs.strides.advance.Goals as goal
 
 pub returns-then-n-gt0 : goal.returns-then-n-gt0
-returns-then-n-gt0 c = spaces_along c.args.at _ _ c.args.state (sym c.waits.ensures ∙ c.if-waits.true) c.spaces-n.ensures.0 c.if-n-gt0.true c.spaces-n.ensures.1
+returns-then-n-gt0 c = spaces_along c.args.at _ _ c.args.state (sym c.waits.ensures ∙ c.if-waits.true) c.spaces-n.ensures.all.0 c.if-n-gt0.true c.spaces-n.ensures.all.1
 
 pub returns-in-InString : goal.returns-in-InString
 returns-in-InString c = advances_mode c.args.at _ _ _ c.args.state.frames _ c.in-InString.is c.text_along.ensures

@@ -1,4 +1,4 @@
-use Rattle.std.proofs.Common.{rules, ◌≡◌, ◌∙◌, ap, refl, ℕ, ◌≤◌, arith}
+use Rattle.std.proofs.Common.{rules, ◌≡◌, ◌∙◌, ap, sym, refl, ℕ, ◌≤◌, arith}
 use Rattle.op_trees.specs.Tree.{tree, Two}
 use Rattle.prism_tree.specs.Syntax.{offset_of}
 use Rattle.prism_tree.specs.Grammar.{expr}
@@ -9,8 +9,10 @@ use Rattle.prism_exprs.proofs.Loops.{leads_on, begin, parses_via, reads_shorter}
 use Rattle.prism_exprs.proofs.Operands.{true_leads, false_leads, open_leads, inner_stops, inner_leads, close_stops, close_leads, operand_missing, other_word, other_symbol, quoted_name}
 use Rattle.prism_exprs.proofs.Climb.{IsPlain, prefix_none, climb_stops, chain_stops, chain_reads, neg_reads, neg_stops, not_reads, not_stops}
 use Rattle.prism_exprs.proofs.Conditionals.{kept_end, kept_end_empty, kept_lead, kept_stops, kept_shorter, test_stops, test_alone, choice_leads, question_stops, question_leads, first_stops, first_leads, colon_stops, colon_leads, second_stops, choice_reads, reads_length, token_shorter}
+use Rattle.prism_exprs.proofs.Alone.{leaf_level, leaf_expr, chain_misses}
 use Rattle.prism_exprs.proofs.Numbers.{number_leads, number_missing, name_leads, name_missing}
 use Rattle.prism_exprs.proofs.Arguments.{name_alone, one_called, two_called, not_called, comma_stops, comma_leads, one_open_stops, one_open_leads, one_inner_stops, one_inner_leads, end_stops, end_leads, two_open_stops, two_open_leads, two_first_stops, two_first_leads, two_second_stops, two_second_leads, more_ended, more_leads, more_stops, listed_open_stops, listed_open_leads, listed_first_stops, listed_first_leads, listed_second_stops, listed_second_leads, listed_more_stops, listed_more_leads, min_leads, max_leads}
+use Rattle.prism_exprs.proofs.expressions.+expressions.Goals.{parse_low-then-chain_next+in_ok-whole, parse_low-else-chain_next, parse_climb-then-chain_next+in_ok-whole, parse_climb-else-chain_next}
 use Rattle.prism_exprs.proofs.expressions.+expressions.Goals as goal
 
 -- ---- chains
@@ -75,85 +77,109 @@ parse_low-returns-in_err-whole t c =
 pub parse_low-loop-level-preserved : goal.parse_low-loop-level-preserved
 parse_low-loop-level-preserved t c =
     let i = c.loop-level.invariant in
-    record {
-      low = (let m = i.low in omega arith);
-      reads = chain_reads _ _ _ _ _ _ _ (omega arith) (low_plain _ c.args.height i.low c.requires _ (omega arith) c.loop-level-test.true) i.reads c.in_ok-whole.ensures;
-    }
+    elim c.if-chain_next.branch [
+      | parse_low-then-chain_next+in_ok-whole w ↦
+          record {
+            low = (let m = i.low in omega arith);
+            reads = rw (w.left-is, w.behind-is) (chain_reads _ _ _ _ _ _ _ (omega arith) (low_plain _ c.args.height i.low c.requires _ (omega arith) c.loop-level-test.true) i.reads w.in_ok-whole.ensures);
+          }
+      | parse_low-else-chain_next w ↦
+          record {
+            low = (let m = i.low in omega arith);
+            reads = rw (w.left-is, w.behind-is) (chain_reads _ _ _ _ _ _ _ (omega arith) (low_plain _ c.args.height i.low c.requires _ (omega arith) c.loop-level-test.true) i.reads (chain_misses _ _ _ i.reads.ends (sym c.chain_next.ensures ∙ w.if-chain_next.false)));
+          }
+    ]
 
-pub parse_level-returns-in_err-first : goal.parse_level-returns-in_err-first
-parse_level-returns-in_err-first t c =
+pub parse_climb-returns-in_err-first : goal.parse_climb-returns-in_err-first
+parse_climb-returns-in_err-first t c =
     leaves _ _ _ _ _ _ c.from_residual.ensures
     (climb_stops c.args.height 6 _ _ (search rules) (high_plain 6 c.args.height (omega arith)) (not_stops _ _ _ _ c.read_signs.ensures c.in_err-first.ensures))
 
-pub parse_level-loop-level-init : goal.parse_level-loop-level-init
-parse_level-loop-level-init t c = record {
+pub parse_climb-loop-level-init : goal.parse_climb-loop-level-init
+parse_climb-loop-level-init t c = record {
   low = omega arith;
   reads = rw (c.in_ok-left.ensures) (not_reads _ _ _ _ _ c.read_signs.ensures c.in_ok-first.ensures);
 }
 
-pub parse_level-returns-in_err-whole : goal.parse_level-returns-in_err-whole
-parse_level-returns-in_err-whole t c =
+pub parse_climb-returns-in_err-whole : goal.parse_climb-returns-in_err-whole
+parse_climb-returns-in_err-whole t c =
     let i = c.loop-level.invariant in
     leaves _ _ _ _ _ _ c.from_residual-in_err-whole.ensures
     (chain_stops c.args.height _ _ _ _ _ c.loop-level-test.true (high_plain _ c.args.height i.low) i.reads c.in_err-whole.ensures)
 
-pub parse_level-loop-level-preserved : goal.parse_level-loop-level-preserved
-parse_level-loop-level-preserved t c =
+pub parse_climb-loop-level-preserved : goal.parse_climb-loop-level-preserved
+parse_climb-loop-level-preserved t c =
     let i = c.loop-level.invariant in
-    record {
-      low = (let m = i.low in omega arith);
-      reads = chain_reads _ _ _ _ _ _ _ (omega arith) (high_plain _ c.args.height i.low _ (omega arith) c.loop-level-test.true) i.reads c.in_ok-whole.ensures;
-    }
+    elim c.if-chain_next.branch [
+      | parse_climb-then-chain_next+in_ok-whole w ↦
+          record {
+            low = (let m = i.low in omega arith);
+            reads = rw (w.left-is, w.behind-is) (chain_reads _ _ _ _ _ _ _ (omega arith) (high_plain _ c.args.height i.low _ (omega arith) c.loop-level-test.true) i.reads w.in_ok-whole.ensures);
+          }
+      | parse_climb-else-chain_next w ↦
+          record {
+            low = (let m = i.low in omega arith);
+            reads = rw (w.left-is, w.behind-is) (chain_reads _ _ _ _ _ _ _ (omega arith) (high_plain _ c.args.height i.low _ (omega arith) c.loop-level-test.true) i.reads (chain_misses _ _ _ i.reads.ends (sym c.chain_next.ensures ∙ w.if-chain_next.false)));
+          }
+    ]
+
+-- ---- operands that stand alone
+
+pub parse_expr-returns-then-leaf_next : goal.parse_expr-returns-then-leaf_next
+parse_expr-returns-then-leaf_next t c = leaf_expr tree _ c.parse_leaf.result (c.leaf_next.ensures c.if-leaf_next.true) c.parse_leaf.ensures.read c.parse_leaf.ensures.ends
+
+pub parse_level-returns-then-leaf_next : goal.parse_level-returns-then-leaf_next
+parse_level-returns-then-leaf_next t c = leaf_level tree c.args.height _ c.parse_leaf.result c.requires (c.leaf_next.ensures c.if-leaf_next.true) c.parse_leaf.ensures.read c.parse_leaf.ensures.ends
 
 -- ---- conditionals
 
-pub parse_expr-returns-in_err-test : goal.parse_expr-returns-in_err-test
-parse_expr-returns-in_err-test t c = leaves _ _ _ _ _ _ c.from_residual.ensures (test_stops _ _ c.in_err-test.ensures)
+pub parse_conditional-returns-in_err-test : goal.parse_conditional-returns-in_err-test
+parse_conditional-returns-in_err-test t c = leaves _ _ _ _ _ _ c.from_residual.ensures (test_stops _ _ c.in_err-test.ensures)
 
-pub parse_expr-returns-then-not-next_is : goal.parse_expr-returns-then-not-next_is
-parse_expr-returns-then-not-next_is t c = test_alone _ _ _ c.in_ok-test.ensures (search rules)
+pub parse_conditional-returns-then-not-next_is : goal.parse_conditional-returns-then-not-next_is
+parse_conditional-returns-then-not-next_is t c = test_alone _ _ _ c.in_ok-test.ensures (search rules)
 
-pub parse_expr-returns-in_err-_question : goal.parse_expr-returns-in_err-_question
-parse_expr-returns-in_err-_question t c =
+pub parse_conditional-returns-in_err-_question : goal.parse_conditional-returns-in_err-_question
+parse_conditional-returns-in_err-_question t c =
     leaves _ _ _ _ _ _ c.from_residual-in_err-_question.ensures (question_stops _ _ _ _ (choice_leads _ _ _ c.in_ok-test.ensures (search rules)) c.in_err-_question.ensures)
 
-pub parse_expr-returns-in_err-first : goal.parse_expr-returns-in_err-first
-parse_expr-returns-in_err-first t c =
+pub parse_conditional-returns-in_err-first : goal.parse_conditional-returns-in_err-first
+parse_conditional-returns-in_err-first t c =
     let x = tree c.in_ok-test.test in
     let l = question_leads _ _ _ x _ (choice_leads _ _ _ c.in_ok-test.ensures (search rules)) c.in_ok-_question.ensures in
     leaves _ _ _ _ _ _ c.from_residual-in_err-first.ensures (first_stops _ _ x _ l c.in_err-first.ensures)
 
-pub parse_expr-returns-in_err-_colon : goal.parse_expr-returns-in_err-_colon
-parse_expr-returns-in_err-_colon t c =
+pub parse_conditional-returns-in_err-_colon : goal.parse_conditional-returns-in_err-_colon
+parse_conditional-returns-in_err-_colon t c =
     let x = tree c.in_ok-test.test in
     let y = tree c.in_ok-first.first in
     let l = question_leads _ _ _ x _ (choice_leads _ _ _ c.in_ok-test.ensures (search rules)) c.in_ok-_question.ensures in
     leaves _ _ _ _ _ _ c.from_residual-in_err-_colon.ensures (colon_stops _ _ x y _ (first_leads _ _ _ x y l c.in_ok-first.ensures) c.in_err-_colon.ensures)
 
-pub parse_expr-returns-in_err-second : goal.parse_expr-returns-in_err-second
-parse_expr-returns-in_err-second t c =
+pub parse_conditional-returns-in_err-second : goal.parse_conditional-returns-in_err-second
+parse_conditional-returns-in_err-second t c =
     let x = tree c.in_ok-test.test in
     let y = tree c.in_ok-first.first in
     let l = question_leads _ _ _ x _ (choice_leads _ _ _ c.in_ok-test.ensures (search rules)) c.in_ok-_question.ensures in
     let m = colon_leads _ _ _ x y _ (first_leads _ _ _ x y l c.in_ok-first.ensures) c.in_ok-_colon.ensures in
     leaves _ _ _ _ _ _ c.from_residual-in_err-second.ensures (second_stops _ _ x y _ m c.in_err-second.ensures)
 
-pub parse_expr-returns : goal.parse_expr-returns
-parse_expr-returns t c =
+pub parse_conditional-returns : goal.parse_conditional-returns
+parse_conditional-returns t c =
     let x = tree c.in_ok-test.test in
     let y = tree c.in_ok-first.first in
     let l = question_leads _ _ _ x _ (choice_leads _ _ _ c.in_ok-test.ensures (search rules)) c.in_ok-_question.ensures in
     let m = colon_leads _ _ _ x y _ (first_leads _ _ _ x y l c.in_ok-first.ensures) c.in_ok-_colon.ensures in
     choice_reads _ _ _ x y (tree c.in_ok-second.second) (tree c.in_ok-whole.whole) m c.in_ok-second.ensures c.in_ok-whole.ensures
 
-pub parse_expr-parse_expr-requires : goal.parse_expr-parse_expr-requires
-parse_expr-parse_expr-requires t c =
+pub parse_conditional-parse_expr-requires : goal.parse_conditional-parse_expr-requires
+parse_conditional-parse_expr-requires t c =
     let a = reads_length (more 10) _ _ (tree c.in_ok-test.test) c.in_ok-test.ensures in
     let b = token_shorter _ _ _ _ c.in_ok-_question.ensures in
     (omega arith, tt)
 
-pub parse_expr-parse_expr-requires-2 : goal.parse_expr-parse_expr-requires-2
-parse_expr-parse_expr-requires-2 t c =
+pub parse_conditional-parse_expr-requires-2 : goal.parse_conditional-parse_expr-requires-2
+parse_conditional-parse_expr-requires-2 t c =
     let a = reads_length (more 10) _ _ (tree c.in_ok-test.test) c.in_ok-test.ensures in
     let b = token_shorter _ _ _ _ c.in_ok-_question.ensures in
     let d = reads_length goes_on _ _ (tree c.in_ok-first.first) c.in_ok-first.ensures in

@@ -8,10 +8,16 @@ use Rattle.prism_exprs.proofs.Loops.{Leads}
 use Rattle.prism_exprs.proofs.expressions.+expressions.Given as goal
 
 abbrev pub decreases-parse_expr : goal.decreases-parse_expr
-decreases-parse_expr l = 300 * length (seen l.tokens) + 40
+decreases-parse_expr l = 300 * length (seen l.tokens) + 51
+
+abbrev pub decreases-parse_conditional : goal.decreases-parse_conditional
+decreases-parse_conditional l = 300 * length (seen l.tokens) + 50
 
 abbrev pub decreases-parse_level : goal.decreases-parse_level
-decreases-parse_level l = 300 * length (seen l.tokens) + l.height + 20
+decreases-parse_level l = 300 * length (seen l.tokens) + l.height + 31
+
+abbrev pub decreases-parse_climb : goal.decreases-parse_climb
+decreases-parse_climb l = 300 * length (seen l.tokens) + l.height + 20
 
 abbrev pub decreases-parse_low : goal.decreases-parse_low
 decreases-parse_low l = 300 * length (seen l.tokens) + l.height + 2
@@ -22,8 +28,8 @@ decreases-parse_chain l = 300 * length (seen l.tokens) + l.level + 2
 abbrev pub decreases-parse_prim : goal.decreases-parse_prim
 decreases-parse_prim l = 300 * length (seen l.tokens)
 
-abbrev pub invariant-parse_level-loop-level : goal.invariant-parse_level-loop-level
-invariant-parse_level-loop-level l = record {
+abbrev pub invariant-parse_climb-loop-level : goal.invariant-parse_climb-loop-level
+invariant-parse_climb-loop-level l = record {
   low : 6 ≤ l.level;
   reads : Reads (level expr l.level) (more l.level) (seen l.tokens) (tree l.left) (seen l.behind);
 }

@@ -18,6 +18,6 @@ tokens-preserved c =
     let next : Continues c.args.bytes.now c.tokens.at c.in-Ok.token = c.in-Ok.ensures.token (not_end c.in-Ok.token.kind c.in-Some.kind e) in
     record {
       within = next.within;
-      room = rw c.in_ok-end.ensures.literals (literals_behind c.tokens.literals c.args.bytes.now c.tokens.at c.in-Ok.token c.tokens.invariant.room next);
-      reaches = rw (c.in_ok-push.ensures.ok, c.in_ok-end.ensures.literals, c.in_ok-end.ensures.end) (one_kept c.reader_laws.ensures.next c.args.bytes.now c.tokens.literals c.tokens.found c.tokens.at c.in-Ok.token c.in-Some.kind c.tokens.invariant.reaches next e);
+      room = literals_behind c.tokens.literals _ c.args.bytes.now c.tokens.at c.in-Ok.token _ c.tokens.invariant.room next c.in_ok-end.ensures;
+      reaches = rw (c.in_ok-push.ensures.ok) (one_kept c.reader_laws.ensures.next c.args.bytes.now c.tokens.literals _ c.tokens.found c.tokens.at c.in-Ok.token c.in-Some.kind _ c.tokens.invariant.reaches next c.in_ok-end.ensures e);
     }

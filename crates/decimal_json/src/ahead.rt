@@ -1,0 +1,325 @@
+// Values and members that stand whole, with brackets nested a little in them.
+
+ghost use Rattle.std.specs.Prelude.{◌≡◌, ◌<◌, ◌≤◌, ◌+◌, length, take, slice_index, None, IfOk, IfSome, true, false};
+ghost use Rattle.decimal_json.specs.Grammar.{is_space};
+ghost use Rattle.decimal_json.specs.Number.{onward, RunsOn};
+ghost use Rattle.decimal_json.specs.States.{AllSpaces};
+ghost use Rattle.decimal_json.specs.Whole.{IsWhole, Looks, Skips};
+
+use crate::brackets::Brackets;
+use crate::chars::{Within, closes};
+use crate::letters::Letters;
+use crate::machine::is_space;
+use crate::members::{Members, Pending};
+use crate::number::{Stage, first, is_end, measure, onward};
+use crate::tree::Json;
+use bridge_io::List;
+use std::alloc::{AllocError, Global};
+
+/// How many of the first bytes are spaces.
+pub fn spaces(bytes: &[u8]) -> usize
+    ensures all { (result ≤ length bytes.now) × AllSpaces (take result bytes.now) }
+    ensures stops { result < length bytes.now → is_space (slice_index bytes.now result) ≡ false }
+{
+    let mut n = 0usize;
+    while n < bytes.len() && is_space(bytes[n]) {
+        n += 1;
+    }
+    n
+}
+
+/// Where the spaces from an offset on end.
+pub fn past_spaces(bytes: &[u8], from: usize) -> usize
+    requires { from ≤ length bytes.now }
+    ensures skips { Skips bytes.now from result }
+    ensures stops { result < length bytes.now → is_space (slice_index bytes.now result) ≡ false }
+{
+    from + spaces(&bytes[from..])
+}
+
+/// How deep brackets may be nested in a value that is read whole, inside one more bracket than these.
+pub fn room_within(frames: &Brackets) -> usize
+    ensures { 0 < result → length frames.now + 1 + result ≤ 1024 }
+{
+    if frames.len() < 1000 { 8 } else { 0 }
+}
+
+/// How many bytes a number goes on with, and the stage behind them.
+fn number_front(stage: Stage, bytes: &[u8]) -> (usize, Stage)
+    ensures within { result.0 ≤ length bytes.now }
+    ensures runs { RunsOn stage (take result.0 bytes.now) result.1 }
+    ensures stops { result.0 < length bytes.now → onward result.1 (slice_index bytes.now result.0) ≡ None }
+{
+    let mut now = stage;
+    let mut n = 0usize;
+    while n < bytes.len() {
+        match onward(now, bytes[n]) {
+            None => break,
+            Some(next) => now = next,
+        }
+        n += 1;
+    }
+    (n, now)
+}
+
+/// The number that stands whole, and how many bytes it has; none where there is none, or where its end is not seen.
+fn whole_number(at: usize, bytes: &[u8]) -> Option<(Json, usize)>
+    requires some { 0 < length bytes.now }
+    requires room { at + length bytes.now < 9223372036854775808 }
+    ensures { IfSome result (λ r. IsWhole 0 at bytes.now r.0 r.1) }
+{
+    let stage = first(bytes[0])?;
+    let (n, last) = number_front(stage, &bytes[1..]);
+    let end = n + 1;
+    if end == bytes.len() {
+        return None;
+    }
+    if !is_end(last) {
+        return None;
+    }
+    let value = measure(&bytes[..end])?;
+    Some((Json::Number(at, value), end))
+}
+
+/// The same of a string.
+fn whole_text(alloc: Global, at: usize, bytes: &[u8]) -> Result<Option<(Json, usize)>, AllocError>
+    requires some { 0 < length bytes.now }
+    requires room { at + length bytes.now < 9223372036854775808 }
+    requires quote { slice_index bytes.now 0 ≡ 34 }
+    ensures { IfOk result (λ o. IfSome o (λ r. IsWhole 0 at bytes.now r.0 r.1)) }
+{
+    let (n, now, text) = Letters::new(alloc).along(Within::Between, &bytes[1..])?;
+    let end = n + 2;
+    if end >= bytes.len() {
+        return Ok(None);
+    }
+    if !closes(now, bytes[n + 1]) {
+        return Ok(None);
+    }
+    Ok(Some((Json::Str(at, text.into_text()), end)))
+}
+
+/// Whether these bytes are a word and more behind it.
+fn begins_with(bytes: &[u8], word: &[u8]) -> bool
+    ensures { result ≡ true → (length word.now < length bytes.now) × (take (length word.now) bytes.now ≡ word.now) }
+{
+    bytes.len() > word.len() && &bytes[..word.len()] == word
+}
+
+/// A word that stands whole.
+fn whole_word(at: usize, bytes: &[u8]) -> Option<(Json, usize)>
+    requires some { 0 < length bytes.now }
+    ensures { IfSome result (λ r. IsWhole 0 at bytes.now r.0 r.1) }
+{
+    if begins_with(bytes, b"true") {
+        return Some((Json::Truth(at, true), 4));
+    }
+    if begins_with(bytes, b"false") {
+        return Some((Json::Truth(at, false), 5));
+    }
+    if begins_with(bytes, b"null") {
+        return Some((Json::Null(at), 4));
+    }
+    None
+}
+
+/// What stands whole behind the quotation mark of a key: nothing; the key and its colon, of so many bytes; or a value
+/// behind those too, of so many more.
+#[derive(Drop)]
+pub enum Ahead {
+    Open(Members),
+    Named(Pending, usize),
+    Valued(Pending, usize, Json, usize),
+}
+
+/// The key and the colon.
+fn named(alloc: Global, at: usize, members: Members, bytes: &[u8]) -> Result<Ahead, AllocError>
+    requires some { 0 < length bytes.now }
+    requires room { at + length bytes.now < 9223372036854775808 }
+    ensures { IfOk result (Looks 0 at bytes.now members) }
+{
+    let (n, now, text) = Letters::new(alloc).along(Within::Between, &bytes[1..])?;
+    let end = n + 2;
+    if end >= bytes.len() {
+        return Ok(Ahead::Open(members));
+    }
+    if !closes(now, bytes[n + 1]) {
+        return Ok(Ahead::Open(members));
+    }
+    if bytes[end] != b':' {
+        return Ok(Ahead::Open(members));
+    }
+    if members.has(text.as_str()) {
+        return Ok(Ahead::Open(members));
+    }
+    let behind = past_spaces(bytes, end + 1);
+    Ok(Ahead::Named(Pending::new(members, text, at), behind))
+}
+
+/// The key, the colon and the value, in which brackets are nested at most so deep.
+#[cycle(whole)]
+pub fn look(
+    alloc: Global,
+    depth: usize,
+    at: usize,
+    members: Members,
+    bytes: &[u8],
+) -> Result<Ahead, AllocError>
+    requires some { 0 < length bytes.now }
+    requires room { at + length bytes.now < 9223372036854775808 }
+    ensures { IfOk result (Looks depth at bytes.now members) }
+{
+    match named(alloc, at, members, bytes)? {
+        Ahead::Named(pending, m) => {
+            if m == bytes.len() {
+                return Ok(Ahead::Named(pending, m));
+            }
+            match whole(alloc, depth, at + m, &bytes[m..])? {
+                None => Ok(Ahead::Named(pending, m)),
+                Some((value, size)) => Ok(Ahead::Valued(pending, m, value, size)),
+            }
+        }
+        other => Ok(other),
+    }
+}
+
+/// A value, in which brackets are nested at most so deep, and how many bytes it has.
+#[cycle(whole)]
+fn tight(
+    alloc: Global,
+    depth: usize,
+    at: usize,
+    bytes: &[u8],
+) -> Result<Option<(Json, usize)>, AllocError>
+    requires some { 0 < length bytes.now }
+    requires room { at + length bytes.now < 9223372036854775808 }
+    ensures { IfOk result (λ o. IfSome o (λ r. IsWhole depth at bytes.now r.0 r.1)) }
+{
+    match bytes[0] {
+        b'"' => whole_text(alloc, at, bytes),
+        b'{' => {
+            if depth == 0 {
+                return Ok(None);
+            }
+            whole_object(alloc, depth - 1, at, bytes)
+        }
+        b'[' => {
+            if depth == 0 {
+                return Ok(None);
+            }
+            whole_array(alloc, depth - 1, at, bytes)
+        }
+        b'f' | b'n' | b't' => Ok(whole_word(at, bytes)),
+        _ => Ok(whole_number(at, bytes)),
+    }
+}
+
+/// The same with the spaces behind it.
+#[cycle(whole)]
+pub fn whole(
+    alloc: Global,
+    depth: usize,
+    at: usize,
+    bytes: &[u8],
+) -> Result<Option<(Json, usize)>, AllocError>
+    requires some { 0 < length bytes.now }
+    requires room { at + length bytes.now < 9223372036854775808 }
+    ensures { IfOk result (λ o. IfSome o (λ r. IsWhole depth at bytes.now r.0 r.1)) }
+{
+    match tight(alloc, depth, at, bytes)? {
+        None => Ok(None),
+        Some((value, size)) => {
+            let end = past_spaces(bytes, size);
+            if end == bytes.len() {
+                return Ok(None);
+            }
+            Ok(Some((value, end)))
+        }
+    }
+}
+
+/// An array; brackets are nested in its values at most so deep.
+#[cycle(whole)]
+fn whole_array(
+    alloc: Global,
+    depth: usize,
+    at: usize,
+    bytes: &[u8],
+) -> Result<Option<(Json, usize)>, AllocError>
+    requires some { 0 < length bytes.now }
+    requires room { at + length bytes.now < 9223372036854775808 }
+    requires bracket { slice_index bytes.now 0 ≡ 91 }
+    ensures { IfOk result (λ o. IfSome o (λ r. IsWhole (depth + 1) at bytes.now r.0 r.1)) }
+{
+    let mut list = List::new(alloc);
+    let mut n = past_spaces(bytes, 1);
+    if n + 1 >= bytes.len() {
+        return Ok(None);
+    }
+    if bytes[n] == b']' {
+        return Ok(Some((Json::Array(at, list), n + 1)));
+    }
+    while n < bytes.len() {
+        match whole(alloc, depth, at + n, &bytes[n..])? {
+            None => return Ok(None),
+            Some((value, size)) => {
+                let end = n + size;
+                list.push(value)?;
+                if bytes[end] != b',' {
+                    if bytes[end] != b']' {
+                        return Ok(None);
+                    }
+                    if end + 1 == bytes.len() {
+                        return Ok(None);
+                    }
+                    return Ok(Some((Json::Array(at, list), end + 1)));
+                }
+                n = past_spaces(bytes, end + 1);
+            }
+        }
+    }
+    Ok(None)
+}
+
+/// An object; brackets are nested in its values at most so deep.
+#[cycle(whole)]
+fn whole_object(
+    alloc: Global,
+    depth: usize,
+    at: usize,
+    bytes: &[u8],
+) -> Result<Option<(Json, usize)>, AllocError>
+    requires some { 0 < length bytes.now }
+    requires room { at + length bytes.now < 9223372036854775808 }
+    requires bracket { slice_index bytes.now 0 ≡ 123 }
+    ensures { IfOk result (λ o. IfSome o (λ r. IsWhole (depth + 1) at bytes.now r.0 r.1)) }
+{
+    let mut done = Members::new(alloc);
+    let mut n = past_spaces(bytes, 1);
+    if n + 1 >= bytes.len() {
+        return Ok(None);
+    }
+    if bytes[n] == b'}' {
+        return Ok(Some((Json::Object(at, done.into_list(), at + n), n + 1)));
+    }
+    while n < bytes.len() && bytes[n] == b'"' {
+        match look(alloc, depth, at + n, done, &bytes[n..])? {
+            Ahead::Valued(pending, m, value, size) => {
+                let end = n + m + size;
+                done = pending.with(alloc, value)?;
+                if bytes[end] != b',' {
+                    if bytes[end] != b'}' {
+                        return Ok(None);
+                    }
+                    if end + 1 == bytes.len() {
+                        return Ok(None);
+                    }
+                    return Ok(Some((Json::Object(at, done.into_list(), at + end), end + 1)));
+                }
+                n = past_spaces(bytes, end + 1);
+            }
+            _ => return Ok(None),
+        }
+    }
+    Ok(None)
+}
