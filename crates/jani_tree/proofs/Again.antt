@@ -20,7 +20,7 @@ use Rattle.jani_tree.specs.Canonical.{expr_node, boxed_node, kind_node, const_no
 
 -- ---- operators and types
 
-op_again : (o : JaniOp) → op_of (op_text o) ≡ Some o
+pub op_again : (o : JaniOp) → op_of (op_text o) ≡ Some o
 unfolding op_of
 op_again Ite = refl
 op_again Or = refl
@@ -43,24 +43,24 @@ op_again Implies = refl
 op_again Min = refl
 op_again Max = refl
 
-kind_one : (o : JaniOp) → arity o ≡ 1 → op_kind o ≡ O.Unary
+pub kind_one : (o : JaniOp) → arity o ≡ 1 → op_kind o ≡ O.Unary
 kind_one Not h = refl
 kind_one Floor h = refl
 kind_one Ceil h = refl
 kind_one o h = absurd (omega arith)
 
-kind_two : (o : JaniOp) → arity o ≡ 2 → op_kind o ≡ O.Binary
+pub kind_two : (o : JaniOp) → arity o ≡ 2 → op_kind o ≡ O.Binary
 kind_two Not h = absurd (omega arith)
 kind_two Floor h = absurd (omega arith)
 kind_two Ceil h = absurd (omega arith)
 kind_two Ite h = absurd (omega arith)
 kind_two o h = refl
 
-kind_three : (o : JaniOp) → arity o ≡ 3 → op_kind o ≡ O.Choice
+pub kind_three : (o : JaniOp) → arity o ≡ 3 → op_kind o ≡ O.Choice
 kind_three Ite h = refl
 kind_three o h = absurd (omega arith)
 
-ty_again : (t : Ty) → ty_of (ty_text t) ≡ Some t
+pub ty_again : (t : Ty) → ty_of (ty_text t) ≡ Some t
 unfolding ty_of
 ty_again T.Bool = refl
 ty_again T.Int = refl

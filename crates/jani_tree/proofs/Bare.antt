@@ -25,7 +25,7 @@ chosen : (b : Bool) (v : Node) (o p : Option Node) → p ≡ option_map bare_nod
 chosen true v o p e = refl
 chosen false v o p e = e
 
-member_bare : (s : List ℕ) (ms : Fields) → member_text s (bare_fields ms) ≡ option_map bare_node (member_text s ms)
+pub member_bare : (s : List ℕ) (ms : Fields) → member_text s (bare_fields ms) ≡ option_map bare_node (member_text s ms)
 member_bare s no_fields = refl
 member_bare s (field n v rest) = chosen (bytes_eq s n.name) v (member_text s rest) (member_text s (bare_fields rest)) (member_bare s rest)
 
@@ -37,7 +37,7 @@ part_bare k (number at d) = refl
 part_bare k (text at s) = refl
 part_bare k (array at vs) = refl
 
-at_bare : (v : Node) → at_of (bare_node v) ≡ 0
+pub at_bare : (v : Node) → at_of (bare_node v) ≡ 0
 at_bare (object at ms close) = refl
 at_bare (null at) = refl
 at_bare (truth at b) = refl
@@ -115,7 +115,7 @@ name_bare w n e = ap bare_node e
 keyed_bare : (k : Key) (v : Node) (n : Named) → IsKeyed k v n → IsKeyed k (bare_node v) (bare_name n)
 keyed_bare k v n p = one_bare k v (λ w. IsNamed w n) (λ w. IsNamed w (bare_name n)) (λ w e. name_bare w n e) p
 
-op_bare : (o : Option Node) → op_in (option_map bare_node o) ≡ op_in o
+pub op_bare : (o : Option Node) → op_in (option_map bare_node o) ≡ op_in o
 op_bare None = refl
 op_bare (Some (text at s)) = refl
 op_bare (Some (null at)) = refl
@@ -149,7 +149,7 @@ ty_bare (Some (number at d)) = refl
 ty_bare (Some (array at vs)) = refl
 ty_bare (Some (object at ms close)) = refl
 
-true_bare : (o : Option Node) → is_true (option_map bare_node o) ≡ is_true o
+pub true_bare : (o : Option Node) → is_true (option_map bare_node o) ≡ is_true o
 true_bare None = refl
 true_bare (Some (text at s)) = refl
 true_bare (Some (null at)) = refl

@@ -1,6 +1,8 @@
 -- The trees of values without faults have the form of trees that are read.
-use Rattle.std.proofs.Common.{◌≡◌, ℕ, refl, sym, subst, List, [], ◌∷◌, Option, Some, None, Bool, true, false, if◌then◌else◌}
-use Rattle.std.specs.Prelude.{IsSomeAnd, bytes_eq}
+use Rattle.std.proofs.Common.{◌≡◌, ℕ, ◌<◌, refl, sym, subst, List, [], ◌∷◌, length, Option, Some, None, Bool, true, false, if◌then◌else◌, is_some, arith}
+use Rattle.std.specs.Prelude.{IsSomeAnd, bytes_eq, nat_lt}
+use Rattle.std.proofs.lemmas.Bool.Decides.{nat_tests}
+use Rattle.bridge_io.specs.declared.reason.Reason.TheVariants.{TooLong, InitialSet}
 use Rattle.bridge_io.specs.declared.reason.Named.{Named}
 use Rattle.op_trees.specs.declared.tree.Ty.{Ty}
 use Rattle.op_trees.specs.declared.tree.Ty.TheVariants as T
@@ -14,17 +16,18 @@ use Rattle.jani_table.specs.declared.table.Kind.TheVariants as O
 use Rattle.jani_table.specs.declared.operator.JaniOp.{JaniOp}
 use Rattle.jani_table.specs.declared.operator.JaniOp.TheVariants.{Ite, Not, Floor, Ceil}
 use Rattle.jani_table.specs.Operators.{arity}
-use Rattle.jani_table.specs.Node.{Node, null, truth, number, text, array, object, Nodes, no_nodes, more_nodes, Fields, no_fields, field}
-use Rattle.jani_table.specs.Table.{spelled}
-use Rattle.jani_table.specs.Words.{ty_of, name_fault}
-use Rattle.jani_table.specs.Faults.{faults, items_faults, list_items_faults, object_faults, fault_if, part, part_form, is_known, member_text, items_in, op_kind}
+use Rattle.jani_table.specs.Node.{Node, null, truth, number, text, array, object, Nodes, no_nodes, more_nodes, Fields, no_fields, field, at_of}
+use Rattle.jani_table.specs.Table.{spelled, rows_of}
+use Rattle.jani_table.specs.Words.{ty_of, name_fault, unless}
+use Rattle.jani_table.specs.Faults.{faults, fault, list_faults, own_faults, missing_faults, other_faults, members_faults, items_faults, list_items_faults, object_faults, fault_if, part, part_form, is_known, member_text, items_in, op_kind}
 use Rattle.jani_table.specs.Parts.{is_plain, kind_of}
 use Rattle.jani_table.specs.Laws as laws
-use Rattle.jani_table.specs.Laws.{append_right, part_clean, object_clean, list_clean, items_in_clean}
+use Rattle.jani_table.specs.Laws.{append_right, plain_part_there, part_clean, object_clean, list_clean, items_in_clean}
 use Rattle.jani_tree.specs.Syntax.{Expression, Const, VarKind, Var, Write, Location, Destination, Edge, Automaton, Vector, File}
 use Rattle.jani_tree.specs.Jani.{Optional, Each, IsItems, IsList, IsListAt, IsNamed, IsKeyed, IsOperation, IsExpr, IsBoxed, range_of, ty_in, IsWord, IsRange, IsKind, IsKindAt, IsConst, IsVar, IsWrite, IsLocation, IsDestination, IsEdge, IsAutomaton, IsPart, IsVector, IsSystem, IsKept, IsFile}
 use Rattle.jani_tree.specs.Canonical.{OfSome, OfAll}
-use Rattle.jani_tree.specs.Form.{HasItems, NormalNode, NormalNodes, NormalFields, NameForm, ExprForm, KindForm, ConstRead, VarRead, WriteRead, LocationRead, DestinationRead, EdgeRead, AutomatonRead, PartForm, VectorRead, FileRead}
+use Rattle.jani_tree.proofs.Types.{unless_clean}
+use Rattle.jani_tree.specs.Form.{HasItems, HasOne, IsGiven, IsName, NormalNode, NormalNodes, NormalFields, NameForm, ExprForm, KindForm, ConstRead, VarRead, WriteRead, LocationRead, DestinationRead, EdgeRead, AutomatonRead, PartForm, VectorRead, FileRead, KeysOnce, KeysApart}
 
 -- ---- parts
 
@@ -43,6 +46,33 @@ part_normal k (truth at b) w n e = absurd cc
 part_normal k (number at d) w n e = absurd cc
 part_normal k (text at s) w n e = absurd cc
 part_normal k (array at vs) w n e = absurd cc
+
+-- ---- keys
+
+chosen_once : (b : Bool) (v w : Node) (o : Option Node) → KeysOnce v → (o ≡ Some w → KeysOnce w) → (if b then Some v else o) ≡ Some w → KeysOnce w
+chosen_once true v w o n h e = subst KeysOnce (let same : v ≡ w = cc in same) n
+chosen_once false v w o n h e = h e
+
+member_once : (s : List ℕ) (ms : Fields) (w : Node) → KeysApart ms → member_text s ms ≡ Some w → KeysOnce w
+member_once s no_fields w n e = absurd cc
+member_once s (field k v rest) w n e = chosen_once (bytes_eq s k.name) v w (member_text s rest) n.1 (member_once s rest w n.2) e
+
+part_once : (k : Key) (v w : Node) → KeysOnce v → part k v ≡ Some w → KeysOnce w
+part_once k (object at ms close) w n e = member_once (spelled k) ms w n e
+part_once k (null at) w n e = absurd cc
+part_once k (truth at b) w n e = absurd cc
+part_once k (number at d) w n e = absurd cc
+part_once k (text at s) w n e = absurd cc
+part_once k (array at vs) w n e = absurd cc
+
+kept_once : (o : Option Node) (p : Node) → ((w : Node) → o ≡ Some w → KeysOnce w) → IsKept o p → KeysOnce p
+kept_once None p n e = subst KeysOnce (sym e) tt
+kept_once (Some v) p n e = subst KeysOnce (sym e) (n v refl)
+
+pub file_once : (v : Node) (x : File) → IsFile v x → KeysOnce v → KeysOnce x.properties
+file_once v x p n = kept_once (part K.Properties v) x.properties (λ w e. part_once K.Properties v w n e) p.properties
+
+-- ---- parts of objects
 
 items_normal : (v : Node) → NormalNode v → NormalNodes (items_in v)
 items_normal (array at vs) n = n
@@ -94,9 +124,13 @@ maybe_read item P R h (Some v) xs c n p = items_read item P R h v xs (c v refl) 
 
 -- ---- names and expressions
 
-name_text : (at : ℕ) (s : List ℕ) → fault_if at (name_fault s) ≡ [] → HasItems s
+within : (n at : ℕ) (t : Bool) → nat_lt n 256 ≡ t → fault_if at (unless t TooLong) ≡ [] → n < 256
+within n at true e c = grind (arith, nat_tests)
+within n at false e c = absurd cc
+
+name_text : (at : ℕ) (s : List ℕ) → fault_if at (name_fault s) ≡ [] → IsName s
 name_text at [] c = absurd cc
-name_text at (b ∷ bs) c = tt
+name_text at (b ∷ bs) c = record { some = tt; short = within (length (b ∷ bs)) at (nat_lt (length (b ∷ bs)) 256) refl c }
 
 name_read : (w : Node) (n : Named) → faults F.Name w ≡ [] → NormalNode w → IsNamed w n → NameForm n
 name_read w n c m e = name_text n.at n.name (subst (λ x. faults F.Name x ≡ []) e c)
@@ -194,11 +228,26 @@ const_read v x c n p = record {
   value = optional_read F.Constant K.Value v refl refl c n IsExpr ExprForm x.value p.value expr_read;
 }
 
+-- a variable has a first value
+start_there : (v : Node) → object_faults O.Variable v ≡ [] → is_some (part K.InitialValue v) ≡ true
+start_there (object at ms close) c = unless_clean (is_some (part K.InitialValue (object at ms close))) close _ (append_right (missing_faults ms close (rows_of O.Variable)) (other_faults O.Variable ms at close) (append_right (members_faults O.Variable ms) (own_faults O.Variable ms at close) c))
+start_there (null at) c = absurd cc
+start_there (truth at b) c = absurd cc
+start_there (number at d) c = absurd cc
+start_there (text at s) c = absurd cc
+start_there (array at vs) c = absurd cc
+
+given_of : {A : Type 0} (P : Node → A → Type 0) (o : Option Node) (x : Option A) → is_some o ≡ true → Optional P o x → IsGiven x
+given_of P o (Some x) s p = tt
+given_of P None None s p = absurd cc
+given_of P (Some w) None s p = absurd p
+
 var_read : (v : Node) (x : Var) → faults F.Variable v ≡ [] → NormalNode v → IsVar v x → VarRead x
 var_read v x c n p = record {
   name = one_read F.Variable K.Name v refl refl c n (λ w. IsNamed w x.name) (NameForm x.name) p.name (λ w c n q. name_read w x.name c n q);
   kind = one_read F.Variable K.Type v refl refl c n (λ w. IsKindAt w x.kind x.kind_at) (KindForm x.kind) p.kind (λ w c n q. kind_read w x.kind c n q.kind);
   start = optional_read F.Variable K.InitialValue v refl refl c n IsExpr ExprForm x.start p.start expr_read;
+  begins = given_of IsExpr (part K.InitialValue v) x.start (start_there v (object_clean F.Variable v refl c)) p.start;
 }
 
 value_read : (v : Node) (x : Write) → faults F.TransientValue v ≡ [] → NormalNode v → IsWrite v x → WriteRead x
@@ -246,12 +295,30 @@ edge_read v x c n p = record {
   some = one_read F.Edge K.Destinations v refl refl c n (λ w. IsListAt IsDestination w x.destinations x.at) (HasItems x.destinations) p.destinations (λ w c n q. some_destination w x.destinations c q.items);
 }
 
+-- there is one initial location
+one_initial : (v : Node) (xs : List Named) → faults F.InitialLocations v ≡ [] → IsItems IsNamed v xs → HasOne xs
+one_initial (array at no_nodes) xs c p = absurd cc
+one_initial (array at (more_nodes v no_nodes)) [] c p = absurd p.items
+one_initial (array at (more_nodes v no_nodes)) (x ∷ []) c p = tt
+one_initial (array at (more_nodes v no_nodes)) (x ∷ y ∷ xs) c p = absurd p.items.1
+one_initial (array at (more_nodes v (more_nodes w vs))) xs c p = absurd (let e : fault (at_of w) InitialSet ≡ [] = append_right (items_faults F.Name (more_nodes v (more_nodes w vs))) (list_faults F.InitialLocations at (more_nodes v (more_nodes w vs))) c in cc)
+one_initial (null at) xs c p = absurd cc
+one_initial (truth at b) xs c p = absurd cc
+one_initial (number at d) xs c p = absurd cc
+one_initial (text at s) xs c p = absurd cc
+one_initial (object at ms close) xs c p = absurd cc
+
+one_there : (o : Option Node) (xs : List Named) → is_some o ≡ true → ((w : Node) → o ≡ Some w → faults F.InitialLocations w ≡ []) → IsList IsNamed o xs → HasOne xs
+one_there None xs s c p = absurd cc
+one_there (Some w) xs s c p = one_initial w xs (c w refl) p
+
 automaton_read : (v : Node) (x : Automaton) → faults F.Automaton v ≡ [] → NormalNode v → IsAutomaton v x → AutomatonRead x
 automaton_read v x c n p = record {
   name = one_read F.Automaton K.Name v refl refl c n (λ w. IsNamed w x.name) (NameForm x.name) p.name (λ w c n q. name_read w x.name c n q);
   variables = maybe_read F.Variable IsVar VarRead var_read (part K.Variables v) x.variables (λ w e. list_clean F.Variables w refl (part_read F.Automaton K.Variables v refl refl c n w e)) (λ w e. part_normal K.Variables v w n e) p.variables;
   locations = maybe_read F.Location IsLocation LocationRead location_read (part K.Locations v) x.locations (λ w e. list_clean F.Locations w refl (part_read F.Automaton K.Locations v refl refl c n w e)) (λ w e. part_normal K.Locations v w n e) p.locations;
   initial = maybe_read F.Name IsNamed NameForm name_read (part K.InitialLocations v) x.initial (λ w e. list_clean F.InitialLocations w refl (part_read F.Automaton K.InitialLocations v refl refl c n w e)) (λ w e. part_normal K.InitialLocations v w n e) p.initial;
+  begins = one_there (part K.InitialLocations v) x.initial (plain_part_there F.Automaton K.InitialLocations v refl refl c) (λ w e. part_read F.Automaton K.InitialLocations v refl refl c n w e) p.initial;
   edges = maybe_read F.Edge IsEdge EdgeRead edge_read (part K.Edges v) x.edges (λ w e. list_clean F.Edges w refl (part_read F.Automaton K.Edges v refl refl c n w e)) (λ w e. part_normal K.Edges v w n e) p.edges;
 }
 

@@ -9,3 +9,7 @@ pub mod Bare
 pub mod Same
 pub mod Formed
 pub mod Normal
+pub mod Filled
+pub mod Sound
+pub mod Bared
+pub mod Back

@@ -65,7 +65,7 @@ member_layer y =
     ∙ (ap (λ v. (bare_name y.key, v)) y.value.1
     ∙ (sym (node_named b) ∙ sym (ap named_node (fold-roll-Member _ _ bare_step bare_member_step z))))
 
-node_same : (x : Json) → IsSame x
+pub node_same : (x : Json) → IsSame x
 node_same x = ind-Json IsSame IsMemberSame
     (λ x y e. (let F : Json-F Json Member → Type 0 = λ u. IsSame (roll-Json u) in subst F e (layers y)))
     (λ x y e. (let F : Member-F Json Member → Type 0 = λ u. IsMemberSame (roll-Member u) in subst F e (member_layer y))) x

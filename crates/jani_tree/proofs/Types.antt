@@ -56,7 +56,7 @@ bounded_word (number at d) c n = cc
 bounded_word (array at vs) c n = cc
 bounded_word (object at ms close) c n = cc
 
-unless_clean : (b : Bool) (at : ℕ) (reason : Reason) → fault_unless b at reason ≡ [] → b ≡ true
+pub unless_clean : (b : Bool) (at : ℕ) (reason : Reason) → fault_unless b at reason ≡ [] → b ≡ true
 unless_clean true at reason e = refl
 unless_clean false at reason e = absurd cc
 

@@ -1,11 +1,13 @@
--- The form of the trees that are read: no name is empty, each literal is in normal form, each node has its operator's number
--- of operands, and each edge has a destination.
-use Rattle.std.specs.Prelude.{◌≡◌, List, [], ◌∷◌, true, Option}
+-- The form of the trees that are read: a name is not empty and has at most 255 bytes, each literal is in normal form, each
+-- node has its operator's number of operands, each variable has a first value, each automaton one initial location, and each
+-- edge a destination. And that no object of a JSON value has a key twice.
+use Rattle.std.specs.Prelude.{◌≡◌, ℕ, ◌<◌, List, [], ◌∷◌, length, true, Option, Some, None}
 use Rattle.bridge_io.specs.declared.reason.Named.{Named}
 use Rattle.frac_core.specs.declared.decimal.Decimal.{Decimal}
 use Rattle.frac_core.specs.Decimal.{is_normal}
 use Rattle.op_trees.specs.Tree.{Truth, Number, Name, One, Two, Three}
 use Rattle.jani_table.specs.Operators.{arity}
+use Rattle.jani_table.specs.Faults.{member_text}
 use Rattle.jani_table.specs.Node.{Node, null, truth, number, text, array, object, Nodes, no_nodes, more_nodes, Fields, no_fields, field}
 use Rattle.jani_tree.specs.Syntax.{Expression, Const, VarKind, boolean, integer, number as real, real_bounded, one_sided, bounded, Var, Write, Location, Destination, Edge, Automaton, Vector, File}
 use Rattle.jani_tree.specs.Canonical.{OfSome, OfAll}
@@ -13,6 +15,16 @@ use Rattle.jani_tree.specs.Canonical.{OfSome, OfAll}
 abbrev pub HasItems : {A : Type 0} → List A → Type 0
 HasItems [] = ⊥
 HasItems (x ∷ xs) = Unit {0}
+
+-- a list of one item
+abbrev pub HasOne : {A : Type 0} → List A → Type 0
+HasOne [] = ⊥
+HasOne (x ∷ []) = Unit {0}
+HasOne (x ∷ y ∷ xs) = ⊥
+
+abbrev pub IsGiven : {A : Type 0} → Option A → Type 0
+IsGiven None = ⊥
+IsGiven (Some x) = Unit {0}
 
 abbrev pub IsNormal : Decimal → Type 0
 IsNormal d = is_normal d ≡ true
@@ -35,13 +47,39 @@ abbrev mutual
   NormalFields no_fields = Unit {0}
   NormalFields (field n v rest) = NormalNode v × NormalFields rest
 
+-- no object of a value has a key twice
+abbrev mutual
+  pub KeysOnce : Node → Type 0
+  KeysOnce (null at) = Unit {0}
+  KeysOnce (truth at b) = Unit {0}
+  KeysOnce (number at d) = Unit {0}
+  KeysOnce (text at s) = Unit {0}
+  KeysOnce (array at vs) = KeysOnceInside vs
+  KeysOnce (object at ms close) = KeysApart ms
+
+  pub KeysOnceInside : Nodes → Type 0
+  KeysOnceInside no_nodes = Unit {0}
+  KeysOnceInside (more_nodes v vs) = KeysOnce v × KeysOnceInside vs
+
+  -- none of the members behind this one has its key
+  pub KeysApart : Fields → Type 0
+  KeysApart no_fields = Unit {0}
+  KeysApart (field n v rest) = (member_text n.name rest ≡ None) × KeysOnce v × KeysApart rest
+
+-- ---- names and expressions
+
+-- at most 255 bytes, and not empty
+pub record IsName (s : List ℕ) : Type 0 where
+  pub some : HasItems s
+  pub short : length s < 256
+
 abbrev pub NameForm : Named → Type 0
-NameForm n = HasItems n.name
+NameForm n = IsName n.name
 
 abbrev pub ExprForm : Expression → Type 0
 ExprForm (Truth at b) = Unit {0}
 ExprForm (Number at d) = IsNormal d
-ExprForm (Name at x) = HasItems x
+ExprForm (Name at x) = IsName x
 ExprForm (One at o a) = (arity o ≡ 1) × ExprForm a
 ExprForm (Two at o a b) = (arity o ≡ 2) × ExprForm a × ExprForm b
 ExprForm (Three at o a b c) = (arity o ≡ 3) × ExprForm a × ExprForm b × ExprForm c
@@ -62,6 +100,7 @@ pub record VarRead (x : Var) : Type 0 where
   pub name : NameForm x.name
   pub kind : KindForm x.kind
   pub start : OfSome ExprForm x.start
+  pub begins : IsGiven x.start
 
 pub record WriteRead (w : Write) : Type 0 where
   pub target : NameForm w.target
@@ -88,6 +127,7 @@ pub record AutomatonRead (a : Automaton) : Type 0 where
   pub variables : OfAll VarRead a.variables
   pub locations : OfAll LocationRead a.locations
   pub initial : OfAll NameForm a.initial
+  pub begins : HasOne a.initial
   pub edges : OfAll EdgeRead a.edges
 
 abbrev pub PartForm : Option Named → Type 0

@@ -4,3 +4,4 @@ pub mod Faults
 pub mod Canonical
 pub mod Places
 pub mod Form
+pub mod Back

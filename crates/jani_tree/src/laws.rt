@@ -1,4 +1,5 @@
 // Laws of what values spell: functions that do nothing, whose contracts are the laws.
+ghost use Rattle.jani_tree.specs.Back.{ReadsBack, TextReadsBack};
 ghost use Rattle.jani_tree.specs.Places.{PlacesApart, SameTree};
 
 /// Which tree a value spells does not depend on places: the value with every offset 0 spells the tree with every offset 0.
@@ -6,4 +7,13 @@ ghost use Rattle.jani_tree.specs.Places.{PlacesApart, SameTree};
 pub fn places_law()
     ensures apart { PlacesApart }
     ensures same { SameTree }
+{}
+
+/// Reading back, for trees of the form of those that are read, whose variables have types with a value, and whose properties
+/// have no object with a key twice. What is the same as the canonical value of such a tree, places aside, has no fault of
+/// shape, and each tree that it spells is that tree, places aside. So it is with the value that is read from bytes that
+/// spell the canonical value.
+pub fn reads_back_law()
+    ensures value { ReadsBack }
+    ensures text { TextReadsBack }
 {}

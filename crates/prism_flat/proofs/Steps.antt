@@ -26,7 +26,7 @@ use Rattle.prism_flat.specs.Filling.{with_formula, no_bodies, bodies_after}
 use Rattle.prism_flat.specs.Renamings.{first_new}
 
 -- ---- bodies
-place_more : (fs : List PrismFormula) (places : List ℕ) (i : ℕ) (f : PrismFormula) → i < length places → get_or places i 0 < length fs → f ≡ get_or fs (get_or places i 0) f →
+pub place_more : (fs : List PrismFormula) (places : List ℕ) (i : ℕ) (f : PrismFormula) → i < length places → get_or places i 0 < length fs → f ≡ get_or fs (get_or places i 0) f →
     at_places (map formula_of fs) (take (i + 1) places) ≡ at_places (map formula_of fs) (take i places) ++ formula_of f ∷ []
 place_more fs places i f h w e =
     let gs = map formula_of fs in

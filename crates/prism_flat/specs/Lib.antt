@@ -9,3 +9,4 @@ pub mod Rewritten
 pub mod Filling
 pub mod Tables
 pub mod Renamings
+pub mod Writers

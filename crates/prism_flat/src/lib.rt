@@ -10,6 +10,8 @@ mod modules;
 mod parts;
 mod renaming;
 mod rewriter;
+mod writer;
 
 pub use file::flatten;
 pub use laws::{constant_law, flat_law};
+pub use writer::Writer;

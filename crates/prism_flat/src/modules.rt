@@ -33,7 +33,8 @@ pub(crate) fn written_modules<'t>(
     Ok(list)
 }
 
-fn written_module<'t>(
+/// A module of a file written out.
+pub(crate) fn written_module<'t>(
     alloc: Global,
     file: &'t PrismFile,
     source: &'t PrismModule,

@@ -5,3 +5,6 @@ returns-clause-only c = c.in_ok-tree.ensures.only
 
 pub returns-clause-form : goal.returns-clause-form
 returns-clause-form c = c.in_ok-tree.ensures.form
+
+pub returns-clause-once : goal.returns-clause-once
+returns-clause-once c = c.in_ok-tree.ensures.once
