@@ -1,29 +1,56 @@
 -- Which outcome comes where.
-use Rattle.std.proofs.Common.{arith, ◌≡◌, ◌⊎◌, ◌∙◌, sym, ap, subst, ℕ, ◌+◌, ◌≤◌, List, [], ◌++◌, length, drop, Option, Some, None, inl, inr}
+use Rattle.std.proofs.Common.{arith, ◌≡◌, ◌⊎◌, ◌∙◌, sym, ap, subst, refl, ℕ, ◌+◌, ◌≤◌, List, [], ◌++◌, length, drop, Option, Some, None, inl, inr}
 use Rattle.std.proofs.lemmas.List.{take-append-drop, append-nil}
 use Rattle.std.proofs.Common.{length-append, IsSome}
 use Rattle.std.specs.Io.KnownBytes.{prepend_known}
 use Rattle.bridge_io.specs.Outside.{Lefts}
-use Rattle.model_command.specs.Words.{IsTranslation, HasForm, IsWrongAt}
 use Rattle.bridge_io.specs.declared.reason.Fault.{Fault}
-use Rattle.model_command.specs.Translation.{IsSmallFile, IsLeast}
+use Rattle.bridge_io.specs.declared.reason.Reason.{Reason}
+use Rattle.bridge_io.specs.declared.place.Place.{Place}
+use Rattle.prism_tree.specs.Syntax.{File}
+use Rattle.prism_check.specs.Least.{IsLeast}
+use Rattle.prism_check.specs.Faults.{faults}
+use Rattle.model_command.specs.declared.words.Task.{Task}
+use Rattle.model_command.specs.declared.words.Task.TheVariants.{ToJani, CheckPrism, CheckJani}
+use Rattle.model_command.specs.Words.{IsRequest, HasForm, IsWrongAt}
+use Rattle.jani_table.specs.Least.{IsLeast as IsLeastOfJani}
+use Rattle.jani_table.specs.declared.table.Form.TheVariants as F
+use Rattle.jani_table.specs.Node.{node}
+use Rattle.jani_table.specs.Faults.{faults as shape_faults}
+use Rattle.jani_tree.specs.Syntax.{File as JaniFile}
+use Rattle.jani_tree.specs.Jani.{IsFile}
+use Rattle.jani_check.specs.Faults.{faults as jani_faults}
+use Rattle.model_command.specs.PrismFile.{of_text, of_tree}
+use Rattle.model_command.specs.JaniFile.{IsFaultlessJani, IsJaniFault, of_json, of_shape, of_model}
+use Rattle.model_command.specs.Tasks.{IsFit, IsLeastFor}
 use Rattle.model_command.specs.Outcome.{status_of}
 use Rattle.model_command.specs.Run.{IsCause, IsWhole, IsRefusal}
 use Rattle.model_command.specs.declared.outcome.Outcome.{Outcome}
 use Rattle.model_command.specs.declared.outcome.Outcome.TheVariants.{Done, Refused, Words, ReadFault, NoMemory}
-use Rattle.bridge_io.specs.declared.reason.Reason.{Reason}
-use Rattle.bridge_io.specs.declared.place.Place.{Place}
 
-pub wrong_not_form : (words : List (List ℕ)) (k : ℕ) (name : List ℕ) → IsWrongAt words k → IsTranslation words name → ⊥
-wrong_not_form words k name (inl wrong) form = wrong.3 (drop k words, subst HasForm (sym (take-append-drop k words)) (name, form))
-wrong_not_form words k name (inr wrong) form = wrong.2 (name, form)
+-- words of a form have no wrong word
+pub wrong_not_form : (words : List (List ℕ)) (k : ℕ) (task : Task) (name : List ℕ) → IsWrongAt words k → IsRequest words task name → ⊥
+wrong_not_form words k task name (inl wrong) form = wrong.3 (drop k words, subst HasForm (sym (take-append-drop k words)) (task, name, form))
+wrong_not_form words k task name (inr wrong) form = wrong.2 (task, name, form)
 
-module _ {S : Type 0} (left : S → Option Lefts) (faults : S → ℕ) (steady : S → List ℕ → Type 0) (words : List (List ℕ)) (old new : S) (answer : ℕ) where
-  pub exact_words : (outcome : Outcome) → IsCause left faults steady words old new outcome → (answer ≡ status_of outcome) ⊎ (answer ≡ 5) → (k : ℕ) → IsWrongAt words k → (answer ≡ 3) ⊎ (answer ≡ 5) ⊎ (answer ≡ 6)
-  exact_words (Done text) cause status k wrong = absurd (wrong_not_form words k cause.0 wrong cause.1)
-  exact_words (Refused reason place) cause status k wrong = absurd (wrong_not_form words k cause.0 wrong cause.1)
+-- and ask for one thing
+pub same_request : (words : List (List ℕ)) (s t : Task) (a b : List ℕ) → IsRequest words s a → IsRequest words t b → (s ≡ t) × (a ≡ b)
+same_request words ToJani ToJani a b one two = (refl, let e = one.1 in let f = two.1 in cc)
+same_request words ToJani CheckPrism a b one two = absurd (let e = one.1 in let f = two.1 in cc)
+same_request words ToJani CheckJani a b one two = absurd (let e = one.1 in let f = two.1 in cc)
+same_request words CheckPrism ToJani a b one two = absurd (let e = one.1 in let f = two.1 in cc)
+same_request words CheckPrism CheckPrism a b one two = (refl, let e = one.1 in let f = two.1 in cc)
+same_request words CheckPrism CheckJani a b one two = absurd (let e = one.1 in let f = two.1 in cc)
+same_request words CheckJani ToJani a b one two = absurd (let e = one.1 in let f = two.1 in cc)
+same_request words CheckJani CheckPrism a b one two = absurd (let e = one.1 in let f = two.1 in cc)
+same_request words CheckJani CheckJani a b one two = (refl, let e = one.1 in let f = two.1 in cc)
+
+module _ {S : Type 0} (left : S → Option Lefts) (faults : S → ℕ) (steady : S → List ℕ → Type 0) (words : List (List ℕ)) (name : List ℕ) (old new : S) (answer : ℕ) where
+  pub exact_words : (outcome : Outcome) → IsCause left faults steady words name old new outcome → (answer ≡ status_of outcome) ⊎ (answer ≡ 5) → (k : ℕ) → IsWrongAt words k → (answer ≡ 3) ⊎ (answer ≡ 5) ⊎ (answer ≡ 6)
+  exact_words (Done text) cause status k wrong = absurd (wrong_not_form words k cause.0 name wrong cause.1)
+  exact_words (Refused reason place) cause status k wrong = absurd (wrong_not_form words k cause.0 name wrong cause.1)
   exact_words (Words j) cause status k wrong = grind (arith, status)
-  exact_words ReadFault cause status k wrong = absurd (wrong_not_form words k cause.0 wrong cause.1)
+  exact_words ReadFault cause status k wrong = absurd (wrong_not_form words k cause.0 name wrong cause.1)
   exact_words NoMemory cause status k wrong = grind (arith, status)
 
 pub whole_bytes : (lefts : Lefts) (after : Option Lefts) (name bytes read : List ℕ) → lefts name ≡ Some bytes → IsWhole (Some lefts) after name read → read ≡ bytes
@@ -34,9 +61,6 @@ whole_bytes lefts (Some now) name bytes read had whole =
     let same : read ++ [] ≡ bytes = cc in
     sym (append-nil read) ∙ same
 
-pub same_name : (words : List (List ℕ)) (a b : List ℕ) → IsTranslation words a → IsTranslation words b → a ≡ b
-same_name words a b one two = let e = one.1 in let f = two.1 in cc
-
 too_long_told : (lefts now : Lefts) (name bytes read : List ℕ) → lefts name ≡ Some bytes → lefts name ≡ prepend_known read (now name) → IsSome (now name) → length read ≤ length bytes
 too_long_told lefts now name bytes read had was on = of (now name) was on
   where
@@ -46,30 +70,54 @@ too_long_told lefts now name bytes read had was on = of (now name) was on
         let same : read ++ rest ≡ bytes = cc in
         omega (arith, length-append read rest, ap length same)
 
--- bytes that have a fault are no small file
-pub least_not_small : (bytes : List ℕ) (f : Fault) → IsLeast bytes f → IsSmallFile bytes → ⊥
-least_not_small bytes f (inl least) small = least.faulty small.0
-least_not_small bytes f (inr not_yet) small = not_yet.none small
+-- a tree without faults has no least one
+no_least : (tree : File) (f : Fault) → faults tree ≡ [] → IsLeast (faults tree) f → ⊥
+no_least tree f none least = let e : IsLeast [] f = subst (λ fs. IsLeast fs f) none least in e.among
 
-small_kept : (lefts : Lefts) (after : Option Lefts) (name bytes : List ℕ) (reason : Reason) (place : Place) → lefts name ≡ Some bytes → IsSmallFile bytes → length bytes ≤ 16777216 → IsRefusal (Some lefts) after name reason place → ⊥
-small_kept lefts None name bytes reason place had small within (inl r) = absurd r.1.2
-small_kept lefts (Some now) name bytes reason place had small within (inl r) =
+no_least_of_jani : (fs : List Fault) (f : Fault) → fs ≡ [] → IsLeastOfJani fs f → ⊥
+no_least_of_jani fs f none least = let e : IsLeastOfJani [] f = subst (λ gs. IsLeastOfJani gs f) none least in e.among
+
+-- nor has a JANI file
+not_faultless_jani : (bytes : List ℕ) (f : Fault) (tree : JaniFile) → IsJaniFault bytes f → IsFaultlessJani bytes tree → ⊥
+not_faultless_jani bytes f tree (of_json least) ok = ok.read.whole.clean f.at f.reason least.fault
+not_faultless_jani bytes f tree (of_shape value whole least) ok =
+    let same : ok.value ≡ value = whole.only ok.value ok.read.whole.tokens ok.read.whole.spells in
+    no_least_of_jani _ f (subst (λ v. shape_faults F.Model (node v) ≡ []) same ok.read.shaped) least
+not_faultless_jani bytes f tree (of_model value other read least) ok =
+    let same : ok.value ≡ value = read.whole.only ok.value ok.read.whole.tokens ok.read.whole.spells in
+    let trees : tree ≡ other = read.only tree (subst (λ v. IsFile (node v) tree) same ok.read.spells) in
+    no_least_of_jani _ f (subst (λ t. jani_faults t ≡ []) trees ok.sound) least
+
+-- bytes that have a fault are not fit for the task
+pub least_not_fit : (task : Task) (bytes : List ℕ) (f : Fault) → IsLeastFor task bytes f → IsFit task bytes → ⊥
+least_not_fit ToJani bytes f (inl least) small = least.faulty small.0
+least_not_fit ToJani bytes f (inr not_yet) small = not_yet.none small
+least_not_fit CheckPrism bytes f (of_text least) (other, ok) = least.faulty ok.read.clean
+least_not_fit CheckPrism bytes f (of_tree tree read least) (other, ok) =
+    let same : other ≡ tree = read.only other ok.read.spells in
+    no_least tree f (subst (λ t. faults t ≡ []) same ok.sound) least
+least_not_fit CheckJani bytes f fault (tree, ok) = not_faultless_jani bytes f tree fault ok
+
+fit_kept : (task : Task) (lefts : Lefts) (after : Option Lefts) (name bytes : List ℕ) (reason : Reason) (place : Place) → lefts name ≡ Some bytes → IsFit task bytes → length bytes ≤ 16777216
+    → IsRefusal task (Some lefts) after name reason place → ⊥
+fit_kept task lefts None name bytes reason place had fit within (inl r) = absurd r.1.2
+fit_kept task lefts (Some now) name bytes reason place had fit within (inl r) =
     let t = r.1 in
     let long : length t.0 ≤ length bytes = too_long_told lefts now name bytes t.0 had t.2.was t.3 in
     let many : length t.0 ≡ 16777216 + 1 = t.1 in
     absurd (omega arith)
-small_kept lefts after name bytes reason place had small within (inr r) =
-    least_not_small r.0 r.1 r.3 (subst IsSmallFile (sym (whole_bytes lefts after name bytes r.0 had r.2)) small)
+fit_kept task lefts after name bytes reason place had fit within (inr r) =
+    least_not_fit task r.0 r.1 r.3 (subst (IsFit task) (sym (whole_bytes lefts after name bytes r.0 had r.2)) fit)
 
-module _ {S : Type 0} (left : S → Option Lefts) (faults : S → ℕ) (steady : S → List ℕ → Type 0) (words : List (List ℕ)) (old new : S) (answer : ℕ)
-    (lefts : Lefts) (name bytes : List ℕ) (told : left old ≡ Some lefts) (had : lefts name ≡ Some bytes) (form : IsTranslation words name) (small : IsSmallFile bytes) (within : length bytes ≤ 16777216) where
-  pub exact_small : (outcome : Outcome) → IsCause left faults steady words old new outcome → (answer ≡ status_of outcome) ⊎ (answer ≡ 5) → (answer ≡ 0) ⊎ (answer ≡ 4) ⊎ (answer ≡ 5) ⊎ (answer ≡ 6)
-  exact_small (Done text) cause status = grind (arith, status)
-  exact_small (Refused reason place) cause status =
-      let same : cause.0 ≡ name = same_name words cause.0 name cause.1 form in
-      let P : Option Lefts → Type 0 = λ before. IsRefusal before (left new) cause.0 reason place in
-      let Q : List ℕ → Type 0 = λ n. IsRefusal (Some lefts) (left new) n reason place in
-      absurd (small_kept lefts (left new) name bytes reason place had small within (subst Q same (subst P told cause.2)))
-  exact_small (Words j) cause status = absurd (wrong_not_form words j name cause form)
-  exact_small ReadFault cause status = grind (arith, status)
-  exact_small NoMemory cause status = grind (arith, status)
+module _ {S : Type 0} (left : S → Option Lefts) (faults : S → ℕ) (steady : S → List ℕ → Type 0) (words : List (List ℕ)) (named : List ℕ) (old new : S) (answer : ℕ)
+    (lefts : Lefts) (task : Task) (name bytes : List ℕ) (told : left old ≡ Some lefts) (had : lefts name ≡ Some bytes) (form : IsRequest words task name) (fit : IsFit task bytes) (within : length bytes ≤ 16777216) where
+  pub exact_fit : (outcome : Outcome) → IsCause left faults steady words named old new outcome → (answer ≡ status_of outcome) ⊎ (answer ≡ 5) → (answer ≡ 0) ⊎ (answer ≡ 4) ⊎ (answer ≡ 5) ⊎ (answer ≡ 6)
+  exact_fit (Done text) cause status = grind (arith, status)
+  exact_fit (Refused reason place) cause status =
+      let same = same_request words cause.0 task named name cause.1 form in
+      let P : Task → List ℕ → Option Lefts → Type 0 = λ t n before. IsRefusal t before (left new) n reason place in
+      let r : P task name (Some lefts) = subst (P task name) told (subst (λ n. P task n (left old)) same.1 (subst (λ t. P t named (left old)) same.0 cause.2)) in
+      absurd (fit_kept task lefts (left new) name bytes reason place had fit within r)
+  exact_fit (Words j) cause status = absurd (wrong_not_form words j task name cause form)
+  exact_fit ReadFault cause status = grind (arith, status)
+  exact_fit NoMemory cause status = grind (arith, status)

@@ -1,13 +1,17 @@
 pub mod After
 pub mod Apart
+pub mod Causes
 pub mod Different
 pub mod Each
 pub mod Escapes
 pub mod Exact
+pub mod JaniFiles
 pub mod Known
 pub mod Numerals
 pub mod OneTree
+pub mod Place
 pub mod Plain
+pub mod PrismFiles
 pub mod Same
 pub mod Told
 pub mod Whole

@@ -17,7 +17,9 @@ use Rattle.model_command.specs.declared.trees.SmallJani.{SmallJani}
 use Rattle.model_command.specs.Jani.{jani_text}
 use Rattle.model_command.specs.Meaning.{IsShape, IsSame, OneTree}
 use Rattle.model_command.specs.Rules.{is_free, is_declared, are_distinct, is_proper_pair, is_proper_command, are_proper_pairs, are_once, is_proper}
-use Rattle.model_command.specs.Translation.{AreDeclared, IsClean, IsSmallFile, IsLeast, Judged, Translates, parts_of, IsImage}
+use Rattle.model_command.specs.Translation.{AreDeclared, IsClean, IsSmallFile, IsLeast, Translates, parts_of, IsImage}
+use Rattle.model_command.specs.declared.words.Task.TheVariants.{ToJani}
+use Rattle.model_command.specs.Tasks.{Judged}
 
 both : (a b : Bool) → (a && b) ≡ true → (a ≡ true) × (b ≡ true)
 both true b e = (refl, e)
@@ -77,8 +79,8 @@ abbrev pub at_start : Fault
 at_start = record { reason = NotYet; at = 0 }
 
 -- the answer to it
-pub judged : (bytes : List ℕ) (r : Refused) → r ≡ R.At at_start → IsLeast bytes at_start → Judged bytes (Err r)
-judged bytes r e least = subst (λ q. Judged bytes (Err q)) (sym e) least
+pub judged : (bytes : List ℕ) (r : Refused) → r ≡ R.At at_start → IsLeast bytes at_start → Judged ToJani bytes (Err r)
+judged bytes r e least = subst (λ q. Judged ToJani bytes (Err q)) (sym e) least
 
 -- the file of a text that has no fault
 module _ (bytes : List ℕ) (tree : File) (read : IsSpelled bytes tree) where

@@ -3,25 +3,29 @@ use Rattle.std.specs.Prelude.{◌≡◌, ◌↔◌, ℕ, ◌<◌, ◌≤◌, Lis
 use Rattle.bridge_io.specs.Reason.{number_of, name_of}
 use Rattle.bridge_io.specs.declared.reason.Fault.{Fault}
 use Rattle.bridge_io.specs.declared.reason.Reason.TheVariants.{TooLong}
+use Rattle.model_command.specs.declared.words.Task.{Task}
 use Rattle.model_command.specs.Outcome.{place_in, refusal_line}
-use Rattle.model_command.specs.Translation.{IsSmallFile, IsLeast, Translates}
+use Rattle.model_command.specs.Tasks.{Makes, IsFit, IsLeastFor}
 
--- a small file within the limits
-abbrev pub IsAccepted : List ℕ → Type 0
-IsAccepted bytes = (length bytes ≤ 16777216) × IsSmallFile bytes
+-- a file that the task is done for, within the limits
+abbrev pub IsAccepted : Task → List ℕ → Type 0
+IsAccepted task bytes = (length bytes ≤ 16777216) × IsFit task bytes
 
 -- The least fault of a file that isn't accepted: it is too long, which is said at the first byte past the limit; or, where it
--- isn't, the least fault of its tokens, else of its grammar, else that it isn't small.
-pub record IsFault (bytes : List ℕ) (f : Fault) : Type 0 where
+-- isn't, the least fault of its tokens, else of its grammar; else, where it is to be translated, that it isn't small, and where it
+-- is checked, the least fault of its names, else of its size, else of its types. Of a JANI file it is the least fault of its JSON,
+-- else of its shape, else of its names, else of its types, else of the profile.
+pub record IsFault (task : Task) (bytes : List ℕ) (f : Fault) : Type 0 where
   pub long : 16777216 < length bytes → f ≡ record { reason = TooLong; at = 16777216 }
-  pub short : length bytes ≤ 16777216 → IsLeast bytes f
+  pub short : length bytes ≤ 16777216 → IsLeastFor task bytes f
 
 -- the line that tells it
 abbrev pub fault_line : List ℕ → List ℕ → Fault → List ℕ
 fault_line name bytes f = refusal_line name (place_in bytes f.at) (number_of f.reason) (name_of f.reason)
 
 -- out and err held was and said before, and hold this now
-pub record IsHeadline (bytes name was said : List ℕ) (out err : Option (List ℕ)) (answer : ℕ) : Type 0 where
-  pub exactly : (answer ≡ 0) ↔ IsAccepted bytes
-  pub accepted : answer ≡ 0 → (text : List ℕ) × Translates bytes text × (out ≡ Some (was ++ text)) × (err ≡ Some said)
-  pub refused : (IsAccepted bytes → ⊥) → (answer ≡ 2) × (out ≡ Some was) × ((f : Fault) × IsFault bytes f × (err ≡ Some (said ++ fault_line name bytes f)))
+pub record IsHeadline (task : Task) (bytes name was said : List ℕ) (out err : Option (List ℕ)) (answer : ℕ) : Type 0 where
+  pub exactly : (answer ≡ 0) ↔ IsAccepted task bytes
+  pub accepted : answer ≡ 0 → (text : List ℕ) × Makes task bytes text × (out ≡ Some (was ++ text)) × (err ≡ Some said)
+  pub refused : (IsAccepted task bytes → ⊥) → (answer ≡ 2) × (out ≡ Some was)
+      × ((f : Fault) × IsFault task bytes f × (err ≡ Some (said ++ fault_line name bytes f)))

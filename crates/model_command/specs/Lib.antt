@@ -1,5 +1,7 @@
+pub mod Checking
 pub mod Headline
 pub mod Jani
+pub mod JaniFile
 pub mod Json
 pub mod Meaning
 pub mod Names
@@ -7,9 +9,11 @@ pub mod NamesOf
 pub mod Options
 pub mod Outcome
 pub mod Pieces
+pub mod PrismFile
 pub mod Rules
 pub mod Run
 pub mod SmallForm
+pub mod Tasks
 pub mod Templates
 pub mod Translation
 pub mod Words

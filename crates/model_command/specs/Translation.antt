@@ -1,9 +1,7 @@
 -- A small file, and its translation.
-use Rattle.std.specs.Prelude.{◌≡◌, ◌⊎◌, ℕ, List, [], ◌∷◌, ◌++◌, IsTrue, Option, Some, None, Result, Ok, Err}
+use Rattle.std.specs.Prelude.{◌≡◌, ◌⊎◌, ℕ, List, [], ◌∷◌, ◌++◌, IsTrue, Option, Some, None}
 use Rattle.bridge_io.specs.declared.reason.Fault.{Fault}
 use Rattle.bridge_io.specs.declared.reason.Reason.TheVariants.{NotYet}
-use Rattle.bridge_io.specs.declared.reason.Refused.{Refused}
-use Rattle.bridge_io.specs.declared.reason.Refused.TheVariants as R
 use Rattle.prism_tree.specs.Syntax.{File}
 use Rattle.prism_tree.specs.Faults.{Spells, SyntaxFaults}
 use Rattle.prism_parse.specs.Parsed.{IsSpelled, IsLeastFault}
@@ -73,9 +71,3 @@ pub record IsNotYet (bytes : List ℕ) (f : Fault) : Type 0 where
 -- the least fault of bytes that aren't a small file
 abbrev pub IsLeast : List ℕ → Fault → Type 0
 IsLeast bytes f = IsLeastFault bytes f ⊎ IsNotYet bytes f
-
--- The bytes were translated to a text, or refused at their least fault; want of memory may come at any time.
-abbrev pub Judged : List ℕ → Result (List ℕ) Refused → Type 0
-Judged bytes (Ok text) = Translates bytes text
-Judged bytes (Err (R.Memory e)) = Unit {0}
-Judged bytes (Err (R.At f)) = IsLeast bytes f

@@ -3,7 +3,9 @@ ghost use Rattle.std.specs.Prelude.{◌≡◌, ◌∷◌, [], ◌++◌, IfOk};
 ghost use Rattle.prism_tree.specs.Syntax.{file_of};
 ghost use Rattle.model_command.specs.Jani.{jani_text};
 ghost use Rattle.model_command.specs.Meaning.{OneTree};
-ghost use Rattle.model_command.specs.Translation.{IsImage, Judged};
+ghost use Rattle.model_command.specs.Translation.{IsImage};
+ghost use Rattle.model_command.specs.Tasks.{Judged};
+ghost use Rattle.model_command.specs.declared.words.Task.TheVariants.{ToJani};
 ghost use Rattle.bridge_io.specs.declared.reason.Refused.TheVariants as R;
 ghost use Rattle.bridge_io.specs.declared.reason.Reason.TheVariants.{NotYet};
 
@@ -32,7 +34,7 @@ pub fn one_tree()
 
 /// The text that the bytes are translated to, or their least fault.
 pub(crate) fn translate(alloc: Global, bytes: &[u8]) -> Result<List<u8>, Refused>
-    ensures { Judged bytes.now result }
+    ensures { Judged ToJani bytes.now result }
 {
     one_tree();
     let file = match parse(alloc, bytes) {

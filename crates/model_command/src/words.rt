@@ -1,38 +1,90 @@
 //! The words of the command line.
-ghost use Rattle.std.specs.Prelude.{◌≡◌, MatchResult};
-ghost use Rattle.model_command.specs.Outcome.{name_in};
-ghost use Rattle.model_command.specs.Words.{texts, IsTranslation, IsWrongAt};
+ghost use Rattle.std.specs.Prelude.{◌∷◌, MatchResult, codes};
+ghost use Rattle.model_command.specs.Words.{texts, IsFileWord, HasFileWord, IsRequest, HasForm, IsWrong, IsWrongAt};
 
-/// The file that is to be translated; or, where the words are of no form, the position of the first word with which no form goes
-/// on, or of the one that is missing.
-pub(crate) fn file_of(words: &[String]) -> Result<&str, usize>
-    ensures { MatchResult result (λ name. IsTranslation (texts words.now) name.now) (λ k. IsWrongAt (texts words.now) k) }
+/// What a run does with the file that its words name.
+#[derive(Clone, Copy, PartialEq, Eq)]
+pub enum Task {
+    /// `to-jani FILE`: the PRISM file is translated to JANI.
+    ToJani,
+    /// `check prism FILE`: the PRISM file is judged, and what it consists of is counted.
+    CheckPrism,
+    /// `check jani FILE`: the JANI file is judged, and what takes part is counted.
+    CheckJani,
+}
+
+/// A task, and the word of the file that it is for.
+#[derive(Clone, Copy)]
+pub(crate) struct Request<'a> {
+    pub(crate) task: Task,
+    pub(crate) name: &'a str,
+}
+
+/// What the words ask for; or, where they are of no form, the position of the first word with which no form goes on, or of the
+/// one that is missing.
+pub(crate) fn request_in(words: &[String]) -> Result<Request<'_>, usize>
+    ensures { MatchResult result (λ r. IsRequest (texts words.now) r.task r.name.now) (λ k. IsWrongAt (texts words.now) k) }
 {
-    let [verb, after_verb @ ..] = words else {
+    let [verb, rest @ ..] = words else {
         return Err(1);
     };
-    if verb.as_str() != "to-jani" {
-        return Err(1);
+    match verb.as_str() {
+        "to-jani" => match file_in(rest) {
+            Ok(name) => Ok(Request {
+                task: Task::ToJani,
+                name,
+            }),
+            Err(k) => Err(k + 1),
+        },
+        "check" => match check_in(rest) {
+            Ok(request) => Ok(request),
+            Err(k) => Err(k + 1),
+        },
+        _ => Err(1),
     }
-    let [name, after_name @ ..] = after_verb else {
-        return Err(2);
+}
+
+// What the words behind `check` ask for, or the position among them at which no form goes on.
+fn check_in(words: &[String]) -> Result<Request<'_>, usize>
+    ensures { MatchResult result
+        (λ r. IsRequest (codes "check" ∷ texts words.now) r.task r.name.now)
+        (λ k. IsWrong (λ ws. HasForm (codes "check" ∷ ws)) (texts words.now) k) }
+{
+    let [lang, rest @ ..] = words else {
+        return Err(1);
+    };
+    match lang.as_str() {
+        "prism" => match file_in(rest) {
+            Ok(name) => Ok(Request {
+                task: Task::CheckPrism,
+                name,
+            }),
+            Err(k) => Err(k + 1),
+        },
+        "jani" => match file_in(rest) {
+            Ok(name) => Ok(Request {
+                task: Task::CheckJani,
+                name,
+            }),
+            Err(k) => Err(k + 1),
+        },
+        _ => Err(1),
+    }
+}
+
+// The one word, which isn't empty, or the position at which no such words go on.
+fn file_in(words: &[String]) -> Result<&str, usize>
+    ensures { MatchResult result (λ name. IsFileWord (texts words.now) name.now) (λ k. IsWrong HasFileWord (texts words.now) k) }
+{
+    let [name, rest @ ..] = words else {
+        return Err(1);
     };
     let name = name.as_str();
     if name.is_empty() {
+        return Err(1);
+    }
+    if !rest.is_empty() {
         return Err(2);
     }
-    if !after_name.is_empty() {
-        return Err(3);
-    }
     Ok(name)
-}
-
-/// The file's word, where there is one.
-pub(crate) fn name_of(words: &[String]) -> &str
-    ensures { result.now ≡ name_in (texts words.now) }
-{
-    if words.len() < 2 {
-        return "";
-    }
-    words[1].as_str()
 }

@@ -1,0 +1,8 @@
+use Rattle.std.specs.Prelude.{◌≡◌, ◌++◌, map, drop}
+use Rattle.jani_tree.specs.Syntax.{file_of}
+use Rattle.jani_check.specs.Rewarding.{element_rewards, rewarded_in}
+use Rattle.jani_check.proofs.elements.rewarding_of.Given as goal
+
+abbrev pub invariant-loop-e : goal.invariant-loop-e
+invariant-loop-e l =
+    map rewarded_in l.list.items ++ map (element_rewards (file_of l.file)) (drop l.e-index l.e-items) ≡ map (element_rewards (file_of l.file)) l.e-items

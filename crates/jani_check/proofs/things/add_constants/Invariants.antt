@@ -1,0 +1,12 @@
+use Rattle.std.specs.Prelude.{◌≡◌, ℕ, List, map, drop}
+use Rattle.std.specs.Option.{option_map}
+use Rattle.jani_tree.specs.Syntax.{const_of}
+use Rattle.jani_check.specs.Things.{const_thing, or_else}
+use Rattle.jani_check.specs.Scopes.{const_in}
+use Rattle.jani_check.specs.Tables.{under}
+use Rattle.jani_check.proofs.things.add_constants.Given as goal
+
+abbrev pub invariant-loop-c : goal.invariant-loop-c
+invariant-loop-c l = (x : List ℕ) →
+    or_else (under l.table x) (option_map const_thing (const_in (map const_of (drop l.c-index l.constants)) x))
+    ≡ or_else (under l.initial.table x) (option_map const_thing (const_in (map const_of l.constants) x))

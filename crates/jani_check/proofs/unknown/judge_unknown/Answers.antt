@@ -1,0 +1,10 @@
+use Rattle.jani_check.specs.Views.{demand_by}
+use Rattle.jani_check.specs.NameFaults.{unknown_by}
+use Rattle.jani_check.specs.Tables.{has_either}
+use Rattle.jani_check.proofs.Append.{soonest_next}
+use Rattle.jani_check.proofs.unknown.judge_unknown.Goals as goal
+
+pub loop-demand-preserved : goal.loop-demand-preserved
+loop-demand-preserved c =
+    soonest_next demand_by (unknown_by (has_either c.args.global.now c.args.own.now)) c.args.demands.now c.loop-demand.demand-index _ _ _ _
+    c.loop-demand-test.true c.demand-item.is c.judge_demand-best.ensures c.loop-demand.invariant

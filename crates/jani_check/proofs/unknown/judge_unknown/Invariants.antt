@@ -1,0 +1,11 @@
+use Rattle.std.specs.Prelude.{◌≡◌, map, drop}
+use Rattle.std.specs.List.{flat_map}
+use Rattle.jani_table.specs.Least.{soonest}
+use Rattle.jani_check.specs.Views.{demand_by}
+use Rattle.jani_check.specs.NameFaults.{unknown_by}
+use Rattle.jani_check.specs.Tables.{has_either}
+use Rattle.jani_check.proofs.unknown.judge_unknown.Given as goal
+
+abbrev pub invariant-loop-demand : goal.invariant-loop-demand
+invariant-loop-demand l =
+    soonest l.best (flat_map (unknown_by (has_either l.global l.own)) (map demand_by (drop l.demand-index l.demands))) ≡ soonest l.fn.before (flat_map (unknown_by (has_either l.global l.own)) (map demand_by l.demands))

@@ -1,0 +1,16 @@
+pub mod Least
+pub mod Things
+pub mod Demands
+pub mod NameFaults
+pub mod TypeFaults
+pub mod ProfileFaults
+pub mod Faults
+pub mod Views
+pub mod Lowest
+pub mod Tables
+pub mod Scopes
+pub mod NameLists
+pub mod Participants
+pub mod Assigned
+pub mod Rewarding
+pub mod Ranks

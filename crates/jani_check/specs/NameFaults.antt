@@ -1,0 +1,152 @@
+-- The faults of the names of a JANI file (jani-model specification, version 1: "Constants", "Variables", "Automata",
+-- "Compositions").
+use Rattle.std.specs.Prelude.{ℕ, zero, suc, max, List, [], ◌∷◌, ◌++◌, map, length, Bool, not, ◌||◌, bytes_eq, is_some, nat_eq}
+use Rattle.std.specs.List.{flat_map, filter, list_any}
+use Rattle.bridge_io.specs.declared.reason.Named.{Named}
+use Rattle.bridge_io.specs.declared.reason.Reason.{Reason}
+use Rattle.bridge_io.specs.declared.reason.Reason.TheVariants.{TwiceNamed, Unknown, Cycle, Nothing, BadVector, RepeatedAutomaton}
+use Rattle.bridge_io.specs.declared.reason.Fault.{Fault}
+use Rattle.op_trees.specs.Tree.{Tree, Truth, Number, Name as At, One, Two, Three}
+use Rattle.jani_tree.specs.Syntax.{Const, Var, Edge, Automaton, Vector, File}
+use Rattle.jani_check.specs.Least.{fault_if}
+use Rattle.jani_check.specs.Things.{Name, is_called}
+use Rattle.jani_check.specs.Demands.{Demand, fixed, varying, assigned, given, if_some, automaton_demands, outer_demands}
+
+abbrev pub is_among : List Named → Name → Bool
+is_among ns x = list_any (is_called x) ns
+
+-- ---- names that are declared twice
+
+-- the later of a name and an earlier one in the list that is the same, wherever they stand
+abbrev pub clash : Reason → Named → Named → List Fault
+clash reason n m = fault_if (bytes_eq m.name n.name) (max m.at n.at) reason
+
+-- of each two names that are the same the later, by offset
+abbrev pub doubled_after : Reason → List Named → List Named → List Fault
+doubled_after reason earlier [] = []
+doubled_after reason earlier (n ∷ ns) = flat_map (clash reason n) earlier ++ doubled_after reason (n ∷ earlier) ns
+
+abbrev pub doubled : Reason → List Named → List Fault
+doubled reason ns = doubled_after reason [] ns
+
+abbrev pub var_names : List Var → List Named
+var_names vars = map (λ x. x.name) vars
+
+-- constants and global variables, which share their names
+abbrev pub global_names : File → List Named
+global_names file = map (λ c. c.name) file.constants ++ var_names file.variables
+
+abbrev pub location_names : Automaton → List Named
+location_names a = map (λ l. l.name) a.locations
+
+abbrev pub automaton_names : File → List Named
+automaton_names file = map (λ a. a.name) file.automata
+
+-- the variables of an automaton, among themselves and beside the global names, and its locations; two automata may use one
+-- name
+abbrev pub doubled_in : List Named → Automaton → List Fault
+doubled_in global a = doubled_after TwiceNamed global (var_names a.variables) ++ doubled TwiceNamed (location_names a)
+
+abbrev pub doubled_names : File → List Fault
+doubled_names file =
+    doubled TwiceNamed (global_names file)
+    ++ (doubled TwiceNamed file.actions
+    ++ (doubled TwiceNamed (automaton_names file)
+    ++ flat_map (doubled_in (global_names file)) file.automata))
+
+-- ---- names that are not declared
+
+-- the names in an expression, where they stand
+abbrev pub names_of : {O : Type 0} → Tree O → List Named
+names_of (Truth at b) = []
+names_of (Number at d) = []
+names_of (At at x) = record { name = x; at = at } ∷ []
+names_of (One at o a) = names_of a
+names_of (Two at o a b) = names_of a ++ names_of b
+names_of (Three at o a b c) = names_of a ++ (names_of b ++ names_of c)
+
+-- the names that a demand uses
+abbrev pub names_used : Demand → List Named
+names_used (fixed w e) = names_of e
+names_used (varying w e) = names_of e
+names_used (assigned w) = w.target ∷ names_of w.value
+names_used (given w) = w.target ∷ names_of w.value
+
+-- the fault of a name that is not known
+abbrev pub unless_known : (Name → Bool) → Named → List Fault
+unless_known known n = fault_if (not (known n.name)) n.at Unknown
+
+abbrev pub unknown_by : (Name → Bool) → Demand → List Fault
+unknown_by known d = flat_map (unless_known known) (names_used d)
+
+-- the locations that an edge names
+abbrev pub edge_locations : Edge → List Named
+edge_locations e = e.location ∷ map (λ d. d.location) e.destinations
+
+-- the locations that an automaton names
+abbrev pub locations_used : Automaton → List Named
+locations_used a = a.initial ++ flat_map edge_locations a.edges
+
+abbrev pub actions_used : Automaton → List Named
+actions_used a = flat_map (λ e. if_some e.action) a.edges
+
+-- in an automaton, whose own variables are known beside the global names
+abbrev pub unknown_in : (Name → Bool) → (Name → Bool) → Automaton → List Fault
+unknown_in global actions a =
+    flat_map (unknown_by (λ x. global x || is_among (var_names a.variables) x)) (automaton_demands a)
+    ++ (flat_map (unless_known (is_among (location_names a))) (locations_used a)
+    ++ flat_map (unless_known actions) (actions_used a))
+
+-- the actions that a vector names
+abbrev pub vector_actions : Vector → List Named
+vector_actions v = flat_map if_some v.parts ++ if_some v.result
+
+abbrev pub unknown_names : File → List Fault
+unknown_names file =
+    flat_map (unknown_by (is_among (global_names file))) (outer_demands file)
+    ++ (flat_map (unknown_in (is_among (global_names file)) (is_among file.actions)) file.automata
+    ++ (flat_map (unless_known (is_among (automaton_names file))) file.elements
+    ++ flat_map (unless_known (is_among file.actions)) (flat_map vector_actions file.vectors)))
+
+-- ---- constants that depend on themselves
+
+-- the names in the value of a constant
+abbrev pub uses : Const → List Name
+uses c = map (λ n. n.name) (flat_map names_of (if_some c.value))
+
+-- the names in the values of all constants of this name
+abbrev pub uses_of : List Const → Name → List Name
+uses_of cs x = flat_map uses (filter (λ c. is_called x c.name) cs)
+
+-- one name is the other, or leads to it in at most so many steps
+abbrev pub leads_to : List Const → ℕ → Name → Name → Bool
+leads_to cs zero x y = bytes_eq x y
+leads_to cs (suc n) x y = bytes_eq x y || list_any (λ z. leads_to cs n z y) (uses_of cs x)
+
+abbrev pub is_circular : List Const → Const → Bool
+is_circular cs c = list_any (λ x. leads_to cs (length cs) x c.name.name) (uses c)
+
+abbrev pub circular : List Const → Const → List Fault
+circular cs c = fault_if (is_circular cs c) c.name.at Cycle
+
+abbrev pub circles : File → List Fault
+circles file = flat_map (circular file.constants) file.constants
+
+-- ---- the composition
+
+-- an automaton takes part once
+abbrev pub repeated_elements : File → List Fault
+repeated_elements file = doubled RepeatedAutomaton file.elements
+
+abbrev pub no_element : File → List Fault
+no_element file = fault_if (nat_eq (length file.elements) 0) file.elements_at Nothing
+
+-- a vector has a part for each of so many elements, and some element takes part
+abbrev pub bad_vector : ℕ → Vector → List Fault
+bad_vector elements v = fault_if (not (nat_eq (length v.parts) elements) || not (list_any is_some v.parts)) v.at BadVector
+
+abbrev pub composition_faults : File → List Fault
+composition_faults file = repeated_elements file ++ (no_element file ++ flat_map (bad_vector (length file.elements)) file.vectors)
+
+abbrev pub name_faults : File → List Fault
+name_faults file = doubled_names file ++ (unknown_names file ++ (circles file ++ composition_faults file))

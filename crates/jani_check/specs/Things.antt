@@ -1,0 +1,100 @@
+-- What the names of a JANI file stand for (jani-model specification, version 1: "Constants", "Variables", "Types",
+-- "Automata").
+use Rattle.std.specs.Prelude.{ℕ, List, Bool, true, false, Option, Some, None, bytes_eq, if◌then◌else◌}
+use Rattle.std.specs.List.{find}
+use Rattle.std.specs.Option.{option_map}
+use Rattle.bridge_io.specs.declared.reason.Named.{Named}
+use Rattle.op_trees.specs.declared.tree.Ty.{Ty}
+use Rattle.op_trees.specs.declared.tree.Ty.TheVariants as T
+use Rattle.op_trees.specs.Tree.{Truth, Number, Name as At, One, Two, Three}
+use Rattle.op_trees.specs.Types.{Types}
+use Rattle.jani_tree.specs.Syntax.{Expression, Const, VarKind, boolean, integer, number, real_bounded, one_sided, bounded, Var, Automaton, File}
+use Rattle.jani_check.specs.declared.things.Thing.{Thing}
+use Rattle.jani_check.specs.declared.things.Thing.TheVariants.{Constant, Variable, Transient}
+
+-- a name: its bytes
+abbrev pub Name : Type 0
+Name = List ℕ
+
+abbrev pub is_called : Name → Named → Bool
+is_called x n = bytes_eq n.name x
+
+-- the offset of the value that spells it
+abbrev pub offset_of : Expression → ℕ
+offset_of (Truth at b) = at
+offset_of (Number at d) = at
+offset_of (At at x) = at
+offset_of (One at o a) = at
+offset_of (Two at o a b) = at
+offset_of (Three at o a b c) = at
+
+-- the type of a variable's values
+abbrev pub kind_type : VarKind → Ty
+kind_type boolean = T.Bool
+kind_type integer = T.Int
+kind_type number = T.Real
+kind_type real_bounded = T.Real
+kind_type one_sided = T.Int
+kind_type (bounded low high) = T.Int
+
+abbrev pub const_thing : Const → Thing
+const_thing c = Constant c.ty
+
+abbrev pub var_thing : Var → Thing
+var_thing x = if x.transient then Transient (kind_type x.kind) else Variable (kind_type x.kind)
+
+abbrev pub const_called : File → Name → Option Const
+const_called file x = find (λ c. is_called x c.name) file.constants
+
+abbrev pub var_called : List Var → Name → Option Var
+var_called vars x = find (λ v. is_called x v.name) vars
+
+abbrev pub automaton_called : File → Name → Option Automaton
+automaton_called file x = find (λ a. is_called x a.name) file.automata
+
+-- the first, or else the second
+abbrev pub or_else : {A : Type 0} → Option A → Option A → Option A
+or_else None o = o
+or_else (Some x) o = Some x
+
+-- what a name stands for outside of automata: a constant or a global variable
+abbrev pub global_thing : File → Name → Option Thing
+global_thing file x = or_else (option_map const_thing (const_called file x)) (option_map var_thing (var_called file.variables x))
+
+-- what it stands for where these variables are known besides
+abbrev pub beside : (Name → Option Thing) → List Var → Name → Option Thing
+beside global own x = or_else (global x) (option_map var_thing (var_called own x))
+
+abbrev pub thing_type : Thing → Ty
+thing_type (Constant t) = t
+thing_type (Variable t) = t
+thing_type (Transient t) = t
+
+-- the types of names, by what they stand for
+abbrev pub types_by : (Name → Option Thing) → Types
+types_by things x = option_map thing_type (things x)
+
+-- ---- which things they are
+abbrev pub is_constant : Option Thing → Bool
+is_constant (Some (Constant t)) = true
+is_constant _ = false
+
+-- a variable that is not transient
+abbrev pub is_lasting : Option Thing → Bool
+is_lasting (Some (Variable t)) = true
+is_lasting _ = false
+
+abbrev pub is_transient : Option Thing → Bool
+is_transient (Some (Transient t)) = true
+is_transient _ = false
+
+-- a transient variable that is a truth value: a label
+abbrev pub is_label : Option Thing → Bool
+is_label (Some (Transient T.Bool)) = true
+is_label _ = false
+
+-- a transient variable that is a number: a reward
+abbrev pub is_reward : Option Thing → Bool
+is_reward (Some (Transient T.Int)) = true
+is_reward (Some (Transient T.Real)) = true
+is_reward _ = false

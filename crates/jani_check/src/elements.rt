@@ -1,0 +1,137 @@
+// The automata that take part, by their names.
+
+ghost use Rattle.std.specs.Prelude.{◌≡◌, List, ℕ, [], false, IfOk, map, length};
+ghost use Rattle.std.specs.Option.{option_map};
+ghost use Rattle.jani_tree.specs.Syntax.{automaton_of, file_of};
+ghost use Rattle.jani_check.specs.Participants.{automaton_in, automaton_under, element_shared};
+ghost use Rattle.jani_check.specs.Faults.{edge_count};
+ghost use Rattle.jani_check.specs.NameLists.{names_under};
+ghost use Rattle.jani_check.specs.Rewarding.{element_rewards, rewarded_in};
+ghost use Rattle.jani_check.specs.Scopes.{thing_under};
+ghost use Rattle.jani_check.specs.Things.{global_thing};
+ghost use Rattle.jani_check.specs.TypeFaults.{shared_by, with_automaton};
+ghost use Rattle.jani_check.specs.ProfileFaults.{rewards_with};
+
+use crate::lists::NameLists;
+use crate::shared::shared_names;
+use crate::things::{Things, add_first};
+use crate::writers::Rewarding;
+use bridge_io::Named;
+use indexmap::IndexMap;
+use jani_tree::{JaniAutomaton, JaniFile};
+use std::alloc::{AllocError, Global};
+
+/// Automata by their names; the first of one name counts.
+#[derive(Drop)]
+pub(crate) struct Automata<'a> {
+    first: IndexMap<&'a str, &'a JaniAutomaton>,
+}
+
+impl<'a> Automata<'a> {
+    /// These automata.
+    pub(crate) fn of(alloc: Global, all: &'a [JaniAutomaton]) -> Result<Automata<'a>, AllocError>
+        ensures { IfOk result (λ t. (x : List ℕ) → automaton_under t x ≡ automaton_in (map automaton_of all.now) x) }
+    {
+        let mut first = IndexMap::new(alloc);
+        for a in all {
+            add_first(&mut first, a.name.name.as_str(), a)?;
+        }
+        Ok(Automata { first })
+    }
+
+    /// The first of this name.
+    pub(crate) fn called(&self, name: &str) -> Option<&'a JaniAutomaton>
+        ensures { option_map (λ a. automaton_of a.now) result ≡ automaton_under self.now name.now }
+    {
+        self.first.get(name).copied()
+    }
+}
+
+/// What the elements of a file assign, in their order.
+pub(crate) fn shared_of<'a>(
+    alloc: Global,
+    file: &'a JaniFile,
+    global: &Things,
+) -> Result<Vec<NameLists<'a>>, AllocError>
+    requires { (x : List ℕ) → thing_under global.now x ≡ global_thing (file_of file.now) x }
+    ensures { IfOk result (λ list. map names_under list.items ≡ map (element_shared (file_of file.now)) file.now.elements) }
+{
+    let automata = Automata::of(alloc, file.automata.as_slice())?;
+    let mut list = Vec::new(alloc);
+    for e in file.elements.as_slice() {
+        let shared = element_shared(alloc, &automata, global, e)?;
+        list.push(shared)?;
+    }
+    Ok(list)
+}
+
+fn element_shared<'a>(
+    alloc: Global,
+    automata: &Automata<'a>,
+    global: &Things,
+    e: &Named,
+) -> Result<NameLists<'a>, AllocError>
+    ensures { IfOk result
+        (λ lists. (x : List ℕ) → names_under lists x
+        ≡ with_automaton (λ a. shared_by (thing_under global.now) a x) [] (automaton_under automata.now e.now.name)) }
+{
+    match automata.called(e.name.as_str()) {
+        Some(a) => shared_names(alloc, global, a),
+        None => Ok(NameLists::new(alloc)),
+    }
+}
+
+/// With which actions the elements of a file assign rewards, in their order.
+pub(crate) fn rewarding_of<'a>(
+    alloc: Global,
+    file: &'a JaniFile,
+    global: &Things,
+) -> Result<Vec<Rewarding<'a>>, AllocError>
+    requires { (x : List ℕ) → thing_under global.now x ≡ global_thing (file_of file.now) x }
+    ensures { IfOk result (λ list. map rewarded_in list.items ≡ map (element_rewards (file_of file.now)) file.now.elements) }
+{
+    let automata = Automata::of(alloc, file.automata.as_slice())?;
+    let mut list = Vec::new(alloc);
+    for e in file.elements.as_slice() {
+        let rewarding = element_rewarding(alloc, &automata, global, e)?;
+        list.push(rewarding)?;
+    }
+    Ok(list)
+}
+
+fn element_rewarding<'a>(
+    alloc: Global,
+    automata: &Automata<'a>,
+    global: &Things,
+    e: &Named,
+) -> Result<Rewarding<'a>, AllocError>
+    ensures { IfOk result
+        (λ r. (x : List ℕ) → rewarded_in r x
+        ≡ with_automaton (λ a. rewards_with (thing_under global.now) a x) false (automaton_under automata.now e.now.name)) }
+{
+    match automata.called(e.name.as_str()) {
+        Some(a) => Rewarding::of(alloc, global, a),
+        None => Ok(Rewarding::new(alloc)),
+    }
+}
+
+/// How many edges the automata that take part have.
+pub(crate) fn count_edges(alloc: Global, file: &JaniFile) -> Result<u128, AllocError>
+    ensures { IfOk result (λ n. n ≡ edge_count (file_of file.now)) }
+{
+    let automata = Automata::of(alloc, file.automata.as_slice())?;
+    let mut sum = 0;
+    for e in file.elements.as_slice() {
+        sum += edges_of(&automata, e) as u128;
+    }
+    Ok(sum)
+}
+
+fn edges_of(automata: &Automata, e: &Named) -> usize
+    ensures { result ≡ length (with_automaton (λ a. a.edges) [] (automaton_under automata.now e.now.name)) }
+{
+    match automata.called(e.name.as_str()) {
+        Some(a) => a.edges.len(),
+        None => 0,
+    }
+}

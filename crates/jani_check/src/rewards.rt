@@ -1,0 +1,152 @@
+// Rewards that differ between the destinations of one edge.
+
+ghost use Rattle.std.specs.Prelude.{◌≡◌, List, ℕ, map, IfOk};
+ghost use Rattle.std.specs.List.{flat_map, list_any};
+ghost use Rattle.op_trees.specs.Tree.{tree};
+ghost use Rattle.jani_table.specs.Least.{soonest};
+ghost use Rattle.jani_tree.specs.Syntax.{destination_of, edge_of, write_of};
+ghost use Rattle.jani_check.specs.ProfileFaults.{branch_rewards, differ, lacks, rewards_by, same_tree, some_differ, value_for};
+ghost use Rattle.jani_check.specs.Scopes.{scope_thing};
+ghost use Rattle.jani_check.specs.Things.{is_reward};
+ghost use Rattle.jani_check.specs.Assigned.{value_under};
+
+use crate::least::sooner_if;
+use crate::things::{Scope, Thing, add_first};
+use bridge_io::{Fault, Reason};
+use indexmap::IndexMap;
+use jani_tree::{JaniDestination, JaniEdge, JaniWrite, Je};
+use op_trees::{Ty, same};
+use std::alloc::{AllocError, Global};
+
+/// The least of a fault that was found before and those of edges whose destinations assign different rewards.
+pub(crate) fn judge_rewards(
+    alloc: Global,
+    scope: &Scope,
+    edges: &[JaniEdge],
+    before: Option<Fault>,
+) -> Result<Option<Fault>, AllocError>
+    ensures { IfOk result (λ best. best ≡ soonest before (flat_map (branch_rewards (scope_thing scope.now)) (map edge_of edges.now))) }
+{
+    let mut best = before;
+    for e in edges {
+        best = judge_edge(alloc, scope, e, best)?;
+    }
+    Ok(best)
+}
+
+fn judge_edge(
+    alloc: Global,
+    scope: &Scope,
+    e: &JaniEdge,
+    best: Option<Fault>,
+) -> Result<Option<Fault>, AllocError>
+    ensures { IfOk result (λ next. next ≡ soonest best (branch_rewards (scope_thing scope.now) (edge_of e.now))) }
+{
+    let differ = some_differ(alloc, scope, e.destinations.as_slice())?;
+    Ok(sooner_if(differ, e.at, Reason::BranchReward, best))
+}
+
+// Whether some two destinations assign different rewards: each is compared with the first.
+fn some_differ(
+    alloc: Global,
+    scope: &Scope,
+    destinations: &[JaniDestination],
+) -> Result<bool, AllocError>
+    ensures { IfOk result (λ b. b ≡ some_differ (scope_thing scope.now) (map destination_of destinations.now)) }
+{
+    match destinations.split_first() {
+        Some((first, rest)) => differs_from(alloc, scope, first, rest),
+        None => Ok(false),
+    }
+}
+
+fn differs_from(
+    alloc: Global,
+    scope: &Scope,
+    first: &JaniDestination,
+    rest: &[JaniDestination],
+) -> Result<bool, AllocError>
+    ensures { IfOk result
+        (λ b. b ≡ list_any (differ (scope_thing scope.now) (destination_of first.now)) (map destination_of rest.now)) }
+{
+    let values = Values::of(alloc, first.writes.as_slice())?;
+    for d in rest {
+        if differ(alloc, scope, first, &values, d)? {
+            return Ok(true);
+        }
+    }
+    Ok(false)
+}
+
+// Whether one of two destinations assigns a reward that the other does not, where the first has these values.
+fn differ(
+    alloc: Global,
+    scope: &Scope,
+    first: &JaniDestination,
+    values: &Values,
+    d: &JaniDestination,
+) -> Result<bool, AllocError>
+    requires { (x : List ℕ) → value_under values.now x ≡ value_for (map write_of first.now.writes) x }
+    ensures { IfOk result (λ b. b ≡ differ (scope_thing scope.now) (destination_of first.now) (destination_of d.now)) }
+{
+    let own = Values::of(alloc, d.writes.as_slice())?;
+    Ok(
+        lack_some(scope, &own, first.writes.as_slice())
+            || lack_some(scope, values, d.writes.as_slice()),
+    )
+}
+
+// Whether these values lack one of the rewards that are assigned.
+fn lack_some(scope: &Scope, values: &Values, writes: &[JaniWrite]) -> bool
+    ensures { result
+        ≡ list_any (lacks (value_under values.now)) (rewards_by (scope_thing scope.now) (map write_of writes.now)) }
+{
+    for w in writes {
+        if is_reward(scope.thing(w.target.name.as_str())) && values.lack(w) {
+            return true;
+        }
+    }
+    false
+}
+
+/// Whether it is a transient variable that is a number.
+pub(crate) fn is_reward(thing: Option<Thing>) -> bool
+    ensures { result ≡ is_reward thing }
+{
+    matches!(thing, Some(Thing::Transient(Ty::Int | Ty::Real)))
+}
+
+/// What is assigned, by the names; the first of one name counts.
+#[derive(Drop)]
+struct Values<'a> {
+    first: IndexMap<&'a str, &'a Je>,
+}
+
+impl<'a> Values<'a> {
+    /// What these assign.
+    fn of(alloc: Global, writes: &'a [JaniWrite]) -> Result<Values<'a>, AllocError>
+        ensures { IfOk result (λ t. (x : List ℕ) → value_under t x ≡ value_for (map write_of writes.now) x) }
+    {
+        let mut first = IndexMap::new(alloc);
+        for w in writes {
+            add_first(&mut first, w.target.name.as_str(), &w.value)?;
+        }
+        Ok(Values { first })
+    }
+
+    /// Whether this is not assigned.
+    fn lack(&self, w: &JaniWrite) -> bool
+        ensures { result ≡ lacks (value_under self.now) (write_of w.now) }
+    {
+        match self.first.get(w.target.name.as_str()) {
+            Some(e) => !same_tree(&w.value, *e),
+            None => true,
+        }
+    }
+}
+
+fn same_tree(a: &Je, b: &Je) -> bool
+    ensures { result ≡ same_tree (tree a.now) (tree b.now) }
+{
+    same(a, b)
+}

@@ -1,0 +1,65 @@
+// The first values of transient variables.
+
+ghost use Rattle.std.specs.Prelude.{◌≡◌, map};
+ghost use Rattle.std.specs.List.{flat_map};
+ghost use Rattle.op_trees.specs.Tree.{tree};
+ghost use Rattle.op_trees.specs.declared.tree.Ty.TheVariants.{Int};
+ghost use Rattle.jani_table.specs.Least.{soonest};
+ghost use Rattle.jani_tree.specs.Syntax.{var_of};
+ghost use Rattle.jani_check.specs.ProfileFaults.{first_fault, is_first, start_faults};
+
+use crate::least::sooner_if;
+use crate::things::kind_type;
+use crate::typing::offset;
+use bridge_io::{Fault, Reason};
+use jani_tree::{JaniVar, Je};
+use op_trees::{Expr, Ty};
+
+/// The least of a fault that was found before and those of the first values of these variables.
+pub(crate) fn judge_starts(vars: &[JaniVar], before: Option<Fault>) -> Option<Fault>
+    ensures { result ≡ soonest before (flat_map start_faults (map var_of vars.now)) }
+{
+    let mut best = before;
+    for var in vars {
+        best = judge_start(var, best);
+    }
+    best
+}
+
+fn judge_start(var: &JaniVar, best: Option<Fault>) -> Option<Fault>
+    ensures { result ≡ soonest best (start_faults (var_of var.now)) }
+{
+    if !var.transient {
+        return best;
+    }
+    match &var.start {
+        Some(e) => judge_first(kind_type(&var.kind), e, best),
+        None => best,
+    }
+}
+
+fn judge_first(ty: Ty, e: &Je, best: Option<Fault>) -> Option<Fault>
+    ensures { result ≡ soonest best (first_fault ty (tree e.now)) }
+{
+    sooner_if(!is_first(ty, e), offset(e), Reason::TransientInitial, best)
+}
+
+// Whether it is true or false, or a literal of value 0, as the type wants.
+fn is_first(ty: Ty, e: &Je) -> bool
+    ensures { result ≡ is_first ty (tree e.now) }
+{
+    match ty {
+        Ty::Bool => matches!(e, Expr::Truth(_, _)),
+        Ty::Int => is_zero(e),
+        Ty::Real => is_zero(e),
+    }
+}
+
+fn is_zero(e: &Je) -> bool
+    ensures { result ≡ is_first Int (tree e.now) }
+{
+    match e {
+        Expr::Number(_, d) => d.digits == 0,
+        _ => false,
+    }
+}

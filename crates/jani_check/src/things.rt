@@ -1,0 +1,171 @@
+// What the names of a file stand for.
+
+ghost use Rattle.std.specs.Prelude.{◌≡◌, List, ℕ, map, IfOk, OnOk, Some, None, bytes_eq, if◌then◌else◌};
+ghost use Rattle.std.specs.Option.{option_map};
+ghost use Rattle.jani_tree.specs.Syntax.{const_of, file_of, kind_of, var_of};
+ghost use Rattle.jani_check.specs.Things.{beside, const_thing, global_thing, kind_type, or_else, thing_type, var_thing, var_called};
+ghost use Rattle.jani_check.specs.Scopes.{const_in, scope_thing, thing_under};
+ghost use Rattle.jani_check.specs.Tables.{under};
+
+use indexmap::IndexMap;
+use jani_tree::{JaniConst, JaniFile, JaniKind, JaniVar};
+use op_trees::{Names, Ty, Value};
+use std::alloc::{AllocError, Global};
+
+/// A constant, a variable that is not transient, or a transient one, with the type of its values.
+#[derive(Clone, Copy)]
+pub(crate) enum Thing {
+    Constant(Ty),
+    Variable(Ty),
+    Transient(Ty),
+}
+
+/// The type of a variable's values.
+pub(crate) fn kind_type(kind: &JaniKind) -> Ty
+    ensures { result ≡ kind_type (kind_of kind.now) }
+{
+    match kind {
+        JaniKind::Bool => Ty::Bool,
+        JaniKind::Int => Ty::Int,
+        JaniKind::Real => Ty::Real,
+        JaniKind::RealBounded => Ty::Real,
+        JaniKind::OneSided => Ty::Int,
+        JaniKind::Bounded(_, _) => Ty::Int,
+    }
+}
+
+fn var_thing(var: &JaniVar) -> Thing
+    ensures { result ≡ var_thing (var_of var.now) }
+{
+    let ty = kind_type(&var.kind);
+    if var.transient {
+        Thing::Transient(ty)
+    } else {
+        Thing::Variable(ty)
+    }
+}
+
+/// Things by their names; the first of one name counts.
+#[derive(Drop)]
+pub(crate) struct Things<'a> {
+    first: IndexMap<&'a str, Thing>,
+}
+
+impl<'a> Things<'a> {
+    /// The constants and the global variables of a file.
+    pub(crate) fn global(alloc: Global, file: &'a JaniFile) -> Result<Things<'a>, AllocError>
+        ensures { IfOk result (λ t. (x : List ℕ) → thing_under t x ≡ global_thing (file_of file.now) x) }
+    {
+        let mut first = IndexMap::new(alloc);
+        add_constants(file.constants.as_slice(), &mut first)?;
+        add_vars(file.variables.as_slice(), &mut first)?;
+        Ok(Things { first })
+    }
+
+    /// These variables.
+    pub(crate) fn own(alloc: Global, vars: &'a [JaniVar]) -> Result<Things<'a>, AllocError>
+        ensures { IfOk result (λ t. (x : List ℕ) → thing_under t x ≡ option_map var_thing (var_called (map var_of vars.now) x)) }
+    {
+        let mut first = IndexMap::new(alloc);
+        add_vars(vars, &mut first)?;
+        Ok(Things { first })
+    }
+
+    /// What a name stands for.
+    pub(crate) fn get(&self, name: &str) -> Option<Thing>
+        ensures { result ≡ thing_under self.now name.now }
+    {
+        self.first.get(name).copied()
+    }
+}
+
+/// Adds a value under a name, if none stands there.
+pub(crate) fn add_first<'a, T: Copy>(
+    table: &mut IndexMap<&'a str, T>,
+    name: &'a str,
+    value: T,
+) -> Result<(), AllocError>
+    ensures { OnOk result
+        ((x : List ℕ) → under table.new x ≡ or_else (under table.old x) (if bytes_eq name.now x then Some value else None)) }
+{
+    if table.get(name).is_some() {
+        return Ok(());
+    }
+    match table.insert(name, value) {
+        Ok(_) => Ok(()),
+        Err(_) => Err(AllocError),
+    }
+}
+
+fn add_constants<'a>(
+    constants: &'a [JaniConst],
+    table: &mut IndexMap<&'a str, Thing>,
+) -> Result<(), AllocError>
+    ensures { OnOk result
+        ((x : List ℕ) → under table.new x ≡ or_else (under table.old x) (option_map const_thing (const_in (map const_of constants.now) x))) }
+{
+    for c in constants {
+        add_first(table, c.name.name.as_str(), Thing::Constant(c.ty))?;
+    }
+    Ok(())
+}
+
+fn add_vars<'a>(vars: &'a [JaniVar], table: &mut IndexMap<&'a str, Thing>) -> Result<(), AllocError>
+    ensures { OnOk result
+        ((x : List ℕ) → under table.new x ≡ or_else (under table.old x) (option_map var_thing (var_called (map var_of vars.now) x))) }
+{
+    for var in vars {
+        add_first(table, var.name.name.as_str(), var_thing(var))?;
+    }
+    Ok(())
+}
+
+/// What names stand for in an automaton: what they stand for outside, and its own variables.
+#[derive(Drop)]
+pub(crate) struct Scope<'s, 'a> {
+    pub(crate) global: &'s Things<'a>,
+    pub(crate) own: Things<'a>,
+}
+
+impl<'s, 'a> Scope<'s, 'a> {
+    /// What a name stands for.
+    pub(crate) fn thing(&self, name: &str) -> Option<Thing>
+        ensures { result ≡ scope_thing self.now name.now }
+    {
+        match self.global.get(name) {
+            Some(thing) => Some(thing),
+            None => self.own.get(name),
+        }
+    }
+}
+
+/// The type of its values.
+pub(crate) fn thing_type(thing: Thing) -> Ty
+    ensures { result ≡ thing_type thing }
+{
+    match thing {
+        Thing::Constant(ty) => ty,
+        Thing::Variable(ty) => ty,
+        Thing::Transient(ty) => ty,
+    }
+}
+
+impl<'s, 'a> Names for Scope<'s, 'a> {
+    ghost use Rattle.std.specs.Prelude.{None};
+    ghost use Rattle.jani_check.specs.Things.{types_by};
+    ghost use Rattle.jani_check.specs.Scopes.{no_value, scope_thing};
+
+    ghost values = { λ n x. None };
+
+    ghost types = { λ n. types_by (scope_thing n) };
+
+    ghost typed = { λ n x. no_value };
+
+    fn value(&self, name: &str) -> Option<Value> {
+        None
+    }
+
+    fn ty(&self, name: &str) -> Option<Ty> {
+        self.thing(name).map(thing_type)
+    }
+}

@@ -1,0 +1,164 @@
+// The types of expressions, and what is assigned.
+
+ghost use Rattle.std.specs.Prelude.{◌≡◌, map};
+ghost use Rattle.std.specs.List.{flat_map};
+ghost use Rattle.op_trees.specs.Tree.{tree};
+ghost use Rattle.jani_table.specs.Least.{soonest};
+ghost use Rattle.jani_tree.specs.Syntax.{write_of};
+ghost use Rattle.jani_check.specs.Demands.{assigned, fixed, given};
+ghost use Rattle.jani_check.specs.Scopes.{scope_thing};
+ghost use Rattle.jani_check.specs.Things.{is_constant, is_lasting, is_transient, offset_of, types_by};
+ghost use Rattle.jani_check.specs.TypeFaults.{demand_faults, has_variable, is_variable, is_wanted, type_faults_of, wanted_at};
+ghost use Rattle.jani_check.specs.Views.{demand_by};
+
+use crate::demands::{Demand, Wanted, wanted_by};
+use crate::least::sooner_if;
+use crate::things::{Scope, Thing, thing_type};
+use bridge_io::{Fault, Reason};
+use jani_table::sooner;
+use jani_tree::{JaniWrite, Je};
+use op_trees::{Expr, Ty, type_of};
+
+/// The least of a fault that was found before and those of the types of these expressions and of what is assigned.
+pub(crate) fn judge_demands(
+    scope: &Scope,
+    demands: &[Demand],
+    before: Option<Fault>,
+) -> Option<Fault>
+    ensures { result ≡ soonest before (flat_map (demand_faults (scope_thing scope.now)) (map demand_by demands.now)) }
+{
+    let mut best = before;
+    for demand in demands {
+        best = judge_demand(scope, demand, best);
+    }
+    best
+}
+
+fn judge_demand(scope: &Scope, demand: &Demand, best: Option<Fault>) -> Option<Fault>
+    ensures { result ≡ soonest best (demand_faults (scope_thing scope.now) (demand_by demand.now)) }
+{
+    match demand {
+        Demand::Fixed(wanted, e) => judge_fixed(scope, *wanted, e, best),
+        Demand::Varying(wanted, e) => judge_type(scope, *wanted, e, best),
+        Demand::Assigned(write) => judge_assigned(scope, write, best),
+        Demand::Given(write) => judge_given(scope, write, best),
+    }
+}
+
+fn judge_fixed(scope: &Scope, wanted: Wanted, e: &Je, best: Option<Fault>) -> Option<Fault>
+    ensures { result ≡ soonest best (demand_faults (scope_thing scope.now) (fixed wanted (tree e.now))) }
+{
+    let typed = judge_type(scope, wanted, e, best);
+    sooner_if(
+        names_variable(scope, e),
+        offset(e),
+        Reason::NotConstant,
+        typed,
+    )
+}
+
+fn judge_assigned(scope: &Scope, write: &JaniWrite, best: Option<Fault>) -> Option<Fault>
+    ensures { result ≡ soonest best (demand_faults (scope_thing scope.now) (assigned (write_of write.now))) }
+{
+    let thing = scope.thing(write.target.name.as_str());
+    let foreign = is_constant(thing);
+    let first = sooner_if(foreign, write.target.at, Reason::ForeignWrite, best);
+    judge_type(scope, wanted_at(thing), &write.value, first)
+}
+
+fn judge_given(scope: &Scope, write: &JaniWrite, best: Option<Fault>) -> Option<Fault>
+    ensures { result ≡ soonest best (demand_faults (scope_thing scope.now) (given (write_of write.now))) }
+{
+    let thing = scope.thing(write.target.name.as_str());
+    let foreign = !is_transient(thing);
+    let first = sooner_if(foreign, write.target.at, Reason::ForeignWrite, best);
+    judge_type(scope, wanted_at(thing), &write.value, first)
+}
+
+/// Whether it is a constant.
+fn is_constant(thing: Option<Thing>) -> bool
+    ensures { result ≡ is_constant thing }
+{
+    matches!(thing, Some(Thing::Constant(_)))
+}
+
+/// Whether it is a transient variable.
+pub(crate) fn is_transient(thing: Option<Thing>) -> bool
+    ensures { result ≡ is_transient thing }
+{
+    matches!(thing, Some(Thing::Transient(_)))
+}
+
+/// Whether it is a variable that is not transient.
+pub(crate) fn is_lasting(thing: Option<Thing>) -> bool
+    ensures { result ≡ is_lasting thing }
+{
+    matches!(thing, Some(Thing::Variable(_)))
+}
+
+// What is assigned to a thing has to be of its type.
+fn wanted_at(thing: Option<Thing>) -> Wanted
+    ensures { result ≡ wanted_at thing }
+{
+    match thing {
+        Some(thing) => wanted_by(thing_type(thing)),
+        None => Wanted::Anything,
+    }
+}
+
+fn is_wanted(wanted: Wanted, ty: Ty) -> bool
+    ensures { result ≡ is_wanted wanted ty }
+{
+    match wanted {
+        Wanted::Anything => true,
+        Wanted::Bool => matches!(ty, Ty::Bool),
+        Wanted::Int => matches!(ty, Ty::Int),
+        Wanted::Number => matches!(ty, Ty::Int | Ty::Real),
+    }
+}
+
+// The type of an expression, which has to be what is wanted.
+fn judge_type(scope: &Scope, wanted: Wanted, e: &Je, best: Option<Fault>) -> Option<Fault>
+    ensures { result ≡ soonest best (type_faults_of (types_by (scope_thing scope.now)) wanted (tree e.now)) }
+{
+    match type_of(e, scope) {
+        Ok(ty) => sooner_if(!is_wanted(wanted, ty), offset(e), Reason::WrongType, best),
+        Err(at) => sooner(best, at, Reason::WrongType),
+    }
+}
+
+/// The offset of an expression.
+pub(crate) fn offset(e: &Je) -> usize
+    ensures { result ≡ offset_of (tree e.now) }
+{
+    match e {
+        Expr::Truth(at, _) => *at,
+        Expr::Number(at, _) => *at,
+        Expr::Name(at, _) => *at,
+        Expr::One(at, _, _) => *at,
+        Expr::Two(at, _, _, _) => *at,
+        Expr::Three(at, _, _, _, _) => *at,
+    }
+}
+
+// Whether some name in an expression is a variable.
+fn names_variable(scope: &Scope, e: &Je) -> bool
+    ensures { result ≡ has_variable (scope_thing scope.now) (tree e.now) }
+{
+    match e {
+        Expr::Truth(_, _) => false,
+        Expr::Number(_, _) => false,
+        Expr::Name(_, name) => is_variable(scope.thing(name.as_str())),
+        Expr::One(_, _, a) => names_variable(scope, a),
+        Expr::Two(_, _, a, b) => names_variable(scope, a) || names_variable(scope, b),
+        Expr::Three(_, _, a, b, c) => {
+            names_variable(scope, a) || names_variable(scope, b) || names_variable(scope, c)
+        }
+    }
+}
+
+fn is_variable(thing: Option<Thing>) -> bool
+    ensures { result ≡ is_variable thing }
+{
+    is_lasting(thing) || is_transient(thing)
+}

@@ -1,0 +1,24 @@
+use Rattle.std.proofs.Common.{rules, ◌≡◌, ◌≢◌, refl}
+use Rattle.std.specs.Prelude.{string_bytes, codes}
+use Rattle.model_command.specs.Words.{HasForm}
+use Rattle.model_command.proofs.Wrong.{no_verb, other_verb, behind_to_jani, wrong_next, read_none, read_first}
+use Rattle.model_command.proofs.words.request_in.Goals as goal
+
+pub returns-in_default : goal.returns-in_default
+returns-in_default c = read_none HasForm 1 _ c.in_default.len_below no_verb
+
+pub returns-in-Err : goal.returns-in-Err
+returns-in-Err c =
+    let eq : string_bytes c.verb-item.result ≡ codes "to-jani" = search rules in
+    read_first HasForm _ _ c.verb-item.result _ c.in-len1-up.len_at_least c.verb-item.is eq (behind_to_jani _ _ c.in-Err.ensures)
+
+pub returns-in-Err-check_in : goal.returns-in-Err-check_in
+returns-in-Err-check_in c =
+    let eq : string_bytes c.verb-item.result ≡ codes "check" = search rules in
+    read_first HasForm _ _ c.verb-item.result _ c.in-len1-up.len_at_least c.verb-item.is eq (wrong_next HasForm _ _ _ c.in-Err-check_in.ensures)
+
+pub returns-in_default-as_str : goal.returns-in_default-as_str
+returns-in_default-as_str c =
+    let not_to_jani : string_bytes c.verb-item.result ≢ codes "to-jani" = search rules in
+    let not_check : string_bytes c.verb-item.result ≢ codes "check" = search rules in
+    read_first HasForm 1 _ c.verb-item.result _ c.in-len1-up.len_at_least c.verb-item.is refl (other_verb _ _ not_to_jani not_check)

@@ -1,0 +1,30 @@
+-- Which bytes are a PRISM file without fault, and the least fault of all others.
+use Rattle.std.specs.Prelude.{◌≡◌, ℕ, List, []}
+use Rattle.bridge_io.specs.declared.reason.Fault.{Fault}
+use Rattle.bridge_io.specs.declared.reason.Refused.{Refused}
+use Rattle.bridge_io.specs.declared.reason.Refused.TheVariants as R
+use Rattle.prism_tree.specs.Syntax.{File}
+use Rattle.prism_parse.specs.Parsed.{IsSpelled, IsLeastFault}
+use Rattle.prism_check.specs.Least.{IsLeast}
+use Rattle.prism_check.specs.Faults.{faults}
+
+-- The bytes have no fault of tokens or grammar, they spell this tree and no other, and the tree has no fault of names, size or
+-- types.
+pub record IsFaultless (bytes : List ℕ) (tree : File) : Type 0 where
+  pub read : IsSpelled bytes tree
+  pub sound : faults tree ≡ []
+
+-- some tree
+abbrev pub HasNoFault : List ℕ → Type 0
+HasNoFault bytes = (tree : File) × IsFaultless bytes tree
+
+-- This is the least fault of the first phase that has any: of the tokens, or the grammar; or else of the names, the size or
+-- the types of the tree.
+pub data IsPrismFault (bytes : List ℕ) (f : Fault) : Type 0 where
+  of_text : IsLeastFault bytes f → IsPrismFault bytes f
+  of_tree : (tree : File) → IsSpelled bytes tree → IsLeast (faults tree) f → IsPrismFault bytes f
+
+-- want of memory may come at any time
+abbrev pub RefusesPrism : List ℕ → Refused → Type 0
+RefusesPrism bytes (R.Memory e) = Unit {0}
+RefusesPrism bytes (R.At f) = IsPrismFault bytes f

@@ -1,0 +1,35 @@
+-- What each task makes of a file, and which files it refuses.
+use Rattle.std.specs.Prelude.{ℕ, List, Result, Ok, Err}
+use Rattle.bridge_io.specs.declared.reason.Fault.{Fault}
+use Rattle.bridge_io.specs.declared.reason.Refused.{Refused}
+use Rattle.bridge_io.specs.declared.reason.Refused.TheVariants as R
+use Rattle.model_command.specs.declared.words.Task.{Task}
+use Rattle.model_command.specs.declared.words.Task.TheVariants.{ToJani, CheckPrism, CheckJani}
+use Rattle.model_command.specs.PrismFile.{HasNoFault, IsPrismFault}
+use Rattle.model_command.specs.JaniFile.{HasNoJaniFault, IsJaniFault}
+use Rattle.model_command.specs.Checking.{Checks, ChecksJani}
+use Rattle.model_command.specs.Translation.{IsSmallFile, Translates, IsLeast}
+
+-- the text is what the task makes of the bytes
+abbrev pub Makes : Task → List ℕ → List ℕ → Type 0
+Makes ToJani bytes text = Translates bytes text
+Makes CheckPrism bytes text = Checks bytes text
+Makes CheckJani bytes text = ChecksJani bytes text
+
+-- the bytes that it is done for, up to their length
+abbrev pub IsFit : Task → List ℕ → Type 0
+IsFit ToJani bytes = IsSmallFile bytes
+IsFit CheckPrism bytes = HasNoFault bytes
+IsFit CheckJani bytes = HasNoJaniFault bytes
+
+-- the least fault of all others
+abbrev pub IsLeastFor : Task → List ℕ → Fault → Type 0
+IsLeastFor ToJani bytes f = IsLeast bytes f
+IsLeastFor CheckPrism bytes f = IsPrismFault bytes f
+IsLeastFor CheckJani bytes f = IsJaniFault bytes f
+
+-- The task was done, with this text, or the bytes are refused at their least fault; want of memory may come at any time.
+abbrev pub Judged : Task → List ℕ → Result (List ℕ) Refused → Type 0
+Judged task bytes (Ok text) = Makes task bytes text
+Judged task bytes (Err (R.Memory e)) = Unit {0}
+Judged task bytes (Err (R.At f)) = IsLeastFor task bytes f

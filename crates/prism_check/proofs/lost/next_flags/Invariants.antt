@@ -1,0 +1,11 @@
+use Rattle.std.specs.Prelude.{◌≡◌, ℕ, List, drop}
+use Rattle.std.specs.Option.{option_map}
+use Rattle.prism_check.specs.Levels.{flag_in}
+use Rattle.prism_check.specs.NameFaults.{some_name}
+use Rattle.prism_check.specs.Tables.{first_some, body_in, under}
+use Rattle.prism_check.proofs.lost.next_flags.Given as goal
+
+abbrev pub invariant-loop-formula : goal.invariant-loop-formula
+invariant-loop-formula l = (x : List ℕ) →
+    first_some (under l.next x) (option_map (some_name (flag_in l.flags l.reading)) (body_in (drop l.formula-index l.formulas) x))
+    ≡ option_map (some_name (flag_in l.flags l.reading)) (body_in l.formulas x)

@@ -1,0 +1,11 @@
+use Rattle.std.specs.Prelude.{◌≡◌, map, drop}
+use Rattle.std.specs.List.{flat_map}
+use Rattle.prism_tree.specs.Syntax.{file_of, module_of}
+use Rattle.prism_check.specs.Least.{soonest}
+use Rattle.prism_check.specs.NameFaults.{unknown_in}
+use Rattle.prism_check.proofs.scope.judge_modules.Given as goal
+
+abbrev pub invariant-loop-entry : goal.invariant-loop-entry
+invariant-loop-entry l =
+    soonest l.best (flat_map (unknown_in (file_of l.file)) (map module_of (drop l.entry-index l.all)))
+    ≡ soonest l.fn.before (flat_map (unknown_in (file_of l.file)) (map module_of l.all))

@@ -1,0 +1,189 @@
+-- The faults of the names of a PRISM file (PRISM manual, "The PRISM Language": "Constants", "Modules and Variables",
+-- "Formulas and Labels", "Module Renaming").
+use Rattle.std.specs.Prelude.{ℕ, zero, suc, max, List, [], ◌∷◌, ◌++◌, map, length, Option, Some, None, Bool, true, false, not, ◌&&◌, ◌||◌, if◌then◌else◌, bytes_eq, codes, is_some, nat_eq}
+use Rattle.std.specs.List.{flat_map, filter, list_any}
+use Rattle.bridge_io.specs.declared.reason.Named.{Named}
+use Rattle.bridge_io.specs.declared.reason.Reason.{Reason}
+use Rattle.bridge_io.specs.declared.reason.Reason.TheVariants.{TwiceNamed, Unknown, Cycle, RenameMissing, RenameOfRenamed, Nothing}
+use Rattle.bridge_io.specs.declared.reason.Fault.{Fault}
+use Rattle.op_trees.specs.Tree.{Tree, Truth, Number, Name as At, One, Two, Three}
+use Rattle.process_core.specs.Ready.{Name, if_some}
+use Rattle.prism_tree.specs.declared.syntax.NamePair.{NamePair}
+use Rattle.prism_tree.specs.declared.syntax.CopiedModule.{CopiedModule}
+use Rattle.prism_tree.specs.Syntax.{Expression, Var, Module, plain, copied, File}
+use Rattle.prism_names.specs.Order.{whole}
+use Rattle.prism_names.specs.Names.{is_called, is_formula, renaming, module_name, module_called, Part, part_of}
+use Rattle.prism_check.specs.Least.{fault_if}
+use Rattle.prism_check.specs.Demands.{Demand, fixed, varying, written, formula_demands, part_demands, outer_demands}
+
+abbrev pub is_among : List Named → Name → Bool
+is_among ns x = list_any (is_called x) ns
+
+-- ---- names that are declared twice
+
+-- the later of a name and an earlier one in the list that is the same, wherever they stand
+abbrev pub clash : Reason → Named → Named → List Fault
+clash reason n m = fault_if (bytes_eq m.name n.name) (max m.at n.at) reason
+
+-- of each two names that are the same the later, by offset
+abbrev pub doubled_after : Reason → List Named → List Named → List Fault
+doubled_after reason earlier [] = []
+doubled_after reason earlier (n ∷ ns) = flat_map (clash reason n) earlier ++ doubled_after reason (n ∷ earlier) ns
+
+abbrev pub doubled : Reason → List Named → List Fault
+doubled reason ns = doubled_after reason [] ns
+
+abbrev pub has_pair : List NamePair → Name → Bool
+has_pair pairs x = list_any (λ p. is_called x p.old) pairs
+
+-- a variable of a copy has its new name and stands where the copy's name stands; one that is not renamed is none
+abbrev pub renamed_var : CopiedModule → Var → List Named
+renamed_var m x =
+    if has_pair m.pairs x.name.name then record { name = renaming m.pairs x.name.name; at = m.name.at } ∷ [] else []
+
+-- the variables of a module
+abbrev pub module_vars : File → Module → List Named
+module_vars file (plain m) = map (λ x. x.name) m.vars
+module_vars file (copied m) = flat_map (renamed_var m) (part_of file (copied m)).vars
+
+-- constants, formulas and variables, which share their names
+abbrev pub values : File → List Named
+values file =
+    map (λ c. c.name) file.constants ++ (map (λ f. f.name) file.formulas
+    ++ (map (λ x. x.name) file.globals ++ flat_map (module_vars file) file.modules))
+
+-- the labels that every model has
+abbrev pub given_labels : List Named
+given_labels = record { name = codes "init"; at = 0 } ∷ record { name = codes "deadlock"; at = 0 } ∷ []
+
+-- a copy's pairs with one left side
+abbrev pub doubled_pairs : Module → List Fault
+doubled_pairs (plain m) = []
+doubled_pairs (copied m) = doubled TwiceNamed (map (λ p. p.old) m.pairs)
+
+abbrev pub doubled_names : File → List Fault
+doubled_names file =
+    doubled TwiceNamed (values file)
+    ++ (doubled TwiceNamed (map module_name file.modules)
+    ++ (doubled TwiceNamed (given_labels ++ map (λ l. l.name) file.labels)
+    ++ (doubled TwiceNamed (flat_map (λ r. if_some r.name) file.rewards)
+    ++ flat_map doubled_pairs file.modules)))
+
+-- ---- names that are not declared
+
+-- the names in an expression, where they stand
+abbrev pub names_of : {O : Type 0} → Tree O → List Named
+names_of (Truth at b) = []
+names_of (Number at d) = []
+names_of (At at x) = record { name = x; at = at } ∷ []
+names_of (One at o a) = names_of a
+names_of (Two at o a b) = names_of a ++ names_of b
+names_of (Three at o a b c) = names_of a ++ (names_of b ++ names_of c)
+
+-- the names that a demand uses
+abbrev pub names_used : Demand → List Named
+names_used (fixed w e) = names_of e
+names_used (varying w e) = names_of e
+names_used (written acts w) = w.name ∷ names_of w.value
+
+-- the fault of a name that is not known
+abbrev pub unless_known : (Name → Bool) → Named → List Fault
+unless_known known n = fault_if (not (known n.name)) n.at Unknown
+
+abbrev pub unknown_by : (Name → Bool) → Demand → List Fault
+unknown_by known d = flat_map (unless_known known) (names_used d)
+
+abbrev pub unknown : File → Demand → List Fault
+unknown file d = unknown_by (is_among (values file)) d
+
+-- some name in an expression is such a one
+abbrev pub some_name : {O : Type 0} → (Name → Bool) → Tree O → Bool
+some_name is_such (Truth at b) = false
+some_name is_such (Number at d) = false
+some_name is_such (At at x) = is_such x
+some_name is_such (One at o a) = some_name is_such a
+some_name is_such (Two at o a b) = some_name is_such a || some_name is_such b
+some_name is_such (Three at o a b c) = some_name is_such a || (some_name is_such b || some_name is_such c)
+
+-- some name that a demand uses, where its expression is changed first, is such a one
+abbrev pub some_used : (Name → Bool) → (Expression → Expression) → Demand → Bool
+some_used is_such change (fixed w e) = some_name is_such (change e)
+some_used is_such change (varying w e) = some_name is_such (change e)
+some_used is_such change (written acts w) = is_such w.name.name || some_name is_such (change w.value)
+
+-- In a copy a name is lost where it is no formula's name and what it is renamed to is a formula's name, or nothing known.
+abbrev pub is_lost : File → (Name → Name) → Name → Bool
+is_lost file rename x = not (is_formula file x) && (is_formula file (rename x) || not (is_among (values file) (rename x)))
+
+-- some name of a part is lost where its formulas are written out
+abbrev pub loses_name : File → Part → Bool
+loses_name file p = list_any (some_used (is_lost file p.rename) (whole file)) (part_demands p)
+
+abbrev pub unknown_in : File → Module → List Fault
+unknown_in file (plain m) = flat_map (unknown file) (part_demands (part_of file (plain m)))
+unknown_in file (copied m) =
+    fault_if (not (is_some (module_called file m.from.name))) m.from.at Unknown
+    ++ fault_if (loses_name file (part_of file (copied m))) m.name.at Unknown
+
+abbrev pub unknown_names : File → List Fault
+unknown_names file =
+    flat_map (unknown file) (outer_demands file)
+    ++ (flat_map (unknown file) (flat_map formula_demands file.formulas) ++ flat_map (unknown_in file) file.modules)
+
+-- ---- constants and formulas that depend on themselves
+
+-- a constant or a formula
+pub record Declared : Type 0 where
+  pub name : Named
+  pub body : Option Expression
+
+abbrev pub declarations : File → List Declared
+declarations file =
+    map (λ c. record { name = c.name; body = c.value }) file.constants
+    ++ map (λ f. record { name = f.name; body = Some f.body }) file.formulas
+
+-- the names in what is declared
+abbrev pub uses : Declared → List Name
+uses d = map (λ n. n.name) (flat_map names_of (if_some d.body))
+
+-- the names in everything that is declared under a name
+abbrev pub uses_of : List Declared → Name → List Name
+uses_of ds x = flat_map uses (filter (λ d. is_called x d.name) ds)
+
+-- one name is the other, or leads to it in at most so many steps
+abbrev pub leads_to : List Declared → ℕ → Name → Name → Bool
+leads_to ds zero x y = bytes_eq x y
+leads_to ds (suc n) x y = bytes_eq x y || list_any (λ z. leads_to ds n z y) (uses_of ds x)
+
+abbrev pub is_circular : List Declared → Declared → Bool
+is_circular ds d = list_any (λ x. leads_to ds (length ds) x d.name.name) (uses d)
+
+abbrev pub circular : List Declared → Declared → List Fault
+circular ds d = fault_if (is_circular ds d) d.name.at Cycle
+
+abbrev pub circles : File → List Fault
+circles file = flat_map (circular (declarations file)) (declarations file)
+
+-- ---- copies, and the modules
+
+abbrev pub is_copy : Option Module → Bool
+is_copy None = false
+is_copy (Some (plain m)) = false
+is_copy (Some (copied m)) = true
+
+-- a variable is not renamed, or what is copied is a copy itself
+abbrev pub copy_faults : File → Module → List Fault
+copy_faults file (plain m) = []
+copy_faults file (copied m) =
+    fault_if (list_any (λ x. not (has_pair m.pairs x.name.name)) (part_of file (copied m)).vars) m.name.at RenameMissing
+    ++ fault_if (is_copy (module_called file m.from.name)) m.from.at RenameOfRenamed
+
+abbrev pub no_module : File → List Fault
+no_module file = fault_if (nat_eq (length file.modules) 0) file.end Nothing
+
+abbrev pub name_faults : File → List Fault
+name_faults file =
+    doubled_names file
+    ++ (unknown_names file
+    ++ (circles file
+    ++ (flat_map (copy_faults file) file.modules ++ no_module file)))

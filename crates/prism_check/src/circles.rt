@@ -1,0 +1,152 @@
+// Constants and formulas that depend on themselves.
+
+ghost use Rattle.std.specs.Prelude.{◌≡◌, ◌<◌, ◌≤◌, List, ℕ, true, length, map, IfOk, OnOk};
+ghost use Rattle.std.specs.List.{flat_map};
+ghost use Rattle.prism_check.specs.Least.{soonest};
+ghost use Rattle.prism_check.specs.NameFaults.{circular, is_circular};
+ghost use Rattle.prism_check.specs.Tables.{has_name};
+ghost use Rattle.prism_check.specs.Circles.{FallIn, StillLeading, IsLeadingTry, IsLeadingTurn, IsPlaced, declared_at, declared_by, is_past, others};
+
+use crate::declarations::{Declaration, Telling, some_use};
+use crate::least::sooner_if;
+use crate::named::NameSet;
+use crate::placing::Placing;
+use crate::ranks::{Ranks, falling_ranks, is_apart};
+use bridge_io::{Fault, Reason};
+use std::alloc::{AllocError, Global};
+
+/// The least of a fault that was found before and those of declarations that lead to themselves. None of those that have
+/// their places does. Places that come first are looked at first.
+pub(crate) fn judge_circles(
+    alloc: Global,
+    all: &[Declaration],
+    first: &[usize],
+    placing: &Placing,
+    before: Option<Fault>,
+) -> Result<Option<Fault>, AllocError>
+    requires { IsPlaced all.now placing.now }
+    ensures { let ds = map declared_by all.now in IfOk result (λ best. best ≡ soonest before (flat_map (circular ds) ds)) }
+{
+    let ranks = falling_ranks(alloc, all, first)?;
+    judge_each(alloc, all, first, placing, ranks.as_ref(), before)
+}
+
+// The same with ranks by which no declaration uses a name above its own, if there are such.
+fn judge_each(
+    alloc: Global,
+    all: &[Declaration],
+    first: &[usize],
+    placing: &Placing,
+    ranks: Option<&Ranks>,
+    before: Option<Fault>,
+) -> Result<Option<Fault>, AllocError>
+    requires placed { IsPlaced all.now placing.now }
+    requires falling { FallIn all.now ranks }
+    ensures { let ds = map declared_by all.now in IfOk result (λ best. best ≡ soonest before (flat_map (circular ds) ds)) }
+{
+    let mut best = before;
+    for i in 0..all.len() {
+        best = judge_declaration(alloc, all, first, placing, ranks, i, best)?;
+    }
+    Ok(best)
+}
+
+fn judge_declaration(
+    alloc: Global,
+    all: &[Declaration],
+    first: &[usize],
+    placing: &Placing,
+    ranks: Option<&Ranks>,
+    i: usize,
+    before: Option<Fault>,
+) -> Result<Option<Fault>, AllocError>
+    requires placed { IsPlaced all.now placing.now }
+    requires falling { FallIn all.now ranks }
+    requires within { i < length all.now }
+    ensures { let ds = map declared_by all.now in IfOk result (λ best. best ≡ soonest before (circular ds (declared_at ds i))) }
+{
+    let declaration = &all[i];
+    if !placing.waiting.tells(declaration.name) || is_past(before, declaration.at) {
+        return Ok(before);
+    }
+    if is_apart(ranks, declaration) {
+        return Ok(before);
+    }
+    let circular = is_circular(alloc, all, first, declaration)?;
+    Ok(sooner_if(circular, declaration.at, Reason::Cycle, before))
+}
+
+// Whether a fault was found that stands before this offset.
+fn is_past(before: Option<Fault>, at: usize) -> bool
+    ensures { result ≡ is_past before at }
+{
+    match before {
+        Some(fault) => fault.at < at,
+        None => false,
+    }
+}
+
+// Whether a declaration leads to itself.
+fn is_circular(
+    alloc: Global,
+    all: &[Declaration],
+    first: &[usize],
+    declaration: &Declaration,
+) -> Result<bool, AllocError>
+    ensures { IfOk result (λ b. b ≡ is_circular (map declared_by all.now) (declared_by declaration.now)) }
+{
+    let mut leading = NameSet::new(alloc);
+    leading.add(declaration.name)?;
+    loop {
+        add_each(all, first, &mut leading)?;
+        if !add_some(all, &mut leading)? {
+            return Ok(some_use(&leading, declaration));
+        }
+    }
+}
+
+// Adds the names of those declarations that use one of the names that lead to this one, in this order.
+fn add_each<'a>(
+    all: &[Declaration<'a>],
+    first: &[usize],
+    leading: &mut NameSet<'a>,
+) -> Result<(), AllocError>
+    ensures leading { OnOk result (StillLeading all.now (has_name leading.old) (has_name leading.new)) }
+    ensures fewer { OnOk result
+        (others (has_name leading.new) (map declared_by all.now) ≤ others (has_name leading.old) (map declared_by all.now)) }
+{
+    for i in first {
+        try_add(all, *i, leading)?;
+    }
+    Ok(())
+}
+
+// The same as they stand, and whether there were any.
+fn add_some<'a>(all: &[Declaration<'a>], leading: &mut NameSet<'a>) -> Result<bool, AllocError>
+    ensures leading { OnOk result (StillLeading all.now (has_name leading.old) (has_name leading.new)) }
+    ensures turn { IfOk result (IsLeadingTurn all.now (has_name leading.old) (has_name leading.new)) }
+{
+    let mut some = false;
+    for i in 0..all.len() {
+        if try_add(all, i, leading)? {
+            some = true;
+        }
+    }
+    Ok(some)
+}
+
+// Adds the name of a declaration if it uses one of the names that lead to this one, and whether it did so.
+fn try_add<'a>(
+    all: &[Declaration<'a>],
+    i: usize,
+    leading: &mut NameSet<'a>,
+) -> Result<bool, AllocError>
+    ensures leading { OnOk result (StillLeading all.now (has_name leading.old) (has_name leading.new)) }
+    ensures turn { IfOk result (IsLeadingTry all.now i (has_name leading.old) (has_name leading.new)) }
+{
+    if i >= all.len() || leading.has(all[i].name) || !some_use(leading, &all[i]) {
+        return Ok(false);
+    }
+    leading.add(all[i].name)?;
+    Ok(true)
+}

@@ -1,0 +1,108 @@
+// The faults of names, and an order of the formulas.
+
+ghost use Rattle.std.specs.Prelude.{◌≡◌, List, ℕ, ◌++◌, length, map, IfOk, None};
+ghost use Rattle.std.specs.List.{flat_map};
+ghost use Rattle.prism_tree.specs.Syntax.{file_of};
+ghost use Rattle.prism_check.specs.Circles.{IsPlaced, declared_by, turns_from};
+ghost use Rattle.prism_check.specs.Judged.{AreJudged};
+ghost use Rattle.prism_check.specs.Least.{soonest};
+ghost use Rattle.prism_check.specs.NameFaults.{declarations, name_faults, values};
+ghost use Rattle.prism_check.specs.Tables.{IsScope, module_under, named_module};
+ghost use Rattle.prism_check.specs.Views.{named_by};
+
+use crate::circles::judge_circles;
+use crate::copies::judge_copies;
+use crate::declarations::{Declaration, declarations};
+use crate::least::sooner_if;
+use crate::named::{Entry, NameSet};
+use crate::placing::{Placing, place_all};
+use crate::scope::{Scope, judge_unknown_names};
+use crate::search::by_depth;
+use crate::tables::{Formulas, Modules};
+use crate::twice::judge_twice;
+use crate::values::values;
+use bridge_io::{Fault, Reason};
+use prism_tree::PrismFile;
+use std::alloc::{AllocError, Global};
+
+/// What the names of a file come to.
+#[derive(Drop)]
+pub(crate) enum Names {
+    /// The least of their faults.
+    Faulty(Fault),
+    /// They have none, and the formulas stand at these places, each after those that it names.
+    Ordered(Vec<usize>),
+}
+
+/// The least fault of the names of a file: of those that are declared twice, that are not declared, that depend on themselves,
+/// and of copies and modules. Else an order of the formulas.
+pub(crate) fn judge_names(alloc: Global, file: &PrismFile) -> Result<Names, AllocError>
+    ensures { IfOk result (AreJudged (file_of file.now)) }
+{
+    let all = declarations(alloc, file)?;
+    let first = by_depth(alloc, &all)?;
+    let placing = place_all(alloc, &all, &first)?;
+    match least_name_fault(alloc, file, &all, &first, &placing)? {
+        Some(fault) => Ok(Names::Faulty(fault)),
+        None => {
+            let order = formula_turns(alloc, file.constants.len(), &placing.turns)?;
+            Ok(Names::Ordered(order))
+        }
+    }
+}
+
+// The turns of the formulas, which stand behind so many constants, as places among the formulas.
+fn formula_turns(alloc: Global, constants: usize, turns: &[usize]) -> Result<Vec<usize>, AllocError>
+    ensures { IfOk result (λ list. list.items ≡ turns_from constants turns.now) }
+{
+    let mut list = Vec::new(alloc);
+    for turn in turns {
+        if *turn >= constants {
+            list.push(*turn - constants)?;
+        }
+    }
+    Ok(list)
+}
+
+// The least fault of names, if there is one.
+fn least_name_fault(
+    alloc: Global,
+    file: &PrismFile,
+    all: &[Declaration],
+    first: &[usize],
+    placing: &Placing,
+) -> Result<Option<Fault>, AllocError>
+    requires declared { map declared_by all.now ≡ declarations (file_of file.now) }
+    requires placed { IsPlaced all.now placing.now }
+    ensures { IfOk result (λ best. best ≡ soonest None (name_faults (file_of file.now))) }
+{
+    let modules = Modules::of(alloc, file.modules.as_slice())?;
+    let names = values(alloc, file, &modules)?;
+    let twice = judge_twice(alloc, file, &names, None)?;
+    let scope = scope(alloc, file, modules, &names)?;
+    let unknown = judge_unknown_names(alloc, file, &scope, twice)?;
+    let circles = judge_circles(alloc, all, first, placing, unknown)?;
+    let copies = judge_copies(alloc, file.modules.as_slice(), &scope.modules, circles)?;
+    let empty = file.modules.len() == 0;
+    Ok(sooner_if(empty, file.end, Reason::Nothing, copies))
+}
+
+// The tables of the file.
+fn scope<'a>(
+    alloc: Global,
+    file: &'a PrismFile,
+    modules: Modules<'a>,
+    names: &[Entry<'a>],
+) -> Result<Scope<'a>, AllocError>
+    requires modules { (x : List ℕ) → module_under modules x ≡ named_module file.now.modules x }
+    requires names { map named_by names.now ≡ values (file_of file.now) }
+    ensures { IfOk result (λ s. IsScope s (file_of file.now)) }
+{
+    let formulas = Formulas::of(alloc, file.formulas.as_slice())?;
+    let known = NameSet::of(alloc, names)?;
+    Ok(Scope {
+        modules,
+        formulas,
+        known,
+    })
+}

@@ -1,0 +1,127 @@
+// Names that are not declared, of a whole file.
+
+ghost use Rattle.std.specs.Prelude.{◌≡◌, map, not, is_some, IfOk};
+ghost use Rattle.std.specs.List.{flat_map};
+ghost use Rattle.prism_tree.specs.Syntax.{copied, file_of, formula_of, module_of};
+ghost use Rattle.prism_names.specs.Names.{part_of};
+ghost use Rattle.prism_check.specs.Demands.{formula_demands};
+ghost use Rattle.prism_check.specs.Views.{demand_by};
+ghost use Rattle.prism_check.specs.Least.{soonest};
+ghost use Rattle.prism_check.specs.NameFaults.{loses_name, unknown_in, unknown_names};
+ghost use Rattle.prism_check.specs.Tables.{IsScope, module_under};
+
+use crate::demands::{Demand, add_all, contents_demands, outer_demands};
+use crate::least::sooner_if;
+use crate::lost::{Reading, loses_name};
+use crate::named::NameSet;
+use crate::tables::{Formulas, Modules, Renaming};
+use crate::unknown::judge_unknown;
+use crate::values::{commands_in, vars_in};
+use bridge_io::{Fault, Reason};
+use prism_tree::{CopiedModule, PrismFile, PrismFormula, PrismModule};
+use std::alloc::{AllocError, Global};
+
+/// The names of a file, as tables.
+#[derive(Drop)]
+pub(crate) struct Scope<'a> {
+    pub(crate) modules: Modules<'a>,
+    pub(crate) formulas: Formulas<'a>,
+    pub(crate) known: NameSet<'a>,
+}
+
+/// The least of a fault that was found before and those of names that are not declared.
+pub(crate) fn judge_unknown_names(
+    alloc: Global,
+    file: &PrismFile,
+    scope: &Scope,
+    before: Option<Fault>,
+) -> Result<Option<Fault>, AllocError>
+    requires { IsScope scope.now (file_of file.now) }
+    ensures { IfOk result (λ best. best ≡ soonest before (unknown_names (file_of file.now))) }
+{
+    let outer = outer_demands(alloc, file)?;
+    let in_outer = judge_unknown(&scope.known, &outer, before);
+    let bodies = body_demands(alloc, file.formulas.as_slice())?;
+    let in_bodies = judge_unknown(&scope.known, &bodies, in_outer);
+    judge_modules(alloc, file, file.modules.as_slice(), scope, in_bodies)
+}
+
+/// The demands of the bodies of formulas.
+pub(crate) fn body_demands(
+    alloc: Global,
+    formulas: &[PrismFormula],
+) -> Result<Vec<Demand>, AllocError>
+    ensures { IfOk result (λ list. map demand_by list.items ≡ flat_map formula_demands (map formula_of formulas.now)) }
+{
+    let mut list = Vec::new(alloc);
+    add_all(formulas, &mut list)?;
+    Ok(list)
+}
+
+fn judge_modules(
+    alloc: Global,
+    file: &PrismFile,
+    all: &[PrismModule],
+    scope: &Scope,
+    before: Option<Fault>,
+) -> Result<Option<Fault>, AllocError>
+    requires { IsScope scope.now (file_of file.now) }
+    ensures { IfOk result (λ best. best ≡ soonest before (flat_map (unknown_in (file_of file.now)) (map module_of all.now))) }
+{
+    let mut best = before;
+    for entry in all {
+        best = judge_module(alloc, file, entry, scope, best)?;
+    }
+    Ok(best)
+}
+
+fn judge_module(
+    alloc: Global,
+    file: &PrismFile,
+    entry: &PrismModule,
+    scope: &Scope,
+    before: Option<Fault>,
+) -> Result<Option<Fault>, AllocError>
+    requires { IsScope scope.now (file_of file.now) }
+    ensures { IfOk result (λ best. best ≡ soonest before (unknown_in (file_of file.now) (module_of entry.now))) }
+{
+    match entry {
+        PrismModule::Plain(m) => {
+            let list = contents_demands(alloc, m.vars.as_slice(), m.commands.as_slice())?;
+            Ok(judge_unknown(&scope.known, &list, before))
+        }
+        PrismModule::Copied(m) => {
+            let first = sooner_if(modules_lack(scope, m), m.from.at, Reason::Unknown, before);
+            let loses = copy_loses_name(alloc, file, m, scope)?;
+            Ok(sooner_if(loses, m.name.at, Reason::Unknown, first))
+        }
+    }
+}
+
+// Whether the copied module is missing.
+fn modules_lack(scope: &Scope, m: &CopiedModule) -> bool
+    ensures { result ≡ not (is_some (module_under scope.now.modules m.now.from.name)) }
+{
+    scope.modules.called(m.from.name.as_str()).is_none()
+}
+
+// Whether some name of the copy is lost.
+fn copy_loses_name(
+    alloc: Global,
+    file: &PrismFile,
+    m: &CopiedModule,
+    scope: &Scope,
+) -> Result<bool, AllocError>
+    requires { IsScope scope.now (file_of file.now) }
+    ensures { IfOk result (λ b. b ≡ loses_name (file_of file.now) (part_of (file_of file.now) (copied m.now))) }
+{
+    let from = scope.modules.called(m.from.name.as_str());
+    let demands = contents_demands(alloc, vars_in(from), commands_in(from))?;
+    let renaming = Renaming::of(alloc, m.pairs.as_slice())?;
+    let reading = Reading {
+        known: &scope.known,
+        formulas: &scope.formulas,
+        renaming: &renaming,
+    };
+    loses_name(alloc, file.formulas.as_slice(), &reading, &demands)
+}

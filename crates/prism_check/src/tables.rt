@@ -1,0 +1,121 @@
+// Tables by name in which the first of one name counts.
+
+ghost use Rattle.op_trees.specs.Tree.{tree};
+ghost use Rattle.std.specs.Prelude.{◌≡◌, is_some, List, ℕ, OnOk, IfOk, bytes_eq, if◌then◌else◌, Some, None};
+ghost use Rattle.std.specs.Option.{option_map};
+ghost use Rattle.prism_tree.specs.Syntax.{module_of};
+ghost use Rattle.prism_names.specs.Names.{module_name};
+ghost use Rattle.prism_check.specs.Tables.{body_in, body_under, first_some, module_under, new_name, pair_for, named_module, under};
+
+use indexmap::IndexMap;
+use prism_tree::{NamePair, Pe, PrismFormula, PrismModule};
+use std::alloc::{AllocError, Global};
+
+/// Adds a value under a name, if none stands there.
+pub(crate) fn add_first<'a, T: Copy>(
+    table: &mut IndexMap<&'a str, T>,
+    name: &'a str,
+    value: T,
+) -> Result<(), AllocError>
+    ensures { OnOk result
+        ((x : List ℕ) → under table.new x ≡ first_some (under table.old x) (if bytes_eq name.now x then Some value else None)) }
+{
+    if table.get(name).is_some() {
+        return Ok(());
+    }
+    match table.insert(name, value) {
+        Ok(_) => Ok(()),
+        Err(_) => Err(AllocError),
+    }
+}
+
+/// The renaming of a copy.
+#[derive(Drop)]
+pub(crate) struct Renaming<'a> {
+    pairs: IndexMap<&'a str, &'a str>,
+}
+
+impl<'a> Renaming<'a> {
+    /// The renaming by these pairs.
+    pub(crate) fn of(alloc: Global, pairs: &'a [NamePair]) -> Result<Renaming<'a>, AllocError>
+        ensures { IfOk result (λ r. (x : List ℕ) → new_name r x ≡ pair_for pairs.now x) }
+    {
+        let mut table = IndexMap::new(alloc);
+        for pair in pairs {
+            add_first(&mut table, pair.old.name.as_str(), pair.new.name.as_str())?;
+        }
+        Ok(Renaming { pairs: table })
+    }
+
+    /// The new name of a name, if it has one.
+    pub(crate) fn new_name(&self, name: &str) -> Option<&'a str>
+        ensures { option_map (λ s. s.now) result ≡ new_name self.now name.now }
+    {
+        self.pairs.get(name).copied()
+    }
+}
+
+/// The modules by their names.
+#[derive(Drop)]
+pub(crate) struct Modules<'a> {
+    first: IndexMap<&'a str, &'a PrismModule>,
+}
+
+impl<'a> Modules<'a> {
+    /// A table of these modules.
+    pub(crate) fn of(alloc: Global, modules: &'a [PrismModule]) -> Result<Modules<'a>, AllocError>
+        ensures { IfOk result (λ t. (x : List ℕ) → module_under t x ≡ named_module modules.now x) }
+    {
+        let mut first = IndexMap::new(alloc);
+        for entry in modules {
+            add_first(&mut first, name_of(entry), entry)?;
+        }
+        Ok(Modules { first })
+    }
+
+    /// The first module of this name.
+    pub(crate) fn called(&self, name: &str) -> Option<&'a PrismModule>
+        ensures { option_map (λ m. module_of m.now) result ≡ module_under self.now name.now }
+    {
+        self.first.get(name).copied()
+    }
+}
+
+/// The name of a module.
+pub(crate) fn name_of(m: &PrismModule) -> &str
+    ensures { result.now ≡ (module_name (module_of m.now)).name }
+{
+    match m {
+        PrismModule::Plain(m) => m.name.name.as_str(),
+        PrismModule::Copied(m) => m.name.name.as_str(),
+    }
+}
+
+/// The bodies of formulas by their names.
+#[derive(Drop)]
+pub(crate) struct Formulas<'a> {
+    bodies: IndexMap<&'a str, &'a Pe>,
+}
+
+impl<'a> Formulas<'a> {
+    /// A table of these formulas.
+    pub(crate) fn of(
+        alloc: Global,
+        formulas: &'a [PrismFormula],
+    ) -> Result<Formulas<'a>, AllocError>
+        ensures { IfOk result (λ t. (x : List ℕ) → body_under t x ≡ body_in formulas.now x) }
+    {
+        let mut bodies = IndexMap::new(alloc);
+        for formula in formulas {
+            add_first(&mut bodies, formula.name.name.as_str(), &formula.body)?;
+        }
+        Ok(Formulas { bodies })
+    }
+
+    /// Whether this is the name of a formula.
+    pub(crate) fn has(&self, name: &str) -> bool
+        ensures { result ≡ is_some (body_under self.now name.now) }
+    {
+        self.bodies.get(name).is_some()
+    }
+}

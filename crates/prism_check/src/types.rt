@@ -1,0 +1,184 @@
+// The faults of types, and of what commands write.
+
+ghost use Rattle.std.specs.Prelude.{◌≡◌, map, IfOk, None};
+ghost use Rattle.std.specs.List.{flat_map};
+ghost use Rattle.prism_tree.specs.Syntax.{file_of, module_of};
+ghost use Rattle.prism_names.specs.Places.{IsPlaceOrder};
+ghost use Rattle.prism_flat.specs.Writers.{IsWriterOf};
+ghost use Rattle.prism_check.specs.Least.{soonest};
+ghost use Rattle.prism_check.specs.TypeFaults.{module_faults, numbered_faults, type_faults};
+ghost use Rattle.prism_check.specs.Typing.{AreNames, contents_faults, faults_in, soonest_at};
+ghost use Rattle.prism_check.specs.Views.{demand_by};
+
+use crate::demands::{Demand, contents_demands, outer_demands};
+use crate::scope::body_demands;
+use crate::tables::Modules;
+use crate::typing::{Names, Spot, judge_type, known_formulas, offset_of, sooner_at, varies};
+use crate::variables::declarations;
+use crate::writes::{judge_repeated, judge_write};
+use bridge_io::{Fault, Reason};
+use prism_flat::Writer;
+use prism_tree::{PrismFile, PrismModule};
+use std::alloc::{AllocError, Global};
+
+/// The least fault of the types of a file and of what its commands write, if it has one. `order` has the places of the
+/// formulas, each after those that it names. `Err` is want of memory.
+pub(crate) fn judge_types(
+    alloc: Global,
+    file: &PrismFile,
+    order: &[usize],
+) -> Result<Option<Fault>, AllocError>
+    requires { IsPlaceOrder (file_of file.now) order.now }
+    ensures { IfOk result (λ best. best ≡ soonest None (type_faults (file_of file.now))) }
+{
+    let modules = Modules::of(alloc, file.modules.as_slice())?;
+    let declared = declarations(alloc, file, &modules)?;
+    let formulas = known_formulas(alloc, &declared, file.formulas.as_slice(), order)?;
+    let writer = Writer::of(alloc, file, order)?;
+    let names = Names {
+        declared: &declared,
+        formulas: &formulas,
+    };
+    judge_all(alloc, file, &names, &writer)
+}
+
+// The same by the tables of the file, what stands outside of modules first.
+fn judge_all<'t>(
+    alloc: Global,
+    file: &'t PrismFile,
+    names: &Names,
+    writer: &Writer<'t>,
+) -> Result<Option<Fault>, AllocError>
+    requires names { AreNames names.now (file_of file.now) }
+    requires writer { IsWriterOf writer.now (file_of file.now) }
+    ensures { IfOk result (λ best. best ≡ soonest None (type_faults (file_of file.now))) }
+{
+    let spot = Spot {
+        number: 0,
+        place: None,
+    };
+    let outer = outer_demands(alloc, file)?;
+    let in_outer = judge_demands(names, spot, &outer, None);
+    let bodies = body_demands(alloc, file.formulas.as_slice())?;
+    let in_bodies = judge_demands(names, spot, &bodies, in_outer);
+    judge_modules(
+        alloc,
+        file,
+        file.modules.as_slice(),
+        names,
+        writer,
+        in_bodies,
+    )
+}
+
+// What stands in a file or in a module of this number.
+fn judge_demands(
+    names: &Names,
+    spot: Spot,
+    demands: &[Demand],
+    before: Option<Fault>,
+) -> Option<Fault>
+    ensures { result ≡ soonest_at spot.place before (flat_map (faults_in names.now spot.number) (map demand_by demands.now)) }
+{
+    let mut best = before;
+    for demand in demands {
+        best = judge_demand(names, spot, demand, best);
+    }
+    best
+}
+
+fn judge_demand(names: &Names, spot: Spot, demand: &Demand, best: Option<Fault>) -> Option<Fault>
+    ensures { result ≡ soonest_at spot.place best (faults_in names.now spot.number (demand_by demand.now)) }
+{
+    match demand {
+        Demand::Fixed(wanted, e) => {
+            let first = judge_type(names, spot.place, *wanted, e, best);
+            sooner_at(
+                spot.place,
+                varies(names, e),
+                offset_of(e),
+                Reason::NotConstant,
+                first,
+            )
+        }
+        Demand::Varying(wanted, e) => judge_type(names, spot.place, *wanted, e, best),
+        Demand::Written(acts, write) => judge_write(names, spot, *acts, write, best),
+    }
+}
+
+// A module that has its own contents, and no copy.
+fn judge_contents(
+    alloc: Global,
+    names: &Names,
+    spot: Spot,
+    entry: &PrismModule,
+    before: Option<Fault>,
+) -> Result<Option<Fault>, AllocError>
+    ensures { IfOk result
+        (λ best. best
+        ≡ soonest_at spot.place before (contents_faults (faults_in names.now spot.number) (module_of entry.now))) }
+{
+    match entry {
+        PrismModule::Plain(m) => {
+            let demands = contents_demands(alloc, m.vars.as_slice(), m.commands.as_slice())?;
+            let first = judge_demands(names, spot, &demands, before);
+            judge_repeated(alloc, spot.place, m.commands.as_slice(), first)
+        }
+        PrismModule::Copied(_) => Ok(before),
+    }
+}
+
+// A copy is judged as the module that it is written out to, and all its faults stand at its name.
+fn judge_module<'t>(
+    alloc: Global,
+    file: &'t PrismFile,
+    names: &Names,
+    writer: &Writer<'t>,
+    number: usize,
+    entry: &'t PrismModule,
+    before: Option<Fault>,
+) -> Result<Option<Fault>, AllocError>
+    requires names { AreNames names.now (file_of file.now) }
+    requires writer { IsWriterOf writer.now (file_of file.now) }
+    ensures { IfOk result
+        (λ best. best ≡ soonest before (module_faults (file_of file.now) number (module_of entry.now))) }
+{
+    match entry {
+        PrismModule::Plain(_) => {
+            let spot = Spot {
+                number,
+                place: None,
+            };
+            judge_contents(alloc, names, spot, entry, before)
+        }
+        PrismModule::Copied(m) => {
+            let spot = Spot {
+                number,
+                place: Some(m.name.at),
+            };
+            let written = writer.module(alloc, file, entry)?;
+            judge_contents(alloc, names, spot, &written, before)
+        }
+    }
+}
+
+// These modules, numbered from 0.
+fn judge_modules<'t>(
+    alloc: Global,
+    file: &'t PrismFile,
+    all: &'t [PrismModule],
+    names: &Names,
+    writer: &Writer<'t>,
+    before: Option<Fault>,
+) -> Result<Option<Fault>, AllocError>
+    requires names { AreNames names.now (file_of file.now) }
+    requires writer { IsWriterOf writer.now (file_of file.now) }
+    ensures { IfOk result
+        (λ best. best ≡ soonest before (numbered_faults (file_of file.now) 0 (map module_of all.now))) }
+{
+    let mut best = before;
+    for (number, entry) in all.iter().enumerate() {
+        best = judge_module(alloc, file, names, writer, number, entry, best)?;
+    }
+    Ok(best)
+}

@@ -1,0 +1,334 @@
+// Types of expressions, and whether variables occur in them, by tables of names.
+
+ghost use Rattle.std.specs.Prelude.{◌≡◌, ◌<◌, ◌&&◌, List, ℕ, map, length, All, IfOk, OnOk, is_some, bytes_eq, if◌then◌else◌, Some, true};
+ghost use Rattle.bridge_io.specs.declared.reason.Reason.TheVariants.{WrongType};
+ghost use Rattle.op_trees.specs.Tree.{tree};
+ghost use Rattle.op_trees.specs.Types.{misfit_at, sort_one, sort_two, sort_three, type_in};
+ghost use Rattle.prism_tree.specs.Operators.{prism_meaning};
+ghost use Rattle.prism_tree.specs.Syntax.{formula_of, offset_of};
+ghost use Rattle.prism_names.specs.Places.{at_places};
+ghost use Rattle.prism_check.specs.Least.{fault_if};
+ghost use Rattle.prism_check.specs.NameFaults.{some_name};
+ghost use Rattle.prism_check.specs.Tables.{under};
+ghost use Rattle.prism_check.specs.TypeFaults.{is_unwanted, is_wanted, misfits, type_faults_of};
+ghost use Rattle.prism_check.specs.Typing.{declared_type, is_declared_variable, known_after, known_by, soonest_at, type_of, varies_in, wrong};
+
+use crate::demands::Wanted;
+use crate::least::sooner_if;
+use crate::variables::Declared;
+use bridge_io::{Fault, Reason};
+use indexmap::IndexMap;
+use op_trees::{Expr, Operator, Ty};
+use prism_tree::{Pe, PrismFormula, PrismOp};
+use std::alloc::{AllocError, Global};
+
+/// What is known of a formula: its type, if it has one, and whether a variable occurs in it where formulas are written
+/// out.
+#[derive(Clone, Copy)]
+pub(crate) struct Known {
+    pub(crate) ty: Option<Ty>,
+    pub(crate) varies: bool,
+}
+
+/// What names are looked up in.
+#[derive(Clone, Copy)]
+pub(crate) struct Names<'a, 'b> {
+    pub(crate) declared: &'a Declared<'b>,
+    pub(crate) formulas: &'a IndexMap<&'b str, Known>,
+}
+
+/// The module whose contents are judged, by its number, and where its faults stand if they stand at one place.
+#[derive(Clone, Copy)]
+pub(crate) struct Spot {
+    pub(crate) number: usize,
+    pub(crate) place: Option<usize>,
+}
+
+impl<'a> Declared<'a> {
+    // The type of a constant or a variable.
+    #[tactic(auto, unfolding(crate::specs::Typing::declared_type))]
+    fn ty(&self, name: &str) -> Option<Ty>
+        ensures { result ≡ declared_type self.now name.now }
+    {
+        if let Some(ty) = self.constants.get(name) {
+            return Some(*ty);
+        }
+        match self.variables.get(name) {
+            Some(variable) => Some(variable.ty),
+            None => None,
+        }
+    }
+
+    // Whether this is the name of a variable.
+    #[tactic(auto, unfolding(crate::specs::Typing::is_declared_variable))]
+    fn has_variable(&self, name: &str) -> bool
+        ensures { result ≡ is_declared_variable self.now name.now }
+    {
+        self.variables.get(name).is_some()
+    }
+}
+
+impl<'a, 'b> Names<'a, 'b> {
+    // The type of a name.
+    #[tactic(auto, unfolding(crate::specs::Typing::type_of))]
+    fn ty(&self, name: &str) -> Option<Ty>
+        ensures { result ≡ type_of self.now name.now }
+    {
+        match self.formulas.get(name) {
+            Some(known) => known.ty,
+            None => self.declared.ty(name),
+        }
+    }
+
+    // Whether a name is that of a variable, or of a formula in which one occurs.
+    #[tactic(auto, unfolding(crate::specs::Typing::varies_in))]
+    fn varies(&self, name: &str) -> bool
+        ensures { result ≡ varies_in self.now name.now }
+    {
+        match self.formulas.get(name) {
+            Some(known) => known.varies,
+            None => self.declared.has_variable(name),
+        }
+    }
+}
+
+/// Whether a variable occurs in an expression.
+pub(crate) fn varies(names: &Names, e: &Pe) -> bool
+    ensures { result ≡ some_name (varies_in names.now) (tree e.now) }
+{
+    match e {
+        Expr::Truth(_, _) => false,
+        Expr::Number(_, _) => false,
+        Expr::Name(_, name) => names.varies(name.as_str()),
+        Expr::One(_, _, a) => varies(names, a),
+        Expr::Two(_, _, a, b) => varies(names, a) || varies(names, b),
+        Expr::Three(_, _, a, b, c) => varies(names, a) || varies(names, b) || varies(names, c),
+    }
+}
+
+/// The least of a fault that was found before and this one, if the test holds; with a place given it stands there.
+pub(crate) fn sooner_at(
+    place: Option<usize>,
+    test: bool,
+    at: usize,
+    reason: Reason,
+    best: Option<Fault>,
+) -> Option<Fault>
+    ensures { result ≡ soonest_at place best (fault_if test at reason) }
+{
+    sooner_if(test, place.unwrap_or(at), reason, best)
+}
+
+// The type of an expression, if it has one, and the least fault so far.
+#[derive(Clone, Copy)]
+struct Finding {
+    ty: Option<Ty>,
+    best: Option<Fault>,
+}
+
+// A node that has this type or none, where its operands have types.
+fn of_sort(ty: Option<Ty>, at: usize, place: Option<usize>, best: Option<Fault>) -> Finding
+    ensures ty { result.ty ≡ ty }
+    ensures best { result.best ≡ soonest_at place best (wrong (misfit_at at true ty)) }
+{
+    Finding {
+        ty,
+        best: sooner_at(place, ty.is_none(), at, Reason::WrongType, best),
+    }
+}
+
+fn one(o: PrismOp, at: usize, place: Option<usize>, a: Option<Ty>, best: Option<Fault>) -> Finding
+    ensures ty { result.ty ≡ sort_one prism_meaning o a }
+    ensures best { result.best ≡ soonest_at place best (wrong (misfit_at at (is_some a) (sort_one prism_meaning o a))) }
+{
+    let Some(x) = a else {
+        return Finding { ty: None, best };
+    };
+    of_sort(o.sort(x, None, None), at, place, best)
+}
+
+// A node with two operands.
+fn two(
+    o: PrismOp,
+    at: usize,
+    place: Option<usize>,
+    a: Option<Ty>,
+    b: Option<Ty>,
+    best: Option<Fault>,
+) -> Finding
+    ensures ty { result.ty ≡ sort_two prism_meaning o a b }
+    ensures best { result.best
+        ≡ soonest_at place best (wrong (misfit_at at (is_some a && is_some b) (sort_two prism_meaning o a b))) }
+{
+    let Some(x) = a else {
+        return Finding { ty: None, best };
+    };
+    let Some(y) = b else {
+        return Finding { ty: None, best };
+    };
+    of_sort(o.sort(x, Some(y), None), at, place, best)
+}
+
+// A node with three operands.
+fn three(
+    o: PrismOp,
+    at: usize,
+    place: Option<usize>,
+    a: Option<Ty>,
+    b: Option<Ty>,
+    c: Option<Ty>,
+    best: Option<Fault>,
+) -> Finding
+    ensures ty { result.ty ≡ sort_three prism_meaning o a b c }
+    ensures best { result.best
+        ≡ soonest_at place best
+        (wrong (misfit_at at (is_some a && (is_some b && is_some c)) (sort_three prism_meaning o a b c))) }
+{
+    let Some(x) = a else {
+        return Finding { ty: None, best };
+    };
+    let Some(y) = b else {
+        return Finding { ty: None, best };
+    };
+    let Some(z) = c else {
+        return Finding { ty: None, best };
+    };
+    of_sort(o.sort(x, Some(y), Some(z)), at, place, best)
+}
+
+// The type of an expression, and the least of a fault that was found before and those of its nodes.
+fn typed(names: &Names, place: Option<usize>, e: &Pe, best: Option<Fault>) -> Finding
+    ensures ty { result.ty ≡ type_in prism_meaning (type_of names.now) (tree e.now) }
+    ensures best { result.best ≡ soonest_at place best (wrong (misfits (type_of names.now) (tree e.now))) }
+{
+    match e {
+        Expr::Truth(_, _) => Finding {
+            ty: Some(Ty::Bool),
+            best,
+        },
+        Expr::Number(_, d) => Finding {
+            ty: Some(if d.real { Ty::Real } else { Ty::Int }),
+            best,
+        },
+        Expr::Name(_, name) => Finding {
+            ty: names.ty(name.as_str()),
+            best,
+        },
+        Expr::One(at, o, a) => {
+            let x = typed(names, place, a, best);
+            one(*o, *at, place, x.ty, x.best)
+        }
+        Expr::Two(at, o, a, b) => {
+            let x = typed(names, place, a, best);
+            let y = typed(names, place, b, x.best);
+            two(*o, *at, place, x.ty, y.ty, y.best)
+        }
+        Expr::Three(at, o, a, b, c) => {
+            let x = typed(names, place, a, best);
+            let y = typed(names, place, b, x.best);
+            let z = typed(names, place, c, y.best);
+            three(*o, *at, place, x.ty, y.ty, z.ty, z.best)
+        }
+    }
+}
+
+// Whether this type may stand where that is wanted.
+fn is_wanted(wanted: Wanted, ty: Ty) -> bool
+    ensures { result ≡ is_wanted wanted ty }
+{
+    match wanted {
+        Wanted::Anything => true,
+        Wanted::Bool => matches!(ty, Ty::Bool),
+        Wanted::Int => matches!(ty, Ty::Int),
+        Wanted::Number => matches!(ty, Ty::Int | Ty::Real),
+    }
+}
+
+// An expression without a type has its fault at a node.
+fn is_unwanted(wanted: Wanted, ty: Option<Ty>) -> bool
+    ensures { result ≡ is_unwanted wanted ty }
+{
+    match ty {
+        None => false,
+        Some(ty) => !is_wanted(wanted, ty),
+    }
+}
+
+/// Where an expression begins.
+pub(crate) fn offset_of(e: &Pe) -> usize
+    ensures { result ≡ offset_of (tree e.now) }
+{
+    match e {
+        Expr::Truth(at, _) => *at,
+        Expr::Number(at, _) => *at,
+        Expr::Name(at, _) => *at,
+        Expr::One(at, _, _) => *at,
+        Expr::Two(at, _, _, _) => *at,
+        Expr::Three(at, _, _, _, _) => *at,
+    }
+}
+
+/// The least of a fault that was found before and those of an expression that has to be of such a type; with a place
+/// given they stand there.
+pub(crate) fn judge_type(
+    names: &Names,
+    place: Option<usize>,
+    wanted: Wanted,
+    e: &Pe,
+    best: Option<Fault>,
+) -> Option<Fault>
+    ensures { result ≡ soonest_at place best (type_faults_of (type_of names.now) wanted (tree e.now)) }
+{
+    let found = typed(names, place, e, best);
+    let unwanted = is_unwanted(wanted, found.ty);
+    sooner_at(place, unwanted, offset_of(e), Reason::WrongType, found.best)
+}
+
+/// What is known of the formulas at these places, each of which comes after those of the formulas that it names.
+pub(crate) fn known_formulas<'b>(
+    alloc: Global,
+    declared: &Declared<'b>,
+    formulas: &'b [PrismFormula],
+    order: &[usize],
+) -> Result<IndexMap<&'b str, Known>, AllocError>
+    requires { All (λ i. i < length formulas.now) order.now }
+    ensures { IfOk result
+        (λ table. (x : List ℕ) → under table x
+        ≡ known_after (declared_type declared.now) (is_declared_variable declared.now)
+        (at_places (map formula_of formulas.now) order.now) x) }
+{
+    let mut table = IndexMap::new(alloc);
+    for place in order {
+        let formula = &formulas[*place];
+        let known = learned(declared, &table, &formula.body);
+        set(&mut table, formula.name.name.as_str(), known)?;
+    }
+    Ok(table)
+}
+
+// What is known of an expression.
+#[tactic(auto, unfolding(crate::specs::Typing::type_of, crate::specs::Typing::varies_in))]
+fn learned(declared: &Declared, formulas: &IndexMap<&str, Known>, e: &Pe) -> Known
+    ensures { result ≡ known_by (declared_type declared.now) (is_declared_variable declared.now) (under formulas.now) (tree e.now) }
+{
+    let names = Names { declared, formulas };
+    Known {
+        ty: typed(&names, None, e, None).ty,
+        varies: varies(&names, e),
+    }
+}
+
+// The value under a name from now on.
+fn set<'b>(
+    table: &mut IndexMap<&'b str, Known>,
+    name: &'b str,
+    value: Known,
+) -> Result<(), AllocError>
+    ensures { OnOk result
+        ((x : List ℕ) → under table.new x ≡ (if bytes_eq name.now x then Some value else under table.old x)) }
+{
+    match table.insert(name, value) {
+        Ok(_) => Ok(()),
+        Err(_) => Err(AllocError),
+    }
+}

@@ -1,0 +1,145 @@
+// The constants and variables of a file with their types, by name.
+
+ghost use Rattle.std.specs.Prelude.{◌≡◌, List, ℕ, map, IfOk, OnOk, unwrap_or};
+ghost use Rattle.std.specs.Option.{option_map};
+ghost use Rattle.std.specs.List.{find};
+ghost use Rattle.prism_tree.specs.Syntax.{file_of, module_of, var_of, const_of};
+ghost use Rattle.prism_names.specs.Names.{is_called};
+ghost use Rattle.prism_check.specs.Demands.{var_type};
+ghost use Rattle.prism_check.specs.Tables.{first_some, module_under, named_module, new_name, under};
+ghost use Rattle.prism_check.specs.Typing.{IsDeclared, module_variables_by, numbered_by, owned_in, variables_by};
+
+use crate::tables::{Modules, Renaming, add_first};
+use crate::values::vars_in;
+use indexmap::IndexMap;
+use op_trees::Ty;
+use prism_tree::{PrismConst, PrismFile, PrismModule, PrismVar};
+use std::alloc::{AllocError, Global};
+
+/// A variable: the number of its module, if it is not a global one, and its type.
+#[derive(Clone, Copy)]
+pub(crate) struct Owned {
+    pub(crate) owner: Option<usize>,
+    pub(crate) ty: Ty,
+}
+
+/// The constants and variables of a file.
+#[derive(Drop)]
+pub(crate) struct Declared<'a> {
+    pub(crate) constants: IndexMap<&'a str, Ty>,
+    pub(crate) variables: IndexMap<&'a str, Owned>,
+}
+
+/// Those of this file; the variables of a copy have their new names.
+pub(crate) fn declarations<'a>(
+    alloc: Global,
+    file: &'a PrismFile,
+    modules: &Modules<'a>,
+) -> Result<Declared<'a>, AllocError>
+    requires { (x : List ℕ) → module_under modules.now x ≡ named_module file.now.modules x }
+    ensures { IfOk result (λ d. IsDeclared d (file_of file.now)) }
+{
+    let constants = constant_types(alloc, file.constants.as_slice())?;
+    let mut variables = IndexMap::new(alloc);
+    let unchanged = Renaming::of(alloc, &[])?;
+    add_variables(file.globals.as_slice(), &unchanged, None, &mut variables)?;
+    add_all(alloc, file.modules.as_slice(), modules, &mut variables)?;
+    Ok(Declared {
+        constants,
+        variables,
+    })
+}
+
+// The types of these constants.
+fn constant_types(alloc: Global, constants: &[PrismConst]) -> Result<IndexMap<&str, Ty>, AllocError>
+    ensures { IfOk result
+        (λ table. (x : List ℕ) →
+        under table x ≡ option_map (λ c. c.ty) (find (λ c. is_called x c.name) (map const_of constants.now))) }
+{
+    let mut table = IndexMap::new(alloc);
+    for constant in constants {
+        add_first(&mut table, constant.name.name.as_str(), constant.ty)?;
+    }
+    Ok(table)
+}
+
+// The type of a variable.
+fn type_of(var: &PrismVar) -> Ty
+    ensures { result ≡ var_type (var_of var.now) }
+{
+    match &var.range {
+        None => Ty::Bool,
+        Some(_) => Ty::Int,
+    }
+}
+
+// The new name of a name, or the name itself where it has none.
+fn read_as<'a>(renaming: &Renaming<'a>, name: &'a str) -> &'a str
+    ensures { result.now ≡ unwrap_or (new_name renaming.now name.now) name.now }
+{
+    match renaming.new_name(name) {
+        Some(new) => new,
+        None => name,
+    }
+}
+
+// Adds these variables under their new names.
+fn add_variables<'a>(
+    vars: &'a [PrismVar],
+    renaming: &Renaming<'a>,
+    owner: Option<usize>,
+    table: &mut IndexMap<&'a str, Owned>,
+) -> Result<(), AllocError>
+    ensures { OnOk result
+        ((x : List ℕ) → under table.new x
+        ≡ first_some (under table.old x) (owned_in (variables_by (new_name renaming.now) owner (map var_of vars.now)) x)) }
+{
+    for var in vars {
+        let name = read_as(renaming, var.name.name.as_str());
+        let ty = type_of(var);
+        add_first(table, name, Owned { owner, ty })?;
+    }
+    Ok(())
+}
+
+// Adds the variables of all modules.
+fn add_all<'a>(
+    alloc: Global,
+    all: &'a [PrismModule],
+    modules: &Modules<'a>,
+    table: &mut IndexMap<&'a str, Owned>,
+) -> Result<(), AllocError>
+    ensures { OnOk result
+        ((x : List ℕ) → under table.new x
+        ≡ first_some (under table.old x) (owned_in (numbered_by (module_under modules.now) 0 (map module_of all.now)) x)) }
+{
+    for (number, entry) in all.iter().enumerate() {
+        add_module(alloc, entry, number, modules, table)?;
+    }
+    Ok(())
+}
+
+// Adds the variables of a module.
+fn add_module<'a>(
+    alloc: Global,
+    entry: &'a PrismModule,
+    number: usize,
+    modules: &Modules<'a>,
+    table: &mut IndexMap<&'a str, Owned>,
+) -> Result<(), AllocError>
+    ensures { OnOk result
+        ((x : List ℕ) → under table.new x
+        ≡ first_some (under table.old x) (owned_in (module_variables_by (module_under modules.now) number (module_of entry.now)) x)) }
+{
+    match entry {
+        PrismModule::Plain(m) => {
+            let renaming = Renaming::of(alloc, &[])?;
+            add_variables(m.vars.as_slice(), &renaming, Some(number), table)
+        }
+        PrismModule::Copied(m) => {
+            let renaming = Renaming::of(alloc, m.pairs.as_slice())?;
+            let from = modules.called(m.from.name.as_str());
+            add_variables(vars_in(from), &renaming, Some(number), table)
+        }
+    }
+}
