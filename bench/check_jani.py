@@ -44,7 +44,7 @@ def automata(size):
 
 
 def locations(size):
-    return file_of(1, 1, size // 15, 1, 1)
+    return file_of(1, 1, size // 19, 1, 1)
 
 
 def main():

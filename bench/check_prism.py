@@ -16,8 +16,8 @@ from timing import MEGA, growth, timed, words
 
 def commands(size):
     """About so many bytes of commands, at most 200,000 of them and 2,000,000 nodes."""
-    front = "mdp\nmodule process1\n  pc1 : [0..9] init 0;\n  coin1 : [0..1] init 0;\n"
-    line = "  [] (pc1=%d) -> 0.5 : (pc1'=%d) & (coin1'=0) + 0.5 : (pc1'=%d) & (coin1'=1);\n"
+    front = "mdp\nmodule process1\n  phase1 : [0..9] init 0;\n  coin1 : [0..1] init 0;\n"
+    line = "  [] (phase1=%d) -> 0.5 : (phase1'=%d) & (coin1'=0) + 0.5 : (phase1'=%d) & (coin1'=1);\n"
     lines = [line % (i % 10, (i + 1) % 10, (i + 2) % 10) for i in range(size // len(line % (0, 0, 0)))]
     return front + "".join(lines) + "endmodule\n"
 
