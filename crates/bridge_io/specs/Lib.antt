@@ -1,5 +1,6 @@
 pub mod formers
 pub mod FileShelf
+pub mod Kept
 pub mod MemoryShelf
 pub mod MemorySink
 pub mod Outside

@@ -10,6 +10,7 @@ mod memory_sink;
 mod place;
 mod reason;
 mod shelf;
+mod short;
 mod sink;
 mod std_sink;
 mod tally;

@@ -1,6 +1,7 @@
 // A list and a text, which contracts see as the lists of their items and bytes.
 ghost use Rattle.std.specs.Prelude.{◌≡◌, [], ◌∷◌, ◌++◌, length, slice_get, OnOk, OnErr, IfOk, option_copied, string_bytes};
 
+use crate::short::{SHORT_LENGTH, ShortText};
 use std::alloc::{AllocError, Global};
 use std::marker::Model;
 
@@ -97,18 +98,29 @@ impl List<u8> {
     }
 }
 
-/// A text in UTF-8. Contracts see the list of its bytes.
+/// A text in UTF-8. It takes no memory of its own where it has at most 22 bytes. Contracts see the list of its bytes.
 #[derive(Drop)]
 pub struct Text {
-    text: String,
+    kept: Kept,
 }
 
+// Where a text is kept: in its place, or else on the heap. A text is 24 bytes.
+#[derive(Drop)]
+enum Kept {
+    Short(ShortText),
+    Long(Box<String>),
+}
+
+const _: () = prove!(size_of::<Text>() == 24);
+
 impl Model for Text {
-    ghost use Rattle.std.specs.Prelude.{List, ℕ, string_bytes};
+    ghost use Rattle.std.specs.Prelude.{List, ℕ};
 
     ghost Value = { List ℕ };
 
-    ghost view = { λ t. string_bytes t.text };
+    ghost use Rattle.bridge_io.specs.Kept.{bytes_kept};
+
+    ghost view = { λ t. bytes_kept t.kept };
 }
 
 impl Text {
@@ -116,22 +128,39 @@ impl Text {
     pub fn copy_of(alloc: Global, s: &str) -> Result<Text, AllocError>
         ensures { IfOk result (λ text. text ≡ s.now) }
     {
+        if s.len() <= SHORT_LENGTH {
+            return Ok(Text {
+                kept: Kept::Short(ShortText::copy_of(s)),
+            });
+        }
+        let text = String::from_str(alloc, s)?;
         Ok(Text {
-            text: String::from_str(alloc, s)?,
+            kept: Kept::Long(Box::new(alloc, text)?),
         })
     }
 
-    /// The text of a string, without memory.
-    pub fn from_string(text: String) -> Text
-        ensures { result ≡ string_bytes text }
+    /// The text of a string.
+    pub fn from_string(text: String) -> Result<Text, AllocError>
+        ensures { IfOk result (λ it. it ≡ string_bytes text) }
     {
-        Text { text }
+        if text.len() <= SHORT_LENGTH {
+            return Ok(Text {
+                kept: Kept::Short(ShortText::copy_of(text.as_str())),
+            });
+        }
+        let alloc = *text.allocator();
+        Ok(Text {
+            kept: Kept::Long(Box::new(alloc, text)?),
+        })
     }
 
     /// The same text, without memory.
     pub fn as_str(&self) -> &str
         ensures { result.now ≡ self.now }
     {
-        self.text.as_str()
+        match &self.kept {
+            Kept::Short(text) => text.as_str(),
+            Kept::Long(text) => text.as_str(),
+        }
     }
 }

@@ -23,3 +23,4 @@ pub mod Passing
 pub mod Chains
 pub mod Whole
 pub mod Nested
+pub mod Follows

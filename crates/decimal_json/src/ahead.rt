@@ -96,7 +96,7 @@ fn whole_text(alloc: Global, at: usize, bytes: &[u8]) -> Result<Option<(Json, us
     if !closes(now, bytes[n + 1]) {
         return Ok(None);
     }
-    Ok(Some((Json::Str(at, text.into_text()), end)))
+    Ok(Some((Json::Str(at, text.into_text()?), end)))
 }
 
 /// Whether these bytes are a word and more behind it.

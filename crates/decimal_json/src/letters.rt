@@ -52,8 +52,8 @@ impl Letters {
     }
 
     /// The text of them.
-    pub fn into_text(self) -> Text
-        ensures { result ≡ self }
+    pub fn into_text(self) -> Result<Text, AllocError>
+        ensures { IfOk result (λ text. text ≡ self) }
     {
         Text::from_string(self.text)
     }

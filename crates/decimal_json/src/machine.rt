@@ -380,7 +380,7 @@ pub fn in_text(
                 return Err(Stop::Here);
             }
             Ok(State {
-                mode: Mode::After(Json::Str(start, text.into_text())),
+                mode: Mode::After(Json::Str(start, text.into_text()?)),
                 frames,
             })
         }

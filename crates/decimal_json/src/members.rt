@@ -181,7 +181,7 @@ impl Pending {
         ensures { IfOk result (λ all. all ≡ self.0 ++ record { key = self.1; value = value } ∷ []) }
     {
         let key = Named {
-            name: self.key.into_text(),
+            name: self.key.into_text()?,
             at: self.at,
         };
         self.before.with(alloc, Member { key, value })

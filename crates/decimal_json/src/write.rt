@@ -1,7 +1,9 @@
 // The canonical text of a value.
 
 ghost use Rattle.std.specs.Prelude.{◌≡◌, ◌++◌, ◌≤◌, ◌<◌, ◌^◌, length, take, OnOk, IfOk, decimal, true};
-ghost use Rattle.decimal_json.specs.Proper.{is_proper, SpellsValue};
+ghost use Rattle.std.specs.Str.{is_utf8};
+ghost use Rattle.frac_core.specs.Decimal.{is_normal};
+ghost use Rattle.decimal_json.specs.Proper.{all_normal, is_kept, is_proper, SpellsValue};
 ghost use Rattle.decimal_json.specs.Text.{padded, real_text, number_text, hex_digit, escaped_byte, is_bare, AllBare, escaped, quoted, text_of};
 
 use crate::tree::Json;
@@ -66,9 +68,10 @@ fn push_real(out: &mut Vec<u8>, digits: u128, exponent: i32) -> Result<(), Alloc
     Ok(())
 }
 
-/// Writes a number.
+/// Writes a number, which is within the bounds of its type.
 fn push_number(out: &mut Vec<u8>, number: Decimal) -> Result<(), AllocError>
-    ensures { OnOk result (out.new.items ≡ out.old.items ++ number_text number) }
+    ensures text { OnOk result (out.new.items ≡ out.old.items ++ number_text number) }
+    ensures kept { is_normal number ≡ true → is_kept number ≡ true }
 {
     if number.negative {
         out.push(b'-')?;
@@ -146,9 +149,10 @@ fn push_some(out: &mut Vec<u8>, bytes: &[u8]) -> Result<usize, AllocError>
     Ok(1)
 }
 
-/// Writes a string between quotation marks.
+/// Writes a string between quotation marks. It is UTF-8.
 fn push_string(out: &mut Vec<u8>, text: &str) -> Result<(), AllocError>
-    ensures { OnOk result (out.new.items ≡ out.old.items ++ quoted text.now) }
+    ensures text { OnOk result (out.new.items ≡ out.old.items ++ quoted text.now) }
+    ensures utf8 { OnOk result (is_utf8 text.now ≡ true) }
 {
     out.push(b'"')?;
     let bytes = text.as_bytes();
@@ -160,9 +164,10 @@ fn push_string(out: &mut Vec<u8>, text: &str) -> Result<(), AllocError>
     Ok(())
 }
 
-/// Writes a value.
+/// Writes a value. Each number in it is within the bounds of its type, and each string is UTF-8.
 fn push_value(out: &mut Vec<u8>, value: &Json) -> Result<(), AllocError>
-    ensures { OnOk result (out.new.items ≡ out.old.items ++ text_of value.now) }
+    ensures text { OnOk result (out.new.items ≡ out.old.items ++ text_of value.now) }
+    ensures kept { OnOk result (all_normal value.now ≡ true → is_proper value.now ≡ true) }
 {
     match value {
         Json::Null(_) => out.extend_from_slice(b"null"),
@@ -206,7 +211,7 @@ fn push_value(out: &mut Vec<u8>, value: &Json) -> Result<(), AllocError>
 /// same value where each number is in normal form. The only error is want of memory.
 pub fn write_json(alloc: Global, value: &Json) -> Result<List<u8>, AllocError>
     ensures text { IfOk result (λ text. text ≡ text_of value.now) }
-    ensures back { is_proper value.now ≡ true → IfOk result (λ text. SpellsValue text value.now) }
+    ensures back { all_normal value.now ≡ true → IfOk result (λ text. SpellsValue text value.now) }
 {
     let mut out = Vec::new(alloc);
     push_value(&mut out, value)?;

@@ -33,9 +33,9 @@ use Rattle.prism_exprs.proofs.Conditionals.{map_cons, test_alone, test_stops}
 pub goes_kept : (bytes : List ℕ) (literals : List Literal) (x : Found) → goes_on (lexeme_at bytes literals x).kind ≡ kept_goes_on x.kind
 goes_kept bytes literals x =
     let k = (lexeme_at bytes literals x).kind in
-    let a : is_symbol S.Question k ≡ kept_symbol x.kind S.Question = symbol_kept bytes literals x.kind x.at x.end S.Question in
-    let b : is_symbol S.LeftParenthesis k ≡ kept_symbol x.kind S.LeftParenthesis = symbol_kept bytes literals x.kind x.at x.end S.LeftParenthesis in
-    let c : binds_below 10 (infix_of k) ≡ binds_below 10 (kept_infix x.kind) = ap (λ (p : Option (ℕ × PrismOp)). binds_below 10 p) (infix_kept bytes literals x.kind x.at x.end) in
+    let a : is_symbol S.Question k ≡ kept_symbol x.kind S.Question = symbol_kept bytes literals x.kind x.at x.size S.Question in
+    let b : is_symbol S.LeftParenthesis k ≡ kept_symbol x.kind S.LeftParenthesis = symbol_kept bytes literals x.kind x.at x.size S.LeftParenthesis in
+    let c : binds_below 10 (infix_of k) ≡ binds_below 10 (kept_infix x.kind) = ap (λ (p : Option (ℕ × PrismOp)). binds_below 10 p) (infix_kept bytes literals x.kind x.at x.size) in
     ap₂ (λ (u v : Bool). u || v) a (ap₂ (λ (u v : Bool). u || v) b c)
 
 either : (a b : Bool) → (a || b) ≡ false → (a ≡ false) × (b ≡ false)
@@ -110,7 +110,7 @@ leaf_stops (suc n) ts s un p = by_tests (leaf_stops n ts s un p) (n == 0) (n == 
         stops_up n ts s (prefix_none n (λ g. let i : (n == 0) ≡ true = ap (λ (m : ℕ). m == 0) g in absurd cc) (λ g. let i : (n == 5) ≡ true = ap (λ (m : ℕ). m == 5) g in absurd cc)) below
 
 plain_no_symbol : (k : Kept) (s : Symbol) → kept_plain k ≡ true → false ≡ kept_symbol k s
-plain_no_symbol H.Number s e = refl
+plain_no_symbol (H.Number row) s e = refl
 plain_no_symbol H.Ident s e = refl
 plain_no_symbol H.Quoted s e = refl
 plain_no_symbol (H.Word w) s e = refl
@@ -145,8 +145,8 @@ ends_first bytes literals found xs x e h =
     subst F (sym e) (goes_kept bytes literals x ∙ h)
 
 -- A leaf is a number or an identifier.
-pub leaf_is : (k : Kept) → kept_plain k ≡ true → (k ≡ H.Number → ⊥) → k ≡ H.Ident
-leaf_is H.Number e n = absurd (n refl)
+pub leaf_is : (k : Kept) → kept_plain k ≡ true → ((row : ℕ) → k ≡ H.Number row → ⊥) → k ≡ H.Ident
+leaf_is (H.Number row) e n = absurd (n row refl)
 leaf_is H.Ident e n = refl
 leaf_is H.Quoted e n = cc
 leaf_is (H.Word w) e n = cc

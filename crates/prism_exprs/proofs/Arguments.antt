@@ -255,7 +255,7 @@ pub min_leads : (bytes : List ℕ) (literals : List Literal) (found xs : List Fo
 min_leads bytes literals found xs x us e h g =
     let f = lexeme_at bytes literals in
     let F : ℕ → Type 0 = λ n. Leads (more 0) (prim expr) (map f found) (listed O.Min n) us in
-    subst F (place_kept bytes literals x.kind x.at x.end)
+    subst F (place_kept bytes literals x.kind x.at x.size)
     (leads_on (prim_min (map f found) (map f xs) (f x) (map_cons f found xs x e) (kind_kept bytes literals x (H.Word W.Min) h))
     (extremum_leads W.Min O.Min (f x) (map f found) us (word_reads bytes literals found xs x W.Min us e h g)))
 
@@ -264,6 +264,6 @@ pub max_leads : (bytes : List ℕ) (literals : List Literal) (found xs : List Fo
 max_leads bytes literals found xs x us e h g =
     let f = lexeme_at bytes literals in
     let F : ℕ → Type 0 = λ n. Leads (more 0) (prim expr) (map f found) (listed O.Max n) us in
-    subst F (place_kept bytes literals x.kind x.at x.end)
+    subst F (place_kept bytes literals x.kind x.at x.size)
     (leads_on (prim_max (map f found) (map f xs) (f x) (map_cons f found xs x e) (kind_kept bytes literals x (H.Word W.Max) h))
     (extremum_leads W.Max O.Max (f x) (map f found) us (word_reads bytes literals found xs x W.Max us e h g)))

@@ -31,7 +31,7 @@ pub map_cons : {A B : Type 0} (f : A → B) (found xs : List A) (x : A) → foun
 map_cons f found xs x e = ap (λ (u : List _). map f u) e
 
 operator_kept : (bytes : List ℕ) (literals : List Literal) (n : ℕ) (x : Found) (o : Option PrismOp) → o ≡ at_level n (kept_infix x.kind) → operator_at n (lexeme_at bytes literals x) ≡ o
-operator_kept bytes literals n x o e = ap (λ (p : Option (ℕ × PrismOp)). at_level n p) (infix_kept bytes literals x.kind x.at x.end) ∙ sym e
+operator_kept bytes literals n x o e = ap (λ (p : Option (ℕ × PrismOp)). at_level n p) (infix_kept bytes literals x.kind x.at x.size) ∙ sym e
 
 pub kept_end : (bytes : List ℕ) (literals : List Literal) (n : ℕ) (found xs : List Found) (x : Found) (a : Expression) → found ≡ x ∷ xs → None ≡ at_level n (kept_infix x.kind) →
     Ends (more n) (map (lexeme_at bytes literals) found) → Reads (others n a) (more (suc n)) (map (lexeme_at bytes literals) found) a (map (lexeme_at bytes literals) found)

@@ -28,8 +28,8 @@ use Rattle.prism_exprs.proofs.Prims.{prim_true, prim_false, prim_parenthesis, pr
 use Rattle.prism_exprs.proofs.Conditionals.{map_cons}
 
 -- the first token of the list, as the grammar sees it
-pub kind_kept : (bytes : List ℕ) (literals : List Literal) (x : Found) (k : Kept) → x.kind ≡ k → (lexeme_at bytes literals x).kind ≡ (lexeme_by bytes literals k x.at x.end).kind
-kind_kept bytes literals x k h = ap (λ (j : Kept). (lexeme_by bytes literals j x.at x.end).kind) h
+pub kind_kept : (bytes : List ℕ) (literals : List Literal) (x : Found) (k : Kept) → x.kind ≡ k → (lexeme_at bytes literals x).kind ≡ (lexeme_by bytes literals k x.at x.size).kind
+kind_kept bytes literals x k h = ap (λ (j : Kept). (lexeme_by bytes literals j x.at x.size).kind) h
 
 pub word_reads : (bytes : List ℕ) (literals : List Literal) (found xs : List Found) (x : Found) (r : Reserved) (us : List Lexeme) → found ≡ x ∷ xs → x.kind ≡ H.Word r → us ≡ map (lexeme_at bytes literals) xs →
     Reads (word r) none (map (lexeme_at bytes literals) found) (lexeme_at bytes literals x) us
@@ -44,7 +44,7 @@ first_symbol_reads bytes literals found xs x s us e h g =
     token_reads (f x) us (map_cons f found xs x e ∙ ap (λ (u : List Lexeme). f x ∷ u) (sym g)) (kind_kept bytes literals x (H.Symbol s) h)
 
 place : (bytes : List ℕ) (literals : List Literal) (x : Found) → (lexeme_at bytes literals x).at ≡ x.at
-place bytes literals x = place_kept bytes literals x.kind x.at x.end
+place bytes literals x = place_kept bytes literals x.kind x.at x.size
 
 pub true_leads : (bytes : List ℕ) (literals : List Literal) (found xs : List Found) (x : Found) (us : List Lexeme) → found ≡ x ∷ xs → x.kind ≡ H.Word W.True → us ≡ map (lexeme_at bytes literals) xs →
     Leads (more 0) (prim expr) (map (lexeme_at bytes literals) found) (gives (Truth x.at true)) us
@@ -126,5 +126,5 @@ other_symbol bytes literals found xs x s e h a = no_operand _ found xs x e (ap b
 pub quoted_name : (bytes : List ℕ) (literals : List Literal) (found xs : List Found) (x : Found) → found ≡ x ∷ xs → x.kind ≡ H.Quoted →
     Fails (prim expr) (more 0) (map (lexeme_at bytes literals) found) (map (lexeme_at bytes literals) found)
 quoted_name bytes literals found xs x e h =
-    let w = text_at bytes x.at x.end in
+    let w = text_at bytes x.at x.size in
     no_operand _ found xs x e (ap begins_prim (kind_kept bytes literals x H.Quoted h) ∙ of_name (is_utf8 w) K.Quoted w x.at begins_prim false refl refl)

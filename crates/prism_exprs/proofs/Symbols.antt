@@ -32,7 +32,7 @@ pub symbol_missing : (s : Symbol) (f : Found → Lexeme) (found : List Found) �
 symbol_missing s f found e = token_fails _ (λ t rest g h. let n : [] ≡ t ∷ rest = sym (map_empty f found e) ∙ g in cc)
 
 pub symbol_same : (bytes : List ℕ) (literals : List Literal) (x : Found) (s : Symbol) (b : Bool) → b ≡ kept_symbol x.kind s → same_kind (lexeme_at bytes literals x).kind (K.Symbol s) ≡ b
-symbol_same bytes literals x s b e = symbol_kept bytes literals x.kind x.at x.end s ∙ sym e
+symbol_same bytes literals x s b e = symbol_kept bytes literals x.kind x.at x.size s ∙ sym e
 
 pub symbol_fails : (bytes : List ℕ) (literals : List Literal) (s : Symbol) (x : Found) (found xs : List Found) → found ≡ x ∷ xs → false ≡ kept_symbol x.kind s →
     Fails (symbol s) none (map (lexeme_at bytes literals) found) (map (lexeme_at bytes literals) found)
@@ -95,7 +95,7 @@ pub sign_applied : (bytes : List ℕ) (literals : List Literal) (o : PrismOp) (x
     applied o (map (lexeme_at bytes literals) front) e' ≡ applied o (map (lexeme_at bytes literals) signs) e
 sign_applied bytes literals o x signs front e e' h g =
     let f = lexeme_at bytes literals in
-    ap (λ (u : Expression). applied o (map f front) u) (g ∙ ap (λ (n : ℕ). One n o e) (sym (place_kept bytes literals x.kind x.at x.end)))
+    ap (λ (u : Expression). applied o (map f front) u) (g ∙ ap (λ (n : ℕ). One n o e) (sym (place_kept bytes literals x.kind x.at x.size)))
     ∙ sym (applied-append o (map f front) (f x) e) ∙ ap (λ (u : List Lexeme). applied o u e) (sym (map-append_one f front x)) ∙ ap (λ (u : List Found). applied o (map f u) e) (sym h)
 
 pub take_front : {A : Type 0} (a b : List A) → take (length a) (a ++ b) ≡ a

@@ -1,5 +1,5 @@
 -- The tokens that the code keeps, as the grammar sees them.
-use Rattle.std.specs.Prelude.{ℕ, ◌-◌, Bool, false, List, map, take, drop, Option, Some, None, slice_get, if◌then◌else◌}
+use Rattle.std.specs.Prelude.{ℕ, ◌+◌, ◌*◌, Bool, false, List, [], map, take, drop, Option, Some, None, slice_get, if◌then◌else◌}
 use Rattle.std.specs.Str.{is_utf8}
 use Rattle.prism_lex.specs.declared.token.TokenKind.{TokenKind}
 use Rattle.prism_lex.specs.declared.token.TokenKind.TheVariants as K
@@ -18,7 +18,7 @@ use Rattle.prism_exprs.specs.declared.tokens.Literal.{Literal}
 use Rattle.prism_exprs.specs.declared.tokens.Tokens.{Tokens}
 
 abbrev pub text_at : List ℕ → ℕ → ℕ → List ℕ
-text_at bytes at end = take (end - at) (drop at bytes)
+text_at bytes at size = take size (drop at bytes)
 
 abbrev pub made : TokenKind → List ℕ → ℕ → Lexeme
 made kind text at = record { kind = kind; text = text; at = at }
@@ -28,18 +28,22 @@ abbrev pub name_at : TokenKind → List ℕ → ℕ → Lexeme
 name_at kind text at = if is_utf8 text then made kind text at else made K.End text at
 
 abbrev pub literal_at : List ℕ → Option Literal → ℕ → Lexeme
-literal_at bytes None at = made K.End (text_at bytes at at) at
+literal_at bytes None at = made K.End [] at
 literal_at bytes (Some n) at = made (K.Number n.value) (take n.length (drop at bytes)) at
 
+-- Literals stand in rows of 65,536.
+abbrev pub in_row : List Literal → ℕ → ℕ → Option Literal
+in_row literals row place = slice_get literals (row * 65536 + place)
+
 abbrev pub lexeme_by : List ℕ → List Literal → Kept → ℕ → ℕ → Lexeme
-lexeme_by bytes literals (Word r) at end = made (K.Word r) (text_at bytes at end) at
-lexeme_by bytes literals (Symbol s) at end = made (K.Symbol s) (text_at bytes at end) at
-lexeme_by bytes literals Ident at end = name_at K.Ident (text_at bytes at end) at
-lexeme_by bytes literals Quoted at end = name_at K.Quoted (text_at bytes at end) at
-lexeme_by bytes literals Number at end = literal_at bytes (slice_get literals end) at
+lexeme_by bytes literals (Word r) at size = made (K.Word r) (text_at bytes at size) at
+lexeme_by bytes literals (Symbol s) at size = made (K.Symbol s) (text_at bytes at size) at
+lexeme_by bytes literals Ident at size = name_at K.Ident (text_at bytes at size) at
+lexeme_by bytes literals Quoted at size = name_at K.Quoted (text_at bytes at size) at
+lexeme_by bytes literals (Number row) at size = literal_at bytes (in_row literals row size) at
 
 abbrev pub lexeme_at : List ℕ → List Literal → Found → Lexeme
-lexeme_at bytes literals f = lexeme_by bytes literals f.kind f.at f.end
+lexeme_at bytes literals f = lexeme_by bytes literals f.kind f.at f.size
 
 abbrev pub seen : Tokens → List Lexeme
 seen t = map (lexeme_at t.bytes.now t.literals.now) t.found.now

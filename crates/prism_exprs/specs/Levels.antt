@@ -85,7 +85,7 @@ listed o at = do
 
 -- a number or an identifier
 abbrev pub kept_plain : Kept → Bool
-kept_plain Number = true
+kept_plain (Number row) = true
 kept_plain Ident = true
 kept_plain k = false
 

@@ -172,7 +172,7 @@ fn parse_prim<'a>(alloc: Global, tokens: Tokens<'a>) -> Result<(Pe, Tokens<'a>),
             }
             _ => Err(Stop::At(tokens, Cause::Form)),
         },
-        Kept::Number => match tokens.number(*first) {
+        Kept::Number(row) => match tokens.number(row, first.size) {
             Some(value) => closed(Expr::Number(at, value), rest),
             None => Err(Stop::At(tokens, Cause::Form)),
         },

@@ -20,7 +20,7 @@ impl Kept {
         ensures { result ≡ kept_plain self }
     {
         match self {
-            Kept::Number => true,
+            Kept::Number(_) => true,
             Kept::Ident => true,
             _ => false,
         }
@@ -79,7 +79,7 @@ pub(crate) fn parse_leaf<'a>(
     let at = first.at as usize;
     let rest = tokens.with(behind);
     match first.kind {
-        Kept::Number => match tokens.number(*first) {
+        Kept::Number(row) => match tokens.number(row, first.size) {
             Some(value) => Ok((Expr::Number(at, value), rest)),
             None => Err(Stop::At(tokens, Cause::Form)),
         },

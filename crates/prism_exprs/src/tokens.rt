@@ -1,16 +1,16 @@
 // The tokens that are still to be read, as they are kept, and why reading stops.
-ghost use Rattle.std.specs.Prelude.{◌≡◌, map, IfSome, IfNone, true, false, slice_get};
+ghost use Rattle.std.specs.Prelude.{◌≡◌, map, IfSome, IfNone, true, false};
 ghost use Rattle.std.specs.Option.{option_map};
 ghost use Rattle.std.specs.Str.{is_utf8};
 ghost use Rattle.prism_lex.specs.Tokens.{Lexeme};
-ghost use Rattle.prism_exprs.specs.Kept.{text_at, lexeme_at, seen};
+ghost use Rattle.prism_exprs.specs.Kept.{text_at, in_row, lexeme_at, seen};
 ghost use Rattle.prism_exprs.specs.declared.tokens.Stop.TheVariants.{Memory};
 
 use frac_core::Decimal;
 use prism_lex::{Reserved, Symbol};
 use std::alloc::{AllocError, AllocFailed};
 
-/// What a token is. The value of a number is one of the literals of the file, by its number there.
+/// What a token is.
 #[derive(Clone, Copy, Debug, PartialEq, Eq)]
 pub enum Kept {
     /// A reserved word.
@@ -21,20 +21,22 @@ pub enum Kept {
     Ident,
     /// A name between quotes.
     Quoted,
-    /// A number.
-    Number,
+    /// A number. Its value is one of the literals of the file, which stand in rows of 65,536: this is the number of its row.
+    Number(u8),
 }
 
-/// A token: what it is, where it begins, and where it ends.
+/// A token: what it is, how long it is, and where it begins. A file has many, so it takes no more than 8 bytes.
 #[derive(Clone, Copy, Debug)]
 pub struct Found {
     /// What it is.
     pub kind: Kept,
+    /// How many bytes it has; of a number the place of its literal in the row.
+    pub size: u16,
     /// The offset of its first byte.
     pub at: u32,
-    /// The offset behind its last byte; of a number its place among the literals.
-    pub end: u32,
 }
+
+const _: () = prove!(size_of::<Found>() == 8);
 
 /// A number of the file as it is written: its value, and how many bytes it has.
 #[derive(Clone, Copy, Debug, PartialEq, Eq)]
@@ -108,18 +110,17 @@ impl<'a> Tokens<'a> {
 
     /// The text of a name; none where there is no such text.
     pub fn text(self, token: Found) -> &'a [u8]
-        ensures { result.now ≡ text_at self.entry.bytes.now token.at token.end }
+        ensures { result.now ≡ text_at self.entry.bytes.now token.at token.size }
     {
         let from = (token.at as usize).min(self.bytes.len());
         let rest = self.bytes.split_at(from).1;
-        let room = (token.end as usize).saturating_sub(token.at as usize);
-        rest.split_at(room.min(rest.len())).0
+        rest.split_at((token.size as usize).min(rest.len())).0
     }
 
     /// The text of a name; none where its bytes are no text, and the grammar sees an end.
     pub fn name(self, token: Found) -> Option<&'a str>
-        ensures some { IfSome result (λ name. (name.now ≡ text_at self.entry.bytes.now token.at token.end) × (is_utf8 name.now ≡ true)) }
-        ensures none { IfNone result (is_utf8 (text_at self.entry.bytes.now token.at token.end) ≡ false) }
+        ensures some { IfSome result (λ name. (name.now ≡ text_at self.entry.bytes.now token.at token.size) × (is_utf8 name.now ≡ true)) }
+        ensures none { IfNone result (is_utf8 (text_at self.entry.bytes.now token.at token.size) ≡ false) }
     {
         match str::from_utf8(self.text(token)) {
             Ok(name) => Some(name),
@@ -127,11 +128,12 @@ impl<'a> Tokens<'a> {
         }
     }
 
-    /// The value of a number; none where it is no literal of the file, and the grammar sees an end.
-    pub fn number(self, token: Found) -> Option<Decimal>
-        ensures { result ≡ option_map (λ n. n.value) (slice_get self.entry.literals.now token.end) }
+    /// The value of a number, by the row of its literal and the place in it; none where the file has no such literal, and the
+    /// grammar sees an end.
+    pub fn number(self, row: u8, place: u16) -> Option<Decimal>
+        ensures { result ≡ option_map (λ n. n.value) (in_row self.entry.literals.now row place) }
     {
-        match self.literals.get(token.end as usize) {
+        match self.literals.get(row as usize * 65536 + place as usize) {
             Some(literal) => Some(literal.value),
             None => None,
         }

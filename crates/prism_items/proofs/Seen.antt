@@ -15,14 +15,13 @@ use Rattle.prism_exprs.specs.declared.tokens.Literal.{Literal}
 use Rattle.prism_exprs.specs.declared.tokens.Kept.{Kept}
 use Rattle.prism_exprs.specs.declared.tokens.Kept.TheVariants as H
 use Rattle.std.specs.Str.{is_utf8}
-use Rattle.prism_exprs.specs.Kept.{lexeme_at, lexeme_by, literal_at, made, text_at}
+use Rattle.prism_exprs.specs.Kept.{lexeme_at, lexeme_by, literal_at, in_row, made, text_at}
 use Rattle.prism_exprs.specs.Reading.{none, Reads, starts, is_kind, same_kind}
 use Rattle.prism_exprs.specs.Scope.{Scope, Halts}
 use Rattle.prism_exprs.proofs.Laws.{none_follows, token_word, gives_word, then_word, then_reads, token_reads, gives_reads}
 use Rattle.prism_exprs.proofs.Choice.{then_barred, token_barred}
 use Rattle.prism_exprs.proofs.Loops.{same_is, starts_not}
 use Rattle.prism_exprs.proofs.Symbols.{starts_empty}
-use Rattle.std.specs.Prelude.{slice_get}
 use Rattle.std.proofs.Common.{arith, [], Option}
 use Rattle.op_trees.specs.declared.tree.Ty.{Ty}
 use Rattle.op_trees.specs.declared.tree.Ty.TheVariants as T
@@ -52,13 +51,13 @@ named_text false false k w at e g = refl
 named_text true false k w at e g = absurd cc
 named_text false true k w at e g = absurd cc
 
-pub identifier_kept : (bytes : List ℕ) (literals : List Literal) (x : Found) (b : Bool) → x.kind ≡ H.Ident → is_utf8 (text_at bytes x.at x.end) ≡ b → text_if K.Ident (lexeme_at bytes literals x) ≡ (if b then Some (text_at bytes x.at x.end) else None)
+pub identifier_kept : (bytes : List ℕ) (literals : List Literal) (x : Found) (b : Bool) → x.kind ≡ H.Ident → is_utf8 (text_at bytes x.at x.size) ≡ b → text_if K.Ident (lexeme_at bytes literals x) ≡ (if b then Some (text_at bytes x.at x.size) else None)
 identifier_kept bytes literals x b e h =
-    ap (λ (k : Kept). text_if K.Ident (lexeme_by bytes literals k x.at x.end)) e ∙ named_text (is_utf8 (text_at bytes x.at x.end)) b K.Ident (text_at bytes x.at x.end) x.at refl h
+    ap (λ (k : Kept). text_if K.Ident (lexeme_by bytes literals k x.at x.size)) e ∙ named_text (is_utf8 (text_at bytes x.at x.size)) b K.Ident (text_at bytes x.at x.size) x.at refl h
 
-pub quotation_kept : (bytes : List ℕ) (literals : List Literal) (x : Found) (b : Bool) → x.kind ≡ H.Quoted → is_utf8 (text_at bytes x.at x.end) ≡ b → text_if K.Quoted (lexeme_at bytes literals x) ≡ (if b then Some (text_at bytes x.at x.end) else None)
+pub quotation_kept : (bytes : List ℕ) (literals : List Literal) (x : Found) (b : Bool) → x.kind ≡ H.Quoted → is_utf8 (text_at bytes x.at x.size) ≡ b → text_if K.Quoted (lexeme_at bytes literals x) ≡ (if b then Some (text_at bytes x.at x.size) else None)
 quotation_kept bytes literals x b e h =
-    ap (λ (k : Kept). text_if K.Quoted (lexeme_by bytes literals k x.at x.end)) e ∙ named_text (is_utf8 (text_at bytes x.at x.end)) b K.Quoted (text_at bytes x.at x.end) x.at refl h
+    ap (λ (k : Kept). text_if K.Quoted (lexeme_by bytes literals k x.at x.size)) e ∙ named_text (is_utf8 (text_at bytes x.at x.size)) b K.Quoted (text_at bytes x.at x.size) x.at refl h
 
 some_kind : (b : Bool) (t : List ℕ) (x : List ℕ) → (if b then Some t else None) ≡ Some x → (b ≡ true) × (t ≡ x)
 some_kind true t x e = (refl, cc)
@@ -107,18 +106,18 @@ word_type W.Double = refl
 word_type W.BoolWord = refl
 word_type r = refl
 
-pub type_kept : (bytes : List ℕ) (literals : List Literal) (k : Kept) (at end : ℕ) → type_of (lexeme_by bytes literals k at end).kind ≡ kept_type k
-type_kept bytes literals (H.Word r) at end = word_type r
-type_kept bytes literals (H.Symbol a) at end = refl
-type_kept bytes literals H.Ident at end = kind_of_name (is_utf8 (text_at bytes at end)) K.Ident (text_at bytes at end) at refl
-type_kept bytes literals H.Quoted at end = kind_of_name (is_utf8 (text_at bytes at end)) K.Quoted (text_at bytes at end) at refl
-type_kept bytes literals H.Number at end = kind_of_literal bytes (slice_get literals end) at
+pub type_kept : (bytes : List ℕ) (literals : List Literal) (k : Kept) (at size : ℕ) → type_of (lexeme_by bytes literals k at size).kind ≡ kept_type k
+type_kept bytes literals (H.Word r) at size = word_type r
+type_kept bytes literals (H.Symbol a) at size = refl
+type_kept bytes literals H.Ident at size = kind_of_name (is_utf8 (text_at bytes at size)) K.Ident (text_at bytes at size) at refl
+type_kept bytes literals H.Quoted at size = kind_of_name (is_utf8 (text_at bytes at size)) K.Quoted (text_at bytes at size) at refl
+type_kept bytes literals (H.Number row) at size = kind_of_literal bytes (in_row literals row size) at
 
 pub type_seen : (bytes : List ℕ) (literals : List Literal) (found xs : List Found) (x : Found) (ty : Option Ty) → found ≡ x ∷ xs → ty ≡ kept_type x.kind →
     type_front (map (lexeme_at bytes literals) found) ≡ behind_type ty (lexeme_at bytes literals x) (map (lexeme_at bytes literals) xs)
 type_seen bytes literals found xs x ty e h =
     let f = lexeme_at bytes literals in
-    ap (λ (u : List Found). type_front (map f u)) e ∙ ap (λ (o : Option Ty). behind_type o (f x) (map f xs)) (type_kept bytes literals x.kind x.at x.end ∙ sym h)
+    ap (λ (u : List Found). type_front (map f u)) e ∙ ap (λ (o : Option Ty). behind_type o (f x) (map f xs)) (type_kept bytes literals x.kind x.at x.size ∙ sym h)
 
 pub type_other : (bytes : List ℕ) (literals : List Literal) (found xs : List Found) (x : Found) → found ≡ x ∷ xs → None ≡ kept_type x.kind → type_front (map (lexeme_at bytes literals) found) ≡ (T.Int, map (lexeme_at bytes literals) found)
 type_other bytes literals found xs x e h = type_seen bytes literals found xs x None e h ∙ ap (λ (u : List Found). (T.Int, map (lexeme_at bytes literals) u)) (sym e)

@@ -52,8 +52,8 @@ module _ (end : ℕ) (bytes : List ℕ) (literals : List Literal) (found : List 
         let r = some_left (drop place found) first e in
         let same : called ≡ ends_with is_left_out_name stop.before = f ∙ ap (ends_with is_left_out_name) split.0 in
         let told : unless_deep c (form_reason c (view first).kind (ends_with is_left_out_name stop.before)) ≡ reason =
-        ap (unless_deep c) (reason_kept bytes literals first.at first.end c first.kind (ends_with is_left_out_name stop.before) ∙ ap (kept_reason c first.kind) (sym same)) ∙ sym g in
+        ap (unless_deep c) (reason_kept bytes literals first.at first.size c first.kind (ends_with is_left_out_name stop.before) ∙ ap (kept_reason c first.kind) (sym same)) ∙ sym g in
         let F : Reason → Type 0 = λ x. IsGrammarFault end (map view found) (record { reason = x; at = first.at }) in
         let G : ℕ → Type 0 = λ at. IsGrammarFault end (map view found) (record { reason = unless_deep c (form_reason c (view first).kind (ends_with is_left_out_name stop.before)); at = at }) in
-        subst F told (subst G (place_kept bytes literals first.kind first.at first.end)
+        subst F told (subst G (place_kept bytes literals first.kind first.at first.size)
         (token_fault end (map view found) rest c stop (view first) (map view r.0) (sym split.1 ∙ ap (map view) r.1)))

@@ -1,6 +1,6 @@
 // The tokens of a text, as they are kept.
 ghost use Rattle.std.specs.Prelude.{◌≡◌, ◌≤◌, ◌<◌, ◌^◌, true, IfOk, IfErr, length, slice_get, Some};
-ghost use Rattle.prism_parse.specs.Lexed.{kept_kind, Holds, Keeps, IsLexed, IsTokenRefusal};
+ghost use Rattle.prism_parse.specs.Lexed.{kept_kind, Holds, IsInRows, Keeps, IsLexed, IsTokenRefusal};
 
 use bridge_io::{List, Refused};
 use prism_exprs::{Found, Kept, Literal};
@@ -14,7 +14,7 @@ pub(crate) struct Lexed {
     pub literals: List<Literal>,
 }
 
-// What is kept of a token; none of the end.
+// What a token is kept as that is no number; none of the end.
 fn kept_kind(kind: TokenKind) -> Option<Kept>
     ensures { result ≡ kept_kind kind }
 {
@@ -23,8 +23,7 @@ fn kept_kind(kind: TokenKind) -> Option<Kept>
         TokenKind::Symbol(symbol) => Some(Kept::Symbol(symbol)),
         TokenKind::Ident => Some(Kept::Ident),
         TokenKind::Quoted => Some(Kept::Quoted),
-        TokenKind::Number(_) => Some(Kept::Number),
-        TokenKind::End => None,
+        TokenKind::Number(_) | TokenKind::End => None,
     }
 }
 
@@ -70,27 +69,57 @@ fn keep_literal(
     Ok(place)
 }
 
-// Where a token ends, or of a number a place at which its literal stands.
-fn keep_end(
-    literals: &mut List<Literal>,
-    places: &mut [u32; SLOTS],
-    token: Token,
-) -> Result<u32, AllocError>
-    requires order { token.at ≤ token.end }
-    requires end { token.end < 2 ^ 32 }
-    requires room { length literals.old < 2 ^ 32 }
-    ensures { IfOk result (λ end. Keeps literals.old token literals.new end) }
+// What a number is kept as whose literal has this place: its row, and the place in the row. There are 256 rows.
+fn in_rows(place: u32) -> Result<(Kept, u16), AllocError>
+    ensures { IfOk result (λ r. IsInRows place r.0 r.1) }
 {
-    match token.kind {
-        TokenKind::Number(value) => {
-            let length = (token.end - token.at) as u32;
-            keep_literal(literals, places, Literal { value, length })
-        }
-        _ => Ok(token.end as u32),
+    match u8::try_from(place / 65536) {
+        Ok(row) => Ok((Kept::Number(row), (place % 65536) as u16)),
+        Err(_) => Err(AllocError),
     }
 }
 
-/// The tokens of a text, or the first of their faults. A text of more than 4,294,967,295 bytes is refused for want of memory.
+// A length in 16 bits. All names are shorter.
+fn short(length: usize) -> Result<u16, AllocError>
+    ensures { IfOk result (λ size. size ≡ length) }
+{
+    match u16::try_from(length) {
+        Ok(size) => Ok(size),
+        Err(_) => Err(AllocError),
+    }
+}
+
+// What is kept of a token; none of the end.
+fn keep(
+    literals: &mut List<Literal>,
+    places: &mut [u32; SLOTS],
+    token: Token,
+) -> Result<Option<Found>, AllocError>
+    requires order { token.at ≤ token.end }
+    requires end { token.end < 2 ^ 32 }
+    requires room { length literals.old < 2 ^ 32 }
+    ensures { IfOk result (λ found. Keeps literals.old token literals.new found) }
+{
+    let length = token.end - token.at;
+    let at = token.at as u32;
+    if let TokenKind::Number(value) = token.kind {
+        let literal = Literal {
+            value,
+            length: length as u32,
+        };
+        let place = keep_literal(literals, places, literal)?;
+        let (kind, size) = in_rows(place)?;
+        return Ok(Some(Found { kind, size, at }));
+    }
+    let Some(kind) = kept_kind(token.kind) else {
+        return Ok(None);
+    };
+    let size = short(length)?;
+    Ok(Some(Found { kind, size, at }))
+}
+
+/// The tokens of a text, or the first of their faults. A text of more than 4,294,967,295 bytes is refused for want of memory, and
+/// so is one with more than 16,777,216 numbers to be kept.
 pub(crate) fn read_tokens(alloc: Global, bytes: &[u8]) -> Result<Lexed, Refused>
     ensures ok { IfOk result (λ l. IsLexed bytes.now l.literals l.found) }
     ensures err { IfErr result (IsTokenRefusal bytes.now) }
@@ -108,15 +137,10 @@ pub(crate) fn read_tokens(alloc: Global, bytes: &[u8]) -> Result<Lexed, Refused>
             Ok(token) => token,
             Err(fault) => return Err(Refused::At(fault)),
         };
-        let Some(kind) = kept_kind(token.kind) else {
+        let Some(next) = keep(&mut literals, &mut places, token)? else {
             return Ok(Lexed { found, literals });
         };
-        let end = keep_end(&mut literals, &mut places, token)?;
-        found.push(Found {
-            kind,
-            at: token.at as u32,
-            end,
-        })?;
+        found.push(next)?;
         at = token.end;
     }
 }

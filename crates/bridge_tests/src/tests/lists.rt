@@ -35,7 +35,18 @@ fn a_text_keeps_its_bytes(rt: HostRuntime) -> Result<(), Fail> {
     };
     assert_eq!(rt; named.name.as_str(), "né");
     assert_eq!(rt; named.at, 4);
-    let text = Text::from_string(String::from_str(rt.alloc(), "ab")?);
+    let text = Text::from_string(String::from_str(rt.alloc(), "ab")?)?;
     assert_eq!(rt; text.as_str(), "ab");
+    Ok(())
+}
+
+#[test]
+fn a_long_text_keeps_its_bytes(rt: HostRuntime) -> Result<(), Fail> {
+    for s in ["", "twenty-two bytes of ü", "twenty-three bytes of x"] {
+        let text = Text::copy_of(rt.alloc(), s)?;
+        assert_eq!(rt; text.as_str(), s);
+        let text = Text::from_string(String::from_str(rt.alloc(), s)?)?;
+        assert_eq!(rt; text.as_str(), s);
+    }
     Ok(())
 }

@@ -12,7 +12,7 @@ pub returns-in_ok-longer-in-Some : goal.returns-in_ok-longer-in-Some
 returns-in_ok-longer-in-Some c at p e = plain p _ _ _ _ (λ k. in_string c.args.start c.in-Some.next c.in_ok-longer-in-Some.longer (reverse c.args.frames)) e refl
     (rw c.in_ok-longer-in-Some.ensures (s.text_on _ _ _ _ _ p _ (sym c.onward.ensures ∙ c.in-Some.is)))
 
-pub returns-else-not-closes : goal.returns-else-not-closes
-returns-else-not-closes c at p e =
+pub returns-in_ok-into_text-in-None : goal.returns-in_ok-into_text-in-None
+returns-in_ok-into_text-in-None c at p e =
     let f = closes_is _ _ _ c.closes.ensures c.if-not-closes.false in
-    plain p _ _ 0x22 _ (λ k. closes (reverse c.args.frames) (Str c.args.start c.into_text.result)) e f.1 (rw c.into_text.ensures (text_closes _ _ _ _ p f.0))
+    plain p _ _ 0x22 _ (λ k. closes (reverse c.args.frames) (Str c.args.start c.in_ok-into_text-in-None.field-0)) e f.1 (rw c.in_ok-into_text-in-None.ensures (text_closes _ _ _ _ p f.0))

@@ -231,10 +231,10 @@ parse_prim-returns-in-Max t c =
 pub parse_prim-returns-in-Some-number : goal.parse_prim-returns-in-Some-number
 parse_prim-returns-in-Some-number t c =
     parses_via _ _ _ (more 0) _ _ c.closed-in-Some-number.result
-    (number_leads _ _ _ _ c.in-Some.first.now _ c.in-Some-number.value c.in-Some.ensures.cases.0 c.in-Number.is c.with-rest.ensures c.in-Some-number.ensures) c.closed-in-Some-number.ensures
+    (number_leads _ _ _ _ c.in-Some.first.now _ _ c.in-Some-number.value c.in-Some.ensures.cases.0 c.in-Number.is c.with-rest.ensures c.in-Some-number.ensures) c.closed-in-Some-number.ensures
 
 pub parse_prim-returns-in-None : goal.parse_prim-returns-in-None
-parse_prim-returns-in-None t c = number_missing _ _ _ _ c.in-Some.first.now c.in-Some.ensures.cases.0 c.in-Number.is c.in-None.ensures
+parse_prim-returns-in-None t c = number_missing _ _ _ _ c.in-Some.first.now _ c.in-Some.ensures.cases.0 c.in-Number.is c.in-None.ensures
 
 pub parse_prim-returns-in-Some-name : goal.parse_prim-returns-in-Some-name
 parse_prim-returns-in-Some-name t c =

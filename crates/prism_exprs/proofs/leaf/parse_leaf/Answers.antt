@@ -12,11 +12,11 @@ pub returns-in-Some-number-clause-read : goal.returns-in-Some-number-clause-read
 returns-in-Some-number-clause-read c =
     let l = leaf_first c.args.tokens _ _ c.requires c.in-Some.ensures.cases.0 in
     let F : List Lexeme → Type 0 = λ u. Ends goes_on u in
-    (number_leads _ _ _ _ c.in-Some.first.now _ c.in-Some-number.value c.in-Some.ensures.cases.0 c.in-Number.is c.with-rest.ensures c.in-Some-number.ensures).reads _ _
+    (number_leads _ _ _ _ c.in-Some.first.now _ _ c.in-Some-number.value c.in-Some.ensures.cases.0 c.in-Number.is c.with-rest.ensures c.in-Some-number.ensures).reads _ _
     (closed_reads _ _ (no_open _ (subst F (sym c.with-rest.ensures) l.1)))
 
 pub returns-in-None-clause-read : goal.returns-in-None-clause-read
-returns-in-None-clause-read c = number_missing _ _ _ _ c.in-Some.first.now c.in-Some.ensures.cases.0 c.in-Number.is c.in-None.ensures
+returns-in-None-clause-read c = number_missing _ _ _ _ c.in-Some.first.now _ c.in-Some.ensures.cases.0 c.in-Number.is c.in-None.ensures
 
 pub returns-in_ok-copy_of-in-Some-name : goal.returns-in_ok-copy_of-in-Some-name
 returns-in_ok-copy_of-in-Some-name c =

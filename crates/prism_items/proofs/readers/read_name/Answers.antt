@@ -16,4 +16,4 @@ returns-in_default-identifier c = text_missing K.Ident (λ w. w) _ refl (text_ot
 
 pub returns : goal.returns
 unfolding name
-returns c = λ s. text_read _ K.Ident (λ w. w) _ _ c.in-Some.first.now _ _ _ _ c.in-Some.ensures.cases.0 c.in-Some-identifier.ensures.some c.in_ok-name.ensures (sym (place_kept _ _ c.in-Some.first.now.kind c.in-Some.first.now.at c.in-Some.first.now.end)) c.with.ensures
+returns c = λ s. text_read _ K.Ident (λ w. w) _ _ c.in-Some.first.now _ _ _ _ c.in-Some.ensures.cases.0 c.in-Some-identifier.ensures.some c.in_ok-name.ensures (sym (place_kept _ _ c.in-Some.first.now.kind c.in-Some.first.now.at c.in-Some.first.now.size)) c.with.ensures
