@@ -6,9 +6,9 @@ use Rattle.decimal_json.specs.declared.tree.Json.{Json}
 use Rattle.decimal_json.specs.declared.brackets.Frame.{Frame}
 use Rattle.std.proofs.Common.{inl, inr}
 use Rattle.decimal_json.proofs.Growth.{colon_later}
-use Rattle.decimal_json.specs.Lang.{Mark, Place, Among, next, noted, Lang, Turns, Barred, Stops}
+use Rattle.decimal_json.specs.Lang.{Mark, Place, Among, next, noted, Lang, Turns, Barred, Stops, IsFine}
 use Rattle.decimal_json.specs.Grammar.{bracket, key_mark, is_space, is_among}
-use Rattle.decimal_json.specs.States.{IsFine, IsNext, Breaks, goes_on, Goes, Over, Settles, Steps, Numbers, Quiet, NoNumber, Fresh, Carried, verdict, in_number, closes, begin_value, begin_key, begin_colon, in_word, in_key}
+use Rattle.decimal_json.specs.States.{IsNext, Breaks, goes_on, Goes, Over, Settles, Steps, Numbers, Quiet, NoNumber, Fresh, Carried, verdict, in_number, closes, begin_value, begin_key, begin_colon, in_word, in_key}
 use Rattle.decimal_json.specs.Grammar.{names}
 use Rattle.decimal_json.specs.declared.tree.Json.TheVariants.{Array, Object}
 use Rattle.decimal_json.specs.declared.tree.Member.{Member}
@@ -307,7 +307,8 @@ pub finishes_in : (m n : Mode) (fs : List Frame) (r : Result (Option Json) ℕ) 
 finishes_in m n fs r e h = let F : Mode → Type 0 = λ k. Finishes (record { mode = k; frames = fs }) r in subst F (sym e) h
 
 pub over_number : (at : ℕ) (n : Digits) (d : Decimal) → is_end n.stage ≡ true → d ≡ worth n.text → Over (in_number at n.stage n.text []) (Some (Number at d))
-over_number at n d e f p = (noted (number_mark n.text at p.at) p, (let F : Decimal → Type 0 = λ x. Stops p (in_number at n.stage n.text []) (Number at x) (noted (number_mark n.text at p.at) p) in subst F (sym f) (s.number_stops at n.stage n.text p e)))
+unfolding noted
+over_number at n d e f p = (noted (number_mark n.text at p.at) p, (let F : Decimal → Type 0 = λ x. Stops p (in_number at n.stage n.text []) (Number at x) (noted (number_mark n.text at p.at) p) in subst F (sym f) (s.number_stops at n.stage n.text p e)), inr (number_mark n.text at p.at, refl, refl))
 
 pub number_not_over : (at : ℕ) (n : Digits) (fs : List Frame) → is_end n.stage ≡ false → Over (in_number at n.stage n.text fs) None
 number_not_over at n fs e p = s.number_open at n.stage n.text fs p e
@@ -337,10 +338,10 @@ pub verdict_open : (n : Digits) → is_end n.stage ≡ false → verdict n ≡ n
 verdict_open n e = ap (λ b. if b then beyond n.text else n.before) e
 
 pub over_After : (x : Json) → Over (closes [] x) (Some x)
-over_After x p = (p, s.end_stops x p)
+over_After x p = (p, s.end_stops x p, inl refl)
 
 pub over_Word : (bytes : List ℕ) (x : Json) → length bytes ≡ 0 → Over (in_word bytes x []) (Some x)
-over_Word [] x e p = let t = s.word_end p [] x in let h = s.end_stops x p in (p, record { spells = t.back [] x p h.spells; only = λ y r k. h.only y r (t.there [] y r k) })
+over_Word [] x e p = let t = s.word_end p [] x in let h = s.end_stops x p in (p, record { spells = t.back [] x p h.spells; only = λ y r k. h.only y r (t.there [] y r k) }, inl refl)
 over_Word (b ∷ bs) x e p = absurd (omega arith)
 
 pub not_over_Word : (bytes : List ℕ) (x : Json) → (length bytes ≡ 0 → ⊥) → Over (in_word bytes x []) None

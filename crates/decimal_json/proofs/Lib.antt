@@ -24,3 +24,4 @@ pub mod Chains
 pub mod Whole
 pub mod Nested
 pub mod Follows
+pub mod Once

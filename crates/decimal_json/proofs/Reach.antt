@@ -11,9 +11,9 @@ use Rattle.decimal_json.specs.declared.machine.Mode.TheVariants as modes
 use Rattle.decimal_json.specs.declared.machine.State.{State}
 use Rattle.decimal_json.specs.declared.machine.Stop.{Stop}
 use Rattle.decimal_json.specs.declared.machine.Stop.TheVariants.{Here, At, TooFar}
-use Rattle.decimal_json.specs.Lang.{Mark, Place, Among, noted, HasWord}
+use Rattle.decimal_json.specs.Lang.{Mark, Place, Among, noted, HasWord, IsFine, AllFine}
 use Rattle.decimal_json.specs.Grammar.{text}
-use Rattle.decimal_json.specs.States.{IsFine, AllFine, IsNext, Breaks, Steps, Finishes, Settles, Continues, Carried, TooFarAt, TooFarEnd, verdict, in_number, number_ends, goes_on, rest, closes, begin_value, begin_now}
+use Rattle.decimal_json.specs.States.{NotesHere, IsNext, Breaks, Steps, Finishes, Settles, Continues, Carried, TooFarAt, TooFarEnd, verdict, in_number, number_ends, goes_on, rest, closes, begin_value, begin_now}
 use Rattle.decimal_json.specs.Faults.{start, IsJson, BeginsJson, IsSyntaxFault, Stands, IsTokenFault, IsFault, IsLeast, IsWhole}
 use Rattle.decimal_json.proofs.Values.{exactly_word}
 use Rattle.decimal_json.proofs.Turning.{then_word}
@@ -474,6 +474,25 @@ module _ (bytes : List ℕ) (t : State) (r : Reached bytes (length bytes) t) whe
       let begins : BeginsJson (take (length bytes) bytes) = record { behind = w.word; tree = w.meant; tokens = w.end.marks; spells = record { end = w.end; spells = r.back w.word w.meant w.end w.spells; marks = refl } } in
       too_far bytes (length bytes) t r begins from f (λ m s h. absurd (let x : m.to ≤ length bytes = s.within in omega arith))
 
+  -- all is fine that is noted up to the end
+  fine_end : (x : Json) (end : Place) → rest t r.place [] x end → NotesHere r.place end → Settles t.mode → AllFine end.marks
+  fine_end x end s h w = elim h [
+    | inl e ↦ (let F : List Mark → Type 0 = λ k. AllFine k in subst F (sym e) r.fine)
+    | inr n ↦ (let F : List Mark → Type 0 = λ k. AllFine k in subst F (sym n.1) (fine_more r.place.marks n.0 r.fine (last_fine n.0 n.1 n.2)))
+  ]
+    where
+      fine_more : (xs : List Mark) (m : Mark) → AllFine xs → IsFine m → AllFine (xs ++ m ∷ [])
+      fine_more [] m g f = (f, tt)
+      fine_more (x ∷ xs) m g f = (g.0, fine_more xs m g.1 f)
+
+      last_fine : (m : Mark) → end.marks ≡ r.place.marks ++ m ∷ [] → m.to ≡ r.place.at → IsFine m
+      last_fine m e l =
+          let g = (mode_grows t.mode (reverse t.frames) r.place).grows [] x end s in
+          elim (among_append m r.place.marks g.new (among_along m _ _ (sym e ∙ g.marks) (among_last m r.place.marks))) [
+            | inl a ↦ fine_among r.place.marks m r.fine a
+            | inr a ↦ elim (g.all m a) [ inl b ↦ absurd (let b : r.place.at < m.to = b in omega arith) | inr n ↦ settles_fine t.mode m w (now_last t.mode r.place m n) ]
+          ]
+
   pub reached_value : (x : Json) → Finishes t (Ok (Some x)) → IsWhole bytes x
   reached_value x f =
       let s = (f.0 r.place).1 in
@@ -484,6 +503,7 @@ module _ (bytes : List ℕ) (t : State) (r : Reached bytes (length bytes) t) whe
       record {
         tokens = end.marks;
         spells = json;
+        fine = fine_end x end s.spells (f.0 r.place).2 f.1;
         only = λ y ms h. (s.only y h.end (r.there [] y h.end (text_along _ _ _ _ (sym (append_nil _ ∙ take_all bytes)) h.spells))).0;
         clean = λ j why h. elim h [
           | inl a ↦ elim (cmp j (length bytes)) [

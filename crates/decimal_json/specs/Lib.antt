@@ -9,5 +9,6 @@ pub mod Text
 pub mod Reached
 pub mod Proper
 pub mod Laws
+pub mod Letters
 pub mod Kept
 pub mod Whole

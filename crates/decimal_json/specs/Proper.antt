@@ -1,5 +1,5 @@
 -- Values whose numbers are in normal form, and values without their places.
-use Rattle.std.specs.Prelude.{◌≡◌, ℕ, ◌^◌, Bool, true, ◌&&◌, not, nat_lt, nat_abs, List, [], ◌∷◌}
+use Rattle.std.specs.Prelude.{◌≡◌, ℕ, ◌^◌, Bool, true, ◌&&◌, not, nat_lt, nat_abs, List, [], ◌∷◌, ◌++◌, map}
 use Rattle.std.specs.Str.{is_utf8}
 use Rattle.frac_core.specs.declared.decimal.Decimal.{Decimal}
 use Rattle.frac_core.specs.Decimal.{is_normal}
@@ -7,6 +7,7 @@ use Rattle.decimal_json.specs.declared.tree.Json.{Json}
 use Rattle.decimal_json.specs.declared.tree.Json.TheVariants.{Null, Truth, Number, Str, Array, Object}
 use Rattle.decimal_json.specs.declared.tree.Member.{Member}
 use Rattle.decimal_json.specs.Lang.{Mark}
+use Rattle.decimal_json.specs.Grammar.{is_among}
 use Rattle.decimal_json.specs.Faults.{IsJson}
 use Rattle.decimal_json.specs.declared.tree.Json.TheOpen as layer
 use Rattle.decimal_json.specs.declared.tree.Json.TheOpen.{Json-F, Member-F}
@@ -57,6 +58,32 @@ is_proper = fold-Json Bool Bool proper_step proper_member
 
 abbrev pub member_proper : Member → Bool
 member_proper = fold-Member Bool Bool proper_step proper_member
+
+-- ---- values whose objects have each key once
+
+-- none of these keys is among those before it
+abbrev pub apart : List (List ℕ) → List (List ℕ) → Bool
+apart before [] = true
+apart before (k ∷ ks) = not (is_among before k) && apart (before ++ k ∷ []) ks
+
+abbrev pub once_step : Json-F Bool (List ℕ × Bool) → Bool
+once_step (layer.Null at) = true
+once_step (layer.Truth at b) = true
+once_step (layer.Number at d) = true
+once_step (layer.Str at s) = true
+once_step (layer.Array at xs) = all_true xs
+once_step (layer.Object at ms close) = apart [] (map (λ m. m.0) ms) && all_true (map (λ m. m.1) ms)
+
+abbrev pub once_member : Member-F Bool (List ℕ × Bool) → List ℕ × Bool
+once_member m = (m.key.name, m.value)
+
+-- no object in it has a key twice
+abbrev pub keys_once : Json → Bool
+keys_once = fold-Json Bool (List ℕ × Bool) once_step once_member
+
+-- the key of a member, and whether its value is such
+abbrev pub member_once : Member → List ℕ × Bool
+member_once = fold-Member Bool (List ℕ × Bool) once_step once_member
 
 -- ---- values without their places
 

@@ -12,7 +12,7 @@ use Rattle.decimal_json.specs.declared.machine.Mode.TheVariants as modes
 use Rattle.decimal_json.specs.declared.machine.State.{State}
 use Rattle.decimal_json.specs.declared.machine.Stop.{Stop}
 use Rattle.decimal_json.specs.declared.machine.Stop.TheVariants.{Memory, Here, At, TooFar}
-use Rattle.decimal_json.specs.Lang.{Mark, Place, Among, Lang, gives, here, note, ◌>>=◌, ◌>>◌, many_with, Turns, Barred, Stops, NoEmpty}
+use Rattle.decimal_json.specs.Lang.{Mark, Place, IsFine, AllFine, Among, Lang, gives, here, note, ◌>>=◌, ◌>>◌, many_with, Turns, Barred, Stops, NoEmpty}
 use Rattle.std.specs.Prelude.{Bool, true, false, if◌then◌else◌}
 use Rattle.decimal_json.specs.declared.number.Stage.{Stage}
 use Rattle.decimal_json.specs.declared.number.Digits.{Digits}
@@ -123,13 +123,6 @@ goes_on (modes.After x) fs = closes fs x
 abbrev pub rest : State → Lang Json
 rest s = goes_on s.mode (reverse s.frames)
 
-abbrev pub IsFine : Mark → Type 0
-IsFine m = m.reason ≡ None
-
-abbrev pub AllFine : List Mark → Type 0
-AllFine [] = Unit {0}
-AllFine (m ∷ ms) = IsFine m × AllFine ms
-
 -- q is one byte behind p, and what was noted on the way is fine
 pub record IsNext (p q : Place) : Type 0 where
   pub at : q.at ≡ p.at + 1
@@ -220,9 +213,13 @@ abbrev pub Numbers : ℕ → ℕ → ℕ → Digits → List Frame → Result St
 Numbers at c from n fs (Ok t) = (p : Place) → p.at ≡ at → (q : Place) × IsNext p q × Turns p c q (in_number from n.stage n.text fs) (rest t) × Carried p q (modes.InNumber from n) t.mode
 Numbers at c from n fs (Err e) = NumberHalts at c from n fs e
 
+-- at most one token is noted, and it ends here
+abbrev pub NotesHere : Place → Place → Type 0
+NotesHere p q = (q.marks ≡ p.marks) ⊎ ((m : Mark) × (q.marks ≡ p.marks ++ m ∷ []) × (m.to ≡ p.at))
+
 -- What the end of the bytes gives: the value that they spell, or that they spell none.
 abbrev pub Over : Lang Json → Option Json → Type 0
-Over L (Some x) = (p : Place) → (q : Place) × Stops p L x q
+Over L (Some x) = (p : Place) → (q : Place) × Stops p L x q × NotesHere p q
 Over L None = (p : Place) → NoEmpty p L
 
 abbrev pub TooFarEnd : Mode → ℕ → Type 0

@@ -1,7 +1,7 @@
 // Reading in pieces: what is read so far stands for the bytes seen, whatever may follow them.
 
 ghost use Rattle.std.specs.Prelude.{◌≡◌, ℕ, List, [], ◌+◌, ◌<◌, ◌++◌, length, true, IfOk};
-ghost use Rattle.decimal_json.specs.Proper.{all_normal};
+ghost use Rattle.decimal_json.specs.Proper.{all_normal, keys_once};
 ghost use Rattle.decimal_json.specs.Faults.{Reads};
 ghost use Rattle.decimal_json.specs.Reached.{StandsFor, Room};
 ghost use Rattle.decimal_json.specs.declared.feed.Feed.TheVariants.{Reading};
@@ -92,13 +92,14 @@ pub fn end(feed: Feed) -> Result<Json, Refused>
     }
 }
 
-/// The value that the bytes spell as a JSON text (RFC 8259), with every number in normal form; or the least of their
-/// faults: `JsonSyntax` at the first byte that no JSON text goes on with (the length, where the bytes end too early),
+/// The value that the bytes spell as a JSON text (RFC 8259), with every number in normal form and no key twice in an object;
+/// or the least of their faults: `JsonSyntax` at the first byte that no JSON text goes on with (the length, where the bytes end too early),
 /// `BadNumber` at a number past the limits, `TooDeep` at the bracket that opens level 1,025, `TwiceMember` at the second
 /// of two equal keys of an object. The only other error is want of memory.
 pub fn read_json(alloc: Global, bytes: &[u8]) -> Result<Json, Refused>
     ensures reads { Reads bytes.now result }
     ensures normal { IfOk result (λ x. all_normal x ≡ true) }
+    ensures once { IfOk result (λ x. keys_once x ≡ true) }
 {
     end(go_on(alloc, fresh(alloc), bytes))
 }

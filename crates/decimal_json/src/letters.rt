@@ -1,6 +1,6 @@
 // The characters of a string while it is read.
 
-ghost use Rattle.std.specs.Prelude.{◌≡◌, ◌<◌, ◌≤◌, [], ◌++◌, length, take, IfOk};
+ghost use Rattle.std.specs.Prelude.{◌≡◌, ◌<◌, ◌≤◌, [], ◌++◌, length, take, string_bytes, IfOk};
 ghost use Rattle.decimal_json.specs.Strings.{AllPlain, Passes, in_utf8, ended};
 
 use crate::chars::{Within, closes, ended, is_plain, onward};
@@ -11,15 +11,24 @@ use std::marker::Model;
 /// The characters that are read. Contracts see their bytes in UTF-8.
 #[derive(Drop)]
 pub struct Letters {
-    text: String,
+    alloc: Global,
+    kept: Kept,
+}
+
+// The characters as they are kept: at once as a text where they stood for themselves up to the end, else as a string that grows.
+#[derive(Drop)]
+enum Kept {
+    Whole(Text),
+    Growing(String),
 }
 
 impl Model for Letters {
-    ghost use Rattle.std.specs.Prelude.{List, ℕ, string_bytes};
+    ghost use Rattle.std.specs.Prelude.{List, ℕ};
+    ghost use Rattle.decimal_json.specs.Letters.{bytes_kept};
 
     ghost Value = { List ℕ };
 
-    ghost view = { λ l. string_bytes l.text };
+    ghost view = { λ l. bytes_kept l.kept };
 }
 
 /// How many of the first bytes stand for themselves.
@@ -34,13 +43,26 @@ fn plain_front(bytes: &[u8]) -> usize
     n
 }
 
+// Bytes that stand for themselves, as text.
+#[inline(always)]
+fn plain_text(bytes: &[u8]) -> &str
+    requires { AllPlain bytes.now }
+    ensures { result.now ≡ bytes.now }
+{
+    match str::from_utf8(bytes) {
+        Ok(plain) => plain,
+        Err(_) => unreachable!(),
+    }
+}
+
 impl Letters {
     /// No characters.
     pub fn new(alloc: Global) -> Letters
         ensures { result ≡ [] }
     {
         Letters {
-            text: String::new(alloc),
+            alloc,
+            kept: Kept::Growing(String::new(alloc)),
         }
     }
 
@@ -48,39 +70,77 @@ impl Letters {
     pub fn as_str(&self) -> &str
         ensures { result.now ≡ self.now }
     {
-        self.text.as_str()
+        match &self.kept {
+            Kept::Whole(text) => text.as_str(),
+            Kept::Growing(text) => text.as_str(),
+        }
     }
 
     /// The text of them.
     pub fn into_text(self) -> Result<Text, AllocError>
         ensures { IfOk result (λ text. text ≡ self) }
     {
-        Text::from_string(self.text)
+        match self.kept {
+            Kept::Whole(text) => Ok(text),
+            Kept::Growing(text) => Text::from_string(text),
+        }
+    }
+
+    // The string of them, which may grow.
+    fn into_string(self) -> Result<String, AllocError>
+        ensures { IfOk result (λ text. string_bytes text ≡ self) }
+    {
+        let Letters { alloc, kept } = self;
+        match kept {
+            Kept::Whole(text) => String::from_str(alloc, text.as_str()),
+            Kept::Growing(text) => Ok(text),
+        }
     }
 
     /// With the character that a byte ends, if it ends one.
     pub fn with_end(self, within: Within, c: u8) -> Result<Letters, AllocError>
         ensures { IfOk result (λ longer. longer ≡ self ++ in_utf8 (ended within c)) }
     {
-        let mut text = self.text;
+        let alloc = self.alloc;
+        let mut text = self.into_string()?;
         if let Some(found) = ended(within, c) {
             text.push(found)?;
         }
-        Ok(Letters { text })
+        Ok(Letters {
+            alloc,
+            kept: Kept::Growing(text),
+        })
     }
 
-    /// With bytes that stand for themselves.
+    // With bytes that stand for themselves.
     #[inline(always)]
     fn with_plain(self, bytes: &[u8]) -> Result<Letters, AllocError>
         requires { AllPlain bytes.now }
         ensures { IfOk result (λ longer. longer ≡ self ++ bytes.now) }
     {
-        let mut text = self.text;
-        match str::from_utf8(bytes) {
-            Ok(plain) => text.push_str(plain)?,
-            Err(_) => unreachable!(),
+        let alloc = self.alloc;
+        let mut text = self.into_string()?;
+        text.push_str(plain_text(bytes))?;
+        Ok(Letters {
+            alloc,
+            kept: Kept::Growing(text),
+        })
+    }
+
+    // The same where the string ends behind them.
+    #[inline(always)]
+    fn with_last(self, bytes: &[u8]) -> Result<Letters, AllocError>
+        requires { AllPlain bytes.now }
+        ensures { IfOk result (λ longer. longer ≡ self ++ bytes.now) }
+    {
+        if !self.as_str().is_empty() {
+            return self.with_plain(bytes);
         }
-        Ok(Letters { text })
+        let text = Text::copy_of(self.alloc, plain_text(bytes))?;
+        Ok(Letters {
+            alloc: self.alloc,
+            kept: Kept::Whole(text),
+        })
     }
 
     /// Over bytes that stand for themselves, else over one byte; over none where no string goes on with that.
@@ -111,7 +171,7 @@ impl Letters {
         if let Within::Between = within {
             let plain = plain_front(bytes);
             if plain < bytes.len() && bytes[plain] == b'"' {
-                let longer = self.with_plain(&bytes[..plain])?;
+                let longer = self.with_last(&bytes[..plain])?;
                 return Ok((plain, Within::Between, longer));
             }
         }

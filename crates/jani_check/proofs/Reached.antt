@@ -1,15 +1,20 @@
 -- Names that are reached from some names on, and ranks that show that a constant does not lead to itself.
-use Rattle.std.specs.Prelude.{ℕ, zero, suc, ◌<◌, ◌≤◌, ◌+◌, List, [], ◌∷◌, ◌++◌, map, length, Bool, true, false, not, ◌||◌, Option, Some, None, is_some, bytes_eq, nat_lt, if◌then◌else◌, ◌⊎◌}
+use Rattle.std.specs.Prelude.{ℕ, zero, suc, ◌<◌, ◌≤◌, ◌+◌, List, [], ◌∷◌, ◌++◌, map, length, Bool, true, false, ◌||◌, Option, Some, None, bytes_eq, nat_le, nat_lt, if◌then◌else◌, ◌⊎◌}
 use Rattle.std.specs.List.{flat_map, filter, list_any}
 use Rattle.std.proofs.Common.{◌≡◌, refl, sym, ap, ap₂, ◌∙◌, get_or, arith, inl, inr}
 use Rattle.std.proofs.lemmas.Bool.Decides.{nat_tests}
 use Rattle.std.proofs.lemmas.Slice.Eq.{bytes_eq-Decides}
 use Rattle.std.specs.Borrow.{Bor}
+use Rattle.bridge_io.specs.declared.reason.Fault.{Fault}
+use Rattle.bridge_io.specs.declared.reason.Named.{Named}
 use Rattle.bridge_io.specs.declared.reason.Reason.TheVariants.{Cycle}
+use Rattle.jani_table.specs.Least.{is_before, soonest}
 use Rattle.jani_tree.specs.Syntax.{Const}
+use Rattle.jani_check.specs.declared.ranks.Ranks.{Ranks}
+use Rattle.jani_check.specs.Least.{fault, fault_if}
 use Rattle.jani_check.specs.Things.{Name, is_called}
-use Rattle.jani_check.specs.NameFaults.{uses, uses_of, leads_to, is_among, is_circular, circular}
-use Rattle.jani_check.specs.Ranks.{below, rises, is_in, add_new, IsReached}
+use Rattle.jani_check.specs.NameFaults.{uses, uses_of, leads_to, is_circular}
+use Rattle.jani_check.specs.Ranks.{rank_in, some_use, rises, AreFalling, UsesLower, FallIn, is_past, is_in, add_new, IsReached}
 use Rattle.jani_check.proofs.Steps.{either, or_left, or_right, any_weaker, enough_steps}
 
 -- ---- lists
@@ -211,10 +216,6 @@ second_false : (a b : Bool) → (a || b) ≡ false → b ≡ false
 second_false true b h = absurd cc
 second_false false b h = h
 
-not_false : (b : Bool) → not b ≡ false → b ≡ true
-not_false true h = refl
-not_false false h = cc
-
 none_passes : (f : Name → Bool) (xs : List Name) → list_any f xs ≡ false → (x : Name) → is_in xs x ≡ true → f x ≡ false
 none_passes f [] h x i = absurd cc
 none_passes f (y ∷ xs) h x i = elim (either (bytes_eq y x) (is_in xs x) i) [
@@ -222,78 +223,72 @@ none_passes f (y ∷ xs) h x i = elim (either (bytes_eq y x) (is_in xs x) i) [
   | inr e ↦ none_passes f xs (second_false (f y) (list_any f xs) h) x e
 ]
 
-some_rank : (o : Option ℕ) → is_some o ≡ true → (p : ℕ) × (o ≡ Some p)
-some_rank None h = absurd cc
-some_rank (Some p) h = (p, refl)
+-- names, and the entries that have them
+pub any_name : (f : Name → Bool) (ns : List Named) → list_any (λ n. f n.name) ns ≡ list_any f (map (λ n. n.name) (ns ++ []))
+any_name f [] = refl
+any_name f (n ∷ ns) = ap (λ b. f n.name || b) (any_name f ns)
 
-lower_rank : (o : Option ℕ) (q p : ℕ) → o ≡ Some q → below o (Some p) ≡ true → q < p
-lower_rank o q p e h = let test : nat_lt q p ≡ true = ap (λ r. below r (Some p)) (sym e) ∙ h in grind (arith, nat_tests)
+module _ (rank : Name → ℕ) where
+  not_above : (d : Const) → rises rank d ≡ false → (z : Name) → is_in (uses d) z ≡ true → rank z ≤ rank d.name.name
+  not_above d f z i = let low = none_passes (λ y. nat_lt (rank d.name.name) (rank y)) (uses d) f z i in grind (arith, nat_tests)
 
-module _ (rank : Name → Option ℕ) where
-  below_own : (d : Const) → rises rank d ≡ false → (z : Name) → is_in (uses d) z ≡ true → below (rank z) (rank d.name.name) ≡ true
-  below_own d f z i = not_false (below (rank z) (rank d.name.name)) (none_passes (λ y. not (below (rank y) (rank d.name.name))) (uses d) f z i)
-
-  -- what a name uses is below it
-  used_below : (ds : List Const) → list_any (rises rank) ds ≡ false → (x z : Name) → is_in (uses_of ds x) z ≡ true →
-      (below (rank z) (rank x) ≡ true) × (is_among (map (λ c. c.name) ds) x ≡ true)
-  used_below [] f x z h = absurd cc
-  used_below (d ∷ ds) f x z h = by_test (bytes_eq d.name.name x) refl h (used_below ds (second_false (rises rank d) (list_any (rises rank) ds) f) x z)
+  -- what a name uses is not above it
+  used_low : (ds : List Const) → AreFalling ds rank → (x z : Name) → is_in (uses_of ds x) z ≡ true → rank z ≤ rank x
+  used_low [] f x z h = absurd cc
+  used_low (d ∷ ds) f x z h = by_test (bytes_eq d.name.name x) refl h (used_low ds (second_false (rises rank d) (list_any (rises rank) ds) f) x z)
     where
       own : rises rank d ≡ false
       own = first_false (rises rank d) (list_any (rises rank) ds) f
 
       by_test : (b : Bool) → bytes_eq d.name.name x ≡ b → is_in (flat_map uses (if b then d ∷ filter (λ c. is_called x c.name) ds else filter (λ c. is_called x c.name) ds)) z ≡ true →
-          (is_in (uses_of ds x) z ≡ true → (below (rank z) (rank x) ≡ true) × (is_among (map (λ c. c.name) ds) x ≡ true)) →
-          (below (rank z) (rank x) ≡ true) × ((b || is_among (map (λ c. c.name) ds) x) ≡ true)
+          (is_in (uses_of ds x) z ≡ true → rank z ≤ rank x) → rank z ≤ rank x
       by_test true e k ih = elim (any_append (λ y. bytes_eq y z) (uses d) (uses_of ds x) k) [
-        | inl i ↦ (ap (λ w. below (rank z) (rank w)) (sym ((bytes_eq-Decides d.name.name x).0 e)) ∙ below_own d own z i, refl)
-        | inr i ↦ ((ih i).0, refl)
+        | inl i ↦ let same = ap rank ((bytes_eq-Decides d.name.name x).0 e) in let low = not_above d own z i in omega (arith, same, low)
+        | inr i ↦ ih i
       ]
       by_test false e k ih = ih k
 
-  module _ (cs : List Const) (falls : list_any (rises rank) cs ≡ false) (ranked : (x : Name) → is_among (map (λ c. c.name) cs) x ≡ true → is_some (rank x) ≡ true) where
-    -- a name that leads to another has a higher rank
-    falls_to : (y : Name) (q : ℕ) → rank y ≡ Some q → (n : ℕ) (z : Name) → leads_to cs n z y ≡ true → (z ≡ y) ⊎ ((p : ℕ) × (rank z ≡ Some p) × (q < p))
-    falls_to y q e zero z h = inl ((bytes_eq-Decides z y).0 h)
-    falls_to y q e (suc n) z h = elim (either (bytes_eq z y) (list_any (λ w. leads_to cs n w y) (uses_of cs z)) h) [
-      | inl i ↦ inl ((bytes_eq-Decides z y).0 i)
-      | inr i ↦
-          let w = any_found (λ w. leads_to cs n w y) (uses_of cs z) i in
-          let low = used_below cs falls z w.0 (w.2 (λ v. bytes_eq v w.0) (same_is w.0)) in
-          let p = some_rank (rank z) (ranked z low.1) in
-          let under : below (rank w.0) (Some p.0) ≡ true = ap (below (rank w.0)) (sym p.1) ∙ low.0 in
-          inr (
-            p.0,
-            p.1,
-            elim (falls_to y q e n w.0 w.1) [
-              | inl same ↦ lower_rank (rank w.0) q p.0 (ap rank same ∙ e) under
-              | inr r ↦ let less : r.0 < p.0 = lower_rank (rank w.0) r.0 p.0 r.1 under in omega (arith, r.2, less)
-            ],
-          )
+  module _ (cs : List Const) (falling : AreFalling cs rank) where
+    -- what a name leads to is not above it
+    falls_to : (y : Name) (n : ℕ) (z : Name) → leads_to cs n z y ≡ true → rank y ≤ rank z
+    falls_to y zero z h = let same = ap rank ((bytes_eq-Decides z y).0 h) in omega (arith, same)
+    falls_to y (suc n) z h = elim (either (bytes_eq z y) (list_any (λ w. leads_to cs n w y) (uses_of cs z)) h) [
+      | inl e ↦ let same = ap rank ((bytes_eq-Decides z y).0 e) in omega (arith, same)
+      | inr e ↦
+          let w = any_found (λ w. leads_to cs n w y) (uses_of cs z) e in
+          let step = used_low cs falling z w.0 (w.2 (λ v. bytes_eq v w.0) (same_is w.0)) in
+          let rest = falls_to y n w.0 w.1 in
+          omega (arith, step, rest)
     ]
 
-    none_circular : (c : Const) → rises rank c ≡ false → (q : ℕ) → rank c.name.name ≡ Some q → is_circular cs c ≡ false
-    none_circular c f q e = by_test (is_circular cs c) refl
+    pub apart_is : (c : Const) → some_use (λ z. nat_le (rank c.name.name) (rank z)) c ≡ false → is_circular cs c ≡ false
+    apart_is c f = by_test (is_circular cs c) refl
       where
         by_test : (b : Bool) → is_circular cs c ≡ b → b ≡ false
         by_test false h = refl
         by_test true h =
             let x = any_found (λ x. leads_to cs (length cs) x c.name.name) (uses c) h in
-            let low : below (rank x.0) (Some q) ≡ true = ap (below (rank x.0)) (sym e) ∙ below_own c f x.0 (x.2 (λ v. bytes_eq v x.0) (same_is x.0)) in
-            absurd (elim (falls_to c.name.name q e (length cs) x.0 x.1) [
-              | inl same ↦ let less : q < q = lower_rank (rank x.0) q q (ap rank same ∙ e) low in omega (arith, less)
-              | inr r ↦ let less : r.0 < q = lower_rank (rank x.0) r.0 q r.1 low in omega (arith, r.2, less)
-            ])
+            let low = none_passes (λ z. nat_le (rank c.name.name) (rank z)) (uses c) f x.0 (x.2 (λ v. bytes_eq v x.0) (same_is x.0)) in
+            let back = falls_to c.name.name (length cs) x.0 x.1 in
+            absurd (grind (arith, nat_tests))
 
-    no_circles_in : (ds : List Const) → list_any (rises rank) ds ≡ false → ((x : Name) → is_among (map (λ c. c.name) ds) x ≡ true → is_some (rank x) ≡ true) →
-        flat_map (circular cs) ds ≡ []
-    no_circles_in [] f r = refl
-    no_circles_in (d ∷ ds) f r =
-        let q = some_rank (rank d.name.name) (r d.name.name (or_left (bytes_eq d.name.name d.name.name) (is_among (map (λ c. c.name) ds) d.name.name) (same_is d.name.name))) in
-        ap₂ (λ b fs. (if b then record { reason = Cycle; at = d.name.at } ∷ [] else []) ++ fs)
-        (none_circular d (first_false (rises rank d) (list_any (rises rank) ds) f) q.0 q.1)
-        (no_circles_in ds (second_false (rises rank d) (list_any (rises rank) ds) f)
-        (λ x h. r x (or_right (bytes_eq d.name.name x) (is_among (map (λ c. c.name) ds) x) h)))
+pub apart_in : (cs : List Const) (ranks : Option (Bor Ranks)) (c : Const) → FallIn cs ranks → UsesLower ranks c → is_circular cs c ≡ false
+apart_in cs None c f u = absurd u
+apart_in cs (Some r) c f u = apart_is (rank_in r.now) cs f c u
 
-    pub no_circles : flat_map (circular cs) cs ≡ []
-    no_circles = no_circles_in cs falls ranked
+-- a test against the number before one is a test against that
+pub lower_bound : (rank : Name → ℕ) (bound own : ℕ) (xs : List Name) → own ≡ bound + 1 → list_any (λ z. nat_lt bound (rank z)) xs ≡ false →
+    list_any (λ z. nat_le own (rank z)) xs ≡ false
+lower_bound rank bound own [] e h = refl
+lower_bound rank bound own (x ∷ xs) e h =
+    let first = first_false (nat_lt bound (rank x)) (list_any (λ z. nat_lt bound (rank z)) xs) h in
+    let here : nat_le own (rank x) ≡ false = grind (arith, nat_tests) in
+    ap₂ (λ a b. a || b) here (lower_bound rank bound own xs e (second_false (nat_lt bound (rank x)) (list_any (λ z. nat_lt bound (rank z)) xs) h))
+
+-- a fault behind one that was found changes nothing
+pub past_stays : (before : Option Fault) (at : ℕ) (b : Bool) → is_past before at ≡ true → soonest before (fault_if b at Cycle) ≡ before
+past_stays None at b h = absurd cc
+past_stays (Some f) at false h = refl
+past_stays (Some f) at true h =
+    let later : is_before (fault at Cycle) f ≡ false = grind (arith, nat_tests) in
+    ap (λ t. if t then Some (fault at Cycle) else Some f) later

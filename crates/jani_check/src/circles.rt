@@ -1,7 +1,7 @@
 // Constants that depend on themselves.
 
-ghost use Rattle.std.specs.Prelude.{◌≡◌, List, ℕ, ◌++◌, map, not, IfOk, OnOk};
-ghost use Rattle.std.specs.List.{flat_map, list_any};
+ghost use Rattle.std.specs.Prelude.{◌≡◌, List, ℕ, ◌++◌, map, IfOk, OnOk};
+ghost use Rattle.std.specs.List.{flat_map};
 ghost use Rattle.std.specs.Option.{option_map};
 ghost use Rattle.jani_check.specs.Demands.{if_some};
 ghost use Rattle.op_trees.specs.Tree.{tree};
@@ -9,20 +9,18 @@ ghost use Rattle.jani_table.specs.Least.{soonest};
 ghost use Rattle.jani_tree.specs.Syntax.{Const, const_of};
 ghost use Rattle.jani_check.specs.NameLists.{names_under};
 ghost use Rattle.jani_check.specs.NameFaults.{circular, is_circular, names_of, uses, uses_of};
-ghost use Rattle.jani_check.specs.Ranks.{below, rank_in, rises};
+ghost use Rattle.jani_check.specs.Ranks.{FallIn, is_past};
 
 use crate::least::sooner_if;
 use crate::lists::NameLists;
-use crate::ranks::ranks;
+use crate::ranks::{Ranks, falling_ranks, is_apart};
 use crate::reach::leads_back;
 use bridge_io::{Fault, Reason};
-use indexmap::IndexMap;
 use jani_tree::{JaniConst, Je};
 use op_trees::Expr;
 use std::alloc::{AllocError, Global};
 
-/// The least of a fault that was found before and those of constants that depend on themselves. Where the constants have
-/// ranks that fall from each to those that its value names, none does; else each is searched for by itself.
+/// The least of a fault that was found before and those of constants that depend on themselves.
 pub(crate) fn judge_circles(
     alloc: Global,
     constants: &[JaniConst],
@@ -31,29 +29,60 @@ pub(crate) fn judge_circles(
     ensures { let cs = map const_of constants.now in IfOk result (λ best. best ≡ soonest before (flat_map (circular cs) cs)) }
 {
     let uses = uses_of(alloc, constants)?;
-    let ranks = ranks(alloc, &uses, constants)?;
-    if some_rises(alloc, &ranks, constants)? {
-        return judge_each(alloc, &uses, constants, before);
-    }
-    Ok(before)
+    let ranks = falling_ranks(alloc, &uses, constants)?;
+    judge_each(alloc, &uses, ranks.as_ref(), constants, before)
 }
 
+// The same with the names that each uses, and with ranks by which no constant uses a name above its own, if there are such.
 fn judge_each<'a>(
     alloc: Global,
     uses: &NameLists<'a>,
+    ranks: Option<&Ranks>,
     constants: &'a [JaniConst],
     before: Option<Fault>,
 ) -> Result<Option<Fault>, AllocError>
-    ensures { IfOk result
-        (λ best. (cs : List Const) → ((x : List ℕ) → names_under uses.now x ≡ uses_of cs x) →
-        best ≡ soonest before (flat_map (circular cs) (map const_of constants.now))) }
+    requires used { (x : List ℕ) → names_under uses.now x ≡ uses_of (map const_of constants.now) x }
+    requires falling { FallIn (map const_of constants.now) ranks }
+    ensures { let cs = map const_of constants.now in IfOk result (λ best. best ≡ soonest before (flat_map (circular cs) cs)) }
 {
     let mut best = before;
     for c in constants {
-        let circular = is_circular(alloc, uses, c)?;
-        best = sooner_if(circular, c.name.at, Reason::Cycle, best);
+        best = judge_constant(alloc, uses, ranks, c, best)?;
     }
     Ok(best)
+}
+
+// The lesser of a fault that was found before and that of a constant, where it depends on itself. Behind the former, and
+// where it uses lower names alone, no search is needed.
+fn judge_constant<'a>(
+    alloc: Global,
+    uses: &NameLists<'a>,
+    ranks: Option<&Ranks>,
+    c: &'a JaniConst,
+    before: Option<Fault>,
+) -> Result<Option<Fault>, AllocError>
+    ensures { IfOk result
+        (λ best. (cs : List Const) → ((x : List ℕ) → names_under uses.now x ≡ uses_of cs x) → FallIn cs ranks.entry →
+        best ≡ soonest before (circular cs (const_of c.now))) }
+{
+    if is_past(before, c.name.at) {
+        return Ok(before);
+    }
+    if is_apart(ranks, c) {
+        return Ok(before);
+    }
+    let circular = is_circular(alloc, uses, c)?;
+    Ok(sooner_if(circular, c.name.at, Reason::Cycle, before))
+}
+
+// Whether a fault was found that stands before this offset.
+fn is_past(before: Option<Fault>, at: usize) -> bool
+    ensures { result ≡ is_past before at }
+{
+    match before {
+        Some(fault) => fault.at < at,
+        None => false,
+    }
 }
 
 // Whether the names in its value lead back to it.
@@ -123,59 +152,5 @@ fn add_names<'a>(e: &'a Je, list: &mut Vec<&'a str>) -> Result<(), AllocError>
             add_names(b, list)?;
             add_names(c, list)
         }
-    }
-}
-
-// Whether the value of some constant names one that is not below it.
-fn some_rises(
-    alloc: Global,
-    ranks: &IndexMap<&str, usize>,
-    constants: &[JaniConst],
-) -> Result<bool, AllocError>
-    ensures { IfOk result (λ b. b ≡ list_any (rises (rank_in ranks.now)) (map const_of constants.now)) }
-{
-    for c in constants {
-        if rises(alloc, ranks, c)? {
-            return Ok(true);
-        }
-    }
-    Ok(false)
-}
-
-fn rises(alloc: Global, ranks: &IndexMap<&str, usize>, c: &JaniConst) -> Result<bool, AllocError>
-    ensures { IfOk result (λ b. b ≡ rises (rank_in ranks.now) (const_of c.now)) }
-{
-    let names = value_names(alloc, c)?;
-    let top = rank_of(ranks, c.name.name.as_str());
-    Ok(some_above(ranks, top, &names))
-}
-
-fn rank_of(ranks: &IndexMap<&str, usize>, name: &str) -> Option<usize>
-    ensures { result ≡ rank_in ranks.now name.now }
-{
-    ranks.get(name).copied()
-}
-
-// Whether some of these names is not below a rank.
-fn some_above(ranks: &IndexMap<&str, usize>, top: Option<usize>, names: &[&str]) -> bool
-    ensures { result ≡ list_any (λ z. not (below (rank_in ranks.now z) top)) (map (λ s. s.now) names.now) }
-{
-    for name in names {
-        if !is_below(rank_of(ranks, *name), top) {
-            return true;
-        }
-    }
-    false
-}
-
-fn is_below(rank: Option<usize>, top: Option<usize>) -> bool
-    ensures { result ≡ below rank top }
-{
-    match rank {
-        None => true,
-        Some(rank) => match top {
-            None => false,
-            Some(top) => rank < top,
-        },
     }
 }

@@ -1,5 +1,5 @@
 // The least fault of a value that has to be of a form.
-ghost use Rattle.std.specs.Prelude.{◌≡◌, [], IfSome};
+ghost use Rattle.std.specs.Prelude.{◌≡◌, [], true, IfSome};
 ghost use Rattle.std.specs.Option.{IfNone, option_copied, option_map};
 ghost use Rattle.jani_table.specs.Node.{at_of, fields, node, nodes};
 ghost use Rattle.jani_table.specs.Table.{rows_of};
@@ -310,6 +310,19 @@ fn judge_list(form: Form, at: usize, items: &List<Json>, best: Option<Fault>) ->
     }
 }
 
+// Whether a value is a null where one may stand.
+fn is_null_part(form: Form, value: &Json) -> bool
+    ensures { result ≡ true → faults form (node value.now) ≡ [] }
+{
+    match value {
+        Json::Null(_) => match null_fault(form) {
+            None => true,
+            Some(_) => false,
+        },
+        _ => false,
+    }
+}
+
 /// The soonest of a fault found before and the faults of a value that has to be of this form. It takes no memory.
 pub fn judge(form: Form, value: &Json, first: Option<Fault>) -> Option<Fault>
     ensures { result ≡ soonest first (faults form (node value.now)) }
@@ -325,7 +338,9 @@ pub fn judge(form: Form, value: &Json, first: Option<Fault>) -> Option<Fault>
                 Some(item) => {
                     let mut best = first;
                     for x in slice {
-                        best = judge(item, x, best);
+                        if !is_null_part(item, x) {
+                            best = judge(item, x, best);
+                        }
                     }
                     judge_list(form, *at, items, best)
                 }

@@ -9,6 +9,7 @@ pub mod Bare
 pub mod Same
 pub mod Formed
 pub mod Normal
+pub mod Once
 pub mod Filled
 pub mod Sound
 pub mod Bared

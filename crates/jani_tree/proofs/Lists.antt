@@ -57,9 +57,6 @@ pub map_same : {A : Type 0} (xs : List A) → map (λ x. x) xs ≡ xs
 map_same [] = refl
 map_same (x ∷ xs) = ap (λ ys. x ∷ ys) (map_same xs)
 
-pub items_same : {A : Type 0} (P : Node → A → Type 0) (v : Node) (xs : List A) → IsItems P v (map (λ x. x) xs) → IsItems P v xs
-items_same P v xs i = subst (λ ys. IsItems P v ys) (map_same xs) i
-
 pub list_same : {A : Type 0} (P : Node → A → Type 0) (o : Option Node) (xs : List A) → IsList P o (map (λ x. x) xs) → IsList P o xs
 list_same P o xs i = subst (λ ys. IsList P o ys) (map_same xs) i
 
@@ -67,6 +64,3 @@ list_same P o xs i = subst (λ ys. IsList P o ys) (map_same xs) i
 
 pub list_at : {A : Type 0} (P : Node → A → Type 0) (o : Option Node) (v : Node) (xs : List A) (at : ℕ) → o ≡ Some v → at ≡ at_of v → IsItems P v xs → IsSomeAnd o (λ w. IsListAt P w xs at)
 list_at P o v xs at e f i = subst (λ p. IsSomeAnd p (λ w. IsListAt P w xs at)) (sym e) (record { offset = sym f; items = i })
-
-pub same_list_at : {A : Type 0} (P : Node → A → Type 0) (o : Option Node) (v : Node) (xs : List A) (at : ℕ) → o ≡ Some v → at ≡ at_of v → IsItems P v (map (λ x. x) xs) → IsSomeAnd o (λ w. IsListAt P w xs at)
-same_list_at P o v xs at e f i = list_at P o v xs at e f (items_same P v xs i)

@@ -1,15 +1,18 @@
--- The object of an expression, and the names of a vector.
-use Rattle.std.proofs.Common.{◌≡◌, ℕ, sym, ap, ◌∙◌, List, [], Option, None, Some, true}
+-- The object of an expression, and the parts of a vector.
+use Rattle.std.proofs.Common.{◌≡◌, ℕ, refl, sym, subst, ap, ◌∙◌, List, [], Option, None, Some, true}
 use Rattle.jani_table.specs.declared.table.Form.TheVariants as F
 use Rattle.jani_table.specs.declared.key.Key.TheVariants as K
 use Rattle.jani_table.specs.declared.operator.JaniOp.{JaniOp}
+use Rattle.bridge_io.specs.declared.reason.Named.{Named}
 use Rattle.decimal_json.specs.declared.tree.Json.{Json}
-use Rattle.decimal_json.specs.declared.tree.Json.TheVariants.{Object}
+use Rattle.decimal_json.specs.declared.tree.Json.TheVariants.{Null, Object, rolls-Null}
+use Rattle.decimal_json.specs.declared.tree.Json.TheFolds.{fold-roll-Json}
 use Rattle.decimal_json.specs.declared.tree.Member.{Member}
 use Rattle.jani_table.specs.Node.{Node, null, truth, number, text, array, object, Fields, node, fields}
 use Rattle.jani_table.specs.NodeLaws.{node_object}
 use Rattle.jani_table.specs.Faults.{faults, member, op_in, op_kind, object_faults, is_text}
 use Rattle.jani_table.specs.Laws as laws
+use Rattle.jani_tree.specs.Jani.{IsPart}
 
 pub operation_clean : (at : ℕ) (ms : Fields) (close : ℕ) (o : JaniOp) → op_in (member K.Op ms) ≡ Some o → faults F.Expression (object at ms close) ≡ [] → object_faults (op_kind o) (object at ms close) ≡ []
 operation_clean at ms close o e c = laws.operation_clean at ms close o e c
@@ -27,3 +30,10 @@ part_name (truth at b) t c = absurd cc
 part_name (number at d) t c = absurd cc
 part_name (array at vs) t c = absurd cc
 part_name (object at ms close) t c = absurd cc
+
+-- a null is a part that does not take part
+pub part_null : (v : Json) (at : ℕ) (p : Option Named) → v ≡ Null at → p ≡ None → IsPart (node v) p
+part_null v at p e n = subst (λ q. IsPart (node v) q) (sym n) (subst (λ w. IsPart w None) (sym (ap node (e ∙ sym (rolls-Null at)) ∙ fold-roll-Json _ _ _ _ _)) refl)
+
+pub part_same : (v : Node) (p q : Option Named) → p ≡ q → IsPart v q → IsPart v p
+part_same v p q e h = subst (λ r. IsPart v r) (sym e) h

@@ -1,5 +1,5 @@
 // Trees of values without faults: expressions, names, lists of objects.
-ghost use Rattle.std.specs.Prelude.{◌≡◌, [], Option, Some, IfOk, IsSomeAnd, IsTrue, map};
+ghost use Rattle.std.specs.Prelude.{◌≡◌, [], Some, IfOk, IsSomeAnd, IsTrue, map};
 ghost use Rattle.bridge_io.specs.declared.reason.Named.{Named};
 ghost use Rattle.std.specs.Option.{option_map};
 ghost use Rattle.op_trees.specs.Tree.{tree};
@@ -195,8 +195,9 @@ pub fn items<T: Build>(alloc: Global, form: Form, value: &Json) -> Result<List<T
     requires clean { faults form (node value.now) ≡ [] }
     ensures { IfOk result (λ xs. IsItems T.is (node value.now) (map T.seen xs)) }
 {
-    let mut trees = List::new(alloc);
-    'items: for x in items_of(form, value) {
+    let values = items_of(form, value);
+    let mut trees = List::with_capacity(alloc, values.len())?;
+    'items: for x in values {
         let tree = T::build(alloc, x)?;
         trees.push(tree)?;
     }
@@ -240,8 +241,9 @@ pub fn names_of(
     requires clean { faults form (node value.now) ≡ [] }
     ensures { IfOk result (λ xs. IsItems (IsKeyed key) (node value.now) xs) }
 {
-    let mut names = List::new(alloc);
-    'items: for x in items_of(form, value) {
+    let values = items_of(form, value);
+    let mut names = List::with_capacity(alloc, values.len())?;
+    'items: for x in values {
         let name = name_of(alloc, item, key, x)?;
         names.push(name)?;
     }
@@ -262,24 +264,34 @@ impl Build for Named {
     }
 }
 
-impl Build for Option<Named> {
-    ghost Tree = { Option Named };
-
-    ghost seen = { λ n. n };
-
-    ghost form = { F.NameOrNull };
-
-    ghost is = { IsPart };
-
-    #[tactic(auto, using(crate::proofs::Operation::part_name))]
-    fn build(alloc: Global, value: &Json) -> Result<Option<Named>, AllocError> {
-        match value {
-            Json::Null(_) => Ok(None),
-            Json::Str(_, _) => Ok(Some(name_in(alloc, value)?)),
-            Json::Truth(_, _) => unreachable!(),
-            Json::Number(_, _) => unreachable!(),
-            Json::Array(_, _) => unreachable!(),
-            Json::Object(_, _, _) => unreachable!(),
-        }
+#[tactic(auto, using(crate::proofs::Operation::part_name))]
+fn part_in(alloc: Global, value: &Json) -> Result<Option<Named>, AllocError>
+    requires { faults F.NameOrNull (node value.now) ≡ [] }
+    ensures { IfOk result (λ n. IsPart (node value.now) n) }
+{
+    match value {
+        Json::Null(_) => Ok(None),
+        Json::Str(_, _) => Ok(Some(name_in(alloc, value)?)),
+        Json::Truth(_, _) => unreachable!(),
+        Json::Number(_, _) => unreachable!(),
+        Json::Array(_, _) => unreachable!(),
+        Json::Object(_, _, _) => unreachable!(),
     }
+}
+
+/// The parts of a synchronisation vector, most of which are null in a composition of many automata.
+pub fn parts_of(alloc: Global, value: &Json) -> Result<List<Option<Named>>, AllocError>
+    requires { faults F.Synchronise (node value.now) ≡ [] }
+    ensures { IfOk result (λ xs. IsItems IsPart (node value.now) xs) }
+{
+    let values = items_of(Form::Synchronise, value);
+    let mut parts = List::with_capacity(alloc, values.len())?;
+    'items: for x in values {
+        let part = match x {
+            Json::Null(_) => None,
+            _ => part_in(alloc, x)?,
+        };
+        parts.push(part)?;
+    }
+    Ok(parts)
 }

@@ -16,7 +16,7 @@ ghost use Rattle.jani_tree.specs.Jani.{IsAutomaton, IsConst, IsDestination, IsEd
 
 use crate::build::{
     Build, expression, expression_of, items, list, name_of, names_of, note_of, optional_boxed,
-    optional_expression, optional_name,
+    optional_expression, optional_name, parts_of,
 };
 use crate::copy::copy_json;
 use crate::syntax::{
@@ -214,8 +214,9 @@ fn writes(
     requires clean { faults form (node value.now) ≡ [] }
     ensures { IfOk result (λ ws. IsItems IsWrite (node value.now) (map write_of ws)) }
 {
-    let mut trees = List::new(alloc);
-    'items: for x in items_of(form, value) {
+    let values = items_of(form, value);
+    let mut trees = List::with_capacity(alloc, values.len())?;
+    'items: for x in values {
         let tree = write(alloc, item, x)?;
         trees.push(tree)?;
     }
@@ -383,13 +384,13 @@ struct VectorParts {
     at: usize,
 }
 
-#[tactic(auto, using(crate::proofs::Lists::same_list_at))]
+#[tactic(auto, using(crate::proofs::Lists::list_at))]
 fn vector_parts(alloc: Global, value: &Json) -> Result<VectorParts, AllocError>
     requires { faults F.Vector (node value.now) ≡ [] }
     ensures { IfOk result (λ d. IsSomeAnd (part K.Synchronise (node value.now)) (λ w. IsListAt IsPart w d.list d.at)) }
 {
     let w = required_part(Form::Vector, Key::Synchronise, value);
-    let list = items(alloc, Form::Synchronise, w)?;
+    let list = parts_of(alloc, w)?;
     Ok(VectorParts {
         list,
         at: offset(w),

@@ -1,6 +1,6 @@
 // From a JSON value to the one tree that it spells, or to its least fault.
 ghost use Rattle.std.specs.Prelude.{◌≡◌, [], true, IfErr, IfOk, OnOk};
-ghost use Rattle.decimal_json.specs.Proper.{all_normal};
+ghost use Rattle.decimal_json.specs.Proper.{all_normal, keys_once};
 ghost use Rattle.jani_table.specs.declared.table.Form.TheVariants as F;
 ghost use Rattle.jani_table.specs.Node.{node};
 ghost use Rattle.jani_table.specs.Faults.{faults};
@@ -22,7 +22,7 @@ fn tree(alloc: Global, value: &Json) -> Result<JaniFile, AllocError>
     ensures spelled { IfOk result (λ f. IsFile (node value.now) (file_of f)) }
     ensures only { IfOk result (λ f. (x : File) → IsFile (node value.now) x → x ≡ file_of f) }
     ensures form { IfOk result (λ f. all_normal value.now ≡ true → FileRead (file_of f)) }
-    ensures once { IfOk result (λ f. KeysOnce (node value.now) → KeysOnce (node f.properties)) }
+    ensures once { IfOk result (λ f. keys_once value.now ≡ true → KeysOnce (node f.properties)) }
 {
     let tree = file(alloc, value)?;
     Ok(tree)
@@ -36,13 +36,14 @@ fn tree(alloc: Global, value: &Json) -> Result<JaniFile, AllocError>
 /// other error is want of memory. Where each number of the value is in normal form, as in each value that is read from a
 /// text, the tree has the form of trees that are read: a name is not empty and has at most 255 bytes, each literal is in
 /// normal form, each node has its operator's number of operands, each variable has a first value, each automaton one initial
-/// location, and each edge a destination. No object of the properties has a key twice where none of the value has.
+/// location, and each edge a destination. No object of the properties has a key twice where none of the value
+/// has, as in each value that is read from a text.
 pub fn from_json(alloc: Global, json: &Json) -> Result<JaniFile, Refused>
     ensures clean { OnOk result (faults F.Model (node json.now) ≡ []) }
     ensures spelled { IfOk result (λ f. IsFile (node json.now) (file_of f)) }
     ensures only { IfOk result (λ f. (x : File) → IsFile (node json.now) x → x ≡ file_of f) }
     ensures form { IfOk result (λ f. all_normal json.now ≡ true → FileRead (file_of f)) }
-    ensures once { IfOk result (λ f. KeysOnce (node json.now) → KeysOnce (node f.properties)) }
+    ensures once { IfOk result (λ f. keys_once json.now ≡ true → KeysOnce (node f.properties)) }
     ensures least { IfErr result (λ e. FailsFor (faults F.Model (node json.now)) e) }
 {
     if let Some(fault) = least_fault(Form::Model, json) {

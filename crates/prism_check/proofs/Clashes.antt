@@ -1,9 +1,9 @@
 -- The faults of a name that stands twice, by the lowest offset of those before it.
-use Rattle.std.specs.Prelude.{ℕ, ◌<◌, ◌≤◌, ◌+◌, List, [], ◌∷◌, ◌++◌, map, length, drop, Bool, true, false, Option, Some, None, max, min, bytes_eq, if◌then◌else◌}
+use Rattle.std.specs.Prelude.{ℕ, ◌<◌, ◌≤◌, ◌+◌, List, [], ◌∷◌, ◌++◌, map, length, take, drop, reverse, Bool, true, false, Option, Some, None, max, min, bytes_eq, if◌then◌else◌}
 use Rattle.std.specs.List.{flat_map}
 use Rattle.std.proofs.Common.{◌≡◌, refl, sym, ap, ◌∙◌, arith, get_or}
 use Rattle.std.proofs.lemmas.Slice.Eq.{bytes_eq-Decides}
-use Rattle.std.proofs.lemmas.List.{at_drop_more, at_drop_all}
+use Rattle.std.proofs.lemmas.List.{at_drop_more, at_drop_all, take_more, map-append, reverse-append}
 use Rattle.bridge_io.specs.declared.reason.Named.{Named}
 use Rattle.bridge_io.specs.declared.reason.Reason.{Reason}
 use Rattle.bridge_io.specs.declared.reason.Fault.{Fault}
@@ -71,3 +71,31 @@ one_more reason lowest new best next whole es i h judged noting left =
 pub no_more : (reason : Reason) (lowest : List ℕ → Option ℕ) (best whole : Option Fault) (es : List Entry) (i : ℕ) → length es ≤ i →
     Left reason lowest best (map named_by (drop i es)) whole → best ≡ whole
 no_more reason lowest best whole es i h left = sym (at_drop_all (λ ys. soonest best (doubled_after reason left.earlier (map named_by ys))) es i h) ∙ left.found
+
+-- ---- the same of few names, which are compared with those before them, the last of these first
+pub before_more : (es : List Entry) (i : ℕ) → i < length es →
+    reverse (map named_by (take (i + 1) es)) ≡ named_by (get_or es i no_entry) ∷ reverse (map named_by (take i es))
+before_more es i h =
+    ap (λ xs. reverse (map named_by xs)) (take_more es i no_entry h)
+    ∙ ap reverse (map-append named_by (take i es) (get_or es i no_entry ∷ []))
+    ∙ reverse-append (map named_by (take i es)) (named_by (get_or es i no_entry) ∷ [])
+
+pub few_more : (reason : Reason) (best next whole : Option Fault) (es : List Entry) (i : ℕ) → i < length es →
+    next ≡ by_lowest reason best (lowest_of (get_or es i no_entry).name.now (reverse (map named_by (take i es)))) (get_or es i no_entry).at →
+    soonest best (doubled_after reason (reverse (map named_by (take i es))) (map named_by (drop i es))) ≡ whole →
+    soonest next (doubled_after reason (reverse (map named_by (take (i + 1) es))) (map named_by (drop (i + 1) es))) ≡ whole
+few_more reason best next whole es i h judged so_far =
+    let n = named_by (get_or es i no_entry) in
+    let earlier = reverse (map named_by (take i es)) in
+    let rest = map named_by (drop (i + 1) es) in
+    let after = doubled_after reason (n ∷ earlier) rest in
+    ap (λ ms. soonest next (doubled_after reason ms rest)) (before_more es i h)
+    ∙ ap (λ b. soonest b after) (judged ∙ sym (clashes_by_lowest reason n earlier best))
+    ∙ sym (soonest-append best (flat_map (clash reason n) earlier) after)
+    ∙ sym (at_drop_more (λ ys. soonest best (doubled_after reason earlier (map named_by ys))) es i no_entry h)
+    ∙ so_far
+
+pub few_all : (reason : Reason) (best whole : Option Fault) (es : List Entry) (i : ℕ) → length es ≤ i →
+    soonest best (doubled_after reason (reverse (map named_by (take i es))) (map named_by (drop i es))) ≡ whole → best ≡ whole
+few_all reason best whole es i h so_far =
+    sym (at_drop_all (λ ys. soonest best (doubled_after reason (reverse (map named_by (take i es))) (map named_by ys))) es i h) ∙ so_far

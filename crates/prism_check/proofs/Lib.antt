@@ -27,6 +27,7 @@ pub mod AllFaults
 pub mod TypesPlaced
 pub mod TypesInOrder
 pub mod TypesJudged
+pub mod Renamed
 pub mod Owners
 pub mod Misfits
 pub mod Each

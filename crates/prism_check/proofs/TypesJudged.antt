@@ -1,5 +1,5 @@
 -- The faults of types by the tables of a file.
-use Rattle.std.specs.Prelude.{ℕ, ◌<◌, ◌+◌, List, ◌∷◌, ◌++◌, map, length, drop, Bool, Option, Some, None, is_some, if◌then◌else◌}
+use Rattle.std.specs.Prelude.{ℕ, ◌<◌, ◌+◌, List, [], ◌∷◌, ◌++◌, map, length, drop, Bool, Option, Some, None, is_some, if◌then◌else◌}
 use Rattle.std.specs.List.{flat_map}
 use Rattle.std.specs.Option.{option_map}
 use Rattle.std.proofs.Common.{◌≡◌, refl, sym, ap, ap₂, ◌∙◌, get_or}
@@ -23,8 +23,8 @@ use Rattle.prism_check.specs.Demands.{Demand, fixed, varying, written, formula_d
 use Rattle.prism_check.specs.Least.{fault_if, soonest}
 use Rattle.prism_check.specs.NameFaults.{some_name}
 use Rattle.prism_check.specs.Tables.{under}
-use Rattle.prism_check.specs.TypeFaults.{Variable, variable_called, or_else, declared_types, types, type_faults_of, is_variable, Target, target_of, wanted_at, write_faults, demand_faults, module_faults, numbered_faults, type_faults}
-use Rattle.prism_check.specs.Typing.{owned, IsDeclared, declared_type, is_declared_variable, known_after, type_of, varies_in, target_found, target_in, AreNames, soonest_at, faults_in, contents_faults}
+use Rattle.prism_check.specs.TypeFaults.{Variable, variable_called, or_else, declared_types, types, type_faults_of, is_variable, has_variable, Target, target_of, target, wanted_at, write_faults, demand_faults, repeated_writes, module_faults, numbered_faults, type_faults}
+use Rattle.prism_check.specs.Typing.{owned, IsDeclared, declared_type, is_declared_variable, known_after, type_under, varies_under, target_found, target_under, type_of, varies_in, target_in, read_by, read_in, AreNames, soonest_at, faults_in, repeated_by, contents_by, contents_faults}
 use Rattle.prism_check.proofs.Append.{soonest_then, three_parts}
 use Rattle.prism_check.proofs.TypesInOrder.{formula_known, whole_known, reads_type, reads_varies, known_whole}
 use Rattle.prism_check.proofs.TypesPlaced.{unplaced}
@@ -57,7 +57,7 @@ target_is i None known (Some v) = refl
 pub are_names : (file : File) (places : List ℕ) (n : Names) → IsPlaceOrder file places → IsDeclared n.declared.now file →
     ((x : Name) → under n.formulas.now x ≡ known_after (declared_type n.declared.now) (is_declared_variable n.declared.now) (at_places file.formulas places) x) →
     AreNames n file
-unfolding type_of varies_in target_in
+unfolding type_under varies_under target_under
 are_names file places n ordered declared learned =
     let d = n.declared.now in
     let ty = declared_type d in
@@ -77,36 +77,55 @@ are_names file places n ordered declared learned =
     }
 
 -- ---- demands
-module _ (n : Names) (file : File) (names : AreNames n file) (i : ℕ) where
+module _ (n : Names) (file : File) (names : AreNames n file) (unchanged : n.renaming ≡ None) (i : ℕ) where
+  reads : (x : Name) → read_in n x ≡ x
+  reads x = ap (λ r. read_by r x) unchanged
+
   types_are : type_of n ≡ types file
-  types_are = fun_ext names.typed
+  types_are = fun_ext (λ x. ap (type_under n) (reads x) ∙ names.typed x)
+
+  varies_is : (e : Expression) → some_name (varies_in n) e ≡ has_variable file e
+  varies_is e = ap (λ (f : Name → Bool). some_name f e) (fun_ext (λ x. ap (varies_under n) (reads x))) ∙ names.varies e
+
+  targets_are : (x : Name) → target_in n i x ≡ target file i x
+  targets_are x = ap (target_under n i) (reads x) ∙ names.targets i x
 
   demand_is : (d : Demand) → faults_in n i d ≡ demand_faults file i d
   demand_is (fixed w e) =
-      ap₂ (λ ty (b : Bool). type_faults_of ty w e ++ fault_if b (offset_of e) NotConstant) types_are (names.varies e)
+      ap₂ (λ ty (b : Bool). type_faults_of ty w e ++ fault_if b (offset_of e) NotConstant) types_are (varies_is e)
   demand_is (varying w e) = ap (λ ty. type_faults_of ty w e) types_are
   demand_is (written acts w) =
-      ap₂ (λ ty (t : Target). write_faults t acts w.name.at ++ type_faults_of ty (wanted_at t) w.value) types_are (names.targets i w.name.name)
+      ap₂ (λ ty (t : Target). write_faults t acts w.name.at ++ type_faults_of ty (wanted_at t) w.value) types_are (targets_are w.name.name)
 
   pub faults_are : faults_in n i ≡ demand_faults file i
   faults_are = fun_ext demand_is
 
   -- ---- modules
+  abbrev own_faults : Module → List Fault
+  own_faults (plain m) = contents_by (demand_faults file i) repeated_writes m.vars m.commands
+  own_faults (copied m) = []
+
+  contents_are : (s : Module) → contents_faults n i s ≡ own_faults s
+  contents_are (plain m) =
+      ap (λ f. contents_by f (repeated_by (read_in n)) m.vars m.commands) faults_are
+      ∙ ap (λ (read : Name → Name). contents_by (demand_faults file i) (repeated_by read) m.vars m.commands) (fun_ext reads)
+  contents_are (copied m) = refl
+
   pub plain_is : (m : Body) (s : Module) (before last : Option Fault) → s ≡ plain m →
-      last ≡ soonest_at None before (contents_faults (faults_in n i) s) → last ≡ soonest before (module_faults file i s)
+      last ≡ soonest_at None before (contents_faults n i s) → last ≡ soonest before (module_faults file i s)
   plain_is m s before last e h =
       h
-      ∙ ap (soonest before) (unplaced (contents_faults (faults_in n i) s))
-      ∙ ap (λ f. soonest before (contents_faults f s)) faults_are
-      ∙ ap (λ t. soonest before (contents_faults (demand_faults file i) t)) e
+      ∙ ap (soonest before) (unplaced (contents_faults n i s))
+      ∙ ap (soonest before) (contents_are s)
+      ∙ ap (λ t. soonest before (own_faults t)) e
       ∙ ap (λ t. soonest before (module_faults file i t)) (sym e)
 
   pub copy_is : (m : CopiedModule) (s t : Module) (before last : Option Fault) → s ≡ copied m → t ≡ flat_module file s →
-      last ≡ soonest_at (Some m.name.at) before (contents_faults (faults_in n i) t) → last ≡ soonest before (module_faults file i s)
+      last ≡ soonest_at (Some m.name.at) before (contents_faults n i t) → last ≡ soonest before (module_faults file i s)
   copy_is m s t before last e w h =
       h
-      ∙ ap (λ f. soonest_at (Some m.name.at) before (contents_faults f t)) faults_are
-      ∙ ap (λ u. soonest_at (Some m.name.at) before (contents_faults (demand_faults file i) u)) (w ∙ ap (flat_module file) e)
+      ∙ ap (soonest_at (Some m.name.at) before) (contents_are t)
+      ∙ ap (λ u. soonest_at (Some m.name.at) before (own_faults u)) (w ∙ ap (flat_module file) e)
       ∙ ap (λ u. soonest before (module_faults file i u)) (sym e)
 
 -- one module of a list more
@@ -121,15 +140,15 @@ module_next file ms i m best next whole h is judged so_far =
     ∙ so_far
 
 -- ---- the whole file
-pub file_is : (f : PrismFile) (n : Names) → AreNames n (file_of f) → (outer bodies : List Demand) (ms : List PrismModule) (first second last : Option Fault) →
+pub file_is : (f : PrismFile) (n : Names) → AreNames n (file_of f) → n.renaming ≡ None → (outer bodies : List Demand) (ms : List PrismModule) (first second last : Option Fault) →
     outer ≡ outer_demands (file_of f) → bodies ≡ flat_map formula_demands (map formula_of f.formulas) → ms ≡ f.modules →
     first ≡ soonest_at None None (flat_map (faults_in n 0) outer) → second ≡ soonest_at None first (flat_map (faults_in n 0) bodies) →
     last ≡ soonest second (numbered_faults (file_of f) 0 (map module_of ms)) → last ≡ soonest None (type_faults (file_of f))
-file_is f n names outer bodies ms first second last eo eb em p q r =
+file_is f n names unchanged outer bodies ms first second last eo eb em p q r =
     let file = file_of f in
     let judged : (ds es : List Demand) (best : Option Fault) → ds ≡ es → soonest_at None best (flat_map (faults_in n 0) ds) ≡ soonest best (flat_map (demand_faults file 0) es) =
     λ ds es best e.
-    ap (soonest best) (unplaced (flat_map (faults_in n 0) ds)) ∙ ap₂ (λ g zs. soonest best (flat_map g zs)) (faults_are n file names 0) e in
+    ap (soonest best) (unplaced (flat_map (faults_in n 0) ds)) ∙ ap₂ (λ g zs. soonest best (flat_map g zs)) (faults_are n file names unchanged 0) e in
     r
     ∙ ap (λ l. soonest second (numbered_faults file 0 (map module_of l))) em
     ∙ three_parts (flat_map (demand_faults file 0) (outer_demands file)) (flat_map (demand_faults file 0) (flat_map formula_demands file.formulas))

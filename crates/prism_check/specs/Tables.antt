@@ -22,6 +22,7 @@ use Rattle.prism_tree.specs.Syntax.{Expression, Module, module_of, formula_of, V
 use Rattle.prism_names.specs.Names.{is_called, module_name}
 use Rattle.prism_check.specs.declared.named.NameSet.{NameSet}
 use Rattle.prism_check.specs.declared.tables.Renaming.{Renaming}
+use Rattle.prism_check.specs.declared.tables.Renaming.TheVariants.{Few, Many}
 use Rattle.prism_check.specs.declared.tables.Modules.{Modules}
 use Rattle.prism_check.specs.declared.tables.Formulas.{Formulas}
 
@@ -46,7 +47,8 @@ abbrev pub name_under : {S : Type 0} → IndexMap (Bor (List ℕ)) (Bor (List �
 name_under table x = option_map (λ s. s.now) (under table x)
 
 abbrev pub new_name : Renaming → List ℕ → Option Name
-new_name r x = name_under r.pairs x
+new_name (Few pairs) x = pair_for pairs.now x
+new_name (Many table) x = name_under table x
 
 -- ---- modules
 -- the first module of this name

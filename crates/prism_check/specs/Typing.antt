@@ -2,6 +2,7 @@
 use Rattle.std.specs.Prelude.{◌≡◌, ℕ, ◌+◌, List, [], ◌∷◌, ◌++◌, map, Bool, Option, Some, None, is_some, unwrap_or, bytes_eq, if◌then◌else◌}
 use Rattle.std.specs.List.{find, flat_map, fold}
 use Rattle.std.specs.Option.{option_map}
+use Rattle.std.specs.Borrow.{Bor}
 use Rattle.bridge_io.specs.declared.reason.Reason.TheVariants.{WrongType, NotConstant, WrittenTwice}
 use Rattle.bridge_io.specs.declared.reason.Fault.{Fault}
 use Rattle.bridge_io.specs.declared.reason.Named.{Named}
@@ -9,9 +10,10 @@ use Rattle.op_trees.specs.declared.tree.Ty.{Ty}
 use Rattle.op_trees.specs.Types.{Types, type_in}
 use Rattle.process_core.specs.Ready.{Name}
 use Rattle.prism_tree.specs.Operators.{prism_meaning}
-use Rattle.prism_tree.specs.Syntax.{Expression, offset_of, Var, Formula, Branch, Module, plain, copied, File}
+use Rattle.prism_tree.specs.Syntax.{Expression, offset_of, Var, Formula, Branch, Command, Module, plain, copied, File}
 use Rattle.prism_names.specs.Names.{is_called}
 use Rattle.prism_check.specs.declared.demands.Wanted.TheVariants as W
+use Rattle.prism_check.specs.declared.tables.Renaming.{Renaming}
 use Rattle.prism_check.specs.declared.variables.Owned.{Owned}
 use Rattle.prism_check.specs.declared.variables.Declared.{Declared}
 use Rattle.prism_check.specs.declared.typing.Known.{Known}
@@ -21,8 +23,8 @@ use Rattle.prism_check.specs.declared.writes.Target.TheVariants as V
 use Rattle.prism_check.specs.Least.{fault, fault_if, soonest}
 use Rattle.prism_check.specs.Demands.{Demand, fixed, varying, written, var_type, var_demands, command_demands}
 use Rattle.prism_check.specs.NameFaults.{some_name, doubled}
-use Rattle.prism_check.specs.Tables.{under, pair_for, vars_in}
-use Rattle.prism_check.specs.TypeFaults.{Variable, variable_called, or_else, types, has_variable, Target, own, global, foreign, target_by, target, wanted_at, type_faults_of, write_faults, repeated_writes}
+use Rattle.prism_check.specs.Tables.{under, pair_for, vars_in, new_name}
+use Rattle.prism_check.specs.TypeFaults.{Variable, variable_called, or_else, types, has_variable, Target, own, global, foreign, target_by, target, wanted_at, type_faults_of, write_faults}
 
 -- ---- variables
 abbrev pub owned : Variable → Owned
@@ -80,26 +82,43 @@ nothing_known x = None
 abbrev pub known_after : Types → (Name → Bool) → List Formula → Name → Option Known
 known_after ty is_such fs = fold (with_known ty is_such) nothing_known fs
 
--- ---- all names
-unfoldable pub type_of : Names → Types
-type_of n x = type_said (under n.formulas.now x) (declared_type n.declared.now x)
+-- ---- all names, as they stand in the tables
+unfoldable pub type_under : Names → Types
+type_under n x = type_said (under n.formulas.now x) (declared_type n.declared.now x)
 
-unfoldable pub varies_in : Names → Name → Bool
-varies_in n x = varies_said (under n.formulas.now x) (is_declared_variable n.declared.now x)
+unfoldable pub varies_under : Names → Name → Bool
+varies_under n x = varies_said (under n.formulas.now x) (is_declared_variable n.declared.now x)
 
 abbrev pub target_found : ℕ → Option Known → Option Owned → Target
 target_found i (Some k) o = foreign W.Anything
 target_found i None None = foreign W.Anything
 target_found i None (Some v) = target_by v.owner i v.ty
 
-unfoldable pub target_in : Names → ℕ → Name → Target
-target_in n i x = target_found i (under n.formulas.now x) (under n.declared.now.variables x)
+unfoldable pub target_under : Names → ℕ → Name → Target
+target_under n i x = target_found i (under n.formulas.now x) (under n.declared.now.variables x)
 
 -- the names of a file
 pub record AreNames (n : Names) (file : File) : Type 0 where
-  pub typed : (x : Name) → type_of n x ≡ types file x
-  pub varies : (e : Expression) → some_name (varies_in n) e ≡ has_variable file e
-  pub targets : (i : ℕ) (x : Name) → target_in n i x ≡ target file i x
+  pub typed : (x : Name) → type_under n x ≡ types file x
+  pub varies : (e : Expression) → some_name (varies_under n) e ≡ has_variable file e
+  pub targets : (i : ℕ) (x : Name) → target_under n i x ≡ target file i x
+
+-- ---- the same by what a renaming replaces names by, if there is one
+abbrev pub read_by : Option (Bor Renaming) → Name → Name
+read_by None x = x
+read_by (Some r) x = unwrap_or (new_name r.now x) x
+
+abbrev pub read_in : Names → Name → Name
+read_in n x = read_by n.renaming x
+
+abbrev pub type_of : Names → Types
+type_of n x = type_under n (read_in n x)
+
+abbrev pub varies_in : Names → Name → Bool
+varies_in n x = varies_under n (read_in n x)
+
+abbrev pub target_in : Names → ℕ → Name → Target
+target_in n i x = target_under n i (read_in n x)
 
 abbrev pub target_view : C.Target → Target
 target_view (V.Own t) = own t
@@ -125,15 +144,27 @@ demand_faults_by ty varies writes (written acts w) =
 abbrev pub faults_in : Names → ℕ → Demand → List Fault
 faults_in n i = demand_faults_by (type_of n) (varies_in n) (target_in n i)
 
--- the names that one update writes twice
-abbrev pub repeated_in : Branch → List Fault
-repeated_in b = doubled WrittenTwice (map (λ w. w.name) b.writes)
+-- the names that one update writes twice, and that the updates of a command do, where names are replaced
+abbrev pub called_by : (Name → Name) → Named → Named
+called_by read n = record { name = read n.name; at = n.at }
+
+abbrev pub repeated_in : (Name → Name) → Branch → List Fault
+repeated_in read b = doubled WrittenTwice (map (λ w. called_by read w.name) b.writes)
+
+abbrev pub repeated_by : (Name → Name) → Command → List Fault
+repeated_by read c = flat_map (repeated_in read) c.branches
 
 abbrev pub moved_name : Option ℕ → Named → Named
 moved_name place n = record { name = n.name; at = unwrap_or place n.at }
 
--- a module with its own contents
-abbrev pub contents_faults : (Demand → List Fault) → Module → List Fault
-contents_faults judged (plain m) =
-    flat_map judged (flat_map var_demands m.vars ++ flat_map command_demands m.commands) ++ flat_map repeated_writes m.commands
-contents_faults judged (copied m) = []
+-- these variables and commands, and a module with its own
+abbrev pub contents_by : (Demand → List Fault) → (Command → List Fault) → List Var → List Command → List Fault
+contents_by judged repeated vars commands =
+    flat_map judged (flat_map var_demands vars ++ flat_map command_demands commands) ++ flat_map repeated commands
+
+abbrev pub contents_in : Names → ℕ → List Var → List Command → List Fault
+contents_in n i = contents_by (faults_in n i) (repeated_by (read_in n))
+
+abbrev pub contents_faults : Names → ℕ → Module → List Fault
+contents_faults n i (plain m) = contents_in n i m.vars m.commands
+contents_faults n i (copied m) = []

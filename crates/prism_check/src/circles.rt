@@ -1,17 +1,18 @@
 // Constants and formulas that depend on themselves.
 
-ghost use Rattle.std.specs.Prelude.{◌≡◌, ◌<◌, ◌≤◌, List, ℕ, true, length, map, IfOk, OnOk};
+ghost use Rattle.std.specs.Prelude.{◌≡◌, ◌<◌, List, ℕ, true, length, map, IfOk, OnOk};
 ghost use Rattle.std.specs.List.{flat_map};
 ghost use Rattle.prism_check.specs.Least.{soonest};
 ghost use Rattle.prism_check.specs.NameFaults.{circular, is_circular};
 ghost use Rattle.prism_check.specs.Tables.{has_name};
-ghost use Rattle.prism_check.specs.Circles.{FallIn, StillLeading, IsLeadingTry, IsLeadingTurn, IsPlaced, declared_at, declared_by, is_past, others};
+ghost use Rattle.prism_check.specs.Circles.{FallIn, StillLeading, IsLeadingTry, IsLeadingTurn, IsPlaced, declared_at, declared_by, is_past};
 
 use crate::declarations::{Declaration, Telling, some_use};
 use crate::least::sooner_if;
 use crate::named::NameSet;
 use crate::placing::Placing;
 use crate::ranks::{Ranks, falling_ranks, is_apart};
+use crate::users::Users;
 use bridge_io::{Fault, Reason};
 use std::alloc::{AllocError, Global};
 
@@ -27,15 +28,16 @@ pub(crate) fn judge_circles(
     requires { IsPlaced all.now placing.now }
     ensures { let ds = map declared_by all.now in IfOk result (λ best. best ≡ soonest before (flat_map (circular ds) ds)) }
 {
-    let ranks = falling_ranks(alloc, all, first)?;
-    judge_each(alloc, all, first, placing, ranks.as_ref(), before)
+    let users = Users::of(alloc, all, placing.placed.as_slice())?;
+    let ranks = falling_ranks(alloc, all, first, placing, &users)?;
+    judge_each(alloc, all, &users, placing, ranks.as_ref(), before)
 }
 
 // The same with ranks by which no declaration uses a name above its own, if there are such.
 fn judge_each(
     alloc: Global,
     all: &[Declaration],
-    first: &[usize],
+    users: &Users,
     placing: &Placing,
     ranks: Option<&Ranks>,
     before: Option<Fault>,
@@ -46,7 +48,7 @@ fn judge_each(
 {
     let mut best = before;
     for i in 0..all.len() {
-        best = judge_declaration(alloc, all, first, placing, ranks, i, best)?;
+        best = judge_declaration(alloc, all, users, placing, ranks, i, best)?;
     }
     Ok(best)
 }
@@ -54,7 +56,7 @@ fn judge_each(
 fn judge_declaration(
     alloc: Global,
     all: &[Declaration],
-    first: &[usize],
+    users: &Users,
     placing: &Placing,
     ranks: Option<&Ranks>,
     i: usize,
@@ -72,7 +74,7 @@ fn judge_declaration(
     if is_apart(ranks, declaration) {
         return Ok(before);
     }
-    let circular = is_circular(alloc, all, first, declaration)?;
+    let circular = is_circular(alloc, all, users, declaration)?;
     Ok(sooner_if(circular, declaration.at, Reason::Cycle, before))
 }
 
@@ -90,38 +92,48 @@ fn is_past(before: Option<Fault>, at: usize) -> bool
 fn is_circular(
     alloc: Global,
     all: &[Declaration],
-    first: &[usize],
+    users: &Users,
     declaration: &Declaration,
 ) -> Result<bool, AllocError>
     ensures { IfOk result (λ b. b ≡ is_circular (map declared_by all.now) (declared_by declaration.now)) }
 {
     let mut leading = NameSet::new(alloc);
     leading.add(declaration.name)?;
+    add_found(alloc, all, users, declaration.name, &mut leading)?;
     loop {
-        add_each(all, first, &mut leading)?;
         if !add_some(all, &mut leading)? {
             return Ok(some_use(&leading, declaration));
         }
     }
 }
 
-// Adds the names of those declarations that use one of the names that lead to this one, in this order.
-fn add_each<'a>(
+// Adds the names of those declarations that use one of the names that lead to this one, from those that use this name on.
+fn add_found<'a>(
+    alloc: Global,
     all: &[Declaration<'a>],
-    first: &[usize],
+    users: &Users,
+    name: &str,
     leading: &mut NameSet<'a>,
 ) -> Result<(), AllocError>
-    ensures leading { OnOk result (StillLeading all.now (has_name leading.old) (has_name leading.new)) }
-    ensures fewer { OnOk result
-        (others (has_name leading.new) (map declared_by all.now) ≤ others (has_name leading.old) (map declared_by all.now)) }
+    ensures { OnOk result (StillLeading all.now (has_name leading.old) (has_name leading.new)) }
 {
-    for i in first {
-        try_add(all, *i, leading)?;
+    let mut todo = Vec::new(alloc);
+    users.push_users(name, &mut todo)?;
+    for _step in 0..usize::MAX {
+        let Some(i) = todo.pop() else {
+            break;
+        };
+        if try_add(all, i, leading)?
+            && let Some(declaration) = all.get(i)
+        {
+            users.push_users(declaration.name, &mut todo)?;
+        }
     }
     Ok(())
 }
 
-// The same as they stand, and whether there were any.
+// Adds the names of those declarations that use one of the names that lead to this one, as they stand, and whether there were
+// any.
 fn add_some<'a>(all: &[Declaration<'a>], leading: &mut NameSet<'a>) -> Result<bool, AllocError>
     ensures leading { OnOk result (StillLeading all.now (has_name leading.old) (has_name leading.new)) }
     ensures turn { IfOk result (IsLeadingTurn all.now (has_name leading.old) (has_name leading.new)) }

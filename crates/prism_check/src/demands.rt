@@ -221,8 +221,29 @@ pub(crate) fn contents_demands<'a>(
         (λ list. map demand_by list.items
         ≡ flat_map var_demands (map var_of vars.now) ++ flat_map command_demands (map command_of commands.now)) }
 {
-    let mut list = Vec::new(alloc);
+    let room = vars
+        .len()
+        .saturating_mul(3)
+        .saturating_add(room_for(commands));
+    let mut list = Vec::with_capacity(alloc, room)?;
     add_all(vars, &mut list)?;
     add_all(commands, &mut list)?;
     Ok(list)
+}
+
+// How many demands these commands have at most, so that the list takes its memory at once.
+fn room_for(commands: &[PrismCommand]) -> usize {
+    let mut room: usize = 0;
+    for command in commands {
+        room = room.saturating_add(room_for_branches(command.branches.as_slice()));
+    }
+    room
+}
+
+fn room_for_branches(branches: &[PrismBranch]) -> usize {
+    let mut room: usize = 1;
+    for branch in branches {
+        room = room.saturating_add(branch.writes.len()).saturating_add(1);
+    }
+    room
 }

@@ -28,6 +28,7 @@ mod twice;
 mod types;
 mod typing;
 mod unknown;
+mod users;
 mod values;
 mod variables;
 mod waiting;

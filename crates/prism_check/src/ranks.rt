@@ -4,9 +4,9 @@ ghost use Rattle.std.specs.Prelude.{◌≡◌, true, false, map, nat_le, nat_lt,
 ghost use Rattle.prism_check.specs.Circles.{declared_by, rank_in, some_use, AreFalling, UsesLower};
 
 use crate::declarations::{Declaration, Telling, some_use};
+use crate::placing::Placing;
+use crate::users::Users;
 use indexmap::IndexMap;
-use op_trees::Expr;
-use prism_tree::Pe;
 use std::alloc::{AllocError, Global};
 
 /// Numbers of names; a name without one has 0.
@@ -50,15 +50,21 @@ impl Telling for Above<'_, '_> {
     }
 }
 
-/// Ranks by which no declaration uses a name above its own, if there are such.
+/// Ranks by which no declaration uses a name above its own, if there are such, and none where all have their places. They are
+/// found by the places that a search by depth leaves.
 pub(crate) fn falling_ranks<'a>(
     alloc: Global,
     all: &[Declaration<'a>],
     first: &[usize],
+    placing: &Placing,
+    users: &Users<'a>,
 ) -> Result<Option<Ranks<'a>>, AllocError>
     ensures { IfOk result (λ ranks. IfSome ranks (λ r. AreFalling (map declared_by all.now) (rank_in r))) }
 {
-    let ranks = raised_ranks(alloc, all, first)?;
+    if placing.turns.len() == all.len() {
+        return Ok(None);
+    }
+    let ranks = circle_ranks(alloc, all, first, placing.placed.as_slice(), users)?;
     if are_falling(all, &ranks) {
         Ok(Some(ranks))
     } else {
@@ -100,64 +106,51 @@ fn uses_lower(ranks: &Ranks, declaration: &Declaration) -> bool
     !some_use(&Above { ranks, bound }, declaration)
 }
 
-// The places of a search by depth as ranks, raised to those of what is used until none is above. Nothing but time rests on
-// these numbers.
-fn raised_ranks<'a>(
+// From what is left last by a search by depth, one rank to each name that has no place together with all that leads to it
+// and has none, and a lower one to the next. So names that lead to each other have one rank, and others a higher one than all
+// that they lead to. Nothing but time rests on these numbers.
+fn circle_ranks<'a>(
     alloc: Global,
     all: &[Declaration<'a>],
     first: &[usize],
+    placed: &[bool],
+    users: &Users<'a>,
 ) -> Result<Ranks<'a>, AllocError> {
     let mut ranks = Ranks {
         numbers: IndexMap::new(alloc),
     };
-    for (turn, i) in first.iter().enumerate() {
-        if let Some(declaration) = all.get(*i) {
-            ranks.put(declaration.name, turn.saturating_add(1))?;
-        }
-    }
-    for _round in 0..all.len() {
-        if !raise(all, first, &mut ranks)? {
-            return Ok(ranks);
+    let mut todo = Vec::new(alloc);
+    let mut rank = all.len();
+    for i in first.iter().rev() {
+        if let (Some(declaration), Some(false)) = (all.get(*i), placed.get(*i).copied())
+            && ranks.rank(declaration.name) == 0
+        {
+            todo.push(*i)?;
+            give_rank(all, users, rank, &mut todo, &mut ranks)?;
+            rank = rank.saturating_sub(1);
         }
     }
     Ok(ranks)
 }
 
-// Raises the ranks of what uses names above it, and whether there was some.
-fn raise<'a>(
+// Gives a rank to the names declared at these places, and to those that lead to them, where they have none.
+fn give_rank<'a>(
     all: &[Declaration<'a>],
-    first: &[usize],
+    users: &Users<'a>,
+    rank: usize,
+    todo: &mut Vec<usize>,
     ranks: &mut Ranks<'a>,
-) -> Result<bool, AllocError> {
-    let mut some = false;
-    for i in first {
-        if let Some(declaration) = all.get(*i) {
-            let most = highest_use(declaration, ranks);
-            if most > ranks.rank(declaration.name) {
-                ranks.put(declaration.name, most)?;
-                some = true;
-            }
+) -> Result<(), AllocError> {
+    for _ in 0..usize::MAX {
+        let Some(i) = todo.pop() else {
+            break;
+        };
+        if let Some(declaration) = all.get(i)
+            && ranks.rank(declaration.name) == 0
+        {
+            ranks.put(declaration.name, rank)?;
+            users.push_users(declaration.name, todo)?;
         }
     }
-    Ok(some)
-}
-
-fn highest_use(declaration: &Declaration, ranks: &Ranks) -> usize {
-    match declaration.body {
-        None => 0,
-        Some(body) => highest(body, ranks),
-    }
-}
-
-fn highest(e: &Pe, ranks: &Ranks) -> usize {
-    match e {
-        Expr::Truth(_, _) => 0,
-        Expr::Number(_, _) => 0,
-        Expr::Name(_, name) => ranks.rank(name.as_str()),
-        Expr::One(_, _, a) => highest(a, ranks),
-        Expr::Two(_, _, a, b) => highest(a, ranks).max(highest(b, ranks)),
-        Expr::Three(_, _, a, b, c) => highest(a, ranks)
-            .max(highest(b, ranks))
-            .max(highest(c, ranks)),
-    }
+    Ok(())
 }

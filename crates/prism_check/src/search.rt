@@ -1,124 +1,156 @@
 // An order of declarations in which most come after what they use. Nothing but time rests on it.
 
 use crate::declarations::Declaration;
-use crate::tables::add_first;
 use indexmap::IndexMap;
 use op_trees::Expr;
 use prism_tree::Pe;
 use std::alloc::{AllocError, Global};
 
-// A declaration is to be gone into, or all that it uses was gone into.
+// The name that is declared first at a place is to be gone into, or all that its declarations use was gone into.
 #[derive(Clone, Copy)]
 enum Visit {
     Enter(usize),
     Leave(usize),
 }
 
-/// The places of these declarations as a search by depth leaves them: what leads round in no circle is left after all that
-/// it leads to.
+// What is left to do, which names were entered, by their first places, and the places that were left.
+#[derive(Drop)]
+struct Search {
+    visits: Vec<Visit>,
+    entered: Vec<bool>,
+    left: Vec<usize>,
+}
+
+/// The places of these declarations as a search by depth leaves them, those of one name together: what leads round in no
+/// circle is left after all that it leads to.
 pub(crate) fn by_depth(alloc: Global, all: &[Declaration]) -> Result<Vec<usize>, AllocError> {
-    let table = places(alloc, all)?;
-    let mut entered = vec![in alloc; false; all.len()]?;
-    let mut left = Vec::new(alloc);
-    let mut stack = Vec::new(alloc);
-    for i in 0..all.len() {
-        stack.push(Visit::Enter(i))?;
-    }
-    for _step in 0..most_visits(all) {
-        match stack.pop() {
-            None => return Ok(left),
-            Some(Visit::Leave(i)) => left.push(i)?,
-            Some(Visit::Enter(i)) => enter(all, &table, &mut entered, i, &mut stack)?,
-        }
-    }
-    Ok(left)
-}
-
-// The first place of each name.
-fn places<'a>(
-    alloc: Global,
-    all: &[Declaration<'a>],
-) -> Result<IndexMap<&'a str, usize>, AllocError> {
-    let mut table = IndexMap::new(alloc);
-    for (i, declaration) in all.iter().enumerate() {
-        add_first(&mut table, declaration.name, i)?;
-    }
-    Ok(table)
-}
-
-// What is entered the first time is left later, after all that it uses.
-fn enter(
-    all: &[Declaration],
-    table: &IndexMap<&str, usize>,
-    entered: &mut Vec<bool>,
-    i: usize,
-    stack: &mut Vec<Visit>,
-) -> Result<(), AllocError> {
-    let Some(declaration) = all.get(i) else {
-        return Ok(());
+    let places = Places::of(alloc, all)?;
+    let mut search = Search {
+        visits: Vec::new(alloc),
+        entered: vec![in alloc; false; all.len()]?,
+        left: Vec::new(alloc),
     };
-    if let Some(flag) = entered.get_mut(i) {
-        if *flag {
-            return Ok(());
-        }
-        *flag = true;
+    for (_, first) in &places.first {
+        search.visits.push(Visit::Enter(*first))?;
     }
-    stack.push(Visit::Leave(i))?;
-    match declaration.body {
-        Some(body) => push_uses(body, table, stack),
-        None => Ok(()),
+    search.run(all, &places)?;
+    Ok(search.left)
+}
+
+impl Search {
+    // Goes on until nothing is left to do.
+    fn run(&mut self, all: &[Declaration], places: &Places) -> Result<(), AllocError> {
+        for _ in 0..usize::MAX {
+            match self.visits.pop() {
+                Some(Visit::Enter(first)) => self.enter(all, places, first)?,
+                Some(Visit::Leave(first)) => self.leave(places, first)?,
+                None => break,
+            }
+        }
+        Ok(())
+    }
+
+    // What is entered the first time is left later, after all that it uses.
+    fn enter(
+        &mut self,
+        all: &[Declaration],
+        places: &Places,
+        first: usize,
+    ) -> Result<(), AllocError> {
+        match self.entered.get_mut(first) {
+            Some(flag) if !*flag => *flag = true,
+            _ => return Ok(()),
+        }
+        self.visits.push(Visit::Leave(first))?;
+        let mut next = Some(first);
+        for _ in 0..all.len() {
+            let Some(i) = next else {
+                break;
+            };
+            self.push_uses(all, places, i)?;
+            next = places.after(i);
+        }
+        Ok(())
+    }
+
+    fn leave(&mut self, places: &Places, first: usize) -> Result<(), AllocError> {
+        let mut next = Some(first);
+        for _ in 0..self.entered.len() {
+            let Some(i) = next else {
+                break;
+            };
+            self.left.push(i)?;
+            next = places.after(i);
+        }
+        Ok(())
+    }
+
+    fn push_uses(
+        &mut self,
+        all: &[Declaration],
+        places: &Places,
+        i: usize,
+    ) -> Result<(), AllocError> {
+        match all.get(i) {
+            Some(declaration) => match declaration.body {
+                Some(body) => push_names(body, places, &mut self.visits),
+                None => Ok(()),
+            },
+            None => Ok(()),
+        }
     }
 }
 
-fn push_uses(
-    e: &Pe,
-    table: &IndexMap<&str, usize>,
-    stack: &mut Vec<Visit>,
-) -> Result<(), AllocError> {
+fn push_names(e: &Pe, places: &Places, visits: &mut Vec<Visit>) -> Result<(), AllocError> {
     match e {
         Expr::Truth(_, _) => Ok(()),
         Expr::Number(_, _) => Ok(()),
-        Expr::Name(_, name) => match table.get(name.as_str()) {
-            Some(i) => {
-                stack.push(Visit::Enter(*i))?;
+        Expr::Name(_, name) => match places.first.get(name.as_str()) {
+            Some(first) => {
+                visits.push(Visit::Enter(*first))?;
                 Ok(())
             }
             None => Ok(()),
         },
-        Expr::One(_, _, a) => push_uses(a, table, stack),
+        Expr::One(_, _, a) => push_names(a, places, visits),
         Expr::Two(_, _, a, b) => {
-            push_uses(a, table, stack)?;
-            push_uses(b, table, stack)
+            push_names(a, places, visits)?;
+            push_names(b, places, visits)
         }
         Expr::Three(_, _, a, b, c) => {
-            push_uses(a, table, stack)?;
-            push_uses(b, table, stack)?;
-            push_uses(c, table, stack)
+            push_names(a, places, visits)?;
+            push_names(b, places, visits)?;
+            push_names(c, places, visits)
         }
     }
 }
 
-// No more visits than these: each declaration is put on the stack once, is left once, and puts on the stack what it uses.
-fn most_visits(all: &[Declaration]) -> usize {
-    let mut count = all.len().saturating_add(all.len());
-    for declaration in all {
-        if let Some(body) = declaration.body {
-            count = count.saturating_add(name_count(body));
-        }
-    }
-    count
+// The first place of each name, and the next of the same name after each place.
+#[derive(Drop)]
+struct Places<'a> {
+    first: IndexMap<&'a str, usize>,
+    next: Vec<Option<usize>>,
 }
 
-// How many names stand in an expression.
-fn name_count(e: &Pe) -> usize {
-    match e {
-        Expr::Truth(_, _) => 0,
-        Expr::Number(_, _) => 0,
-        Expr::Name(_, _) => 1,
-        Expr::One(_, _, a) => name_count(a),
-        Expr::Two(_, _, a, b) => name_count(a).saturating_add(name_count(b)),
-        Expr::Three(_, _, a, b, c) => name_count(a)
-            .saturating_add(name_count(b))
-            .saturating_add(name_count(c)),
+impl<'a> Places<'a> {
+    fn of(alloc: Global, all: &[Declaration<'a>]) -> Result<Places<'a>, AllocError> {
+        let mut places = Places {
+            first: IndexMap::new(alloc),
+            next: vec![in alloc; None; all.len()]?,
+        };
+        for i in (0..all.len()).rev() {
+            let after = match places.first.insert(all[i].name, i) {
+                Ok(after) => after,
+                Err(_) => return Err(AllocError),
+            };
+            if let Some(next) = places.next.get_mut(i) {
+                *next = after;
+            }
+        }
+        Ok(places)
+    }
+
+    fn after(&self, i: usize) -> Option<usize> {
+        self.next.get(i).copied().flatten()
     }
 }

@@ -5,7 +5,7 @@ ghost use Rattle.std.specs.Prelude.{◌≡◌, is_some, List, ℕ, OnOk, IfOk, b
 ghost use Rattle.std.specs.Option.{option_map};
 ghost use Rattle.prism_tree.specs.Syntax.{module_of};
 ghost use Rattle.prism_names.specs.Names.{module_name};
-ghost use Rattle.prism_check.specs.Tables.{body_in, body_under, first_some, module_under, new_name, pair_for, named_module, under};
+ghost use Rattle.prism_check.specs.Tables.{body_in, body_under, first_some, module_under, new_name, pair_for, name_under, named_module, under};
 
 use indexmap::IndexMap;
 use prism_tree::{NamePair, Pe, PrismFormula, PrismModule};
@@ -31,28 +31,63 @@ pub(crate) fn add_first<'a, T: Copy>(
 
 /// The renaming of a copy.
 #[derive(Drop)]
-pub(crate) struct Renaming<'a> {
-    pairs: IndexMap<&'a str, &'a str>,
+pub(crate) enum Renaming<'a> {
+    /// Few pairs, which are gone through.
+    Few(&'a [NamePair]),
+    /// Many pairs, in a table.
+    Many(IndexMap<&'a str, &'a str>),
 }
+
+// Up to so many pairs are gone through in less time than a table takes to be made.
+const FEW: usize = 8;
 
 impl<'a> Renaming<'a> {
     /// The renaming by these pairs.
     pub(crate) fn of(alloc: Global, pairs: &'a [NamePair]) -> Result<Renaming<'a>, AllocError>
         ensures { IfOk result (λ r. (x : List ℕ) → new_name r x ≡ pair_for pairs.now x) }
     {
-        let mut table = IndexMap::new(alloc);
-        for pair in pairs {
-            add_first(&mut table, pair.old.name.as_str(), pair.new.name.as_str())?;
+        if pairs.len() <= FEW {
+            return Ok(Renaming::Few(pairs));
         }
-        Ok(Renaming { pairs: table })
+        let table = table_of(alloc, pairs)?;
+        Ok(Renaming::Many(table))
     }
 
     /// The new name of a name, if it has one.
     pub(crate) fn new_name(&self, name: &str) -> Option<&'a str>
         ensures { option_map (λ s. s.now) result ≡ new_name self.now name.now }
     {
-        self.pairs.get(name).copied()
+        match self {
+            Renaming::Few(pairs) => first_new_name(pairs, name),
+            Renaming::Many(table) => table.get(name).copied(),
+        }
     }
+}
+
+// The right sides of these pairs by their left sides.
+fn table_of<'a>(
+    alloc: Global,
+    pairs: &'a [NamePair],
+) -> Result<IndexMap<&'a str, &'a str>, AllocError>
+    ensures { IfOk result (λ table. (x : List ℕ) → name_under table x ≡ pair_for pairs.now x) }
+{
+    let mut table = IndexMap::new(alloc);
+    for pair in pairs {
+        add_first(&mut table, pair.old.name.as_str(), pair.new.name.as_str())?;
+    }
+    Ok(table)
+}
+
+// The right side of the first pair that has the name on its left side.
+fn first_new_name<'a>(pairs: &'a [NamePair], name: &str) -> Option<&'a str>
+    ensures { option_map (λ s. s.now) result ≡ pair_for pairs.now name.now }
+{
+    for pair in pairs {
+        if pair.old.name.as_str() == name {
+            return Some(pair.new.name.as_str());
+        }
+    }
+    None
 }
 
 /// The modules by their names.

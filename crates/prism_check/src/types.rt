@@ -1,24 +1,26 @@
 // The faults of types, and of what commands write.
 
-ghost use Rattle.std.specs.Prelude.{◌≡◌, map, IfOk, None};
+ghost use Rattle.std.specs.Prelude.{◌≡◌, List, ℕ, length, map, IfOk, None, Some};
 ghost use Rattle.std.specs.List.{flat_map};
-ghost use Rattle.prism_tree.specs.Syntax.{file_of, module_of};
+ghost use Rattle.prism_tree.specs.Syntax.{command_of, copied, file_of, module_of, var_of};
 ghost use Rattle.prism_names.specs.Places.{IsPlaceOrder};
 ghost use Rattle.prism_flat.specs.Writers.{IsWriterOf};
 ghost use Rattle.prism_check.specs.Least.{soonest};
 ghost use Rattle.prism_check.specs.TypeFaults.{module_faults, numbered_faults, type_faults};
-ghost use Rattle.prism_check.specs.Typing.{AreNames, contents_faults, faults_in, soonest_at};
+ghost use Rattle.prism_check.specs.Tables.{module_under, named_module};
+ghost use Rattle.prism_check.specs.Typing.{AreNames, contents_faults, contents_in, faults_in, soonest_at};
 ghost use Rattle.prism_check.specs.Views.{demand_by};
 
 use crate::demands::{Demand, contents_demands, outer_demands};
 use crate::scope::body_demands;
-use crate::tables::Modules;
+use crate::tables::{Modules, Renaming};
 use crate::typing::{Names, Spot, judge_type, known_formulas, offset_of, sooner_at, varies};
+use crate::values::{commands_in, vars_in};
 use crate::variables::declarations;
 use crate::writes::{judge_repeated, judge_write};
 use bridge_io::{Fault, Reason};
 use prism_flat::Writer;
-use prism_tree::{PrismFile, PrismModule};
+use prism_tree::{CopiedModule, PrismCommand, PrismFile, PrismModule, PrismVar};
 use std::alloc::{AllocError, Global};
 
 /// The least fault of the types of a file and of what its commands write, if it has one. `order` has the places of the
@@ -38,18 +40,22 @@ pub(crate) fn judge_types(
     let names = Names {
         declared: &declared,
         formulas: &formulas,
+        renaming: None,
     };
-    judge_all(alloc, file, &names, &writer)
+    judge_all(alloc, file, &modules, &names, &writer)
 }
 
 // The same by the tables of the file, what stands outside of modules first.
 fn judge_all<'t>(
     alloc: Global,
     file: &'t PrismFile,
-    names: &Names,
+    modules: &Modules<'t>,
+    names: &Names<'_, 't, '_>,
     writer: &Writer<'t>,
 ) -> Result<Option<Fault>, AllocError>
+    requires modules { (x : List ℕ) → module_under modules.now x ≡ named_module file.now.modules x }
     requires names { AreNames names.now (file_of file.now) }
+    requires unchanged { names.now.renaming ≡ None }
     requires writer { IsWriterOf writer.now (file_of file.now) }
     ensures { IfOk result (λ best. best ≡ soonest None (type_faults (file_of file.now))) }
 {
@@ -65,6 +71,7 @@ fn judge_all<'t>(
         alloc,
         file,
         file.modules.as_slice(),
+        modules,
         names,
         writer,
         in_bodies,
@@ -106,8 +113,26 @@ fn judge_demand(names: &Names, spot: Spot, demand: &Demand, best: Option<Fault>)
     }
 }
 
-// A module that has its own contents, and no copy.
+// These variables and commands.
 fn judge_contents(
+    alloc: Global,
+    names: &Names,
+    spot: Spot,
+    vars: &[PrismVar],
+    commands: &[PrismCommand],
+    before: Option<Fault>,
+) -> Result<Option<Fault>, AllocError>
+    ensures { IfOk result
+        (λ best. best
+        ≡ soonest_at spot.place before (contents_in names.now spot.number (map var_of vars.now) (map command_of commands.now))) }
+{
+    let demands = contents_demands(alloc, vars, commands)?;
+    let first = judge_demands(names, spot, &demands, before);
+    judge_repeated(alloc, names, spot.place, commands, first)
+}
+
+// A module that has its own contents, and no copy.
+fn judge_plain(
     alloc: Global,
     names: &Names,
     spot: Spot,
@@ -115,15 +140,17 @@ fn judge_contents(
     before: Option<Fault>,
 ) -> Result<Option<Fault>, AllocError>
     ensures { IfOk result
-        (λ best. best
-        ≡ soonest_at spot.place before (contents_faults (faults_in names.now spot.number) (module_of entry.now))) }
+        (λ best. best ≡ soonest_at spot.place before (contents_faults names.now spot.number (module_of entry.now))) }
 {
     match entry {
-        PrismModule::Plain(m) => {
-            let demands = contents_demands(alloc, m.vars.as_slice(), m.commands.as_slice())?;
-            let first = judge_demands(names, spot, &demands, before);
-            judge_repeated(alloc, spot.place, m.commands.as_slice(), first)
-        }
+        PrismModule::Plain(m) => judge_contents(
+            alloc,
+            names,
+            spot,
+            m.vars.as_slice(),
+            m.commands.as_slice(),
+            before,
+        ),
         PrismModule::Copied(_) => Ok(before),
     }
 }
@@ -132,13 +159,16 @@ fn judge_contents(
 fn judge_module<'t>(
     alloc: Global,
     file: &'t PrismFile,
-    names: &Names,
+    modules: &Modules<'t>,
+    names: &Names<'_, 't, '_>,
     writer: &Writer<'t>,
     number: usize,
     entry: &'t PrismModule,
     before: Option<Fault>,
 ) -> Result<Option<Fault>, AllocError>
+    requires modules { (x : List ℕ) → module_under modules.now x ≡ named_module file.now.modules x }
     requires names { AreNames names.now (file_of file.now) }
+    requires unchanged { names.now.renaming ≡ None }
     requires writer { IsWriterOf writer.now (file_of file.now) }
     ensures { IfOk result
         (λ best. best ≡ soonest before (module_faults (file_of file.now) number (module_of entry.now))) }
@@ -149,17 +179,46 @@ fn judge_module<'t>(
                 number,
                 place: None,
             };
-            judge_contents(alloc, names, spot, entry, before)
+            judge_plain(alloc, names, spot, entry, before)
         }
         PrismModule::Copied(m) => {
             let spot = Spot {
                 number,
                 place: Some(m.name.at),
             };
+            if file.formulas.len() == 0 {
+                return judge_renamed(alloc, file, modules, names, spot, m, before);
+            }
             let written = writer.module(alloc, file, entry)?;
-            judge_contents(alloc, names, spot, &written, before)
+            judge_plain(alloc, names, spot, &written, before)
         }
     }
+}
+
+// A copy in a file that has no formulas: nothing has to be written out, and each name is read as the new one.
+fn judge_renamed<'t>(
+    alloc: Global,
+    file: &'t PrismFile,
+    modules: &Modules<'t>,
+    names: &Names<'_, 't, '_>,
+    spot: Spot,
+    m: &'t CopiedModule,
+    before: Option<Fault>,
+) -> Result<Option<Fault>, AllocError>
+    requires modules { (x : List ℕ) → module_under modules.now x ≡ named_module file.now.modules x }
+    requires names { AreNames names.now (file_of file.now) }
+    requires formulas { length file.now.formulas ≡ 0 }
+    requires place { spot.place ≡ Some m.now.name.at }
+    ensures { IfOk result (λ best. best ≡ soonest before (module_faults (file_of file.now) spot.number (copied m.now))) }
+{
+    let renaming = Renaming::of(alloc, m.pairs.as_slice())?;
+    let own = Names {
+        declared: names.declared,
+        formulas: names.formulas,
+        renaming: Some(&renaming),
+    };
+    let from = modules.called(m.from.name.as_str());
+    judge_contents(alloc, &own, spot, vars_in(from), commands_in(from), before)
 }
 
 // These modules, numbered from 0.
@@ -167,18 +226,21 @@ fn judge_modules<'t>(
     alloc: Global,
     file: &'t PrismFile,
     all: &'t [PrismModule],
-    names: &Names,
+    modules: &Modules<'t>,
+    names: &Names<'_, 't, '_>,
     writer: &Writer<'t>,
     before: Option<Fault>,
 ) -> Result<Option<Fault>, AllocError>
+    requires modules { (x : List ℕ) → module_under modules.now x ≡ named_module file.now.modules x }
     requires names { AreNames names.now (file_of file.now) }
+    requires unchanged { names.now.renaming ≡ None }
     requires writer { IsWriterOf writer.now (file_of file.now) }
     ensures { IfOk result
         (λ best. best ≡ soonest before (numbered_faults (file_of file.now) 0 (map module_of all.now))) }
 {
     let mut best = before;
     for (number, entry) in all.iter().enumerate() {
-        best = judge_module(alloc, file, names, writer, number, entry, best)?;
+        best = judge_module(alloc, file, modules, names, writer, number, entry, best)?;
     }
     Ok(best)
 }

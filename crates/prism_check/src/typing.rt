@@ -11,10 +11,11 @@ ghost use Rattle.prism_check.specs.Least.{fault_if};
 ghost use Rattle.prism_check.specs.NameFaults.{some_name};
 ghost use Rattle.prism_check.specs.Tables.{under};
 ghost use Rattle.prism_check.specs.TypeFaults.{is_unwanted, is_wanted, misfits, type_faults_of};
-ghost use Rattle.prism_check.specs.Typing.{declared_type, is_declared_variable, known_after, known_by, soonest_at, type_of, varies_in, wrong};
+ghost use Rattle.prism_check.specs.Typing.{declared_type, is_declared_variable, known_after, known_by, read_in, soonest_at, type_of, type_under, varies_in, varies_under, wrong};
 
 use crate::demands::Wanted;
 use crate::least::sooner_if;
+use crate::tables::Renaming;
 use crate::variables::Declared;
 use bridge_io::{Fault, Reason};
 use indexmap::IndexMap;
@@ -30,11 +31,12 @@ pub(crate) struct Known {
     pub(crate) varies: bool,
 }
 
-/// What names are looked up in.
+/// What names are looked up in, and what they are read as there, if a copy is judged.
 #[derive(Clone, Copy)]
-pub(crate) struct Names<'a, 'b> {
+pub(crate) struct Names<'a, 'b, 'c> {
     pub(crate) declared: &'a Declared<'b>,
     pub(crate) formulas: &'a IndexMap<&'b str, Known>,
+    pub(crate) renaming: Option<&'c Renaming<'b>>,
 }
 
 /// The module whose contents are judged, by its number, and where its faults stand if they stand at one place.
@@ -68,11 +70,30 @@ impl<'a> Declared<'a> {
     }
 }
 
-impl<'a, 'b> Names<'a, 'b> {
+impl<'a, 'b, 'c> Names<'a, 'b, 'c> {
+    /// What a name is read as.
+    pub(crate) fn read<'s>(&'s self, name: &'s str) -> &'s str
+        ensures { result.now ≡ read_in self.now name.now }
+    {
+        let Some(renaming) = self.renaming else {
+            return name;
+        };
+        match renaming.new_name(name) {
+            Some(new) => new,
+            None => name,
+        }
+    }
+
     // The type of a name.
-    #[tactic(auto, unfolding(crate::specs::Typing::type_of))]
     fn ty(&self, name: &str) -> Option<Ty>
         ensures { result ≡ type_of self.now name.now }
+    {
+        self.ty_under(self.read(name))
+    }
+
+    #[tactic(auto, unfolding(crate::specs::Typing::type_under))]
+    fn ty_under(&self, name: &str) -> Option<Ty>
+        ensures { result ≡ type_under self.now name.now }
     {
         match self.formulas.get(name) {
             Some(known) => known.ty,
@@ -81,9 +102,15 @@ impl<'a, 'b> Names<'a, 'b> {
     }
 
     // Whether a name is that of a variable, or of a formula in which one occurs.
-    #[tactic(auto, unfolding(crate::specs::Typing::varies_in))]
     fn varies(&self, name: &str) -> bool
         ensures { result ≡ varies_in self.now name.now }
+    {
+        self.varies_under(self.read(name))
+    }
+
+    #[tactic(auto, unfolding(crate::specs::Typing::varies_under))]
+    fn varies_under(&self, name: &str) -> bool
+        ensures { result ≡ varies_under self.now name.now }
     {
         match self.formulas.get(name) {
             Some(known) => known.varies,
@@ -300,18 +327,26 @@ pub(crate) fn known_formulas<'b>(
     let mut table = IndexMap::new(alloc);
     for place in order {
         let formula = &formulas[*place];
-        let known = learned(declared, &table, &formula.body);
+        let known = learned(&*declared, &table, &formula.body);
         set(&mut table, formula.name.name.as_str(), known)?;
     }
     Ok(table)
 }
 
 // What is known of an expression.
-#[tactic(auto, unfolding(crate::specs::Typing::type_of, crate::specs::Typing::varies_in))]
-fn learned(declared: &Declared, formulas: &IndexMap<&str, Known>, e: &Pe) -> Known
+#[tactic(auto, unfolding(crate::specs::Typing::type_under, crate::specs::Typing::varies_under))]
+fn learned<'a, 'b>(
+    declared: &'a Declared<'b>,
+    formulas: &'a IndexMap<&'b str, Known>,
+    e: &Pe,
+) -> Known
     ensures { result ≡ known_by (declared_type declared.now) (is_declared_variable declared.now) (under formulas.now) (tree e.now) }
 {
-    let names = Names { declared, formulas };
+    let names = Names {
+        declared,
+        formulas,
+        renaming: None,
+    };
     Known {
         ty: typed(&names, None, e, None).ty,
         varies: varies(&names, e),

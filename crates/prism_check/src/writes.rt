@@ -4,8 +4,8 @@ ghost use Rattle.std.specs.Prelude.{◌≡◌, map, IfOk};
 ghost use Rattle.std.specs.List.{flat_map};
 ghost use Rattle.prism_tree.specs.Syntax.{branch_of, command_of, write_of};
 ghost use Rattle.prism_check.specs.Demands.{written};
-ghost use Rattle.prism_check.specs.TypeFaults.{repeated_writes, target_by, wanted_at, write_faults};
-ghost use Rattle.prism_check.specs.Typing.{faults_in, moved_name, repeated_in, soonest_at, target_in, target_view};
+ghost use Rattle.prism_check.specs.TypeFaults.{target_by, wanted_at, write_faults};
+ghost use Rattle.prism_check.specs.Typing.{called_by, faults_in, moved_name, read_in, repeated_by, repeated_in, soonest_at, target_in, target_under, target_view};
 ghost use Rattle.prism_check.specs.Views.{named_by};
 
 use crate::demands::{Wanted, wanted_by};
@@ -27,9 +27,16 @@ pub(crate) enum Target {
 }
 
 // What a command of the module of this number writes under a name.
-#[tactic(auto, unfolding(crate::specs::Typing::target_in))]
 fn target_named(names: &Names, number: usize, name: &str) -> Target
     ensures { target_view result ≡ target_in names.now number name.now }
+{
+    target_under(names, number, names.read(name))
+}
+
+// The same under a name as it is read.
+#[tactic(auto, unfolding(crate::specs::Typing::target_under))]
+fn target_under(names: &Names, number: usize, name: &str) -> Target
+    ensures { target_view result ≡ target_under names.now number name.now }
 {
     match names.formulas.get(name) {
         Some(_) => Target::Foreign(Wanted::Anything),
@@ -103,15 +110,17 @@ pub(crate) fn judge_write(
 /// given they stand there.
 pub(crate) fn judge_repeated(
     alloc: Global,
+    names: &Names,
     place: Option<usize>,
     commands: &[PrismCommand],
     before: Option<Fault>,
 ) -> Result<Option<Fault>, AllocError>
-    ensures { IfOk result (λ best. best ≡ soonest_at place before (flat_map repeated_writes (map command_of commands.now))) }
+    ensures { IfOk result
+        (λ best. best ≡ soonest_at place before (flat_map (repeated_by (read_in names.now)) (map command_of commands.now))) }
 {
     let mut best = before;
     for command in commands {
-        best = judge_updates(alloc, place, command.branches.as_slice(), best)?;
+        best = judge_updates(alloc, names, place, command.branches.as_slice(), best)?;
     }
     Ok(best)
 }
@@ -119,15 +128,17 @@ pub(crate) fn judge_repeated(
 // The updates of a command.
 fn judge_updates(
     alloc: Global,
+    names: &Names,
     place: Option<usize>,
     branches: &[PrismBranch],
     before: Option<Fault>,
 ) -> Result<Option<Fault>, AllocError>
-    ensures { IfOk result (λ best. best ≡ soonest_at place before (flat_map repeated_in (map branch_of branches.now))) }
+    ensures { IfOk result
+        (λ best. best ≡ soonest_at place before (flat_map (repeated_in (read_in names.now)) (map branch_of branches.now))) }
 {
     let mut best = before;
     for branch in branches {
-        best = judge_update(alloc, place, branch, best)?;
+        best = judge_update(alloc, names, place, branch, best)?;
     }
     Ok(best)
 }
@@ -135,28 +146,31 @@ fn judge_updates(
 // One update.
 fn judge_update(
     alloc: Global,
+    names: &Names,
     place: Option<usize>,
     branch: &PrismBranch,
     before: Option<Fault>,
 ) -> Result<Option<Fault>, AllocError>
-    ensures { IfOk result (λ best. best ≡ soonest_at place before (repeated_in (branch_of branch.now))) }
+    ensures { IfOk result (λ best. best ≡ soonest_at place before (repeated_in (read_in names.now) (branch_of branch.now))) }
 {
-    let names = written_names(alloc, place, branch.writes.as_slice())?;
-    judge_doubled(alloc, Reason::WrittenTwice, &names, before)
+    let written = written_names(alloc, names, place, branch.writes.as_slice())?;
+    judge_doubled(alloc, Reason::WrittenTwice, &written, before)
 }
 
-// The names that are written, each at its place or at the one that is given.
-fn written_names(
+// The names that are written as they are read, each at its place or at the one that is given.
+fn written_names<'a>(
     alloc: Global,
+    names: &'a Names,
     place: Option<usize>,
-    writes: &[PrismWrite],
-) -> Result<Vec<Entry>, AllocError>
-    ensures { IfOk result (λ list. map named_by list.items ≡ map (λ w. moved_name place w.name) writes.now) }
+    writes: &'a [PrismWrite],
+) -> Result<Vec<Entry<'a>>, AllocError>
+    ensures { IfOk result
+        (λ list. map named_by list.items ≡ map (λ w. moved_name place (called_by (read_in names.now) w.name)) writes.now) }
 {
-    let mut list = Vec::new(alloc);
+    let mut list = Vec::with_capacity(alloc, writes.len())?;
     for write in writes {
         list.push(Entry {
-            name: write.name.name.as_str(),
+            name: names.read(write.name.name.as_str()),
             at: place.unwrap_or(write.name.at),
         })?;
     }

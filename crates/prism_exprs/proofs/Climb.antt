@@ -133,7 +133,7 @@ signed_stops s o L P m ts us signs e same opens apart p q =
     (then_stops L _ m m us e (λ y. gives_word (applied o signs y)) (gives_follows (λ y. applied o signs y) m) q)
 
 -- no operator between two operands stands at the levels that have a prefix
-none_at_0 : (k : TokenKind) → at_level 0 (infix_of k) ≡ None
+pub none_at_0 : (k : TokenKind) → at_level 0 (infix_of k) ≡ None
 none_at_0 (K.Symbol S.Star) = refl
 none_at_0 (K.Symbol S.Slash) = refl
 none_at_0 (K.Symbol S.Plus) = refl
@@ -150,7 +150,7 @@ none_at_0 (K.Symbol S.Iff) = refl
 none_at_0 (K.Symbol S.Implies) = refl
 none_at_0 k = refl
 
-none_at_5 : (k : TokenKind) → at_level 5 (infix_of k) ≡ None
+pub none_at_5 : (k : TokenKind) → at_level 5 (infix_of k) ≡ None
 none_at_5 (K.Symbol S.Star) = refl
 none_at_5 (K.Symbol S.Slash) = refl
 none_at_5 (K.Symbol S.Plus) = refl

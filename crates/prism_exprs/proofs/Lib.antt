@@ -8,6 +8,7 @@ pub mod Exprs
 pub mod Keeping
 pub mod Symbols
 pub mod Climb
+pub mod Rising
 pub mod Prims
 pub mod Conditionals
 pub mod Operands

@@ -324,29 +324,29 @@ outer_deep_failed s ts front r n e f h p w = deep_by s ts front p.before r n e f
 
 -- ---- over kept tokens
 
-pub front_taken : (tokens : Tokens) (front : List Found) (us : List Lexeme) (n : ℕ) → front ≡ take n tokens.found.now → us ≡ map (lexeme_at tokens.bytes.now tokens.literals.now) front → us ≡ take n (seen tokens)
+pub front_taken : (tokens : Tokens) (front : List Found) (us : List Lexeme) (n : ℕ) → front ≡ take n tokens.found.now → us ≡ map (lexeme_at tokens.source.now.bytes.now tokens.source.now.literals.now) front → us ≡ take n (seen tokens)
 front_taken tokens front us n e h =
-    let f = lexeme_at tokens.bytes.now tokens.literals.now in
+    let f = lexeme_at tokens.source.now.bytes.now tokens.source.now.literals.now in
     h ∙ ap (λ (u : List Found). map f u) e ∙ sym (take-map f n tokens.found.now)
 
 pub front_most : (tokens : Tokens) (n : ℕ) → n ≡ min (length tokens.found.now) 1025 → n ≡ min (length (seen tokens)) 1025
-front_most tokens n e = e ∙ ap (λ (k : ℕ). min k 1025) (sym (length-map tokens.found.now (lexeme_at tokens.bytes.now tokens.literals.now)))
+front_most tokens n e = e ∙ ap (λ (k : ℕ). min k 1025) (sym (length-map tokens.found.now (lexeme_at tokens.source.now.bytes.now tokens.source.now.literals.now)))
 
 pub left_within : (rest : Tokens) (ts us : List Lexeme) (n : ℕ) → IsWithin (n - length rest.found.now) ts us → IsWithin (n - length (seen rest)) ts us
 left_within rest ts us n h =
     let F : ℕ → Type 0 = λ k. IsWithin (n - k) ts us in
-    subst F (sym (length-map rest.found.now (lexeme_at rest.bytes.now rest.literals.now))) h
+    subst F (sym (length-map rest.found.now (lexeme_at rest.source.now.bytes.now rest.source.now.literals.now))) h
 
 pub left_past : (rest : Tokens) (ts : List Lexeme) (e : Stop) (n : ℕ) → IsPast (n - length rest.found.now) ts e → IsPast (n - length (seen rest)) ts e
 left_past rest ts e n h =
     let F : ℕ → Type 0 = λ k. IsPast (n - k) ts e in
-    subst F (sym (length-map rest.found.now (lexeme_at rest.bytes.now rest.literals.now))) h
+    subst F (sym (length-map rest.found.now (lexeme_at rest.source.now.bytes.now rest.source.now.literals.now))) h
 
 -- What is left of the front where reading it stopped is no longer than the front.
 pub left_fewer : (tokens rest : Tokens) (us : List Lexeme) (n : ℕ) → us ≡ take n (seen tokens) → n ≡ min (length (seen tokens)) 1025 → Fails expr goes_on us (seen rest) → length rest.found.now ≤ n
 left_fewer tokens rest us n e h p =
     let few = fewer (seen tokens) n h in
-    omega (arith, ap length e, length_taken (seen tokens) n few, ap length p.parts, length-append p.before (seen rest), length-map rest.found.now (lexeme_at rest.bytes.now rest.literals.now))
+    omega (arith, ap length e, length_taken (seen tokens) n few, ap length p.parts, length-append p.before (seen rest), length-map rest.found.now (lexeme_at rest.source.now.bytes.now rest.source.now.literals.now))
 
 -- what a stop at a token says
 pub stops_at : (ts : List Lexeme) (e : Stop) (r : Tokens) (c : Cause) → e ≡ At r c → Stops expr goes_on ts e → Fails expr goes_on ts (seen r)

@@ -46,7 +46,7 @@ abbrev pub lexeme_at : List ℕ → List Literal → Found → Lexeme
 lexeme_at bytes literals f = lexeme_by bytes literals f.kind f.at f.size
 
 abbrev pub seen : Tokens → List Lexeme
-seen t = map (lexeme_at t.bytes.now t.literals.now) t.found.now
+seen t = map (lexeme_at t.source.now.bytes.now t.source.now.literals.now) t.found.now
 
 -- ---- what the code looks at
 

@@ -1,10 +1,11 @@
 -- Which tokens go on with an expression of a level, and which begin one: what a reader of expressions looks at.
-use Rattle.std.specs.Prelude.{◌≡◌, ℕ, ◌<◌, nat_lt, Bool, true, false, ◌||◌, List, ◌∷◌, map, Option, Some, None}
+use Rattle.std.specs.Prelude.{◌≡◌, ℕ, ◌<◌, nat_lt, Bool, true, false, ◌||◌, List, [], ◌∷◌, map, Option, Some, None, if◌then◌else◌}
 use Rattle.prism_lex.specs.declared.token.TokenKind.{TokenKind}
 use Rattle.prism_lex.specs.declared.token.TokenKind.TheVariants as K
 use Rattle.prism_lex.specs.declared.words.Reserved.TheVariants as W
 use Rattle.prism_lex.specs.declared.symbols.Symbol.{Symbol}
 use Rattle.prism_lex.specs.declared.symbols.Symbol.TheVariants as S
+use Rattle.prism_lex.specs.Tokens.{Lexeme}
 use Rattle.op_trees.specs.Tree.{Two}
 use Rattle.prism_tree.specs.declared.operator.PrismOp.{PrismOp}
 use Rattle.prism_tree.specs.Syntax.{Expression}
@@ -45,6 +46,24 @@ is_operator (Some o) = true
 
 abbrev pub joins_at : ℕ → TokenKind → Bool
 joins_at n k = is_operator (at_level n (infix_of k))
+
+-- the level of an operator, if it is below n
+abbrev pub level_below : ℕ → Option (ℕ × PrismOp) → Option ℕ
+level_below n None = None
+level_below n (Some p) = if nat_lt p.0 n then Some p.0 else None
+
+-- the level of the operator that stands first, if it is below n
+abbrev pub next_level : ℕ → List Lexeme → Option ℕ
+next_level n [] = None
+next_level n (t ∷ ts) = level_below n (infix_of t.kind)
+
+-- the signs before an operand
+abbrev pub is_sign : TokenKind → Bool
+is_sign k = is_symbol S.Minus k || is_symbol S.Not k
+
+abbrev pub sign_first : List Lexeme → Bool
+sign_first [] = false
+sign_first (t ∷ ts) = is_sign t.kind
 
 -- the tokens that begin an operand without a prefix
 abbrev pub begins_prim : TokenKind → Bool
@@ -99,4 +118,4 @@ pub record IsLeaf (t : Tokens) : Type 0 where
   pub others : List Found
   pub parts : t.found.now ≡ first ∷ others
   pub plain : kept_plain first.kind ≡ true
-  pub ends : Ends goes_on (map (lexeme_at t.bytes.now t.literals.now) others)
+  pub ends : Ends goes_on (map (lexeme_at t.source.now.bytes.now t.source.now.literals.now) others)

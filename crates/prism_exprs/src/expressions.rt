@@ -9,8 +9,8 @@ ghost use Rattle.prism_exprs.specs.Levels.{more, goes_on, lists_on, others, more
 
 use crate::leaf::{leaf_next, parse_leaf};
 use crate::parts::{
-    chain_next, choice, closed, function_of, moved, next_is, offset_of, one, read_signs,
-    read_symbol, two, with_signs,
+    chain_next, choice, closed, function_of, level_next, moved, next_is, offset_of, one,
+    read_signs, read_symbol, sign_next, two, with_signs,
 };
 use crate::tokens::{Cause, Kept, Stop, Tokens};
 use bridge_io::Text;
@@ -50,7 +50,7 @@ fn parse_conditional<'a>(alloc: Global, tokens: Tokens<'a>) -> Result<(Pe, Token
     Ok((whole, rest))
 }
 
-/// What a level reads. An operand alone is read at once.
+/// What a level reads. Where no sign stands next: an operand, and then the chains of the operators that come.
 #[cycle(expressions)]
 fn parse_level<'a>(
     alloc: Global,
@@ -60,10 +60,18 @@ fn parse_level<'a>(
     requires { height ≤ 10 }
     ensures { Parses tree (level expr height) (more height) (seen tokens.entry) result }
 {
-    if leaf_next(tokens) {
-        return parse_leaf(alloc, tokens);
+    if sign_next(tokens) {
+        return parse_climb(alloc, height, tokens);
     }
-    parse_climb(alloc, height, tokens)
+    let (first, rest) = parse_prim(alloc, tokens)?;
+    let mut left = first;
+    let mut behind = rest;
+    'chains: while let Some(level) = level_next(behind, height) {
+        let (whole, after) = parse_chain(alloc, level, left, behind)?;
+        left = whole;
+        behind = after;
+    }
+    Ok((left, behind))
 }
 
 /// The same by its parts: signs, an operand, and the chains from the tightest level on.

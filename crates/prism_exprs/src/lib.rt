@@ -9,4 +9,4 @@ mod tokens;
 
 pub use limit::parse_outer;
 pub use parts::{next_is, read_symbol};
-pub use tokens::{Cause, Found, Kept, Literal, Stop, Tokens};
+pub use tokens::{Cause, Found, Kept, Literal, Source, Stop, Tokens};

@@ -7,7 +7,7 @@ ghost use Rattle.prism_tree.specs.Syntax.{offset_of, moved};
 ghost use Rattle.prism_exprs.specs.Kept.{seen, lexeme_at, kept_symbol, kept_word, kept_infix};
 ghost use Rattle.prism_exprs.specs.Reading.{Parses, Reads, none, starts, is_kind};
 ghost use Rattle.prism_tree.specs.Grammar.{symbol, applied, at_level, function_of};
-ghost use Rattle.prism_exprs.specs.Levels.{more, joins_at};
+ghost use Rattle.prism_exprs.specs.Levels.{more, joins_at, sign_first, next_level};
 ghost use Rattle.prism_tree.specs.declared.operator.PrismOp.TheVariants as O;
 
 use crate::tokens::{Cause, Found, Kept, Stop, Tokens};
@@ -81,6 +81,29 @@ pub fn next_is(tokens: Tokens, wanted: Symbol) -> bool
     }
 }
 
+/// Whether a sign of an operand stands next.
+pub(crate) fn sign_next(tokens: Tokens) -> bool
+    ensures { result ≡ sign_first (seen tokens.entry) }
+{
+    match tokens.found.first() {
+        Some(next) => next.kind.is_symbol(Symbol::Minus) || next.kind.is_symbol(Symbol::Not),
+        None => false,
+    }
+}
+
+/// The level of the operator that stands next, if it is below this height.
+pub(crate) fn level_next(tokens: Tokens, height: u8) -> Option<u8>
+    ensures { result ≡ next_level height (seen tokens.entry) }
+{
+    match tokens.found.first() {
+        Some(next) => match next.kind.infix() {
+            Some((level, _)) if level < height => Some(level),
+            _ => None,
+        },
+        None => None,
+    }
+}
+
 /// Whether an operator of this level stands next.
 pub(crate) fn chain_next(tokens: Tokens, level: u8) -> bool
     ensures { result ≡ starts (joins_at level) (seen tokens.entry) }
@@ -96,7 +119,7 @@ pub(crate) fn chain_next(tokens: Tokens, level: u8) -> bool
 
 /// One symbol, and the tokens behind it; where another token stands next, reading stops at that.
 pub fn read_symbol<'a>(tokens: Tokens<'a>, wanted: Symbol) -> Result<(Found, Tokens<'a>), Stop<'a>>
-    ensures { Parses (lexeme_at tokens.entry.bytes.now tokens.entry.literals.now) (symbol wanted) none (seen tokens.entry) result }
+    ensures { Parses (lexeme_at tokens.entry.source.now.bytes.now tokens.entry.source.now.literals.now) (symbol wanted) none (seen tokens.entry) result }
 {
     let Some((first, rest)) = tokens.found.split_first() else {
         return Err(Stop::At(tokens, Cause::Form));

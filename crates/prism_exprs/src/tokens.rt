@@ -47,13 +47,21 @@ pub struct Literal {
     pub length: u32,
 }
 
-/// The tokens that are still to be read, and the text in which they stand.
+/// The text of a file, and the numbers that stand in it.
 #[derive(Clone, Copy)]
-pub struct Tokens<'a> {
+pub struct Source<'a> {
     /// The bytes of the file.
     pub bytes: &'a [u8],
     /// The numbers of the file.
     pub literals: &'a [Literal],
+}
+
+/// The tokens that are still to be read, and the file in which they stand. They are passed on at each step, so they take no more
+/// than 24 bytes.
+#[derive(Clone, Copy)]
+pub struct Tokens<'a> {
+    /// The file.
+    pub source: &'a Source<'a>,
     /// The tokens that are still to be read.
     pub found: &'a [Found],
 }
@@ -99,28 +107,28 @@ impl<'a, T: Drop> From<AllocFailed<T>> for Stop<'a> {
 impl<'a> Tokens<'a> {
     /// Other tokens of the same text.
     pub fn with(self, found: &'a [Found]) -> Tokens<'a>
-        ensures { seen result ≡ map (lexeme_at self.entry.bytes.now self.entry.literals.now) found.now }
+        ensures { seen result ≡ map (lexeme_at self.entry.source.now.bytes.now self.entry.source.now.literals.now) found.now }
     {
         Tokens {
-            bytes: self.bytes,
-            literals: self.literals,
+            source: self.source,
             found,
         }
     }
 
     /// The text of a name; none where there is no such text.
     pub fn text(self, token: Found) -> &'a [u8]
-        ensures { result.now ≡ text_at self.entry.bytes.now token.at token.size }
+        ensures { result.now ≡ text_at self.entry.source.now.bytes.now token.at token.size }
     {
-        let from = (token.at as usize).min(self.bytes.len());
-        let rest = self.bytes.split_at(from).1;
+        let bytes = self.source.bytes;
+        let from = (token.at as usize).min(bytes.len());
+        let rest = bytes.split_at(from).1;
         rest.split_at((token.size as usize).min(rest.len())).0
     }
 
     /// The text of a name; none where its bytes are no text, and the grammar sees an end.
     pub fn name(self, token: Found) -> Option<&'a str>
-        ensures some { IfSome result (λ name. (name.now ≡ text_at self.entry.bytes.now token.at token.size) × (is_utf8 name.now ≡ true)) }
-        ensures none { IfNone result (is_utf8 (text_at self.entry.bytes.now token.at token.size) ≡ false) }
+        ensures some { IfSome result (λ name. (name.now ≡ text_at self.entry.source.now.bytes.now token.at token.size) × (is_utf8 name.now ≡ true)) }
+        ensures none { IfNone result (is_utf8 (text_at self.entry.source.now.bytes.now token.at token.size) ≡ false) }
     {
         match str::from_utf8(self.text(token)) {
             Ok(name) => Some(name),
@@ -131,9 +139,13 @@ impl<'a> Tokens<'a> {
     /// The value of a number, by the row of its literal and the place in it; none where the file has no such literal, and the
     /// grammar sees an end.
     pub fn number(self, row: u8, place: u16) -> Option<Decimal>
-        ensures { result ≡ option_map (λ n. n.value) (in_row self.entry.literals.now row place) }
+        ensures { result ≡ option_map (λ n. n.value) (in_row self.entry.source.now.literals.now row place) }
     {
-        match self.literals.get(row as usize * 65536 + place as usize) {
+        match self
+            .source
+            .literals
+            .get(row as usize * 65536 + place as usize)
+        {
             Some(literal) => Some(literal.value),
             None => None,
         }

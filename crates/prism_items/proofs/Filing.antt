@@ -469,14 +469,14 @@ front_reads end g x ts us h p s = let F : File → Type 0 = λ f. Reads (items_f
 
 -- whether tokens are left
 pub some_left : (r : Tokens) → length r.found.now ≢ 0 → (t : Lexeme) × (others : List Lexeme) × (seen r ≡ t ∷ others)
-some_left r h = by_list (λ f. lexeme_at r.bytes.now r.literals.now f) r.found.now h
+some_left r h = by_list (λ f. lexeme_at r.source.now.bytes.now r.source.now.literals.now f) r.found.now h
   where
     by_list : (f : Found → Lexeme) (xs : List Found) → length xs ≢ 0 → (t : Lexeme) × (others : List Lexeme) × (map f xs ≡ t ∷ others)
     by_list f [] h = absurd (h refl)
     by_list f (x ∷ xs) h = (f x, map f xs, refl)
 
 pub none_left : (r : Tokens) → length r.found.now ≡ 0 → seen r ≡ []
-none_left r h = by_list (λ f. lexeme_at r.bytes.now r.literals.now f) r.found.now h
+none_left r h = by_list (λ f. lexeme_at r.source.now.bytes.now r.source.now.literals.now f) r.found.now h
   where
     by_list : (f : Found → Lexeme) (xs : List Found) → length xs ≡ 0 → map f xs ≡ []
     by_list f [] h = refl

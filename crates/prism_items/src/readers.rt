@@ -81,8 +81,8 @@ pub(crate) fn quoted_next(tokens: Tokens) -> bool
 
 /// The text of a token, if it is an identifier.
 fn identifier<'a>(tokens: Tokens<'a>, found: Found) -> Option<&'a str>
-    ensures some { IfSome result (λ text. text_if K.Ident (lexeme_at tokens.entry.bytes.now tokens.entry.literals.now found) ≡ Some text.now) }
-    ensures none { IfNone result (text_if K.Ident (lexeme_at tokens.entry.bytes.now tokens.entry.literals.now found) ≡ None) }
+    ensures some { IfSome result (λ text. text_if K.Ident (lexeme_at tokens.entry.source.now.bytes.now tokens.entry.source.now.literals.now found) ≡ Some text.now) }
+    ensures none { IfNone result (text_if K.Ident (lexeme_at tokens.entry.source.now.bytes.now tokens.entry.source.now.literals.now found) ≡ None) }
 {
     match found.kind {
         Kept::Ident => match from_utf8(tokens.text(found)) {
@@ -95,8 +95,8 @@ fn identifier<'a>(tokens: Tokens<'a>, found: Found) -> Option<&'a str>
 
 /// The text of a token, if it is a quoted name.
 fn quotation<'a>(tokens: Tokens<'a>, found: Found) -> Option<&'a str>
-    ensures some { IfSome result (λ text. text_if K.Quoted (lexeme_at tokens.entry.bytes.now tokens.entry.literals.now found) ≡ Some text.now) }
-    ensures none { IfNone result (text_if K.Quoted (lexeme_at tokens.entry.bytes.now tokens.entry.literals.now found) ≡ None) }
+    ensures some { IfSome result (λ text. text_if K.Quoted (lexeme_at tokens.entry.source.now.bytes.now tokens.entry.source.now.literals.now found) ≡ Some text.now) }
+    ensures none { IfNone result (text_if K.Quoted (lexeme_at tokens.entry.source.now.bytes.now tokens.entry.source.now.literals.now found) ≡ None) }
 {
     match found.kind {
         Kept::Quoted => match from_utf8(tokens.text(found)) {
@@ -112,7 +112,7 @@ pub(crate) fn read_symbol<'a>(
     tokens: Tokens<'a>,
     wanted: Symbol,
 ) -> Result<(Found, Tokens<'a>), Stop<'a>>
-    ensures { ParsesIn (lexeme_at tokens.entry.bytes.now tokens.entry.literals.now) (λ s. symbol wanted) none (seen tokens.entry) result }
+    ensures { ParsesIn (lexeme_at tokens.entry.source.now.bytes.now tokens.entry.source.now.literals.now) (λ s. symbol wanted) none (seen tokens.entry) result }
 {
     let Some((first, rest)) = tokens.found.split_first() else {
         return Err(Stop::At(tokens, Cause::Form));
@@ -128,7 +128,7 @@ pub(crate) fn read_word<'a>(
     tokens: Tokens<'a>,
     wanted: Reserved,
 ) -> Result<(Found, Tokens<'a>), Stop<'a>>
-    ensures { ParsesIn (lexeme_at tokens.entry.bytes.now tokens.entry.literals.now) (λ s. word wanted) none (seen tokens.entry) result }
+    ensures { ParsesIn (lexeme_at tokens.entry.source.now.bytes.now tokens.entry.source.now.literals.now) (λ s. word wanted) none (seen tokens.entry) result }
 {
     let Some((first, rest)) = tokens.found.split_first() else {
         return Err(Stop::At(tokens, Cause::Form));

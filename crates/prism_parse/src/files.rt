@@ -6,7 +6,7 @@ ghost use Rattle.prism_parse.specs.Parsed.{IsSpelled, Refuses};
 use crate::lexing::read_tokens;
 use crate::reasons::fault_at;
 use bridge_io::Refused;
-use prism_exprs::{Stop, Tokens};
+use prism_exprs::{Source, Stop, Tokens};
 use prism_items::parse_sections;
 use prism_lex::one_list;
 use prism_tree::PrismFile;
@@ -25,9 +25,12 @@ pub fn parse(alloc: Global, bytes: &[u8]) -> Result<PrismFile, Refused>
 {
     one_list();
     let lexed = read_tokens(alloc, bytes)?;
-    let tokens = Tokens {
+    let source = Source {
         bytes,
         literals: lexed.literals.as_slice(),
+    };
+    let tokens = Tokens {
+        source: &source,
         found: lexed.found.as_slice(),
     };
     match parse_sections(alloc, bytes.len(), tokens) {

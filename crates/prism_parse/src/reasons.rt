@@ -84,7 +84,7 @@ fn is_left_out_text(text: &[u8]) -> bool
 }
 
 fn is_left_out_name(tokens: Tokens, token: Found) -> bool
-    ensures { result ≡ is_left_out_name (lexeme_at tokens.entry.bytes.now tokens.entry.literals.now token) }
+    ensures { result ≡ is_left_out_name (lexeme_at tokens.entry.source.now.bytes.now tokens.entry.source.now.literals.now token) }
 {
     token.kind == Kept::Ident && is_left_out_text(tokens.text(token))
 }
@@ -101,15 +101,15 @@ fn ends_in_left_out(tokens: Tokens) -> bool
 
 /// The fault of tokens that were read up to the last `left` of them, where reading stopped for the cause.
 pub(crate) fn fault_at(tokens: Tokens, left: usize, cause: Cause) -> Fault
-    ensures { (rest : List Lexeme) → length rest ≡ left → Refuses (length tokens.entry.bytes.now) (seen tokens.entry) rest cause
-        → IsGrammarFault (length tokens.entry.bytes.now) (seen tokens.entry) result }
+    ensures { (rest : List Lexeme) → length rest ≡ left → Refuses (length tokens.entry.source.now.bytes.now) (seen tokens.entry) rest cause
+        → IsGrammarFault (length tokens.entry.source.now.bytes.now) (seen tokens.entry) result }
 {
     let place = tokens.found.len().saturating_sub(left);
     let (before, rest) = tokens.found.split_at(place);
     let Some(first) = rest.first() else {
         return Fault {
             reason: Reason::Syntax,
-            at: tokens.bytes.len(),
+            at: tokens.source.bytes.len(),
         };
     };
     let reason = kept_reason(cause, first.kind, ends_in_left_out(tokens.with(before)));

@@ -5,11 +5,14 @@ use Rattle.jani_table.specs.Table.{known_form}
 use Rattle.jani_table.specs.Least.{soonest}
 use Rattle.jani_table.specs.Faults.{list_faults}
 use Rattle.jani_table.proofs.shape.+judge.Goals as goal
-use Rattle.jani_table.proofs.shape.+judge.Goals.{in-Some-known_form, in-None-known_form}
+use Rattle.jani_table.proofs.shape.+judge.Goals.{then-not-is_null_part, else-not-is_null_part, in-Some-known_form, in-None-known_form}
 use Rattle.jani_table.proofs.Walk.{items_next, items_done, members_next_some, members_next_none, members_done}
 
 pub loop-x-preserved : goal.loop-x-preserved
-loop-x-preserved t c = items_next _ _ _ _ _ _ _ c.loop-x-test.true c.x-item.is c.judge-best.ensures c.loop-x.invariant
+loop-x-preserved t c = elim c.if-not-is_null_part.branch [
+  | else-not-is_null_part w ↦ items_next _ _ _ _ _ _ _ c.loop-x-test.true c.x-item.is (w.best-is ∙ ap (soonest c.loop-x.best) (sym (c.is_null_part.ensures w.if-not-is_null_part.false))) c.loop-x.invariant
+  | then-not-is_null_part w ↦ items_next _ _ _ _ _ _ _ c.loop-x-test.true c.x-item.is (w.best-is ∙ w.judge-best.ensures) c.loop-x.invariant
+]
 
 pub loop-m-preserved : goal.loop-m-preserved
 loop-m-preserved t c = elim c.match-known_form.branch [

@@ -9,13 +9,14 @@ use Rattle.prism_check.proofs.circles.is_circular.Goals as goal
 pub loop-leading-init : goal.loop-leading-init
 loop-leading-init c =
     let name = c.args.declaration.now.name.now in
-    leading_one (map declared_by c.args.all.now) name (has_name c.add.new.self)
-    (λ x. c.in_ok-add.ensures x ∙ ap (λ b. if bytes_eq name x then true else b) (c.new-leading.ensures x) ∙ only_if (bytes_eq name x))
+    c.in_ok-add_found.ensures name
+    (leading_one (map declared_by c.args.all.now) name (has_name c.add.new.self)
+    (λ x. c.in_ok-add.ensures x ∙ ap (λ b. if bytes_eq name x then true else b) (c.new-leading.ensures x) ∙ only_if (bytes_eq name x)))
 
 pub returns-then-not-branch : goal.returns-then-not-branch
 returns-then-not-branch c =
     let d = declared_by c.args.declaration.now in
     c.some_use.ensures
     ∙ circular_is (map declared_by c.args.all.now) d (has_name c.add_some.new.leading)
-    (c.in_ok-add_some.ensures.leading d.name.name (c.in_ok-add_each.ensures.leading d.name.name c.loop-leading.invariant))
-    (subst (IsLeadingTurn c.args.all.now (has_name c.add_each.new.leading) (has_name c.add_some.new.leading)) c.if-not-branch.true c.in_ok-add_some.ensures.turn)
+    (c.in_ok-add_some.ensures.leading d.name.name c.loop-leading.invariant)
+    (subst (IsLeadingTurn c.args.all.now (has_name c.loop-leading.leading) (has_name c.add_some.new.leading)) c.if-not-branch.true c.in_ok-add_some.ensures.turn)

@@ -11,7 +11,7 @@ use Rattle.prism_check.proofs.types.judge_all.Goals as goal
 pub returns : goal.returns
 returns c =
     if_ok _ _
-    (λ best h. file_is c.args.file.now c.args.names.now c.requires.names (map demand_by c.deref.result.now) (map demand_by c.deref-2.result.now) c.as_slice-2.result.now
+    (λ best h. file_is c.args.file.now c.args.names.now c.requires.names c.requires.unchanged (map demand_by c.deref.result.now) (map demand_by c.deref-2.result.now) c.as_slice-2.result.now
     c.judge_demands-in_outer.result c.judge_demands-in_bodies.result best
     (ap (map demand_by) c.deref.ensures.value ∙ c.in_ok-outer.ensures)
     (ap (map demand_by) c.deref-2.ensures.value ∙ c.in_ok-bodies.ensures ∙ ap (λ fs. flat_map formula_demands (map formula_of fs)) c.as_slice.ensures)

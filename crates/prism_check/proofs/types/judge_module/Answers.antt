@@ -7,13 +7,13 @@ use Rattle.prism_check.proofs.types.judge_module.Goals as goal
 pub returns-in-Plain : goal.returns-in-Plain
 returns-in-Plain c =
     if_ok _ _
-    (λ best h. plain_is c.args.names.now (file_of c.args.file.now) c.requires.names c.args.number (body_of c.in-Plain.field-0) (module_of c.args.entry.now) c.args.before best
+    (λ best h. plain_is c.args.names.now (file_of c.args.file.now) c.requires.names c.requires.unchanged c.args.number (body_of c.in-Plain.field-0) (module_of c.args.entry.now) c.args.before best
     (ap module_of c.in-Plain.is) h)
-    c.judge_contents.result c.judge_contents.ensures
+    c.judge_plain.result c.judge_plain.ensures
 
 pub returns-in_ok-written-in-Copied : goal.returns-in_ok-written-in-Copied
 returns-in_ok-written-in-Copied c =
     if_ok _ _
-    (λ best h. copy_is c.args.names.now (file_of c.args.file.now) c.requires.names c.args.number c.in-Copied.m (module_of c.args.entry.now)
+    (λ best h. copy_is c.args.names.now (file_of c.args.file.now) c.requires.names c.requires.unchanged c.args.number c.in-Copied.m (module_of c.args.entry.now)
     (module_of c.in_ok-written-in-Copied.written) c.args.before best (ap module_of c.in-Copied.is) c.in_ok-written-in-Copied.ensures h)
-    c.judge_contents-in-Copied.result c.judge_contents-in-Copied.ensures
+    c.judge_plain-in-Copied.result c.judge_plain-in-Copied.ensures

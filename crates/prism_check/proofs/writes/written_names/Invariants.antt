@@ -1,7 +1,7 @@
 use Rattle.std.specs.Prelude.{◌≡◌, map, take}
-use Rattle.prism_check.specs.Typing.{moved_name}
+use Rattle.prism_check.specs.Typing.{called_by, moved_name, read_in}
 use Rattle.prism_check.specs.Views.{named_by}
 use Rattle.prism_check.proofs.writes.written_names.Given as goal
 
 abbrev pub invariant-loop-write : goal.invariant-loop-write
-invariant-loop-write l = map named_by l.list.items ≡ map (λ w. moved_name l.place w.name) (take l.write-index l.writes)
+invariant-loop-write l = map named_by l.list.items ≡ map (λ w. moved_name l.place (called_by (read_in l.names) w.name)) (take l.write-index l.writes)

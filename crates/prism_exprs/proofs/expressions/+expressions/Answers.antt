@@ -9,7 +9,8 @@ use Rattle.prism_exprs.proofs.Loops.{leads_on, begin, parses_via, reads_shorter}
 use Rattle.prism_exprs.proofs.Operands.{true_leads, false_leads, open_leads, inner_stops, inner_leads, close_stops, close_leads, operand_missing, other_word, other_symbol, quoted_name}
 use Rattle.prism_exprs.proofs.Climb.{IsPlain, prefix_none, climb_stops, chain_stops, chain_reads, neg_reads, neg_stops, not_reads, not_stops}
 use Rattle.prism_exprs.proofs.Conditionals.{kept_end, kept_end_empty, kept_lead, kept_stops, kept_shorter, test_stops, test_alone, choice_leads, question_stops, question_leads, first_stops, first_leads, colon_stops, colon_leads, second_stops, choice_reads, reads_length, token_shorter}
-use Rattle.prism_exprs.proofs.Alone.{leaf_level, leaf_expr, chain_misses}
+use Rattle.prism_exprs.proofs.Alone.{leaf_expr, chain_misses}
+use Rattle.prism_exprs.proofs.Rising.{sign_missing, stop_rises, risen_first, comes, risen_next, risen_stops, risen_done, chain_shorter}
 use Rattle.prism_exprs.proofs.Numbers.{number_leads, number_missing, name_leads, name_missing}
 use Rattle.prism_exprs.proofs.Arguments.{name_alone, one_called, two_called, not_called, comma_stops, comma_leads, one_open_stops, one_open_leads, one_inner_stops, one_inner_leads, end_stops, end_leads, two_open_stops, two_open_leads, two_first_stops, two_first_leads, two_second_stops, two_second_leads, more_ended, more_leads, more_stops, listed_open_stops, listed_open_leads, listed_first_stops, listed_first_leads, listed_second_stops, listed_second_leads, listed_more_stops, listed_more_leads, min_leads, max_leads}
 use Rattle.prism_exprs.proofs.expressions.+expressions.Goals.{parse_low-then-chain_next+in_ok-whole, parse_low-else-chain_next, parse_climb-then-chain_next+in_ok-whole, parse_climb-else-chain_next}
@@ -123,13 +124,56 @@ parse_climb-loop-level-preserved t c =
           }
     ]
 
+-- ---- operands without a sign, and what comes behind them
+
+pub parse_level-returns-in_err-first : goal.parse_level-returns-in_err-first
+parse_level-returns-in_err-first t c =
+    leaves _ _ _ _ _ _ c.from_residual.ensures
+    (stop_rises c.args.height 0 _ _ (omega arith) (sign_missing _ (sym c.sign_next.ensures ∙ c.if-sign_next.false)) c.in_err-first.ensures)
+
+pub parse_level-chains-init : goal.parse_level-chains-init
+parse_level-chains-init t c = record {
+  shorter = reads_length (more 0) _ _ (tree c.in_ok-first.first) c.in_ok-first.ensures;
+  risen = risen_first _ _ _ _ c.in_ok-first.ensures;
+}
+
+pub parse_level-parse_chain-requires : goal.parse_level-parse_chain-requires
+parse_level-parse_chain-requires t c =
+    let i = c.chains.invariant in
+    let m = i.shorter in
+    let n = comes c.args.height c.in-Some.level _ _ _ (sign_missing _ (sym c.sign_next.ensures ∙ c.if-sign_next.false)) i.risen (sym c.in-Some.ensures) in
+    let b = n.below in
+    let h = c.requires in
+    (omega arith, (omega arith, n.ends))
+
+pub parse_level-returns-in_err-whole : goal.parse_level-returns-in_err-whole
+parse_level-returns-in_err-whole t c =
+    let un = sign_missing _ (sym c.sign_next.ensures ∙ c.if-sign_next.false) in
+    let n = comes c.args.height c.in-Some.level _ _ _ un c.chains.invariant.risen (sym c.in-Some.ensures) in
+    leaves _ _ _ _ _ _ c.from_residual-in_err-whole.ensures (risen_stops c.args.height c.in-Some.level _ _ _ _ un n c.in_err-whole.ensures)
+
+pub parse_level-chains-smaller : goal.parse_level-chains-smaller
+parse_level-chains-smaller t c =
+    let n = comes c.args.height c.in-Some.level _ _ _ (sign_missing _ (sym c.sign_next.ensures ∙ c.if-sign_next.false)) c.chains.invariant.risen (sym c.in-Some.ensures) in
+    chain_shorter c.args.height c.in-Some.level _ _ _ _ _ n c.in_ok-whole.ensures
+
+pub parse_level-chains-preserved : goal.parse_level-chains-preserved
+parse_level-chains-preserved t c =
+    let i = c.chains.invariant in
+    let n = comes c.args.height c.in-Some.level _ _ _ (sign_missing _ (sym c.sign_next.ensures ∙ c.if-sign_next.false)) i.risen (sym c.in-Some.ensures) in
+    let s = chain_shorter c.args.height c.in-Some.level _ _ _ _ _ n c.in_ok-whole.ensures in
+    record {
+      shorter = (let m = i.shorter in omega arith);
+      risen = risen_next c.args.height c.in-Some.level _ _ _ _ _ n c.in_ok-whole.ensures;
+    }
+
+pub parse_level-returns : goal.parse_level-returns
+parse_level-returns t c = risen_done c.args.height _ _ _ (sign_missing _ (sym c.sign_next.ensures ∙ c.if-sign_next.false)) c.chains.invariant.risen (sym c.in_default.ensures)
+
 -- ---- operands that stand alone
 
 pub parse_expr-returns-then-leaf_next : goal.parse_expr-returns-then-leaf_next
 parse_expr-returns-then-leaf_next t c = leaf_expr tree _ c.parse_leaf.result (c.leaf_next.ensures c.if-leaf_next.true) c.parse_leaf.ensures.read c.parse_leaf.ensures.ends
-
-pub parse_level-returns-then-leaf_next : goal.parse_level-returns-then-leaf_next
-parse_level-returns-then-leaf_next t c = leaf_level tree c.args.height _ c.parse_leaf.result c.requires (c.leaf_next.ensures c.if-leaf_next.true) c.parse_leaf.ensures.read c.parse_leaf.ensures.ends
 
 -- ---- conditionals
 

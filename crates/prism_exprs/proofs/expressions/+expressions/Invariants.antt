@@ -5,6 +5,7 @@ use Rattle.prism_exprs.specs.Reading.{Ends, Reads}
 use Rattle.prism_tree.specs.Grammar.{level, expr}
 use Rattle.prism_exprs.specs.Levels.{more, goes_on, lists_on, others, more_arguments}
 use Rattle.prism_exprs.proofs.Loops.{Leads}
+use Rattle.prism_exprs.proofs.Rising.{Risen}
 use Rattle.prism_exprs.proofs.expressions.+expressions.Given as goal
 
 abbrev pub decreases-parse_expr : goal.decreases-parse_expr
@@ -15,6 +16,15 @@ decreases-parse_conditional l = 300 * length (seen l.tokens) + 50
 
 abbrev pub decreases-parse_level : goal.decreases-parse_level
 decreases-parse_level l = 300 * length (seen l.tokens) + l.height + 31
+
+abbrev pub invariant-parse_level-chains : goal.invariant-parse_level-chains
+invariant-parse_level-chains l = record {
+  shorter : length (seen l.behind) ≤ length (seen l.tokens);
+  risen : Risen l.height (seen l.tokens) (tree l.left) (seen l.behind);
+}
+
+abbrev pub decreases-parse_level-chains : goal.decreases-parse_level-chains
+decreases-parse_level-chains l = length (seen l.behind)
 
 abbrev pub decreases-parse_climb : goal.decreases-parse_climb
 decreases-parse_climb l = 300 * length (seen l.tokens) + l.height + 20

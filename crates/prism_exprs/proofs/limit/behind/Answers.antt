@@ -6,5 +6,5 @@ use Rattle.prism_exprs.proofs.limit.behind.Goals as goal
 
 pub returns-then-count-gt-MOST-clause-err : goal.returns-then-count-gt-MOST-clause-err
 returns-then-count-gt-MOST-clause-err c =
-    let f = lexeme_at c.args.tokens.bytes.now c.args.tokens.literals.now in
+    let f = lexeme_at c.args.tokens.source.now.bytes.now c.args.tokens.source.now.literals.now in
     (c.if-count-gt-MOST.true, c.with.ensures ∙ ap (λ (u : List Found). map f u) c.split_at.ensures.back ∙ sym (drop-map f 1024 c.args.tokens.found.now), refl)

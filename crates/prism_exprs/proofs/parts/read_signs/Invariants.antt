@@ -15,7 +15,7 @@ invariant-signs l = record {
   few : l.count ≡ length done;
   leads :
       Leads (is_kind (K.Symbol l.sign)) (many (symbol l.sign)) (seen l.tokens)
-      (front (symbol l.sign) (map (lexeme_at l.tokens.bytes.now l.tokens.literals.now) done)) (map (lexeme_at l.tokens.bytes.now l.tokens.literals.now) l.rest);
+      (front (symbol l.sign) (map (lexeme_at l.tokens.source.now.bytes.now l.tokens.source.now.literals.now) done)) (map (lexeme_at l.tokens.source.now.bytes.now l.tokens.source.now.literals.now) l.rest);
 }
 
 abbrev pub decreases-signs : goal.decreases-signs

@@ -5,6 +5,6 @@ use Rattle.prism_exprs.proofs.parts.with_signs.Goals as goal
 
 pub signs-preserved : goal.signs-preserved
 signs-preserved c =
-    sign_applied c.args.tokens.bytes.now c.args.tokens.literals.now c.args.op c.in-Some.last.now c.signs.signs.now c.in-Some.front.now (tree c.signs.whole) (tree c.in_ok-whole.whole)
+    sign_applied c.args.tokens.source.now.bytes.now c.args.tokens.source.now.literals.now c.args.op c.in-Some.last.now c.signs.signs.now c.in-Some.front.now (tree c.signs.whole) (tree c.in_ok-whole.whole)
     c.in-Some.ensures.cases.0 c.in_ok-whole.ensures
     ∙ c.signs.invariant

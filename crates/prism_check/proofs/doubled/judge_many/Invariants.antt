@@ -4,7 +4,7 @@ use Rattle.prism_check.specs.NameFaults.{doubled}
 use Rattle.prism_check.specs.Views.{named_by}
 use Rattle.prism_check.specs.Lowest.{lowest_in}
 use Rattle.prism_check.proofs.Clashes.{Left}
-use Rattle.prism_check.proofs.doubled.judge_doubled.Given as goal
+use Rattle.prism_check.proofs.doubled.judge_many.Given as goal
 
 abbrev pub invariant-loop-n : goal.invariant-loop-n
 invariant-loop-n l =
