@@ -15,3 +15,4 @@ pub mod Circles
 pub mod Judged
 pub mod Counted
 pub mod Typing
+pub mod Writings

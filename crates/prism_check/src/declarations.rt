@@ -23,7 +23,8 @@ pub(crate) struct Declaration<'a> {
 pub(crate) fn declarations(alloc: Global, file: &PrismFile) -> Result<Vec<Declaration>, AllocError>
     ensures { IfOk result (λ list. map declared_by list.items ≡ declarations (file_of file.now)) }
 {
-    let mut list = Vec::new(alloc);
+    let count = file.constants.len().saturating_add(file.formulas.len());
+    let mut list = Vec::with_capacity(alloc, count)?;
     add_constants(file.constants.as_slice(), &mut list)?;
     add_formulas(file.formulas.as_slice(), &mut list)?;
     Ok(list)

@@ -22,7 +22,7 @@ pub(crate) fn formula_sizes<'a>(
     ensures { IfOk result (λ sizes. AreSizes (file_of file.now) (size_in sizes)) }
 {
     let formulas = file.formulas.as_slice();
-    let mut sizes = IndexMap::new(alloc);
+    let mut sizes = IndexMap::with_capacity(alloc, order.len())?;
     for place in order {
         let formula = &formulas[*place];
         let size = measure(&formula.body, &sizes);

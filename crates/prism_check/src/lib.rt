@@ -33,6 +33,7 @@ mod values;
 mod variables;
 mod waiting;
 mod writes;
+mod writing;
 
 pub use check::{CheckedPrism, check_prism};
 pub use laws::{flat_is_clean_law, written_out_sizes_law};

@@ -26,7 +26,7 @@ impl<'a> NameSet<'a> {
     pub(crate) fn of(alloc: Global, entries: &[Entry<'a>]) -> Result<NameSet<'a>, AllocError>
         ensures { IfOk result (λ set. (x : List ℕ) → has_name set x ≡ is_among (map named_by entries.now) x) }
     {
-        let mut places = IndexMap::new(alloc);
+        let mut places = IndexMap::with_capacity(alloc, entries.len())?;
         for entry in entries {
             match places.insert(entry.name, ()) {
                 Ok(_) => {}

@@ -55,7 +55,7 @@ pub(crate) fn judge_names(alloc: Global, file: &PrismFile) -> Result<Names, Allo
 fn formula_turns(alloc: Global, constants: usize, turns: &[usize]) -> Result<Vec<usize>, AllocError>
     ensures { IfOk result (λ list. list.items ≡ turns_from constants turns.now) }
 {
-    let mut list = Vec::new(alloc);
+    let mut list = Vec::with_capacity(alloc, turns.len())?;
     for turn in turns {
         if *turn >= constants {
             list.push(*turn - constants)?;

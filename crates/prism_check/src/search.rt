@@ -26,9 +26,9 @@ struct Search {
 pub(crate) fn by_depth(alloc: Global, all: &[Declaration]) -> Result<Vec<usize>, AllocError> {
     let places = Places::of(alloc, all)?;
     let mut search = Search {
-        visits: Vec::new(alloc),
+        visits: Vec::with_capacity(alloc, all.len())?,
         entered: vec![in alloc; false; all.len()]?,
-        left: Vec::new(alloc),
+        left: Vec::with_capacity(alloc, all.len())?,
     };
     for (_, first) in &places.first {
         search.visits.push(Visit::Enter(*first))?;
@@ -135,7 +135,7 @@ struct Places<'a> {
 impl<'a> Places<'a> {
     fn of(alloc: Global, all: &[Declaration<'a>]) -> Result<Places<'a>, AllocError> {
         let mut places = Places {
-            first: IndexMap::new(alloc),
+            first: IndexMap::with_capacity(alloc, all.len())?,
             next: vec![in alloc; None; all.len()]?,
         };
         for i in (0..all.len()).rev() {

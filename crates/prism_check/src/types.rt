@@ -4,12 +4,12 @@ ghost use Rattle.std.specs.Prelude.{◌≡◌, List, ℕ, length, map, IfOk, Non
 ghost use Rattle.std.specs.List.{flat_map};
 ghost use Rattle.prism_tree.specs.Syntax.{command_of, copied, file_of, module_of, var_of};
 ghost use Rattle.prism_names.specs.Places.{IsPlaceOrder};
-ghost use Rattle.prism_flat.specs.Writers.{IsWriterOf};
 ghost use Rattle.prism_check.specs.Least.{soonest};
 ghost use Rattle.prism_check.specs.TypeFaults.{module_faults, numbered_faults, type_faults};
 ghost use Rattle.prism_check.specs.Tables.{module_under, named_module};
 ghost use Rattle.prism_check.specs.Typing.{AreNames, contents_faults, contents_in, faults_in, soonest_at};
 ghost use Rattle.prism_check.specs.Views.{demand_by};
+ghost use Rattle.prism_check.specs.Writings.{IsWriting};
 
 use crate::demands::{Demand, contents_demands, outer_demands};
 use crate::scope::body_demands;
@@ -18,8 +18,8 @@ use crate::typing::{Names, Spot, judge_type, known_formulas, offset_of, sooner_a
 use crate::values::{commands_in, vars_in};
 use crate::variables::declarations;
 use crate::writes::{judge_repeated, judge_write};
+use crate::writing::Writing;
 use bridge_io::{Fault, Reason};
-use prism_flat::Writer;
 use prism_tree::{CopiedModule, PrismCommand, PrismFile, PrismModule, PrismVar};
 use std::alloc::{AllocError, Global};
 
@@ -36,13 +36,13 @@ pub(crate) fn judge_types(
     let modules = Modules::of(alloc, file.modules.as_slice())?;
     let declared = declarations(alloc, file, &modules)?;
     let formulas = known_formulas(alloc, &declared, file.formulas.as_slice(), order)?;
-    let writer = Writer::of(alloc, file, order)?;
+    let writing = Writing::of(alloc, file, order)?;
     let names = Names {
         declared: &declared,
         formulas: &formulas,
         renaming: None,
     };
-    judge_all(alloc, file, &modules, &names, &writer)
+    judge_all(alloc, file, &modules, &names, &writing)
 }
 
 // The same by the tables of the file, what stands outside of modules first.
@@ -51,12 +51,12 @@ fn judge_all<'t>(
     file: &'t PrismFile,
     modules: &Modules<'t>,
     names: &Names<'_, 't, '_>,
-    writer: &Writer<'t>,
+    writing: &Writing<'t, '_>,
 ) -> Result<Option<Fault>, AllocError>
     requires modules { (x : List ℕ) → module_under modules.now x ≡ named_module file.now.modules x }
     requires names { AreNames names.now (file_of file.now) }
     requires unchanged { names.now.renaming ≡ None }
-    requires writer { IsWriterOf writer.now (file_of file.now) }
+    requires writing { IsWriting writing.now (file_of file.now) }
     ensures { IfOk result (λ best. best ≡ soonest None (type_faults (file_of file.now))) }
 {
     let spot = Spot {
@@ -73,7 +73,7 @@ fn judge_all<'t>(
         file.modules.as_slice(),
         modules,
         names,
-        writer,
+        writing,
         in_bodies,
     )
 }
@@ -161,7 +161,7 @@ fn judge_module<'t>(
     file: &'t PrismFile,
     modules: &Modules<'t>,
     names: &Names<'_, 't, '_>,
-    writer: &Writer<'t>,
+    writing: &Writing<'t, '_>,
     number: usize,
     entry: &'t PrismModule,
     before: Option<Fault>,
@@ -169,7 +169,7 @@ fn judge_module<'t>(
     requires modules { (x : List ℕ) → module_under modules.now x ≡ named_module file.now.modules x }
     requires names { AreNames names.now (file_of file.now) }
     requires unchanged { names.now.renaming ≡ None }
-    requires writer { IsWriterOf writer.now (file_of file.now) }
+    requires writing { IsWriting writing.now (file_of file.now) }
     ensures { IfOk result
         (λ best. best ≡ soonest before (module_faults (file_of file.now) number (module_of entry.now))) }
 {
@@ -189,7 +189,7 @@ fn judge_module<'t>(
             if file.formulas.len() == 0 {
                 return judge_renamed(alloc, file, modules, names, spot, m, before);
             }
-            let written = writer.module(alloc, file, entry)?;
+            let written = writing.module(alloc, file, entry)?;
             judge_plain(alloc, names, spot, &written, before)
         }
     }
@@ -228,19 +228,19 @@ fn judge_modules<'t>(
     all: &'t [PrismModule],
     modules: &Modules<'t>,
     names: &Names<'_, 't, '_>,
-    writer: &Writer<'t>,
+    writing: &Writing<'t, '_>,
     before: Option<Fault>,
 ) -> Result<Option<Fault>, AllocError>
     requires modules { (x : List ℕ) → module_under modules.now x ≡ named_module file.now.modules x }
     requires names { AreNames names.now (file_of file.now) }
     requires unchanged { names.now.renaming ≡ None }
-    requires writer { IsWriterOf writer.now (file_of file.now) }
+    requires writing { IsWriting writing.now (file_of file.now) }
     ensures { IfOk result
         (λ best. best ≡ soonest before (numbered_faults (file_of file.now) 0 (map module_of all.now))) }
 {
     let mut best = before;
     for (number, entry) in all.iter().enumerate() {
-        best = judge_module(alloc, file, modules, names, writer, number, entry, best)?;
+        best = judge_module(alloc, file, modules, names, writing, number, entry, best)?;
     }
     Ok(best)
 }

@@ -9,5 +9,5 @@ returns c =
     c.in_ok-add_formulas.ensures
     ∙ ap₂ (λ xs fs. xs ++ map declared_formula (map formula_of fs))
     (c.in_ok-add_constants.ensures
-    ∙ ap₂ (λ xs cs. xs ++ map declared_const (map const_of cs)) (ap (map declared_by) c.new-list.ensures.items) c.as_slice.ensures)
+    ∙ ap₂ (λ xs cs. xs ++ map declared_const (map const_of cs)) (ap (map declared_by) c.in_ok-list.ensures.items) c.as_slice.ensures)
     c.as_slice-2.ensures

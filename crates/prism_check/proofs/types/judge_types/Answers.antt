@@ -18,5 +18,5 @@ judge_all-requires c =
           are_names file order _ c.requires c.in_ok-declared.ensures
           (λ x. c.in_ok-formulas.ensures x ∙ ap (λ fs. known_after (declared_type d) (is_declared_variable d) (at_places (map formula_of fs) order) x) c.as_slice-2.ensures);
       unchanged = refl;
-      writer = c.in_ok-writer.ensures;
+      writing = c.in_ok-writing.ensures;
     }
