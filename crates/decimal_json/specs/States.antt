@@ -12,7 +12,7 @@ use Rattle.decimal_json.specs.declared.machine.Mode.TheVariants as modes
 use Rattle.decimal_json.specs.declared.machine.State.{State}
 use Rattle.decimal_json.specs.declared.machine.Stop.{Stop}
 use Rattle.decimal_json.specs.declared.machine.Stop.TheVariants.{Memory, Here, At, TooFar}
-use Rattle.decimal_json.specs.Lang.{Mark, Place, IsFine, AllFine, Among, Lang, gives, here, note, ◌>>=◌, ◌>>◌, many_with, Turns, Barred, Stops, NoEmpty}
+use Rattle.decimal_json.specs.Lang.{Mark, Place, AllFine, Among, Lang, gives, here, note, ◌>>=◌, ◌>>◌, many_with, Turns, Barred, Stops, NoEmpty}
 use Rattle.std.specs.Prelude.{Bool, true, false, if◌then◌else◌}
 use Rattle.decimal_json.specs.declared.number.Stage.{Stage}
 use Rattle.decimal_json.specs.declared.number.Digits.{Digits}

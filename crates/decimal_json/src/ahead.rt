@@ -17,7 +17,7 @@ use bridge_io::List;
 use std::alloc::{AllocError, Global};
 
 /// How many of the first bytes are spaces.
-pub fn spaces(bytes: &[u8]) -> usize
+pub(crate) fn spaces(bytes: &[u8]) -> usize
     ensures all { (result ≤ length bytes.now) × AllSpaces (take result bytes.now) }
     ensures stops { result < length bytes.now → is_space (slice_index bytes.now result) ≡ false }
 {
@@ -29,7 +29,7 @@ pub fn spaces(bytes: &[u8]) -> usize
 }
 
 /// Where the spaces from an offset on end.
-pub fn past_spaces(bytes: &[u8], from: usize) -> usize
+pub(crate) fn past_spaces(bytes: &[u8], from: usize) -> usize
     requires { from ≤ length bytes.now }
     ensures skips { Skips bytes.now from result }
     ensures stops { result < length bytes.now → is_space (slice_index bytes.now result) ≡ false }
@@ -38,7 +38,7 @@ pub fn past_spaces(bytes: &[u8], from: usize) -> usize
 }
 
 /// How deep brackets may be nested in a value that is read whole, inside one more bracket than these.
-pub fn room_within(frames: &Brackets) -> usize
+pub(crate) fn room_within(frames: &Brackets) -> usize
     ensures { 0 < result → length frames.now + 1 + result ≤ 1024 }
 {
     if frames.len() < 1000 { 8 } else { 0 }
@@ -111,14 +111,14 @@ fn whole_word(at: usize, bytes: &[u8]) -> Option<(Json, usize)>
     requires some { 0 < length bytes.now }
     ensures { IfSome result (λ r. IsWhole 0 at bytes.now r.0 r.1) }
 {
+    if begins_with(bytes, b"null") {
+        return Some((Json::Null(at), 4));
+    }
     if begins_with(bytes, b"true") {
         return Some((Json::Truth(at, true), 4));
     }
     if begins_with(bytes, b"false") {
         return Some((Json::Truth(at, false), 5));
-    }
-    if begins_with(bytes, b"null") {
-        return Some((Json::Null(at), 4));
     }
     None
 }
@@ -158,7 +158,7 @@ fn named(alloc: Global, at: usize, members: Members, bytes: &[u8]) -> Result<Ahe
 
 /// The key, the colon and the value, in which brackets are nested at most so deep.
 #[cycle(whole)]
-pub fn look(
+pub(crate) fn look(
     alloc: Global,
     depth: usize,
     at: usize,
@@ -216,7 +216,7 @@ fn tight(
 
 /// The same with the spaces behind it.
 #[cycle(whole)]
-pub fn whole(
+pub(crate) fn whole(
     alloc: Global,
     depth: usize,
     at: usize,
@@ -236,6 +236,24 @@ pub fn whole(
             Ok(Some((value, end)))
         }
     }
+}
+
+/// The same of an item of an array. Where parts that take no part stand as `null`, these are most items.
+#[cycle(whole)]
+fn item(
+    alloc: Global,
+    depth: usize,
+    at: usize,
+    bytes: &[u8],
+) -> Result<Option<(Json, usize)>, AllocError>
+    requires some { 0 < length bytes.now }
+    requires room { at + length bytes.now < 9223372036854775808 }
+    ensures { IfOk result (λ o. IfSome o (λ r. IsWhole depth at bytes.now r.0 r.1)) }
+{
+    if begins_with(bytes, b"null") && bytes[4] == b',' {
+        return Ok(Some((Json::Null(at), 4)));
+    }
+    whole(alloc, depth, at, bytes)
 }
 
 /// An array; brackets are nested in its values at most so deep.
@@ -260,7 +278,7 @@ fn whole_array(
         return Ok(Some((Json::Array(at, list), n + 1)));
     }
     while n < bytes.len() {
-        match whole(alloc, depth, at + n, &bytes[n..])? {
+        match item(alloc, depth, at + n, &bytes[n..])? {
             None => return Ok(None),
             Some((value, size)) => {
                 let end = n + size;

@@ -44,7 +44,7 @@ pub enum Encoded {
 }
 
 /// An ASCII character that stands for itself.
-pub fn is_plain(c: u8) -> bool
+pub(crate) fn is_plain(c: u8) -> bool
     ensures { result ≡ is_plain c }
 {
     c >= 32 && c <= 127 && c != b'"' && c != b'\\'
@@ -250,7 +250,7 @@ fn begin_char(c: u8) -> Option<Within>
 }
 
 /// What a byte inside a string leads to; none where no string goes on with it, or where it is the closing quote.
-pub fn onward(within: Within, c: u8) -> Option<Within>
+pub(crate) fn onward(within: Within, c: u8) -> Option<Within>
     ensures { result ≡ onward within c }
 {
     match within {
@@ -309,7 +309,7 @@ fn bytes_ended(bytes: Encoded, c: u8) -> Option<char>
 }
 
 /// The character that a byte ends, if it ends one.
-pub fn ended(within: Within, c: u8) -> Option<char>
+pub(crate) fn ended(within: Within, c: u8) -> Option<char>
     ensures { result ≡ ended within c }
 {
     match within {
@@ -326,7 +326,7 @@ pub fn ended(within: Within, c: u8) -> Option<char>
 }
 
 /// The byte is the closing quotation mark.
-pub fn closes(within: Within, c: u8) -> bool
+pub(crate) fn closes(within: Within, c: u8) -> bool
     ensures { result ≡ is_between within && nat_eq c 34 }
 {
     matches!(within, Within::Between) && c == b'"'

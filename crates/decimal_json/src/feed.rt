@@ -25,7 +25,7 @@ pub enum Feed {
 }
 
 /// Nothing is read yet.
-pub fn fresh(alloc: Global) -> Feed
+pub(crate) fn fresh(alloc: Global) -> Feed
     ensures { StandsFor result [] }
 {
     Feed::Reading(
@@ -60,7 +60,7 @@ fn read_piece(alloc: Global, at: usize, start: State, piece: &[u8]) -> Feed
 }
 
 /// Reads a further piece, if no fault is met.
-pub fn go_on(alloc: Global, before: Feed, piece: &[u8]) -> Feed
+pub(crate) fn go_on(alloc: Global, before: Feed, piece: &[u8]) -> Feed
     requires { Room before (length piece.now) }
     ensures { (seen : List ℕ) → StandsFor before seen → StandsFor result (seen ++ piece.now) }
 {
@@ -72,7 +72,7 @@ pub fn go_on(alloc: Global, before: Feed, piece: &[u8]) -> Feed
 }
 
 /// What read_json answers for the bytes seen.
-pub fn end(feed: Feed) -> Result<Json, Refused>
+pub(crate) fn end(feed: Feed) -> Result<Json, Refused>
     ensures { (seen : List ℕ) → StandsFor feed seen → Reads seen result }
 {
     match feed {

@@ -49,15 +49,13 @@ fn plain_text(bytes: &[u8]) -> &str
     requires { AllPlain bytes.now }
     ensures { result.now ≡ bytes.now }
 {
-    match str::from_utf8(bytes) {
-        Ok(plain) => plain,
-        Err(_) => unreachable!(),
-    }
+    // They are ASCII, so nothing has to be looked at.
+    unsafe { str::from_utf8_unchecked(bytes) }
 }
 
 impl Letters {
     /// No characters.
-    pub fn new(alloc: Global) -> Letters
+    pub(crate) fn new(alloc: Global) -> Letters
         ensures { result ≡ [] }
     {
         Letters {
@@ -67,7 +65,7 @@ impl Letters {
     }
 
     /// The same characters.
-    pub fn as_str(&self) -> &str
+    pub(crate) fn as_str(&self) -> &str
         ensures { result.now ≡ self.now }
     {
         match &self.kept {
@@ -77,7 +75,7 @@ impl Letters {
     }
 
     /// The text of them.
-    pub fn into_text(self) -> Result<Text, AllocError>
+    pub(crate) fn into_text(self) -> Result<Text, AllocError>
         ensures { IfOk result (λ text. text ≡ self) }
     {
         match self.kept {
@@ -98,7 +96,7 @@ impl Letters {
     }
 
     /// With the character that a byte ends, if it ends one.
-    pub fn with_end(self, within: Within, c: u8) -> Result<Letters, AllocError>
+    pub(crate) fn with_end(self, within: Within, c: u8) -> Result<Letters, AllocError>
         ensures { IfOk result (λ longer. longer ≡ self ++ in_utf8 (ended within c)) }
     {
         let alloc = self.alloc;
@@ -165,7 +163,11 @@ impl Letters {
     }
 
     /// Over as many bytes as go on with a string: how many, and how far the last character has come.
-    pub fn along(self, within: Within, bytes: &[u8]) -> Result<(usize, Within, Letters), AllocError>
+    pub(crate) fn along(
+        self,
+        within: Within,
+        bytes: &[u8],
+    ) -> Result<(usize, Within, Letters), AllocError>
         ensures { IfOk result (λ r. (r.0 ≤ length bytes.now) × Passes within self (take r.0 bytes.now) r.1 r.2) }
     {
         if let Within::Between = within {

@@ -17,7 +17,7 @@ use bridge_io::{List, Reason};
 use std::alloc::{AllocError, Global};
 
 /// A space, a tab, a line feed or a carriage return.
-pub fn is_space(c: u8) -> bool
+pub(crate) fn is_space(c: u8) -> bool
     ensures { result ≡ is_space c }
 {
     c == b' ' || c == b'\t' || c == b'\n' || c == b'\r'
@@ -141,7 +141,7 @@ fn begin(alloc: Global, at: usize, frames: Brackets, c: u8) -> Result<State, Sto
 }
 
 /// A value is to begin.
-pub fn in_value(alloc: Global, at: usize, frames: Brackets, c: u8) -> Result<State, Stop>
+pub(crate) fn in_value(alloc: Global, at: usize, frames: Brackets, c: u8) -> Result<State, Stop>
     ensures { Goes at c (begin_value (reverse frames)) result }
 {
     if is_space(c) {
@@ -180,7 +180,7 @@ fn in_first(
 }
 
 /// A first key or the end of the object is to come.
-pub fn in_first_key(
+pub(crate) fn in_first_key(
     alloc: Global,
     at: usize,
     start: usize,
@@ -215,7 +215,7 @@ pub fn in_first_key(
 }
 
 /// A further key is to come.
-pub fn in_next_key(
+pub(crate) fn in_next_key(
     alloc: Global,
     at: usize,
     start: usize,
@@ -267,7 +267,7 @@ fn in_colon(
 }
 
 /// Behind a value of an array.
-pub fn in_array(
+pub(crate) fn in_array(
     start: usize,
     mut items: List<Json>,
     value: Json,
@@ -299,7 +299,7 @@ pub fn in_array(
 }
 
 /// Behind the value of a member.
-pub fn in_object(
+pub(crate) fn in_object(
     alloc: Global,
     at: usize,
     start: usize,
@@ -332,7 +332,7 @@ pub fn in_object(
 }
 
 /// Behind a value.
-pub fn in_after(
+pub(crate) fn in_after(
     alloc: Global,
     at: usize,
     value: Json,
@@ -358,7 +358,7 @@ pub fn in_after(
 }
 
 /// Inside a string that is a value.
-pub fn in_text(
+pub(crate) fn in_text(
     start: usize,
     within: Within,
     text: Letters,
@@ -388,7 +388,7 @@ pub fn in_text(
 }
 
 /// Inside a key.
-pub fn in_key(
+pub(crate) fn in_key(
     at: usize,
     start: usize,
     members: Members,
@@ -449,7 +449,7 @@ fn in_word(
 }
 
 /// Inside a number.
-pub fn in_number(
+pub(crate) fn in_number(
     alloc: Global,
     at: usize,
     start: usize,
@@ -483,7 +483,7 @@ pub fn in_number(
 }
 
 /// The state behind a further byte.
-pub fn step(alloc: Global, at: usize, state: State, c: u8) -> Result<State, Stop>
+pub(crate) fn step(alloc: Global, at: usize, state: State, c: u8) -> Result<State, Stop>
     ensures { Steps at c state result }
 {
     let State { mode, frames } = state;
@@ -523,7 +523,7 @@ fn finish_number(start: usize, digits: Digits, frames: Brackets) -> Result<Optio
 }
 
 /// The value, where the bytes end; or the start of a number that breaks a limit.
-pub fn finish(state: State) -> Result<Option<Json>, usize>
+pub(crate) fn finish(state: State) -> Result<Option<Json>, usize>
     ensures { Finishes state result }
 {
     let State { mode, frames } = state;

@@ -90,7 +90,7 @@ fn noted(alloc: Global, late: Late, key: &str) -> Result<Late, AllocError>
 
 impl Members {
     /// No members.
-    pub fn new(alloc: Global) -> Members
+    pub(crate) fn new(alloc: Global) -> Members
         ensures { result ≡ [] }
     {
         Members {
@@ -100,7 +100,7 @@ impl Members {
     }
 
     /// Whether a member has this key.
-    pub fn has(&self, key: &str) -> bool
+    pub(crate) fn has(&self, key: &str) -> bool
         ensures { result ≡ is_among (names self.now) key.now }
     {
         let members = self.list.as_slice();
@@ -132,7 +132,7 @@ impl Members {
     }
 
     /// The list of the members.
-    pub fn into_list(self) -> List<Member>
+    pub(crate) fn into_list(self) -> List<Member>
         ensures { result ≡ self }
     {
         self.list
@@ -168,7 +168,7 @@ impl Model for Pending {
 
 impl Pending {
     /// A key behind members that do not have it.
-    pub fn new(before: Members, key: Letters, at: usize) -> Pending
+    pub(crate) fn new(before: Members, key: Letters, at: usize) -> Pending
         requires { is_among (names before) key ≡ false }
         ensures members { result.0 ≡ before }
         ensures name { result.1 ≡ record { name = key; at = at } }
@@ -177,7 +177,7 @@ impl Pending {
     }
 
     /// The members with this one, whose value is read.
-    pub fn with(self, alloc: Global, value: Json) -> Result<Members, AllocError>
+    pub(crate) fn with(self, alloc: Global, value: Json) -> Result<Members, AllocError>
         ensures { IfOk result (λ all. all ≡ self.0 ++ record { key = self.1; value = value } ∷ []) }
     {
         let key = Named {

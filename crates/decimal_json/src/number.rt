@@ -30,7 +30,7 @@ pub struct Digits {
 }
 
 /// The stage that a first byte begins.
-pub fn first(c: u8) -> Option<Stage>
+pub(crate) fn first(c: u8) -> Option<Stage>
     ensures { result ≡ first c }
 {
     match c {
@@ -43,7 +43,7 @@ pub fn first(c: u8) -> Option<Stage>
 
 /// The stage that a further byte leads to.
 #[inline(always)]
-pub fn onward(stage: Stage, c: u8) -> Option<Stage>
+pub(crate) fn onward(stage: Stage, c: u8) -> Option<Stage>
     ensures { result ≡ onward stage c }
 {
     match (stage, c) {
@@ -59,7 +59,7 @@ pub fn onward(stage: Stage, c: u8) -> Option<Stage>
 }
 
 /// A number may end here.
-pub fn is_end(stage: Stage) -> bool
+pub(crate) fn is_end(stage: Stage) -> bool
     ensures { result ≡ is_end stage }
 {
     matches!(
@@ -69,7 +69,7 @@ pub fn is_end(stage: Stage) -> bool
 }
 
 /// The first byte of a number.
-pub fn first_digit(alloc: Global, c: u8, stage: Stage) -> Result<Digits, AllocError>
+pub(crate) fn first_digit(alloc: Global, c: u8, stage: Stage) -> Result<Digits, AllocError>
     ensures { IfOk result (λ digits. (digits.stage ≡ stage) × (digits.text ≡ c ∷ []) × (digits.before ≡ false)) }
 {
     let mut text = List::new(alloc);
@@ -251,7 +251,7 @@ fn length_of(text: &[u8]) -> usize
 }
 
 /// What a number is worth; None where it breaks a limit.
-pub fn measure(text: &[u8]) -> Option<Decimal>
+pub(crate) fn measure(text: &[u8]) -> Option<Decimal>
     ensures { result ≡ measured text.now }
 {
     let len = length_of(text);
@@ -293,7 +293,7 @@ pub fn measure(text: &[u8]) -> Option<Decimal>
 }
 
 /// The longest number that stands up to here breaks a limit.
-pub fn verdict(digits: &Digits) -> bool
+pub(crate) fn verdict(digits: &Digits) -> bool
     ensures { result ≡ verdict digits.now }
 {
     if is_end(digits.stage) {
@@ -312,7 +312,7 @@ fn before_next(digits: &Digits, next: Stage) -> bool
 }
 
 /// What is read of a number with a further byte, which leads to this stage.
-pub fn next_digit(digits: Digits, next: Stage, c: u8) -> Result<Digits, AllocError>
+pub(crate) fn next_digit(digits: Digits, next: Stage, c: u8) -> Result<Digits, AllocError>
     ensures { IfOk result (λ longer. (longer.stage ≡ next) × (longer.text ≡ digits.text ++ c ∷ []) × (is_end next ≡ false → longer.before ≡ verdict digits)) }
 {
     let before = before_next(&digits, next);

@@ -23,7 +23,7 @@ use std::alloc::{AllocError, Global};
 pub type Stride = Result<(usize, State), (usize, Stop)>;
 
 /// A step behind so many bytes.
-pub fn behind(n: usize, answer: Result<State, Stop>) -> Stride
+pub(crate) fn behind(n: usize, answer: Result<State, Stop>) -> Stride
     requires { n < 9223372036854775808 }
     ensures { Behind n answer result }
 {
@@ -34,7 +34,7 @@ pub fn behind(n: usize, answer: Result<State, Stop>) -> Stride
 }
 
 /// With one more bracket.
-pub fn framed(frames: Brackets, frame: Frame) -> Result<Brackets, AllocError>
+pub(crate) fn framed(frames: Brackets, frame: Frame) -> Result<Brackets, AllocError>
     ensures { IfOk result (λ more. more ≡ frames ++ frame ∷ []) }
 {
     let mut more = frames;
@@ -117,7 +117,7 @@ fn before_value(frames: Brackets, frame: Frame, n: usize) -> Stride
 }
 
 /// Behind a comma or the start of an array: values with commas between them, and what stands behind the last.
-pub fn items_along(
+pub(crate) fn items_along(
     alloc: Global,
     at: usize,
     start: usize,
@@ -176,7 +176,7 @@ fn key_only(
 }
 
 /// From the quotation mark of a key on: members with commas between them, and what stands behind the last.
-pub fn members_along(
+pub(crate) fn members_along(
     alloc: Global,
     at: usize,
     start: usize,

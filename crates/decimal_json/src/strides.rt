@@ -132,7 +132,7 @@ fn first_key_along(alloc: Global, at: usize, start: usize, frames: Brackets, byt
 }
 
 /// Over some of the bytes at once, at least one.
-pub fn advance(alloc: Global, at: usize, state: State, bytes: &[u8]) -> Stride
+pub(crate) fn advance(alloc: Global, at: usize, state: State, bytes: &[u8]) -> Stride
     requires some { 0 < length bytes.now }
     requires room { at + length bytes.now < 9223372036854775808 }
     ensures { Advances at bytes.now state result }

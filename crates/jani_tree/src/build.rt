@@ -24,7 +24,7 @@ use std::alloc::{AllocError, Global};
 
 /// The tree of an expression.
 #[tactic(auto, using(crate::proofs::Operation::operation_clean))]
-pub fn expression(alloc: Global, value: &Json) -> Result<Je, AllocError>
+pub(crate) fn expression(alloc: Global, value: &Json) -> Result<Je, AllocError>
     requires { faults F.Expression (node value.now) ≡ [] }
     ensures { IfOk result (λ e. IsExpr (node value.now) (tree e)) }
 {
@@ -67,7 +67,12 @@ pub fn expression(alloc: Global, value: &Json) -> Result<Je, AllocError>
 }
 
 /// The expression of a required member.
-pub fn expression_of(alloc: Global, form: Form, key: Key, value: &Json) -> Result<Je, AllocError>
+pub(crate) fn expression_of(
+    alloc: Global,
+    form: Form,
+    key: Key,
+    value: &Json,
+) -> Result<Je, AllocError>
     requires plain { IsTrue (is_plain form) }
     requires known { IsTrue (is_known (kind_of form) key) }
     requires needed { IsTrue (is_needed (kind_of form) key) }
@@ -79,7 +84,7 @@ pub fn expression_of(alloc: Global, form: Form, key: Key, value: &Json) -> Resul
 }
 
 /// The expression of a member that may be missing.
-pub fn optional_expression(
+pub(crate) fn optional_expression(
     alloc: Global,
     form: Form,
     key: Key,
@@ -98,7 +103,7 @@ pub fn optional_expression(
 }
 
 /// The expression of a guard or a probability that may be missing.
-pub fn optional_boxed(
+pub(crate) fn optional_boxed(
     alloc: Global,
     form: Form,
     key: Key,
@@ -126,7 +131,12 @@ fn name_in(alloc: Global, value: &Json) -> Result<Named, AllocError>
 }
 
 /// The name of a required member.
-pub fn name_of(alloc: Global, form: Form, key: Key, value: &Json) -> Result<Named, AllocError>
+pub(crate) fn name_of(
+    alloc: Global,
+    form: Form,
+    key: Key,
+    value: &Json,
+) -> Result<Named, AllocError>
     requires plain { IsTrue (is_plain form) }
     requires known { IsTrue (is_known (kind_of form) key) }
     requires needed { IsTrue (is_needed (kind_of form) key) }
@@ -138,7 +148,7 @@ pub fn name_of(alloc: Global, form: Form, key: Key, value: &Json) -> Result<Name
 }
 
 /// The name of a member that may be missing.
-pub fn optional_name(
+pub(crate) fn optional_name(
     alloc: Global,
     form: Form,
     key: Key,
@@ -157,7 +167,7 @@ pub fn optional_name(
 }
 
 /// The comment of an object.
-pub fn note_of(alloc: Global, form: Form, value: &Json) -> Result<Option<Text>, AllocError>
+pub(crate) fn note_of(alloc: Global, form: Form, value: &Json) -> Result<Option<Text>, AllocError>
     requires plain { IsTrue (is_plain form) }
     requires known { IsTrue (is_known (kind_of form) K.Comment) }
     requires form { part_form (kind_of form) K.Comment ≡ F.Text }
@@ -190,7 +200,11 @@ pub trait Build: Drop {
 }
 
 /// The trees of the items of a list.
-pub fn items<T: Build>(alloc: Global, form: Form, value: &Json) -> Result<List<T>, AllocError>
+pub(crate) fn items<T: Build>(
+    alloc: Global,
+    form: Form,
+    value: &Json,
+) -> Result<List<T>, AllocError>
     requires form { item_form form ≡ Some T.form }
     requires clean { faults form (node value.now) ≡ [] }
     ensures { IfOk result (λ xs. IsItems T.is (node value.now) (map T.seen xs)) }
@@ -205,7 +219,7 @@ pub fn items<T: Build>(alloc: Global, form: Form, value: &Json) -> Result<List<T
 }
 
 /// The trees of the items of a member, none where it is missing.
-pub fn list<T: Build>(
+pub(crate) fn list<T: Build>(
     alloc: Global,
     form: Form,
     items_form: Form,
@@ -226,7 +240,7 @@ pub fn list<T: Build>(
 }
 
 /// The names of objects that have each a name as the member with this key.
-pub fn names_of(
+pub(crate) fn names_of(
     alloc: Global,
     form: Form,
     item: Form,
@@ -280,7 +294,7 @@ fn part_in(alloc: Global, value: &Json) -> Result<Option<Named>, AllocError>
 }
 
 /// The parts of a synchronisation vector, most of which are null in a composition of many automata.
-pub fn parts_of(alloc: Global, value: &Json) -> Result<List<Option<Named>>, AllocError>
+pub(crate) fn parts_of(alloc: Global, value: &Json) -> Result<List<Option<Named>>, AllocError>
     requires { faults F.Synchronise (node value.now) ≡ [] }
     ensures { IfOk result (λ xs. IsItems IsPart (node value.now) xs) }
 {

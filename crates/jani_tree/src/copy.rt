@@ -7,7 +7,7 @@ use decimal_json::{Json, Member};
 use std::alloc::{AllocError, Global};
 
 /// The same value, offsets too. `Err` is want of memory.
-pub fn copy_json(alloc: Global, value: &Json) -> Result<Json, AllocError>
+pub(crate) fn copy_json(alloc: Global, value: &Json) -> Result<Json, AllocError>
     ensures { IfOk result (λ copy. node copy ≡ node value.now) }
 {
     match value {

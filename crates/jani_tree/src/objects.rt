@@ -482,7 +482,7 @@ fn properties(alloc: Global, value: &Json) -> Result<Json, AllocError>
 }
 
 /// The tree of a file without faults.
-pub fn file(alloc: Global, value: &Json) -> Result<JaniFile, AllocError>
+pub(crate) fn file(alloc: Global, value: &Json) -> Result<JaniFile, AllocError>
     requires { faults F.Model (node value.now) ≡ [] }
     ensures { IfOk result (λ f. IsFile (node value.now) (file_of f)) }
 {

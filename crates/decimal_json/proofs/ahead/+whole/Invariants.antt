@@ -11,6 +11,9 @@ decreases-whole l = 5 * l.depth + 1
 abbrev pub decreases-look : goal.decreases-look
 decreases-look l = 5 * l.depth + 2
 
+abbrev pub decreases-item : goal.decreases-item
+decreases-item l = 5 * l.depth + 2
+
 abbrev pub decreases-whole_array : goal.decreases-whole_array
 decreases-whole_array l = 5 * l.depth + 3
 
