@@ -3,19 +3,19 @@
 ghost use Rattle.std.specs.Prelude.{◌≡◌, List, ℕ, ◌++◌, length, map, IfOk, None};
 ghost use Rattle.std.specs.List.{flat_map};
 ghost use Rattle.prism_tree.specs.Syntax.{file_of};
-ghost use Rattle.prism_check.specs.Circles.{IsPlaced, declared_by, turns_from};
+ghost use Rattle.prism_check.specs.Circles.{turns_from};
 ghost use Rattle.prism_check.specs.Judged.{AreJudged};
 ghost use Rattle.prism_check.specs.Least.{soonest};
-ghost use Rattle.prism_check.specs.NameFaults.{declarations, name_faults, values};
+ghost use Rattle.prism_check.specs.NameFaults.{copy_faults, doubled_names, no_module, unknown_names, values};
 ghost use Rattle.prism_check.specs.Tables.{IsScope, module_under, named_module};
 ghost use Rattle.prism_check.specs.Views.{named_by};
 
 use crate::circles::judge_circles;
 use crate::copies::judge_copies;
-use crate::declarations::{Declaration, declarations};
+use crate::declarations::declarations;
 use crate::least::sooner_if;
 use crate::named::{Entry, NameSet};
-use crate::placing::{Placing, place_all};
+use crate::placing::place_all;
 use crate::scope::{Scope, judge_unknown_names};
 use crate::search::by_depth;
 use crate::tables::{Formulas, Modules};
@@ -39,10 +39,12 @@ pub(crate) enum Names {
 pub(crate) fn judge_names(alloc: Global, file: &PrismFile) -> Result<Names, AllocError>
     ensures { IfOk result (AreJudged (file_of file.now)) }
 {
+    let unknown = judge_declared(alloc, file)?;
     let all = declarations(alloc, file)?;
     let first = by_depth(alloc, &all)?;
     let placing = place_all(alloc, &all, &first)?;
-    match least_name_fault(alloc, file, &all, &first, &placing)? {
+    let circles = judge_circles(alloc, &all, &first, &placing, unknown)?;
+    match judge_copied(alloc, file, circles)? {
         Some(fault) => Ok(Names::Faulty(fault)),
         None => {
             let order = formula_turns(alloc, file.constants.len(), &placing.turns)?;
@@ -64,25 +66,28 @@ fn formula_turns(alloc: Global, constants: usize, turns: &[usize]) -> Result<Vec
     Ok(list)
 }
 
-// The least fault of names, if there is one.
-fn least_name_fault(
-    alloc: Global,
-    file: &PrismFile,
-    all: &[Declaration],
-    first: &[usize],
-    placing: &Placing,
-) -> Result<Option<Fault>, AllocError>
-    requires declared { map declared_by all.now ≡ declarations (file_of file.now) }
-    requires placed { IsPlaced all.now placing.now }
-    ensures { IfOk result (λ best. best ≡ soonest None (name_faults (file_of file.now))) }
+// The least fault of names that are declared twice or not at all. The tables that this takes are let go.
+fn judge_declared(alloc: Global, file: &PrismFile) -> Result<Option<Fault>, AllocError>
+    ensures { let f = file_of file.now in IfOk result (λ best. best ≡ soonest (soonest None (doubled_names f)) (unknown_names f)) }
 {
     let modules = Modules::of(alloc, file.modules.as_slice())?;
     let names = values(alloc, file, &modules)?;
     let twice = judge_twice(alloc, file, &names, None)?;
-    let scope = scope(alloc, file, modules, &names)?;
-    let unknown = judge_unknown_names(alloc, file, &scope, twice)?;
-    let circles = judge_circles(alloc, all, first, placing, unknown)?;
-    let copies = judge_copies(alloc, file.modules.as_slice(), &scope.modules, circles)?;
+    let scope = scope(alloc, file, modules, names)?;
+    judge_unknown_names(alloc, file, &scope, twice)
+}
+
+// The least of a fault that was found before, those of copies, and that of a file without modules.
+fn judge_copied(
+    alloc: Global,
+    file: &PrismFile,
+    before: Option<Fault>,
+) -> Result<Option<Fault>, AllocError>
+    ensures { let f = file_of file.now in
+        IfOk result (λ best. best ≡ soonest (soonest before (flat_map (copy_faults f) f.modules)) (no_module f)) }
+{
+    let modules = Modules::of(alloc, file.modules.as_slice())?;
+    let copies = judge_copies(alloc, file.modules.as_slice(), &modules, before)?;
     let empty = file.modules.len() == 0;
     Ok(sooner_if(empty, file.end, Reason::Nothing, copies))
 }
@@ -92,14 +97,14 @@ fn scope<'a>(
     alloc: Global,
     file: &'a PrismFile,
     modules: Modules<'a>,
-    names: &[Entry<'a>],
+    names: Vec<Entry<'a>>,
 ) -> Result<Scope<'a>, AllocError>
     requires modules { (x : List ℕ) → module_under modules x ≡ named_module file.now.modules x }
-    requires names { map named_by names.now ≡ values (file_of file.now) }
+    requires names { map named_by names.items ≡ values (file_of file.now) }
     ensures { IfOk result (λ s. IsScope s (file_of file.now)) }
 {
     let formulas = Formulas::of(alloc, file.formulas.as_slice())?;
-    let known = NameSet::of(alloc, names)?;
+    let known = NameSet::of(alloc, &names)?;
     Ok(Scope {
         modules,
         formulas,
