@@ -1,0 +1,138 @@
+-- Columns and states: how many there are, that assignments in range keep states, and that locations have no fault.
+use Rattle.std.specs.Prelude.{◌≡◌, ℕ, zero, suc, ◌+◌, ◌-◌, ◌≤◌, List, [], ◌∷◌, ◌++◌, map, length, pos, Bool, true, false, not, ◌&&◌, cond, IsTrue, Option, Some, None, nat_lt, unwrap_or, slice_set, slice_get}
+use Rattle.std.specs.List.{position_or_len}
+use Rattle.std.specs.Ordering.{MatchOrdering}
+use Rattle.std.specs.declared.cmp.Ordering.{Ordering}
+use Rattle.std.specs.declared.cmp.Ordering.TheVariants as C
+use Rattle.std.proofs.Common.{refl, sym, ap, ap₂, subst, ◌∙◌, arith, ltb-true, length-append, append_assoc}
+use Rattle.std.proofs.lemmas.Int.{ints}
+use Rattle.std.proofs.lemmas.List.{length-map}
+use Rattle.bridge_io.specs.declared.reason.Named.{Named}
+use Rattle.frac_core.specs.Fraction.{Fraction, whole, compare, first_true, second_true}
+use Rattle.frac_core.specs.Order.{AtMost, AtMost-whole, Below, Below_not-AtMost, compare_ranks}
+use Rattle.op_trees.specs.Seen.{Seen}
+use Rattle.op_trees.specs.declared.tree.Value.{Value}
+use Rattle.op_trees.specs.declared.tree.Value.TheVariants as V
+use Rattle.process_core.specs.Ready.{Values, Name}
+use Rattle.process_core.specs.Distribution.{KeepsStates}
+use Rattle.jani_tree.specs.Syntax.{Automaton, File}
+use Rattle.prism_flat.specs.Instance.{Domain, Between, Column, is_in, is_state, is_above, is_greater, numbered, column_faults, constant_faults, only_if}
+use Rattle.prism_flat.specs.Moment.{domain_at, fits_in, write_to}
+use Rattle.jani_meaning.specs.Elements.{is_called, automaton_called, elements, location_number, first_number, initial_number, lasting}
+use Rattle.jani_meaning.specs.Scene.{counted, location_column, column, constant_names, columns_of, scene}
+use Rattle.jani_meaning.specs.Moment.{location_write}
+use Rattle.jani_meaning.specs.Laws.{StatesHaveColumns, LocationsHaveNoFault}
+
+both_true : (a b : Bool) → a ≡ true → b ≡ true → (a && b) ≡ true
+both_true true b h k = k
+both_true false b h k = h
+
+-- ---- how many values a state has
+state_length : (cs : List Column) (s : Values) → IsTrue (is_state cs s) → length s ≡ length cs
+state_length [] [] h = refl
+state_length [] (v ∷ s) h = absurd cc
+state_length (c ∷ cs) [] h = absurd cc
+state_length (c ∷ cs) (v ∷ s) h = ap suc (state_length cs s (second_true (is_in c.domain v) (is_state cs s) h))
+
+pub states_have_columns : (file : File) → StatesHaveColumns file
+states_have_columns file v s h =
+    state_length (columns_of file v) s h
+    ∙ length-append (map location_column (elements file)) (map (λ o. column (constant_names file v) o.var) (lasting file))
+    ∙ ap₂ (λ a b. a + b) (length-map (elements file) location_column ∙ length-map file.elements (automaton_called file)) (length-map (lasting file) (λ o. column (constant_names file v) o.var))
+
+-- ---- a value of a column's domain in its place keeps a state a state
+state_set : (cs : List Column) (s : Values) (i : ℕ) (v : Value) → IsTrue (is_state cs s) → is_in (domain_at cs i) v ≡ true → IsTrue (is_state cs (slice_set s i v))
+state_set [] [] i v h k = h
+state_set [] (w ∷ s) i v h k = absurd cc
+state_set (c ∷ cs) [] i v h k = absurd cc
+state_set (c ∷ cs) (w ∷ s) zero v h k = both_true (is_in c.domain v) (is_state cs s) k (second_true (is_in c.domain w) (is_state cs s) h)
+state_set (c ∷ cs) (w ∷ s) (suc i) v h k =
+    both_true (is_in c.domain w) (is_state cs (slice_set s i v)) (first_true (is_in c.domain w) (is_state cs s) h)
+    (state_set cs s i v (second_true (is_in c.domain w) (is_state cs s) h) k)
+
+fits_value : (d : Domain) (o : Option Value) (v : Value) → o ≡ Some v → fits_in d o ≡ true → is_in d v ≡ true
+fits_value d o v e h = subst (λ p. fits_in d p ≡ true) e h
+
+pub keeps_write_to : (cs : List Column) (i : ℕ) (value : Seen) → KeepsStates (is_state cs) (write_to cs i value)
+keeps_write_to cs i value = record { keeps = λ s v k e f. state_set cs s i v k (fits_value (domain_at cs i) value.value v e f) }
+
+-- ---- locations are within their range
+not_above : (x y : Fraction) → AtMost x y → is_above x y ≡ false
+not_above x y h = by_answer (compare x y) (compare_ranks x y)
+  where
+    by_answer : (r : Ordering) → MatchOrdering r (Below x y) (x ≡ y) (Below y x) → is_greater r ≡ false
+    by_answer C.Less b = refl
+    by_answer C.Equal e = refl
+    by_answer C.Greater b = absurd (Below_not-AtMost y x b h)
+
+not_above_whole : (k m : ℕ) → k ≤ m → is_above (whole (pos k)) (whole (pos m)) ≡ false
+not_above_whole k m h = not_above (whole (pos k)) (whole (pos m)) (AtMost-whole (pos k) (pos m) (omega (arith, ints)))
+
+two_not : (a b : Bool) → a ≡ false → b ≡ false → (not a && not b) ≡ true
+two_not true b h k = absurd cc
+two_not false true h k = absurd cc
+two_not false false h k = refl
+
+has_count : (k m : ℕ) → k ≤ m → is_in (Between (counted 0) (counted m)) (V.Number (whole (pos k))) ≡ true
+has_count k m h =
+    two_not (is_above (whole (pos 0)) (whole (pos k))) (is_above (whole (pos k)) (whole (pos m))) (not_above_whole 0 k (omega arith)) (not_above_whole k m h)
+
+place_within : (b : Bool) (k n : ℕ) → b ≡ nat_lt k n → unwrap_or (cond b (Some k) None) 0 ≤ n - 1
+place_within true k n e = let h = ltb-true k n (sym e) in omega arith
+place_within false k n e = omega arith
+
+location_within : (a : Automaton) (x : Name) → location_number a x ≤ length a.locations - 1
+location_within a x =
+    let k = position_or_len (λ l. is_called x l.name) a.locations in
+    place_within (nat_lt k (length a.locations)) k (length a.locations) refl
+
+first_within : (a : Automaton) (ns : List Named) → first_number a ns ≤ length a.locations - 1
+first_within a [] = omega arith
+first_within a (n ∷ ns) = location_within a n.name
+
+-- the columns of the elements come first
+pub domain_of_location : (as_ : List Automaton) (rest : List Column) (i : ℕ) (a : Automaton) → slice_get as_ i ≡ Some a →
+    domain_at (map location_column as_ ++ rest) i ≡ (location_column a).domain
+domain_of_location [] rest i a e = absurd cc
+domain_of_location (b ∷ bs) rest zero a e = ap (λ o. (location_column (unwrap_or o b)).domain) e
+domain_of_location (b ∷ bs) rest (suc i) a e = domain_of_location bs rest i a e
+
+pub keeps_location : (cs : List Column) (i : ℕ) (a : Automaton) (x : Name) → domain_at cs i ≡ (location_column a).domain →
+    KeepsStates (is_state cs) (location_write i (location_number a x))
+keeps_location cs i a x d =
+    let n = location_number a x in
+    record {
+      keeps = λ s v k e f. state_set cs s i v k (fits_value (domain_at cs i) (counted n).value v e
+          (subst (λ r. fits_in r (counted n).value ≡ true) (sym d) (has_count n (length a.locations - 1) (location_within a x))));
+    }
+
+-- ---- locations have no fault
+neither : {X : Type 0} (b c : Bool) (x y : X) → b ≡ false → c ≡ true → only_if b x ++ only_if (not b && not c) y ≡ []
+neither true c x y h k = absurd cc
+neither false true x y h k = refl
+neither false false x y h k = absurd cc
+
+location_faults : (i : ℕ) (a : Automaton) → column_faults i (location_column a) ≡ []
+location_faults i a =
+    let m = length a.locations - 1 in
+    neither (is_above (whole (pos 0)) (whole (pos m))) (is_in (location_column a).domain (V.Number (whole (pos (initial_number a))))) _ _
+    (not_above_whole 0 m (omega arith)) (has_count (initial_number a) m (first_within a a.initial))
+
+all_locations : (i : ℕ) (as_ : List Automaton) → numbered column_faults i (map location_column as_) ≡ []
+all_locations i [] = refl
+all_locations i (a ∷ as_) = ap₂ (λ p q. p ++ q) (location_faults i a) (all_locations (i + 1) as_)
+
+numbered-append : {X Y : Type 0} (f : ℕ → X → List Y) (i : ℕ) (xs ys : List X) → numbered f i (xs ++ ys) ≡ numbered f i xs ++ numbered f (i + length xs) ys
+numbered-append f i [] ys = ap (λ n. numbered f n ys) (omega arith)
+numbered-append f i (x ∷ xs) ys =
+    ap (λ l. f i x ++ l) (numbered-append f (i + 1) xs ys ∙ ap (λ n. numbered f (i + 1) xs ++ numbered f n ys) (omega arith))
+    ∙ sym (append_assoc (f i x) (numbered f (i + 1) xs) (numbered f (i + suc (length xs)) ys))
+
+pub locations_have_no_fault : (file : File) → LocationsHaveNoFault file
+locations_have_no_fault file v =
+    let places = map location_column (elements file) in
+    let vars = map (λ o. column (constant_names file v) o.var) (lasting file) in
+    ap (λ l. numbered constant_faults 0 (scene file v).constants ++ l)
+    (numbered-append column_faults 0 places vars
+    ∙ ap₂ (λ p n. p ++ numbered column_faults n vars) (all_locations 0 (elements file))
+    (let e = length-map (elements file) location_column in let f = length-map file.elements (automaton_called file) in omega arith))

@@ -1,0 +1,4 @@
+pub mod Columns
+pub mod Proper
+pub mod Constants
+mod Worked

@@ -1,0 +1,5 @@
+pub mod Elements
+pub mod Scene
+pub mod Moment
+pub mod Process
+pub mod Laws

@@ -1,0 +1,4 @@
+pub mod Plain
+pub mod Choosing
+pub mod Ranges
+pub mod Tables
