@@ -1,18 +1,39 @@
 """What the programs of this folder share: their words, runs that are timed, and CPython's readers to compare with."""
 
 import argparse
+import atexit
+import functools
 import os
+import shutil
 import subprocess
 import sys
+import tempfile
 
 MEGA = 1000000
 
-# Runs a command from a process that is small, since a child is counted at least as large as its parent.
+# Runs a command with its output in a file, and prints the processor seconds that it took, the most memory that it held, and its status. It
+# is a program of its own, and small, since a child is counted at least as large as its parent.
 RUN = """
-import os, subprocess, sys
-child = subprocess.Popen(sys.argv[2:], stdout=open(sys.argv[1], "wb"), stderr=subprocess.DEVNULL)
-_, ended, usage = os.wait4(child.pid, 0)
-print(usage.ru_utime + usage.ru_stime, usage.ru_maxrss * 1024, os.waitstatus_to_exitcode(ended))
+#include <fcntl.h>
+#include <stdio.h>
+#include <sys/resource.h>
+#include <sys/wait.h>
+#include <unistd.h>
+static double seconds(struct timeval t) { return t.tv_sec + t.tv_usec / 1e6; }
+int main(int count, char **words) {
+    int status;
+    struct rusage usage;
+    pid_t child = fork();
+    if (child == 0) {
+        dup2(open(words[1], O_WRONLY | O_CREAT | O_TRUNC, 0666), 1);
+        dup2(open("/dev/null", O_WRONLY), 2);
+        execv(words[2], words + 2);
+        _exit(127);
+    }
+    wait4(child, &status, 0, &usage);
+    printf("%f %ld %d\\n", seconds(usage.ru_utime) + seconds(usage.ru_stime), usage.ru_maxrss * 1024, WEXITSTATUS(status));
+    return 0;
+}
 """
 
 LOAD = "import json, time; s = time.process_time(); json.load(open(%r)); print(time.process_time() - s)"
@@ -28,9 +49,18 @@ def words(program):
     return os.path.abspath(given.program), given.runs
 
 
+@functools.cache
+def runner():
+    """The program RUN, compiled into a folder of its own."""
+    at = tempfile.mkdtemp()
+    atexit.register(shutil.rmtree, at)
+    subprocess.run(["cc", "-O2", "-x", "c", "-o", at + "/run", "-"], input=RUN.encode(), check=True)
+    return at + "/run"
+
+
 def timed(command, status=0, out=os.devnull):
     """The processor seconds that a command took, and the greatest memory that it held, in bytes."""
-    told = subprocess.run([sys.executable, "-c", RUN, out, *command], stdout=subprocess.PIPE, check=True).stdout.split()
+    told = subprocess.run([runner(), out, *command], stdout=subprocess.PIPE, check=True).stdout.split()
     if int(told[2]) != status:
         sys.exit("%s ended with status %s" % (" ".join(command), told[2].decode()))
     return float(told[0]), int(told[1])

@@ -1,0 +1,6 @@
+pub mod Digits
+pub mod Identifiers
+pub mod MadeNames
+pub mod EntryLemmas
+pub mod TableLemmas
+pub mod Valid

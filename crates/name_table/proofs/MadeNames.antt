@@ -1,0 +1,65 @@
+-- Made names begin with zz_, and those of different classes or of different numbers are different.
+use Rattle.std.proofs.Common.{◌≡◌, ℕ, true, List, [], ◌∷◌, refl, sym, ap, ◌∙◌}
+use Rattle.std.specs.Prelude.{◌==◌, if◌then◌else◌}
+use Rattle.name_table.specs.declared.class.NameClass.{NameClass}
+use Rattle.name_table.specs.declared.class.NameClass.TheVariants.{Constant, Variable, Location, Module, Action, Label, Reward, Property}
+use Rattle.name_table.specs.Rule.{begins_zz, made_name, digits}
+use Rattle.name_table.proofs.Digits.{digits_differ}
+
+pub made_begins : (c : NameClass) (n : ℕ) → begins_zz (made_name c n) ≡ true
+made_begins Constant n = refl
+made_begins Variable n = refl
+made_begins Location n = refl
+made_begins Module n = refl
+made_begins Action n = refl
+made_begins Label n = refl
+made_begins Reward n = refl
+made_begins Property n = refl
+
+-- the class of a made name, by its fourth byte and its fifth
+abbrev class_at : ℕ → ℕ → NameClass
+class_at l u =
+    if l == 99 then Constant else if l == 118 then Variable else if l == 109 then Module else if l == 97 then Action
+    else if l == 114 then Reward else if l == 112 then Property else if u == 95 then Label else Location
+
+abbrev class_in : List ℕ → NameClass
+class_in (a ∷ b ∷ z ∷ l ∷ u ∷ r) = class_at l u
+class_in _ = Location
+
+class_made : (c : NameClass) (n : ℕ) → class_in (made_name c n) ≡ c
+class_made Constant n = refl
+class_made Variable n = refl
+class_made Location n = refl
+class_made Module n = refl
+class_made Action n = refl
+class_made Label n = refl
+class_made Reward n = refl
+class_made Property n = refl
+
+-- what stands behind zz_, the letter and _, or behind zz_loc_
+abbrev behind_two : List ℕ → List ℕ
+behind_two (a ∷ b ∷ r) = r
+behind_two _ = []
+
+abbrev digits_at : ℕ → List ℕ → List ℕ
+digits_at u r = if u == 95 then r else behind_two r
+
+abbrev digits_in : List ℕ → List ℕ
+digits_in (a ∷ b ∷ z ∷ l ∷ u ∷ r) = digits_at u r
+digits_in _ = []
+
+digits_made : (c : NameClass) (n : ℕ) → digits_in (made_name c n) ≡ digits n
+digits_made Constant n = refl
+digits_made Variable n = refl
+digits_made Location n = refl
+digits_made Module n = refl
+digits_made Action n = refl
+digits_made Label n = refl
+digits_made Reward n = refl
+digits_made Property n = refl
+
+pub made_class : (c d : NameClass) (m n : ℕ) → made_name c m ≡ made_name d n → c ≡ d
+made_class c d m n e = sym (class_made c m) ∙ ap class_in e ∙ class_made d n
+
+pub made_number : (c d : NameClass) (m n : ℕ) → made_name c m ≡ made_name d n → m ≡ n
+made_number c d m n e = digits_differ m n (sym (digits_made c m) ∙ ap digits_in e ∙ digits_made d n)

@@ -1,0 +1,4 @@
+pub mod Rule
+pub mod Entries
+pub mod State
+pub mod Laws

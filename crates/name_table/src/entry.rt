@@ -1,0 +1,15 @@
+// The entries of a table.
+
+use crate::class::NameClass;
+use bridge_io::Text;
+
+/// An entry with its new name, and whether that is the old one that was kept. Contracts speak of lists of these.
+#[derive(Drop)]
+pub struct Entry {
+    /// what is named
+    pub class: NameClass,
+    /// the new name
+    pub name: Text,
+    /// whether the old name was kept
+    pub kept: bool,
+}

@@ -1,0 +1,5 @@
+pub mod Values
+pub mod Typed
+pub mod Types
+pub mod Form
+pub mod Examples
