@@ -1,4 +1,5 @@
-// The images of expressions.
+// The images of expressions, by the project's own rule (specs/Image.antt). JANI's operators are those of the jani-model
+// specification, version 1, "Expressions".
 
 ghost use Rattle.std.specs.Prelude.{◌≡◌, IfOk, List, ℕ};
 ghost use Rattle.op_trees.specs.Tree.{tree};
@@ -22,7 +23,8 @@ pub trait NewNames {
         ensures { result.now ≡ new self.now old.now };
 }
 
-/// The image of an expression under new names. `Err` is want of memory.
+/// The image of an expression under new names: minus with one operand takes it from 0, `<=>` is `=`, every other operator
+/// is JANI's of the same meaning, and names become their new names. `Err` is want of memory.
 pub fn image<N: NewNames>(alloc: Global, e: &Pe, names: &N) -> Result<Je, AllocError>
     ensures { IfOk result (λ r. tree r ≡ image (N.new names.now) (tree e.now)) }
 {

@@ -5,3 +5,4 @@ pub mod Translated
 pub mod Laws
 pub mod NameLaws
 pub mod SeenLaws
+pub mod StateLaws

@@ -4,6 +4,7 @@ ghost use Rattle.prism_tree.specs.Syntax.{File};
 ghost use Rattle.prism_to_jani.specs.Laws.{OneAutomatonEach, OneElementEach, ModulesComeFirst, OneEdgeEach, ConstantTypes, ConstantValues, VariableKinds, VariableStarts, OneTransientEach, VectorsOfActions, VectorsWatched};
 ghost use Rattle.prism_to_jani.specs.NameLaws.{ValuesDiffer, ConstantNames, ActionsDiffer, ActionsAreNotSilent};
 ghost use Rattle.prism_to_jani.specs.SeenLaws.{SameConstants, ConstantsSeenAlike, ColumnsSeenAlike, FaultsAlike};
+ghost use Rattle.prism_to_jani.specs.StateLaws.{ElementsAreAutomata, NamesSeenAlike, StatesAlike, InitialAlike, StatesAreThese, StatesDiffer, EdgesAreCommands, EdgesWatched, LabelsSeenAlike, MarksAlike, ChoicesAlike};
 
 /// There is an automaton for each module, and one more with a monitor; its edges are those of the module's commands, in
 /// order. Constants and variables stand one for one, with their types, and there is a transient variable for each label
@@ -46,4 +47,23 @@ pub fn seen_law()
     ensures constants { (file : File) → ConstantsSeenAlike file }
     ensures columns { (file : File) → ColumnsSeenAlike file }
     ensures faults { (file : File) → FaultsAlike file }
+{}
+
+/// The elements of the translated file are its automata. With each of them at its one location, a state of the file is a
+/// state of the translated file, which has no others, and names are seen the same there. Its edges are the commands, its
+/// marks are the same, and without a monitor so are its choices, in order. The conditions are those of `seen_law`, that the
+/// expressions of commands, labels and items are sound at the state, and for marks that there is a module, whose location
+/// gives them their values.
+pub fn state_law()
+    ensures elements { (file : File) → ElementsAreAutomata file }
+    ensures names { (file : File) → NamesSeenAlike file }
+    ensures states { (file : File) → StatesAlike file }
+    ensures initial { (file : File) → InitialAlike file }
+    ensures onto { (file : File) → StatesAreThese file }
+    ensures one { (file : File) → StatesDiffer file }
+    ensures edges { (file : File) → EdgesAreCommands file }
+    ensures watched { (file : File) → EdgesWatched file }
+    ensures labels { (file : File) → LabelsSeenAlike file }
+    ensures marks { (file : File) → MarksAlike file }
+    ensures choices { (file : File) → ChoicesAlike file }
 {}

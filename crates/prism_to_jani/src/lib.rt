@@ -4,4 +4,4 @@
 
 mod laws;
 
-pub use laws::{new_names_law, one_for_one_law, seen_law, vectors_law};
+pub use laws::{new_names_law, one_for_one_law, seen_law, state_law, vectors_law};

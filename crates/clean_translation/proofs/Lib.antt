@@ -1,0 +1,9 @@
+pub mod Known
+pub mod Entries
+pub mod Actions
+pub mod Form
+pub mod Doubled
+pub mod Unknown
+pub mod Circles
+pub mod Composition
+mod Worked

@@ -1,0 +1,10 @@
+use Rattle.prism_to_jani.proofs.Elements.{elements_are}
+use Rattle.prism_to_jani.proofs.StateNames.{names_seen_alike}
+use Rattle.prism_to_jani.proofs.States.{states_alike, initial_alike, states_are_these, states_differ}
+use Rattle.prism_to_jani.proofs.Edges.{edges_are_commands, edges_watched}
+use Rattle.prism_to_jani.proofs.Marks.{labels_seen_alike, marks_alike}
+use Rattle.prism_to_jani.proofs.Choices.{choices_alike}
+use Rattle.prism_to_jani.proofs.laws.state_law.Goals as goal
+
+pub returns : goal.returns
+returns c = record { elements = elements_are; names = names_seen_alike; states = states_alike; initial = initial_alike; onto = states_are_these; one = states_differ; edges = edges_are_commands; watched = edges_watched; labels = labels_seen_alike; marks = marks_alike; choices = choices_alike }

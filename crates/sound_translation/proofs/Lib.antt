@@ -1,0 +1,15 @@
+pub mod Clean
+pub mod Alike
+pub mod Expressions
+pub mod Sources
+pub mod Outer
+pub mod Writes
+pub mod Edges
+pub mod Transients
+pub mod Rewarding
+pub mod Automata
+pub mod Reading
+pub mod EdgeProfile
+pub mod Once
+pub mod OneWriter
+pub mod Whole
