@@ -12,4 +12,6 @@ pub mod Reading
 pub mod EdgeProfile
 pub mod Once
 pub mod OneWriter
+pub mod Lone
+pub mod Shared
 pub mod Whole

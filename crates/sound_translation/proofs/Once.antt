@@ -66,7 +66,7 @@ contains_var x t (v ∷ vs) h = by_answer (bytes_eq v.name.name x) refl (contain
     by_answer false e r h = let k = r h in let l = k.1 in (suc k.0, omega arith, k.2)
 
 module _ (file : prism.File) (flat : IsFlat file) where
-  is_value : (w : prism.Write) → IsFineWrite file flat w → Contains (value_names file) w.name.name
+  pub is_value : (w : prism.Write) → IsFineWrite file flat w → Contains (value_names file) w.name.name
   is_value w h =
       Contains-append_right (map (λ c. c.name.name) file.constants) (map (λ v. v.name.name) (variables file)) w.name.name
       (contains_var w.name.name h.ty (variables file) h.variable)

@@ -1,4 +1,4 @@
--- All faults of the profile, and all of types but those of what vectors share.
+-- A translated file has no fault of types, and none of the profile.
 use Rattle.std.specs.Prelude.{◌≡◌, List, [], ◌∷◌, ◌++◌, Bool, true, false}
 use Rattle.std.specs.List.{flat_map}
 use Rattle.std.proofs.Common.{refl, ap, ◌∙◌}
@@ -15,7 +15,7 @@ use Rattle.name_table.specs.declared.entry.Entry.{Entry}
 use Rattle.prism_to_jani.specs.Asks.{bodies, new_names}
 use Rattle.prism_to_jani.specs.Automata.{zz_monitor, earns_silently, has_monitor, automaton, location_values, module_automata, monitor_edges, monitor}
 use Rattle.prism_to_jani.specs.Translated.{translated}
-use Rattle.sound_translation.specs.TypeLaws.{TypesButShared}
+use Rattle.sound_translation.specs.TypeLaws.{TypesButShared, NoTypeFault}
 use Rattle.sound_translation.specs.ProfileLaws.{NoProfileFault}
 use Rattle.sound_translation.proofs.Outer.{nothing_joined, kinds_fit, outer_fit}
 use Rattle.sound_translation.proofs.Automata.{automata_fit}
@@ -23,6 +23,7 @@ use Rattle.sound_translation.proofs.Once.{automata_write_once}
 use Rattle.sound_translation.proofs.Reading.{starts_fit, values_given_once, outer_reads_fit}
 use Rattle.sound_translation.proofs.EdgeProfile.{automata_reads_fit, branches_fit}
 use Rattle.sound_translation.proofs.OneWriter.{one_reward_writer}
+use Rattle.sound_translation.proofs.Shared.{no_clashing_writes}
 
 three_none : {A B : Type 0} (f g h : A → List B) (xs : List A) → flat_map f xs ≡ [] → flat_map g xs ≡ [] → flat_map h xs ≡ [] → flat_map (λ x. f x ++ (g x ++ h x)) xs ≡ []
 three_none f g h [] p q r = refl
@@ -70,3 +71,6 @@ types_but_shared file flat =
     ∙ front_none (flat_map (automaton_faults g) (translated file).automata) _
     (three_none (λ a. flat_map var_faults a.variables) (λ a. flat_map (demand_faults (beside g a.variables)) (automaton_demands a))
     repeated_writes (translated file).automata (no_own file var_faults) (automata_fit file flat) (automata_write_once file flat))
+
+pub no_type_fault : (file : prism.File) → NoTypeFault file
+no_type_fault file flat = types_but_shared file flat ∙ no_clashing_writes file flat

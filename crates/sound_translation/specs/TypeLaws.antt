@@ -45,6 +45,14 @@ AutomataTypesFit file = IsFlat file →
 abbrev pub AutomataWriteOnce : prism.File → Type 0
 AutomataWriteOnce file = IsFlat file → flat_map repeated_writes (translated file).automata ≡ []
 
--- ---- all of them, but those of vectors two of whose participants assign one variable
+-- all of them, but those of vectors two of whose participants assign one variable
 abbrev pub TypesButShared : prism.File → Type 0
 TypesButShared file = IsFlat file → type_faults (translated file) ≡ flat_map (clashing_writes (translated file)) (translated file).vectors
+
+-- no two participants of a vector assign one variable
+abbrev pub NoClashingWrites : prism.File → Type 0
+NoClashingWrites file = IsFlat file → flat_map (clashing_writes (translated file)) (translated file).vectors ≡ []
+
+-- ---- all of them
+abbrev pub NoTypeFault : prism.File → Type 0
+NoTypeFault file = IsFlat file → type_faults (translated file) ≡ []

@@ -2,7 +2,7 @@
 
 ghost use Rattle.prism_tree.specs.Syntax.{File};
 ghost use Rattle.sound_translation.specs.ProfileLaws.{AutomataReadsFit, BranchesFit, NoProfileFault, OneRewardWriter, OuterReadsFit, StartsFit, ValuesGivenOnce};
-ghost use Rattle.sound_translation.specs.TypeLaws.{NamesAreNotTransient, NamesStayConstant, NamesTypedAlike, KindsFit, OuterTypesFit, AutomataTypesFit, AutomataWriteOnce, TypesButShared};
+ghost use Rattle.sound_translation.specs.TypeLaws.{NamesAreNotTransient, NamesStayConstant, NamesTypedAlike, KindsFit, OuterTypesFit, AutomataTypesFit, AutomataWriteOnce, TypesButShared, NoClashingWrites, NoTypeFault};
 
 /// What the new name of a constant or a variable stands for in the translated file has the type that the old name has in
 /// the source. It is a variable only where the old name is one, and it is never transient. A name that is none of them
@@ -44,9 +44,11 @@ pub fn automata_profile_law()
     ensures writer { (file : File) → OneRewardWriter file }
 {}
 
-/// So a translated file has no fault of the profile, and none of types but where two participants of a vector assign one
-/// variable.
+/// So a translated file has no fault of types but where two participants of a vector assign one variable. No two do, so it
+/// has no fault of types at all, and none of the profile.
 pub fn sound_translation_law()
     ensures types { (file : File) → TypesButShared file }
+    ensures shared { (file : File) → NoClashingWrites file }
+    ensures sound { (file : File) → NoTypeFault file }
     ensures profile { (file : File) → NoProfileFault file }
 {}

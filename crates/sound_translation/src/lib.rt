@@ -1,6 +1,5 @@
-//! What a PRISM file without faults, its formulas and copies written out, is translated to has no fault of the profile, and of
-//! types none but where two participants of a vector assign one variable. All of it stands in `specs/`; the functions here are
-//! its laws.
+//! What a PRISM file without faults, its formulas and copies written out, is translated to has no fault of types and
+//! none of the profile. All of it stands in `specs/`; the functions here are its laws.
 #![tactic(auto)]
 
 mod laws;
