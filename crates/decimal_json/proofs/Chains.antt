@@ -167,7 +167,7 @@ pub runs_more : (w z : List ℕ) (c : ℕ) (s u v : Stage) → w ≡ z ++ c ∷ 
 runs_more w z c s u v e h k = let F : List ℕ → Type 0 = λ x. RunsOn s x v in subst F (sym e) (runs_snoc z c s u v h k)
 
 -- a number that is read so far
-pub spelling : ℕ → Stage → List ℕ → Bool → List Frame → State
+unfoldable pub spelling : ℕ → Stage → List ℕ → Bool → List Frame → State
 spelling from u text before fs = record { mode = modes.InNumber from (record { stage = u; text = text; before = before }); frames = fs }
 
 digit_step : (at c from : ℕ) (u v : Stage) (text : List ℕ) (before : Bool) (fs : List Frame) → onward u c ≡ Some v → Steps at c (spelling from u text before fs) (Ok (spelling from v (text ++ c ∷ []) (verdict (record { stage = u; text = text; before = before })) fs))
@@ -177,9 +177,9 @@ digit_step at c from u v text before fs e =
     number_steps at c from (modes.InNumber from n) n fs (Ok (spelling from v (text ++ c ∷ []) (verdict n) fs)) refl (λ p f. number_goes at c from n fs v (record { stage = v; text = text ++ c ∷ []; before = verdict n }) p f e refl refl (λ g. refl))
 
 -- the state behind some bytes of a number
-record Spelt (at : ℕ) (w : List ℕ) (st : State) (from : ℕ) (v : Stage) (text : List ℕ) (fs : List Frame) : Type 0 where
-  before : Bool
-  along : Along at w st (spelling from v text before fs)
+pub record Spelt (at : ℕ) (w : List ℕ) (st : State) (from : ℕ) (v : Stage) (text : List ℕ) (fs : List Frame) : Type 0 where
+  pub before : Bool
+  pub along : Along at w st (spelling from v text before fs)
 
 digits_along : (w : List ℕ) (at from : ℕ) (u v : Stage) (text : List ℕ) (before : Bool) (fs : List Frame) → RunsOn u w v → Spelt at w (spelling from u text before fs) from v (text ++ w) fs
 unfolding spelling
@@ -214,7 +214,7 @@ module _ (w rest : List ℕ) (n : ℕ) where
       swap : (n : ℕ) → n + 1 ≡ 1 + n
       swap n = omega arith
 
-number_along : (w : List ℕ) (at n : ℕ) (u v : Stage) (fs : List Frame) → 0 < length w → first (get_or w 0 0) ≡ Some u → RunsOn u (take n (drop 1 w)) v → Spelt at (take (n + 1) w) (record { mode = modes.Value; frames = fs }) at v (take (n + 1) w) fs
+pub number_along : (w : List ℕ) (at n : ℕ) (u v : Stage) (fs : List Frame) → 0 < length w → first (get_or w 0 0) ≡ Some u → RunsOn u (take n (drop 1 w)) v → Spelt at (take (n + 1) w) (record { mode = modes.Value; frames = fs }) at v (take (n + 1) w) fs
 unfolding spelling
 number_along [] at n u v fs l e h = absurd (omega arith)
 number_along (b ∷ w) at n u v fs l e h =
@@ -231,7 +231,7 @@ number_along (b ∷ w) at n u v fs l e h =
 -- what stands behind a whole number
 pub number_follows : (w : List ℕ) (at n : ℕ) (u v : Stage) (d : Decimal) (fs : List Frame) (answer : Result State Stop) →
     first (get_or w 0 0) ≡ Some u → RunsOn u (take n (drop 1 w)) v → n + 1 < length w → onward v (get_or w (n + 1) 0) ≡ None → is_end v ≡ true → beyond (take (n + 1) w) ≡ false → d ≡ worth (take (n + 1) w) →
-    Goes (at + (n + 1)) (get_or w (n + 1) 0) (closes (reverse fs) (Number at d)) answer → Quiet answer → (x : State) × Along at (take (n + 1) w) (record { mode = modes.Value; frames = fs }) x × Steps (at + (n + 1)) (get_or w (n + 1) 0) x answer
+    Goes (at + (n + 1)) (get_or w (n + 1) 0) (closes (reverse fs) (Number at d)) answer → Quiet answer → (x : State) × Along at (take (n + 1) w) (record { mode = modes.Value; frames = fs }) x × Steps (at + (n + 1)) (get_or w (n + 1) 0) x answer × (x.frames ≡ fs)
 unfolding spelling
 number_follows w at n u v d fs answer e h l o i y z g q =
     let t = number_along w at n u v fs (let a = l in omega (arith, a)) e h in
@@ -239,6 +239,7 @@ number_follows w at n u v d fs answer e h l o i y z g q =
       spelling at v (take (n + 1) w) t.before fs,
       t.along,
       number_steps (at + (n + 1)) (get_or w (n + 1) 0) at (modes.InNumber at m) m fs answer refl (number_over (at + (n + 1)) (get_or w (n + 1) 0) at m fs d answer (verdict_end m i ∙ y) o i y z g q),
+      refl,
     )
 
 -- ---- what is read so far, over several steps

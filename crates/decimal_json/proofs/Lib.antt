@@ -22,6 +22,7 @@ pub mod Single
 pub mod Passing
 pub mod Chains
 pub mod Whole
+pub mod Held
 pub mod Nested
 pub mod Follows
 pub mod Once

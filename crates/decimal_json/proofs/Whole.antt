@@ -1,5 +1,5 @@
 -- Values and members that stand whole.
-use Rattle.std.proofs.Common.{◌≡◌, ℕ, zero, suc, ◌+◌, ◌-◌, ◌<◌, ◌≤◌, Bool, true, false, ◌&&◌, nat_eq, List, [], ◌∷◌, ◌++◌, take, drop, length, reverse, refl, sym, ap, subst, ◌∙◌, arith}
+use Rattle.std.proofs.Common.{◌≡◌, ℕ, zero, suc, ◌+◌, ◌-◌, ◌<◌, ◌≤◌, Bool, true, ◌&&◌, nat_eq, List, [], ◌∷◌, ◌++◌, take, drop, length, reverse, refl, sym, ap, subst, ◌∙◌, arith}
 use Rattle.std.specs.Prelude.{Option, Some, IfSome, Result, Ok, Err}
 use Rattle.std.proofs.Math.ListN.{get_or}
 use Rattle.std.proofs.Math.Seq.{take-add}
@@ -18,13 +18,13 @@ use Rattle.decimal_json.specs.declared.chars.Within.{Within}
 use Rattle.decimal_json.specs.declared.chars.Within.TheVariants.{Between}
 use Rattle.decimal_json.specs.declared.ahead.Ahead.{Ahead}
 use Rattle.decimal_json.specs.Lang.{next, Turns}
-use Rattle.decimal_json.specs.Grammar.{is_space, is_among, names}
+use Rattle.decimal_json.specs.Grammar.{is_space}
 use Rattle.decimal_json.specs.Strings.{is_between, Passes}
 use Rattle.decimal_json.specs.States.{Goes, Quiet, Steps, closes, begin_value, begin_key, begin_colon, waits, AllSpaces, Along, Advances, Behind}
 use Rattle.decimal_json.specs.Whole.{HasRoom, IsWhole, Skips, IsNaming, Looks, AfterValue, BeforeValue}
 use Rattle.decimal_json.proofs.Steps as s
 use Rattle.decimal_json.proofs.Glue.{plain, by_mode, pushed, open_array_comma, open_array_close, open_object_comma, after_space}
-use Rattle.decimal_json.proofs.Chains.{along_join, one, tail_is, advances_behind, advances_front, advances_memory, quote_step, spaces_on, text_along, key_along, text_ends, key_ends}
+use Rattle.decimal_json.proofs.Chains.{along_join, one, tail_is, advances_behind, advances_front, advances_memory, quote_step, spaces_on, text_along, text_ends}
 
 -- ---- along the bytes
 
@@ -38,7 +38,7 @@ take_head (b ∷ v) k l = ap (λ i. take i (b ∷ v)) (one_more k)
 pub along_word : (v w : List ℕ) (at : ℕ) (s t : State) → v ≡ w → Along at v s t → Along at w s t
 along_word v w at s t e h = let F : List ℕ → Type 0 = λ x. Along at x s t in subst F e h
 
-along_at : (v : List ℕ) (i j : ℕ) (s t : State) → i ≡ j → Along i v s t → Along j v s t
+pub along_at : (v : List ℕ) (i j : ℕ) (s t : State) → i ≡ j → Along i v s t → Along j v s t
 along_at v i j s t e h = let F : ℕ → Type 0 = λ x. Along x v s t in subst F e h
 
 pub steps_at : (i j c : ℕ) (s : State) (r : Result State Stop) → i ≡ j → Steps i c s r → Steps j c s r
@@ -56,7 +56,7 @@ pub along_more : (w : List ℕ) (at n : ℕ) (st t u : State) → n < length w �
 along_more w at n st t u l h k =
     along_word _ _ at st u (sym (take_more w n 0 l)) (along_join (take n w) (get_or w n 0 ∷ []) at st t u h (one _ _ t u (steps_at (at + n) _ _ t (Ok u) (ap (λ i. at + i) (sym (length-take-le n w (omega (arith, l))))) k)))
 
-get_along : (bytes rest : List ℕ) (n k : ℕ) → rest ≡ drop n bytes → get_or rest k 0 ≡ get_or bytes (n + k) 0
+pub get_along : (bytes rest : List ℕ) (n k : ℕ) → rest ≡ drop n bytes → get_or rest k 0 ≡ get_or bytes (n + k) 0
 get_along bytes rest n k e = ap (λ (x : List ℕ). get_or x k 0) e ∙ get_or-drop n bytes k 0
 
 no_bytes : List ℕ
@@ -70,7 +70,7 @@ drop_none (suc m) = refl
 suc_on : (n m : ℕ) → suc n + m ≡ suc (n + m)
 suc_on n m = omega arith
 
-drop_twice : (n m : ℕ) (xs : List ℕ) → drop m (drop n xs) ≡ drop (n + m) xs
+pub drop_twice : (n m : ℕ) (xs : List ℕ) → drop m (drop n xs) ≡ drop (n + m) xs
 unfolding no_bytes
 drop_twice zero m xs = ap (λ k. drop k xs) (omega arith)
 drop_twice (suc n) m [] = drop_none m ∙ sym (drop_none (suc n + m))
@@ -84,7 +84,7 @@ pub ended : (depth at n : ℕ) (w : List ℕ) (x : Json) → 0 < n → n < lengt
 ended depth at n w x z l h = record {
   some = z;
   within = l;
-  follows = λ fs answer r g q. (record { mode = modes.After x; frames = fs }, h fs r, by_mode _ _ (modes.After x) (modes.After x) fs answer refl tt g);
+  follows = λ fs answer r g q. (record { mode = modes.After x; frames = fs }, h fs r, by_mode _ _ (modes.After x) (modes.After x) fs answer refl tt g, refl);
 }
 
 -- ---- spaces
@@ -96,16 +96,18 @@ along_spaces w at n k st t s h a =
     let e = s.end in
     along_word _ _ at st t (ap (λ i. take i w) (sym e)) (along_take w at n s.count st t t (omega (arith, l, e)) a (spaces_on (take s.count (drop n w)) (at + n) t h s.spaces))
 
-no_more : (n : ℕ) → n ≡ n + 0
+pub no_more : (n : ℕ) → n ≡ n + 0
 no_more n = omega arith
 
 -- a value with the spaces behind it
 space_after : (at c : ℕ) (x : Json) (fs : List Frame) → is_space c ≡ true → Goes at c (closes (reverse fs) x) (Ok (record { mode = modes.After x; frames = fs }))
 space_after at c x fs h = λ p e. plain p at c c (closes (reverse fs) x) (λ k. closes (reverse fs) x) e refl (after_space (reverse fs) x p c h)
 
-trailed_by : (depth at n count : ℕ) (w : List ℕ) (x : Json) → AllSpaces (take count (drop n w)) → n + count < length w → IsWhole depth at w x n → IsWhole depth at w x (n + count)
-trailed_by depth at n zero w x s l h = let F : ℕ → Type 0 = λ k. IsWhole depth at w x k in subst F (no_more n) h
-trailed_by depth at n (suc k) w x s l h = ended depth at (n + suc k) w x (omega arith) l go
+trailed_on : (depth at n k : ℕ) (w : List ℕ) (x : Json) → AllSpaces (take (suc k) (drop n w)) → n + suc k ≤ length w → IsWhole depth at w x n → (fs : List Frame) → HasRoom depth fs → Along at (take (n + suc k) w) (record { mode = modes.Value; frames = fs }) (record { mode = modes.After x; frames = fs })
+trailed_on depth at n k w x s l h fs r =
+    let t = h.follows fs (Ok (record { mode = modes.After x; frames = fs })) r (space_after (at + n) (get_or w n 0) x fs parts.0) tt in
+    let one_on = along_more w at n (record { mode = modes.Value; frames = fs }) t.0 (record { mode = modes.After x; frames = fs }) h.within t.1 t.2 in
+    along_word _ _ at _ _ (ap (λ i. take i w) (past n k)) (along_take w at (n + 1) k _ (record { mode = modes.After x; frames = fs }) (record { mode = modes.After x; frames = fs }) (omega (arith, l)) one_on (spaces_on (take k (drop (n + 1) w)) (at + (n + 1)) (record { mode = modes.After x; frames = fs }) refl parts.1))
   where
     one_more : (k : ℕ) → suc k ≡ k + 1
     one_more k = omega arith
@@ -123,11 +125,17 @@ trailed_by depth at n (suc k) w x s l h = ended depth at (n + suc k) w x (omega 
     parts : (is_space (get_or w n 0) ≡ true) × AllSpaces (take k (drop (n + 1) w))
     parts = let F : List ℕ → Type 0 = λ u. AllSpaces u in subst F split s
 
-    go : (fs : List Frame) → HasRoom depth fs → Along at (take (n + suc k) w) (record { mode = modes.Value; frames = fs }) (record { mode = modes.After x; frames = fs })
-    go fs r =
-        let t = h.follows fs (Ok (record { mode = modes.After x; frames = fs })) r (space_after (at + n) (get_or w n 0) x fs parts.0) tt in
-        let one_on = along_more w at n (record { mode = modes.Value; frames = fs }) t.0 (record { mode = modes.After x; frames = fs }) h.within t.1 t.2 in
-        along_word _ _ at _ _ (ap (λ i. take i w) (past n k)) (along_take w at (n + 1) k _ (record { mode = modes.After x; frames = fs }) (record { mode = modes.After x; frames = fs }) (omega (arith, l)) one_on (spaces_on (take k (drop (n + 1) w)) (at + (n + 1)) (record { mode = modes.After x; frames = fs }) refl parts.1))
+trailed_by : (depth at n count : ℕ) (w : List ℕ) (x : Json) → AllSpaces (take count (drop n w)) → n + count < length w → IsWhole depth at w x n → IsWhole depth at w x (n + count)
+trailed_by depth at n zero w x s l h = let F : ℕ → Type 0 = λ k. IsWhole depth at w x k in subst F (no_more n) h
+trailed_by depth at n (suc k) w x s l h = ended depth at (n + suc k) w x (omega arith) l (trailed_on depth at n k w x s (omega (arith, l)) h)
+
+-- up to the end of the bytes
+pub trailed_out : (depth at n : ℕ) (w : List ℕ) (x : Json) → Skips w n (length w) → IsWhole depth at w x n → (fs : List Frame) → HasRoom depth fs → Along at (take (length w) w) (record { mode = modes.Value; frames = fs }) (record { mode = modes.After x; frames = fs })
+trailed_out depth at n w x s h fs r = go s.count s.end s.spaces
+  where
+    go : (count : ℕ) → length w ≡ n + count → AllSpaces (take count (drop n w)) → Along at (take (length w) w) (record { mode = modes.Value; frames = fs }) (record { mode = modes.After x; frames = fs })
+    go zero e a = absurd (let l = h.within in omega (arith, e, l))
+    go (suc k) e a = along_word _ _ at _ _ (ap (λ i. take i w) (sym e)) (trailed_on depth at n k w x a (omega (arith, e)) h fs r)
 
 pub trailed : (depth at n end : ℕ) (w : List ℕ) (x : Json) → Skips w n end → end < length w → IsWhole depth at w x n → IsWhole depth at w x end
 trailed depth at n end w x s l h =
@@ -137,56 +145,31 @@ trailed depth at n end w x s l h =
 
 -- ---- a string
 
-text_whole_along : (w : List ℕ) (at n : ℕ) (now : Within) (before text : List ℕ) (b : Bool) (fs : List Frame) → get_or w 0 0 ≡ 34 → n + 1 < length w → Passes Between [] (take n (drop 1 w)) now before → b ≡ is_between now && nat_eq (get_or w (n + 1) 0) 34 → b ≡ true → text ≡ before →
-    Along at (take (n + 2) w) (record { mode = modes.Value; frames = fs }) (record { mode = modes.After (Str at text); frames = fs })
-text_whole_along w at n now before text b fs q l h e f g =
-    let i : Along at (take (n + 1) w) (record { mode = modes.Value; frames = fs }) (record { mode = modes.InString at now before; frames = fs }) =
-    along_word _ _ at _ _ (sym (take_head w n (omega (arith, l)))) (_, steps_over at 34 (get_or w 0 0) (record { mode = modes.Value; frames = fs }) (Ok (record { mode = modes.InString at Between []; frames = fs })) (sym q) (quote_step at fs), text_along (take n (drop 1 w)) (at + 1) at Between now [] before fs h) in
-    along_word _ _ at _ _ (ap (λ k. take k w) (two n)) (along_more w at (n + 1) _ (record { mode = modes.InString at now before; frames = fs }) (record { mode = modes.After (Str at text); frames = fs }) l i (text_ends _ at _ now before text fs b e f g))
-  where
-    two : (n : ℕ) → (n + 1) + 1 ≡ n + 2
-    two n = omega arith
+pub text_in : (w : List ℕ) (at n : ℕ) (now : Within) (before : List ℕ) (fs : List Frame) → get_or w 0 0 ≡ 34 → 0 < length w → Passes Between [] (take n (drop 1 w)) now before → Along at (take (n + 1) w) (record { mode = modes.Value; frames = fs }) (record { mode = modes.InString at now before; frames = fs })
+text_in w at n now before fs q l h =
+    along_word _ _ at _ _ (sym (take_head w n l)) (_, steps_over at 34 (get_or w 0 0) (record { mode = modes.Value; frames = fs }) (Ok (record { mode = modes.InString at Between []; frames = fs })) (sym q) (quote_step at fs), text_along (take n (drop 1 w)) (at + 1) at Between now [] before fs h)
 
-pub text_whole : (w rest start : List ℕ) (at n : ℕ) (now : Within) (before text : List ℕ) (b : Bool) → rest ≡ take (length w - 1) (drop 1 w) → start ≡ [] → get_or w 0 0 ≡ 34 → n + 2 < length w → Passes Between start (take n rest) now before → b ≡ is_between now && nat_eq (get_or w (n + 1) 0) 34 → b ≡ true → text ≡ before → IsWhole 0 at w (Str at text) (n + 2)
-text_whole w rest start at n now before text b i j q l h e f g =
+pub text_shuts : (w : List ℕ) (at n : ℕ) (now : Within) (before text : List ℕ) (b : Bool) (fs : List Frame) → get_or w 0 0 ≡ 34 → n + 1 < length w → Passes Between [] (take n (drop 1 w)) now before → b ≡ is_between now && nat_eq (get_or w (n + 1) 0) 34 → b ≡ true → text ≡ before →
+    Along at (take ((n + 1) + 1) w) (record { mode = modes.Value; frames = fs }) (record { mode = modes.After (Str at text); frames = fs })
+text_shuts w at n now before text b fs q l h e f g =
+    along_more w at (n + 1) _ (record { mode = modes.InString at now before; frames = fs }) (record { mode = modes.After (Str at text); frames = fs }) l (text_in w at n now before fs q (omega (arith, l)) h) (text_ends _ at _ now before text fs b e f g)
+
+-- the characters behind the quotation mark
+pub behind_quote : (w rest start : List ℕ) (n : ℕ) (now : Within) (before : List ℕ) → rest ≡ take (length w - 1) (drop 1 w) → start ≡ [] → Passes Between start (take n rest) now before → Passes Between [] (take n (drop 1 w)) now before
+behind_quote w rest start n now before i j h =
     let P : List ℕ → Type 0 = λ x. Passes Between start (take n x) now before in
     let Q : List ℕ → Type 0 = λ x. Passes Between x (take n (drop 1 w)) now before in
-    let k = subst Q j (subst P (i ∙ tail_is 1 w) h) in
-    ended 0 at (n + 2) w (Str at text) (omega arith) l (λ fs r. text_whole_along w at n now before text b fs q (omega (arith, l)) k e f g)
+    subst Q j (subst P (i ∙ tail_is 1 w) h)
+
+pub text_whole : (w rest start : List ℕ) (at n : ℕ) (now : Within) (before text : List ℕ) (b : Bool) → rest ≡ take (length w - 1) (drop 1 w) → start ≡ [] → get_or w 0 0 ≡ 34 → (n + 1) + 1 < length w → Passes Between start (take n rest) now before → b ≡ is_between now && nat_eq (get_or w (n + 1) 0) 34 → b ≡ true → text ≡ before → IsWhole 0 at w (Str at text) ((n + 1) + 1)
+text_whole w rest start at n now before text b i j q l h e f g =
+    ended 0 at ((n + 1) + 1) w (Str at text) (omega arith) l (λ fs r. text_shuts w at n now before text b fs q (omega (arith, l)) (behind_quote w rest start n now before i j h) e f g)
 
 -- ---- a key and its colon
 
-colon_step : (at start : ℕ) (o : List Member × Named) (fs : List Frame) → Steps at 0x3a (record { mode = modes.Colon start o; frames = fs }) (Ok (record { mode = modes.Value; frames = fs ++ InObject start o ∷ [] }))
+pub colon_step : (at start : ℕ) (o : List Member × Named) (fs : List Frame) → Steps at 0x3a (record { mode = modes.Colon start o; frames = fs }) (Ok (record { mode = modes.Value; frames = fs ++ InObject start o ∷ [] }))
 colon_step at start o fs = by_mode at 0x3a (modes.Colon start o) (modes.Colon start o) fs (Ok (record { mode = modes.Value; frames = fs ++ InObject start o ∷ [] })) refl tt
     (λ p e. plain p at 0x3a 0x3a (begin_colon start o.0 o.1 (reverse fs)) (λ k. begin_value (reverse (fs ++ InObject start o ∷ []))) e refl (pushed (λ u. Turns p 0x3a (next p) (begin_colon start o.0 o.1 (reverse fs)) (begin_value u)) fs (fs ++ InObject start o ∷ []) (InObject start o) refl (s.colon_turns start o.0 o.1 (reverse fs) p)))
-
-pub naming : (w rest start : List ℕ) (at n : ℕ) (now : Within) (before : List ℕ) (b has : Bool) (done : List Member) (o : List Member × Named) → rest ≡ take (length w - 1) (drop 1 w) → start ≡ [] → n + 2 < length w → Passes Between start (take n rest) now before →
-    b ≡ is_between now && nat_eq (get_or w (n + 1) 0) 34 → b ≡ true → get_or w (n + 2) 0 ≡ 58 → has ≡ is_among (names done) before → has ≡ false → o.0 ≡ done → o.1 ≡ record { name = before; at = at } → IsNaming at w done o ((n + 2) + 1)
-naming w rest start at n now before b has done o i j l h e f z x y u v =
-    let P : List ℕ → Type 0 = λ x. Passes Between start (take n x) now before in
-    let Q : List ℕ → Type 0 = λ x. Passes Between x (take n (drop 1 w)) now before in
-    let k = subst Q j (subst P (i ∙ tail_is 1 w) h) in
-    let t = length-drop 1 w in
-    let c1 : get_or (drop 1 w) n 0 ≡ get_or w (n + 1) 0 = get_or-drop 1 w n 0 ∙ ap (λ m. get_or w m 0) (swap n) in
-    let c2 : get_or (drop 1 w) (n + 1) 0 ≡ get_or w (n + 2) 0 = get_or-drop 1 w (n + 1) 0 ∙ ap (λ m. get_or w m 0) (next_one n) in
-    record {
-      some = omega arith;
-      within = omega (arith, l);
-      follows = λ from fs.
-          let one_in = key_along (take n (drop 1 w)) (at + 1) from done at Between now [] before fs k in
-          let closed = along_more (drop 1 w) (at + 1) n (record { mode = modes.InKey from done at Between []; frames = fs }) (record { mode = modes.InKey from done at now before; frames = fs }) (record { mode = modes.Colon from o; frames = fs }) (omega (arith, l, t)) one_in (steps_over ((at + 1) + n) (get_or w (n + 1) 0) (get_or (drop 1 w) n 0) (record { mode = modes.InKey from done at now before; frames = fs }) (Ok (record { mode = modes.Colon from o; frames = fs })) (sym c1) (key_ends ((at + 1) + n) from done at (get_or w (n + 1) 0) now before fs o b has e f x y u v)) in
-          let opened = along_more (drop 1 w) (at + 1) (n + 1) (record { mode = modes.InKey from done at Between []; frames = fs }) (record { mode = modes.Colon from o; frames = fs }) (record { mode = modes.Value; frames = fs ++ InObject from o ∷ [] }) (omega (arith, l, t)) closed (steps_over ((at + 1) + (n + 1)) 58 (get_or (drop 1 w) (n + 1) 0) (record { mode = modes.Colon from o; frames = fs }) (Ok (record { mode = modes.Value; frames = fs ++ InObject from o ∷ [] })) (sym (c2 ∙ z)) (colon_step ((at + 1) + (n + 1)) from o fs)) in
-          (take ((n + 1) + 1) (drop 1 w), ap (λ m. take m w) (three n) ∙ take_head w ((n + 1) + 1) (omega (arith, l)), opened);
-    }
-  where
-    swap : (n : ℕ) → 1 + n ≡ n + 1
-    swap n = omega arith
-
-    next_one : (n : ℕ) → 1 + (n + 1) ≡ n + 2
-    next_one n = omega arith
-
-    three : (n : ℕ) → (n + 2) + 1 ≡ ((n + 1) + 1) + 1
-    three n = omega arith
 
 -- the key with the spaces behind its colon
 pub naming_on : (w : List ℕ) (at m k : ℕ) (done : List Member) (o : List Member × Named) → Skips w m k → IsNaming at w done o m → IsNaming at w done o k
@@ -247,14 +230,19 @@ whole_of depth p w o x n e h = let F : Option (Json × ℕ) → Type 0 = λ k. I
 abbrev pub Opens : ℕ → ℕ → List Frame → State → Type 0
 Opens at c fs t = (u : State) → Steps at c (record { mode = modes.Value; frames = fs }) (Ok u) → Steps at c t (Ok u)
 
-opens_along : (w : List ℕ) (at : ℕ) (fs : List Frame) (t u : State) → 0 < length w → Opens at (get_or w 0 0) fs t → Along at w (record { mode = modes.Value; frames = fs }) u → Along at w t u
+pub opens_along : (w : List ℕ) (at : ℕ) (fs : List Frame) (t u : State) → 0 < length w → Opens at (get_or w 0 0) fs t → Along at w (record { mode = modes.Value; frames = fs }) u → Along at w t u
 opens_along [] at fs t u l o h = absurd (omega arith)
 opens_along (c ∷ w) at fs t u l o h = (h.0, o h.0 h.1, h.2)
 
+pub first_of : (n : ℕ) (w : List ℕ) → 0 < n → get_or w 0 0 ≡ get_or (take n w) 0 0
+first_of zero w l = absurd (omega arith)
+first_of (suc n) [] l = refl
+first_of (suc n) (b ∷ w) l = refl
+
 -- what stands behind a value further on
-pub whole_along : (bytes rest : List ℕ) (depth at p n size : ℕ) (x : Json) (fs : List Frame) (st t : State) (answer : Result State Stop) → rest ≡ drop n bytes → p ≡ at + n → n ≤ length bytes → Along at (take n bytes) st t → Opens (at + n) (get_or bytes n 0) fs t → HasRoom depth fs → IsWhole depth p rest x size →
-    Goes (at + (n + size)) (get_or bytes (n + size) 0) (closes (reverse fs) x) answer → Quiet answer → (u : State) × Along at (take (n + size) bytes) st u × Steps (at + (n + size)) (get_or bytes (n + size) 0) u answer
-whole_along bytes rest depth at p n size x fs st t answer e f l h o r i g q =
+pub whole_along_in : (bytes rest : List ℕ) (depth at p n size : ℕ) (x : Json) (fs : List Frame) (st t : State) (answer : Result State Stop) → rest ≡ drop n bytes → p ≡ at + n → n ≤ length bytes → Along at (take n bytes) st t → Opens (at + n) (get_or bytes n 0) fs t → HasRoom depth fs → IsWhole depth p rest x size →
+    Goes (at + (n + size)) (get_or bytes (n + size) 0) (closes (reverse fs) x) answer → Quiet answer → (u : State) × Along at (take (n + size) bytes) st u × Steps (at + (n + size)) (get_or bytes (n + size) 0) u answer × (u.frames ≡ fs)
+whole_along_in bytes rest depth at p n size x fs st t answer e f l h o r i g q =
     let c = get_along bytes rest n size e in
     let a : p + size ≡ at + (n + size) = (let b = f in omega (arith, b)) in
     let F : ℕ → Type 0 = λ k. Goes k (get_or bytes (n + size) 0) (closes (reverse fs) x) answer in
@@ -269,12 +257,12 @@ whole_along bytes rest depth at p n size x fs st t answer e f l h o r i g q =
       z.0,
       along_take bytes at n size st t z.0 l h (subst H e (opens_along (take size rest) (at + n) fs t z.0 (omega (arith, s, v)) (subst O c0 o) (along_at (take size rest) p (at + n) (record { mode = modes.Value; frames = fs }) z.0 f z.1))),
       steps_over (at + (n + size)) (get_or rest size 0) (get_or bytes (n + size) 0) z.0 answer c (steps_at (p + size) (at + (n + size)) (get_or rest size 0) z.0 answer a z.2),
+      z.3,
     )
-  where
-    first_of : (n : ℕ) (w : List ℕ) → 0 < n → get_or w 0 0 ≡ get_or (take n w) 0 0
-    first_of zero w l = absurd (omega arith)
-    first_of (suc n) [] l = refl
-    first_of (suc n) (b ∷ w) l = refl
+
+pub whole_along : (bytes rest : List ℕ) (depth at p n size : ℕ) (x : Json) (fs : List Frame) (st t : State) (answer : Result State Stop) → rest ≡ drop n bytes → p ≡ at + n → n ≤ length bytes → Along at (take n bytes) st t → Opens (at + n) (get_or bytes n 0) fs t → HasRoom depth fs → IsWhole depth p rest x size →
+    Goes (at + (n + size)) (get_or bytes (n + size) 0) (closes (reverse fs) x) answer → Quiet answer → (u : State) × Along at (take (n + size) bytes) st u × Steps (at + (n + size)) (get_or bytes (n + size) 0) u answer
+whole_along bytes rest depth at p n size x fs st t answer e f l h o r i g q = let z = whole_along_in bytes rest depth at p n size x fs st t answer e f l h o r i g q in (z.0, z.1, z.2)
 
 pub whole_within : (bytes rest : List ℕ) (depth p n size : ℕ) (x : Json) → rest ≡ drop n bytes → n ≤ length bytes → IsWhole depth p rest x size → n + size < length bytes
 whole_within bytes rest depth p n size x e l i = let a = ap (λ (x : List ℕ). length x) e ∙ length-drop n bytes in let b = i.within in omega (arith, a, b, l)

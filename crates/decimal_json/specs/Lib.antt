@@ -12,3 +12,4 @@ pub mod Laws
 pub mod Letters
 pub mod Kept
 pub mod Whole
+pub mod Held

@@ -24,7 +24,7 @@ pub record IsWhole (depth at : ℕ) (w : List ℕ) (x : Json) (n : ℕ) : Type 0
   pub some : 0 < n
   pub within : n < length w
   pub follows : (fs : List Frame) (answer : Result State Stop) → HasRoom depth fs → Goes (at + n) (get_or w n 0) (closes (reverse fs) x) answer → Quiet answer →
-      (u : State) × Along at (take n w) (record { mode = modes.Value; frames = fs }) u × Steps (at + n) (get_or w n 0) u answer
+      (u : State) × Along at (take n w) (record { mode = modes.Value; frames = fs }) u × Steps (at + n) (get_or w n 0) u answer × (u.frames ≡ fs)
 
 -- from one offset up to another stand spaces
 pub record Skips (w : List ℕ) (from to : ℕ) : Type 0 where

@@ -1,8 +1,9 @@
 // Values and members that stand whole, with brackets nested a little in them.
 
-ghost use Rattle.std.specs.Prelude.{◌≡◌, ◌<◌, ◌≤◌, ◌+◌, length, take, slice_index, None, IfOk, IfSome, true, false};
+ghost use Rattle.std.specs.Prelude.{◌≡◌, ◌⊎◌, ◌<◌, ◌≤◌, ◌+◌, length, take, slice_index, nat_lt, None, IfOk, IfSome, IfNone, if◌then◌else◌, true, false};
 ghost use Rattle.decimal_json.specs.Grammar.{is_space};
-ghost use Rattle.decimal_json.specs.Number.{onward, RunsOn};
+ghost use Rattle.decimal_json.specs.Held.{NoScalar, NoValue, NamesAll, LooksAll, begins_word};
+ghost use Rattle.decimal_json.specs.Number.{first, onward, RunsOn};
 ghost use Rattle.decimal_json.specs.States.{AllSpaces};
 ghost use Rattle.decimal_json.specs.Whole.{IsWhole, Looks, Skips};
 
@@ -37,9 +38,11 @@ pub(crate) fn past_spaces(bytes: &[u8], from: usize) -> usize
     from + spaces(&bytes[from..])
 }
 
-/// How deep brackets may be nested in a value that is read whole, inside one more bracket than these.
+/// How deep brackets may be nested in a value that is read whole, inside one more bracket than these: 8 deep, where that is
+/// far from the limit.
 pub(crate) fn room_within(frames: &Brackets) -> usize
-    ensures { 0 < result → length frames.now + 1 + result ≤ 1024 }
+    ensures within { 0 < result → length frames.now + 1 + result ≤ 1024 }
+    ensures exact { result ≡ (if nat_lt (length frames.now) 1000 then 8 else 0) }
 {
     if frames.len() < 1000 { 8 } else { 0 }
 }
@@ -62,11 +65,13 @@ fn number_front(stage: Stage, bytes: &[u8]) -> (usize, Stage)
     (n, now)
 }
 
-/// The number that stands whole, and how many bytes it has; none where there is none, or where its end is not seen.
+/// The number that stands whole, and how many bytes it has; none where none begins, where its end is not seen, or where it is
+/// refused.
 fn whole_number(at: usize, bytes: &[u8]) -> Option<(Json, usize)>
     requires some { 0 < length bytes.now }
     requires room { at + length bytes.now < 9223372036854775808 }
-    ensures { IfSome result (λ r. IsWhole 0 at bytes.now r.0 r.1) }
+    ensures whole { IfSome result (λ r. IsWhole 0 at bytes.now r.0 r.1) }
+    ensures none { IfNone result ((first (slice_index bytes.now 0) ≡ None) ⊎ NoScalar at bytes.now) }
 {
     let stage = first(bytes[0])?;
     let (n, last) = number_front(stage, &bytes[1..]);
@@ -86,22 +91,27 @@ fn whole_text(alloc: Global, at: usize, bytes: &[u8]) -> Result<Option<(Json, us
     requires some { 0 < length bytes.now }
     requires room { at + length bytes.now < 9223372036854775808 }
     requires quote { slice_index bytes.now 0 ≡ 34 }
-    ensures { IfOk result (λ o. IfSome o (λ r. IsWhole 0 at bytes.now r.0 r.1)) }
+    ensures whole { IfOk result (λ o. IfSome o (λ r. IsWhole 0 at bytes.now r.0 r.1)) }
+    ensures none { IfOk result (λ o. IfNone o (NoScalar at bytes.now)) }
 {
     let (n, now, text) = Letters::new(alloc).along(Within::Between, &bytes[1..])?;
-    let end = n + 2;
-    if end >= bytes.len() {
+    let end = n + 1;
+    if end == bytes.len() {
         return Ok(None);
     }
-    if !closes(now, bytes[n + 1]) {
+    if !closes(now, bytes[end]) {
         return Ok(None);
     }
-    Ok(Some((Json::Str(at, text.into_text()?), end)))
+    if end + 1 == bytes.len() {
+        return Ok(None);
+    }
+    Ok(Some((Json::Str(at, text.into_text()?), end + 1)))
 }
 
 /// Whether these bytes are a word and more behind it.
 fn begins_with(bytes: &[u8], word: &[u8]) -> bool
-    ensures { result ≡ true → (length word.now < length bytes.now) × (take (length word.now) bytes.now ≡ word.now) }
+    ensures yes { result ≡ true → (length word.now < length bytes.now) × (take (length word.now) bytes.now ≡ word.now) }
+    ensures all { length word.now < length bytes.now → take (length word.now) bytes.now ≡ word.now → result ≡ true }
 {
     bytes.len() > word.len() && &bytes[..word.len()] == word
 }
@@ -109,7 +119,8 @@ fn begins_with(bytes: &[u8], word: &[u8]) -> bool
 /// A word that stands whole.
 fn whole_word(at: usize, bytes: &[u8]) -> Option<(Json, usize)>
     requires some { 0 < length bytes.now }
-    ensures { IfSome result (λ r. IsWhole 0 at bytes.now r.0 r.1) }
+    ensures whole { IfSome result (λ r. IsWhole 0 at bytes.now r.0 r.1) }
+    ensures none { IfNone result (begins_word (slice_index bytes.now 0) ≡ true → NoScalar at bytes.now) }
 {
     if begins_with(bytes, b"null") {
         return Some((Json::Null(at), 4));
@@ -132,27 +143,32 @@ pub enum Ahead {
     Valued(Pending, usize, Json, usize),
 }
 
-/// The key and the colon.
+/// The key, the colon and the spaces behind it, where they stand whole.
 fn named(alloc: Global, at: usize, members: Members, bytes: &[u8]) -> Result<Ahead, AllocError>
     requires some { 0 < length bytes.now }
     requires room { at + length bytes.now < 9223372036854775808 }
-    ensures { IfOk result (Looks 0 at bytes.now members) }
+    ensures whole { IfOk result (Looks 0 at bytes.now members) }
+    ensures none { IfOk result (NamesAll at bytes.now members) }
 {
     let (n, now, text) = Letters::new(alloc).along(Within::Between, &bytes[1..])?;
-    let end = n + 2;
-    if end >= bytes.len() {
+    let end = n + 1;
+    if end == bytes.len() {
         return Ok(Ahead::Open(members));
     }
-    if !closes(now, bytes[n + 1]) {
-        return Ok(Ahead::Open(members));
-    }
-    if bytes[end] != b':' {
+    if !closes(now, bytes[end]) {
         return Ok(Ahead::Open(members));
     }
     if members.has(text.as_str()) {
         return Ok(Ahead::Open(members));
     }
-    let behind = past_spaces(bytes, end + 1);
+    let colon = past_spaces(bytes, end + 1);
+    if colon == bytes.len() {
+        return Ok(Ahead::Open(members));
+    }
+    if bytes[colon] != b':' {
+        return Ok(Ahead::Open(members));
+    }
+    let behind = past_spaces(bytes, colon + 1);
     Ok(Ahead::Named(Pending::new(members, text, at), behind))
 }
 
@@ -167,7 +183,8 @@ pub(crate) fn look(
 ) -> Result<Ahead, AllocError>
     requires some { 0 < length bytes.now }
     requires room { at + length bytes.now < 9223372036854775808 }
-    ensures { IfOk result (Looks depth at bytes.now members) }
+    ensures whole { IfOk result (Looks depth at bytes.now members) }
+    ensures none { IfOk result (LooksAll depth at bytes.now members) }
 {
     match named(alloc, at, members, bytes)? {
         Ahead::Named(pending, m) => {
@@ -193,7 +210,8 @@ fn tight(
 ) -> Result<Option<(Json, usize)>, AllocError>
     requires some { 0 < length bytes.now }
     requires room { at + length bytes.now < 9223372036854775808 }
-    ensures { IfOk result (λ o. IfSome o (λ r. IsWhole depth at bytes.now r.0 r.1)) }
+    ensures whole { IfOk result (λ o. IfSome o (λ r. IsWhole depth at bytes.now r.0 r.1)) }
+    ensures none { IfOk result (λ o. IfNone o (is_space (slice_index bytes.now 0) ≡ false → NoValue depth at bytes.now)) }
 {
     match bytes[0] {
         b'"' => whole_text(alloc, at, bytes),
@@ -224,7 +242,9 @@ pub(crate) fn whole(
 ) -> Result<Option<(Json, usize)>, AllocError>
     requires some { 0 < length bytes.now }
     requires room { at + length bytes.now < 9223372036854775808 }
-    ensures { IfOk result (λ o. IfSome o (λ r. IsWhole depth at bytes.now r.0 r.1)) }
+    ensures whole { IfOk result (λ o. IfSome o (λ r. IsWhole depth at bytes.now r.0 r.1)) }
+    ensures none { IfOk result (λ o. IfNone o (is_space (slice_index bytes.now 0) ≡ false → NoValue depth at bytes.now)) }
+    ensures stops { IfOk result (λ o. IfSome o (λ r. is_space (slice_index bytes.now r.1) ≡ false)) }
 {
     match tight(alloc, depth, at, bytes)? {
         None => Ok(None),
@@ -248,7 +268,9 @@ fn item(
 ) -> Result<Option<(Json, usize)>, AllocError>
     requires some { 0 < length bytes.now }
     requires room { at + length bytes.now < 9223372036854775808 }
-    ensures { IfOk result (λ o. IfSome o (λ r. IsWhole depth at bytes.now r.0 r.1)) }
+    ensures whole { IfOk result (λ o. IfSome o (λ r. IsWhole depth at bytes.now r.0 r.1)) }
+    ensures none { IfOk result (λ o. IfNone o (is_space (slice_index bytes.now 0) ≡ false → NoValue depth at bytes.now)) }
+    ensures stops { IfOk result (λ o. IfSome o (λ r. is_space (slice_index bytes.now r.1) ≡ false)) }
 {
     if begins_with(bytes, b"null") && bytes[4] == b',' {
         return Ok(Some((Json::Null(at), 4)));
@@ -267,14 +289,18 @@ fn whole_array(
     requires some { 0 < length bytes.now }
     requires room { at + length bytes.now < 9223372036854775808 }
     requires bracket { slice_index bytes.now 0 ≡ 91 }
-    ensures { IfOk result (λ o. IfSome o (λ r. IsWhole (depth + 1) at bytes.now r.0 r.1)) }
+    ensures whole { IfOk result (λ o. IfSome o (λ r. IsWhole (depth + 1) at bytes.now r.0 r.1)) }
+    ensures none { IfOk result (λ o. IfNone o (NoValue (depth + 1) at bytes.now)) }
 {
     let mut list = List::new(alloc);
     let mut n = past_spaces(bytes, 1);
-    if n + 1 >= bytes.len() {
+    if n == bytes.len() {
         return Ok(None);
     }
     if bytes[n] == b']' {
+        if n + 1 == bytes.len() {
+            return Ok(None);
+        }
         return Ok(Some((Json::Array(at, list), n + 1)));
     }
     while n < bytes.len() {
@@ -310,14 +336,18 @@ fn whole_object(
     requires some { 0 < length bytes.now }
     requires room { at + length bytes.now < 9223372036854775808 }
     requires bracket { slice_index bytes.now 0 ≡ 123 }
-    ensures { IfOk result (λ o. IfSome o (λ r. IsWhole (depth + 1) at bytes.now r.0 r.1)) }
+    ensures whole { IfOk result (λ o. IfSome o (λ r. IsWhole (depth + 1) at bytes.now r.0 r.1)) }
+    ensures none { IfOk result (λ o. IfNone o (NoValue (depth + 1) at bytes.now)) }
 {
     let mut done = Members::new(alloc);
     let mut n = past_spaces(bytes, 1);
-    if n + 1 >= bytes.len() {
+    if n == bytes.len() {
         return Ok(None);
     }
     if bytes[n] == b'}' {
+        if n + 1 == bytes.len() {
+            return Ok(None);
+        }
         return Ok(Some((Json::Object(at, done.into_list(), at + n), n + 1)));
     }
     while n < bytes.len() && bytes[n] == b'"' {

@@ -1,7 +1,7 @@
 // The characters of a string while it is read.
 
-ghost use Rattle.std.specs.Prelude.{◌≡◌, ◌<◌, ◌≤◌, [], ◌++◌, length, take, string_bytes, IfOk};
-ghost use Rattle.decimal_json.specs.Strings.{AllPlain, Passes, in_utf8, ended};
+ghost use Rattle.std.specs.Prelude.{◌≡◌, ◌<◌, ◌≤◌, false, [], ◌++◌, length, take, slice_index, string_bytes, None, IfOk};
+ghost use Rattle.decimal_json.specs.Strings.{AllPlain, Passes, in_utf8, ended, is_plain, onward};
 
 use crate::chars::{Within, closes, ended, is_plain, onward};
 use bridge_io::Text;
@@ -34,7 +34,8 @@ impl Model for Letters {
 /// How many of the first bytes stand for themselves.
 #[inline(always)]
 fn plain_front(bytes: &[u8]) -> usize
-    ensures { (result ≤ length bytes.now) × AllPlain (take result bytes.now) }
+    ensures all { (result ≤ length bytes.now) × AllPlain (take result bytes.now) }
+    ensures stops { result < length bytes.now → is_plain (slice_index bytes.now result) ≡ false }
 {
     let mut n = 0usize;
     while n < bytes.len() && is_plain(bytes[n]) {
@@ -144,7 +145,8 @@ impl Letters {
     /// Over bytes that stand for themselves, else over one byte; over none where no string goes on with that.
     fn stretched(self, within: Within, bytes: &[u8]) -> Result<(usize, Within, Letters), AllocError>
         requires { 0 < length bytes.now }
-        ensures { IfOk result (λ r. (r.0 ≤ length bytes.now) × Passes within self (take r.0 bytes.now) r.1 r.2) }
+        ensures passes { IfOk result (λ r. (r.0 ≤ length bytes.now) × Passes within self (take r.0 bytes.now) r.1 r.2) }
+        ensures stops { IfOk result (λ r. r.0 ≡ 0 → onward r.1 (slice_index bytes.now 0) ≡ None) }
     {
         if let Within::Between = within {
             let more = plain_front(bytes);
@@ -168,7 +170,8 @@ impl Letters {
         within: Within,
         bytes: &[u8],
     ) -> Result<(usize, Within, Letters), AllocError>
-        ensures { IfOk result (λ r. (r.0 ≤ length bytes.now) × Passes within self (take r.0 bytes.now) r.1 r.2) }
+        ensures passes { IfOk result (λ r. (r.0 ≤ length bytes.now) × Passes within self (take r.0 bytes.now) r.1 r.2) }
+        ensures stops { IfOk result (λ r. r.0 < length bytes.now → onward r.1 (slice_index bytes.now r.0) ≡ None) }
     {
         if let Within::Between = within {
             let plain = plain_front(bytes);

@@ -25,10 +25,10 @@ pub loop-n-preserved : goal.loop-n-preserved
 loop-n-preserved c =
     let i = c.loop-n.invariant in
     let e = tail_is c.loop-n.n c.args.bytes.now in
-    let x = whole_of _ _ _ _ _ _ c.in-Ok-Some.field-0-is c.in-Ok-Some.ensures in
+    let x = whole_of _ _ _ _ _ _ c.in-Ok-Some.field-0-is c.in-Ok-Some.ensures.whole in
     let k = c.past_spaces-n.ensures.skips in
     let F : List Frame → Type 0 = λ u. 0 < c.room_within-depth.result → length u + 1 + c.room_within-depth.result ≤ 1024 in
-    let room = room_in c.room_within-depth.result c.loop-n.frames (InArray c.args.start c.loop-n.list) (subst F (sym i.0) c.room_within-depth.ensures) in (
+    let room = room_in c.room_within-depth.result c.loop-n.frames (InArray c.args.start c.loop-n.list) (subst F (sym i.0) c.room_within-depth.ensures.within) in (
       i.0,
       k.within,
       along_spaces c.args.bytes.now c.args.at ((c.loop-n.n + c.in-Ok-Some.size) + 1) _ (record { mode = modes.Value; frames = c.loop-n.frames ++ InArray c.args.start c.args.items ∷ [] }) (record { mode = modes.Value; frames = c.loop-n.frames ++ InArray c.args.start c.push.new.self ∷ [] }) k refl
@@ -39,9 +39,9 @@ pub returns-then-c-ne44 : goal.returns-then-c-ne44
 returns-then-c-ne44 c =
     let i = c.loop-n.invariant in
     let e = tail_is c.loop-n.n c.args.bytes.now in
-    let x = whole_of _ _ _ _ _ _ c.in-Ok-Some.field-0-is c.in-Ok-Some.ensures in
+    let x = whole_of _ _ _ _ _ _ c.in-Ok-Some.field-0-is c.in-Ok-Some.ensures.whole in
     let F : List Frame → Type 0 = λ u. 0 < c.room_within-depth.result → length u + 1 + c.room_within-depth.result ≤ 1024 in
-    let room = room_in c.room_within-depth.result c.loop-n.frames (InArray c.args.start c.loop-n.list) (subst F (sym i.0) c.room_within-depth.ensures) in
+    let room = room_in c.room_within-depth.result c.loop-n.frames (InArray c.args.start c.loop-n.list) (subst F (sym i.0) c.room_within-depth.ensures.within) in
     advances_state c.args.at c.args.bytes.now _ _ _ (ap (λ (u : List Frame). record { mode = modes.Value; frames = u ++ InArray c.args.start c.args.items ∷ [] }) i.0)
     (c.after_item.ensures c.args.at c.args.bytes.now (record { mode = modes.Value; frames = c.loop-n.frames ++ InArray c.args.start c.args.items ∷ [] }) refl (whole_within c.args.bytes.now _ _ _ c.loop-n.n c.in-Ok-Some.size c.in-Ok-Some.value e i.1 x) refl
     (λ answer d q. whole_along c.args.bytes.now _ c.room_within-depth.result c.args.at (c.args.at + c.loop-n.n) c.loop-n.n c.in-Ok-Some.size c.in-Ok-Some.value (c.loop-n.frames ++ InArray c.args.start c.loop-n.list ∷ []) _ (record { mode = modes.Value; frames = c.loop-n.frames ++ InArray c.args.start c.loop-n.list ∷ [] }) answer e refl i.1 i.2 (λ u d. d) room x d q))
