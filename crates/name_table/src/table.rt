@@ -125,6 +125,13 @@ impl NameTable {
         self.entries.len()
     }
 
+    /// The entries in order, without memory.
+    pub fn as_slice(&self) -> &[Entry]
+        ensures { result.now ≡ self.now.entries }
+    {
+        self.entries.as_slice()
+    }
+
     /// The new name of an entry, without memory.
     pub fn new_name(&self, entry: usize) -> &str
         requires { entry < length self.now.entries }

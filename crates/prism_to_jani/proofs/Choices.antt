@@ -1,5 +1,5 @@
 -- Without a monitor, the choices of a translated file follow those of the file, in order.
-use Rattle.std.specs.Prelude.{◌≡◌, ℕ, zero, suc, ◌+◌, ◌<◌, ◌≤◌, List, [], ◌∷◌, ◌++◌, map, length, Bool, true, false, not, ◌&&◌, ◌||◌, cond, Option, Some, None, if◌then◌else◌, is_none, is_some, unwrap_or, slice_set, bytes_eq, Contains}
+use Rattle.std.specs.Prelude.{◌≡◌, ℕ, zero, suc, ◌+◌, ◌<◌, ◌≤◌, List, [], ◌∷◌, ◌++◌, map, length, Bool, true, false, not, ◌&&◌, ◌||◌, cond, Option, Some, None, if◌then◌else◌, is_none, is_some, unwrap_or, slice_set, bytes_eq, Contains, IsTrue}
 use Rattle.std.specs.List.{All, AllByRecursion, AllZip, filter, flat_map, list_any, zip}
 use Rattle.std.specs.Option.{option_map}
 use Rattle.std.proofs.Common.{refl, sym, ap, ap₂, subst, ◌∙◌, arith, length-append}
@@ -45,10 +45,14 @@ use Rattle.prism_to_jani.proofs.Written.{body_part, written_parts}
 use Rattle.prism_to_jani.proofs.Edges.{structures_owned, n_automata, edges_are_commands}
 
 -- ---- states
-any_state : Values → Bool
+pub any_state : Values → Bool
 any_state s = true
 
-set_home : {X : Type 0} (xs : List X) (s : Values) (i : ℕ) → i < length xs → slice_set (map (λ x. at_home) xs ++ s) i at_home ≡ map (λ x. at_home) xs ++ s
+pub is_any_state : (s : Values) → IsTrue (any_state s)
+unfolding any_state
+is_any_state s = refl
+
+pub set_home : {X : Type 0} (xs : List X) (s : Values) (i : ℕ) → i < length xs → slice_set (map (λ x. at_home) xs ++ s) i at_home ≡ map (λ x. at_home) xs ++ s
 set_home [] s i l = absurd (omega arith)
 set_home (x ∷ xs) s zero l = refl
 set_home (x ∷ xs) s (suc i) l = ap (λ r. at_home ∷ r) (set_home xs s i (omega arith))
@@ -60,10 +64,10 @@ set_behind (x ∷ xs) s k u =
     ap (λ i. slice_set (at_home ∷ (map (λ x. at_home) xs ++ s)) i u) on ∙ ap (λ r. at_home ∷ r) (set_behind xs s k u)
 
 module _ (file : prism.File) where
-  abbrev n : ℕ
+  abbrev pub n : ℕ
   n = length (translated file).elements
 
-  abbrev state : Values → Values
+  abbrev pub state : Values → Values
   state s = state_of file s
 
   written_behind : (s : Values) (ws : List Write) → written (state s) (map (shifted_write n) ws) ≡ state (written s ws)
@@ -94,14 +98,15 @@ module _ (file : prism.File) where
   updates_follow i l [] = tt
   updates_follow i l (u ∷ us) = (update_follows i l u, updates_follow i l us)
 
-  abbrev new : Name → Name
+  abbrev pub new : Name → Name
   new = (new_names file).action
 
-  abbrev new_label : Option Name → Option Name
+  abbrev pub new_label : Option Name → Option Name
   new_label a = option_map (new_names file).action a
 
-  ready_follows : (i : ℕ) → i < n → (r : Ready) → FollowsReady any_state state r (shifted_ready new_label n i r)
-  ready_follows i l r = record { guard = refl; updates = updates_follow i l r.updates }
+  -- whatever becomes of its action
+  pub ready_follows : (label : Option Name → Option Name) (i : ℕ) → i < n → (r : Ready) → FollowsReady any_state state r (shifted_ready label n i r)
+  ready_follows label i l r = record { guard = refl; updates = updates_follow i l r.updates }
 
   none_follows : (a : Option Name) → same_label None a ≡ same_label None (new_label a)
   none_follows None = refl
@@ -109,7 +114,7 @@ module _ (file : prism.File) where
 
   module_follows : (i : ℕ) → i < n → (m : List Ready) → AllZip (FollowsAlone any_state state) m (map (shifted_ready new_label n i) m)
   module_follows i l [] = tt
-  module_follows i l (r ∷ m) = ((ready_follows i l r, none_follows r.action), module_follows i l m)
+  module_follows i l (r ∷ m) = ((ready_follows new_label i l r, none_follows r.action), module_follows i l m)
 
   modules_follow : (i : ℕ) (ms : List (List Ready)) → i + length ms ≤ n →
       AllZip (AllZip (FollowsAlone any_state state)) ms (numbered (λ i m. map (shifted_ready new_label n i) m ∷ []) i ms)
@@ -117,25 +122,29 @@ module _ (file : prism.File) where
   modules_follow i (m ∷ ms) l = (module_follows i (omega arith) m, modules_follow (i + 1) ms (omega arith))
 
   -- ---- commands with an action
-  abbrev IsOwnName : Name → Type 0
+  abbrev pub IsOwnName : Name → Type 0
   IsOwnName a = (y : Name) → bytes_eq (new a) (new y) ≡ bytes_eq a y
 
-  own_name : (a : Name) → Contains (actions file) a → IsOwnName a
+  pub own_name : (a : Name) → Contains (actions file) a → IsOwnName a
   own_name a c y =
       let p = bytes_eq-Decides (new a) (new y) in
       let q = bytes_eq-Decides a y in
       same_from_decides (bytes_eq (new a) (new y)) (bytes_eq a y) p ((λ h. ap new (q.0 h)), (λ e. q.1 (sym (actions_differ file a y c (sym e)))))
 
-  action_follows : (a : Name) → IsOwnName a → (b : Option Name) → same_label (Some a) b ≡ same_label (Some (new a)) (new_label b)
+  -- what becomes of labels keeps the action apart from the others
+  abbrev pub IsOwnLabel : (Option Name → Option Name) → Name → Type 0
+  IsOwnLabel label a = (b : Option Name) → same_label (Some a) b ≡ same_label (Some (new a)) (label b)
+
+  action_follows : (a : Name) → IsOwnName a → IsOwnLabel new_label a
   action_follows a h None = refl
   action_follows a h (Some y) = sym (h y)
 
   abbrev FollowsNamed : Name → Ready → Ready → Type 0
   FollowsNamed a r t = FollowsReady any_state state r t × (has_action (Some a) r ≡ has_action (Some (new a)) t)
 
-  named_follow : (a : Name) → IsOwnName a → (i : ℕ) → i < n → (m : List Ready) → AllZip (FollowsNamed a) m (map (shifted_ready new_label n i) m)
-  named_follow a h i l [] = tt
-  named_follow a h i l (r ∷ m) = ((ready_follows i l r, action_follows a h r.action), named_follow a h i l m)
+  named_follow : (label : Option Name → Option Name) (a : Name) → IsOwnLabel label a → (i : ℕ) → i < n → (m : List Ready) → AllZip (FollowsNamed a) m (map (shifted_ready label n i) m)
+  named_follow label a h i l [] = tt
+  named_follow label a h i l (r ∷ m) = ((ready_follows label i l r, h r.action), named_follow label a h i l m)
 
   ready_alone : (a : Name) (rs ts : List Ready) → AllZip (FollowsNamed a) rs ts → AllZip (FollowsReady any_state state) rs ts
   ready_alone a [] [] h = tt
@@ -143,22 +152,22 @@ module _ (file : prism.File) where
   ready_alone a (r ∷ rs) [] h = absurd h
   ready_alone a (r ∷ rs) (t ∷ ts) h = (h.0.0, ready_alone a rs ts h.1)
 
-  taking_follows : (a : Name) → IsOwnName a → (i : ℕ) (ms : List (List Ready)) → i + length ms ≤ n →
+  pub taking_follows : (label : Option Name → Option Name) (a : Name) → IsOwnLabel label a → (i : ℕ) (ms : List (List Ready)) → i + length ms ≤ n →
       AllZip (AllZip (FollowsReady any_state state)) (sharing a ms)
-      (taking (map (option_map new) (map (λ m. if list_any (has_action (Some a)) m then Some a else None) ms)) (numbered (λ i m. map (shifted_ready new_label n i) m ∷ []) i ms))
-  taking_follows a h i [] l = tt
-  taking_follows a h i (m ∷ ms) l =
+      (taking (map (option_map new) (map (λ m. if list_any (has_action (Some a)) m then Some a else None) ms)) (numbered (λ i m. map (shifted_ready label n i) m ∷ []) i ms))
+  taking_follows label a h i [] l = tt
+  taking_follows label a h i (m ∷ ms) l =
       by_test (list_any (has_action (Some a)) m)
-      (ready_alone a (filter (has_action (Some a)) m) (filter (has_action (Some (new a))) (map (shifted_ready new_label n i) m))
-      (AllZip-filter (FollowsNamed a) (has_action (Some a)) (has_action (Some (new a))) (λ r t f. f.1) m (map (shifted_ready new_label n i) m) (named_follow a h i (omega arith) m)))
-      (taking_follows a h (i + 1) ms (omega arith))
+      (ready_alone a (filter (has_action (Some a)) m) (filter (has_action (Some (new a))) (map (shifted_ready label n i) m))
+      (AllZip-filter (FollowsNamed a) (has_action (Some a)) (has_action (Some (new a))) (λ r t f. f.1) m (map (shifted_ready label n i) m) (named_follow label a h i (omega arith) m)))
+      (taking_follows label a h (i + 1) ms (omega arith))
     where
-      by_test : (b : Bool) → AllZip (FollowsReady any_state state) (filter (has_action (Some a)) m) (filter (has_action (Some (new a))) (map (shifted_ready new_label n i) m)) →
+      by_test : (b : Bool) → AllZip (FollowsReady any_state state) (filter (has_action (Some a)) m) (filter (has_action (Some (new a))) (map (shifted_ready label n i) m)) →
           AllZip (AllZip (FollowsReady any_state state)) (sharing a ms)
-          (taking (map (option_map new) (map (λ m. if list_any (has_action (Some a)) m then Some a else None) ms)) (numbered (λ i m. map (shifted_ready new_label n i) m ∷ []) (i + 1) ms)) →
+          (taking (map (option_map new) (map (λ m. if list_any (has_action (Some a)) m then Some a else None) ms)) (numbered (λ i m. map (shifted_ready label n i) m ∷ []) (i + 1) ms)) →
           AllZip (AllZip (FollowsReady any_state state)) (map (filter (has_action (Some a))) (cond b (m ∷ filter (list_any (has_action (Some a))) ms) (filter (list_any (has_action (Some a))) ms)))
           (taking (option_map new (if b then Some a else None) ∷ map (option_map new) (map (λ m. if list_any (has_action (Some a)) m then Some a else None) ms))
-          (map (shifted_ready new_label n i) m ∷ numbered (λ i m. map (shifted_ready new_label n i) m ∷ []) (i + 1) ms))
+          (map (shifted_ready label n i) m ∷ numbered (λ i m. map (shifted_ready label n i) m ∷ []) (i + 1) ms))
       by_test true p r = (p, r)
       by_test false p r = r
 
@@ -191,7 +200,7 @@ module _ (file : prism.File) where
       neither true b h = absurd cc
       neither false b h = (refl, h)
 
-silently_for : (o : ItemOn) → is_for_choices None (adds_of o) ≡ for_silent o
+pub silently_for : (o : ItemOn) → is_for_choices None (adds_of o) ≡ for_silent o
 silently_for On.InState = refl
 silently_for On.Silent = refl
 silently_for (On.Action a) = refl
@@ -202,7 +211,7 @@ bytes_turned x y =
     let q = bytes_eq-Decides y x in
     same_from_decides (bytes_eq x y) (bytes_eq y x) p ((λ h. sym (q.0 h)), (λ e. q.1 (sym e)))
 
-action_for : (x : Name) (o : ItemOn) → is_for_choices (Some x) (adds_of o) ≡ for_action x o
+pub action_for : (x : Name) (o : ItemOn) → is_for_choices (Some x) (adds_of o) ≡ for_action x o
 action_for x On.InState = refl
 action_for x On.Silent = refl
 action_for x (On.Action a) = bytes_turned x a.name
@@ -216,7 +225,7 @@ or_right : (a b : Bool) → (a || b) ≡ false → b ≡ false
 or_right true b h = absurd cc
 or_right false b h = h
 
-none_earns : (p : Name → Bool) (as_ : List Name) → is_some_name (filter p as_) ≡ false → AllByRecursion (λ a. p a ≡ false) as_
+pub none_earns : (p : Name → Bool) (as_ : List Name) → is_some_name (filter p as_) ≡ false → AllByRecursion (λ a. p a ≡ false) as_
 none_earns p [] h = tt
 none_earns p (a ∷ as_) h = by_test (p a) refl h (none_earns p as_)
   where
@@ -231,7 +240,7 @@ module _ (f : prism.Command → Ready) (same : (c : prism.Command) → (f c).act
   command_actions [] = refl
   command_actions (c ∷ cs) = ap₂ (λ a b. if_some a ++ b) (same c) (command_actions cs)
 
-  no_silent : (cs : List prism.Command) → list_any (λ c. is_none c.action) cs ≡ false → filter (has_action None) (map f cs) ≡ []
+  pub no_silent : (cs : List prism.Command) → list_any (λ c. is_none c.action) cs ≡ false → filter (has_action None) (map f cs) ≡ []
   no_silent [] h = refl
   no_silent (c ∷ cs) h =
       ap (λ a. cond (same_label None a) (f c ∷ filter (has_action None) (map f cs)) (filter (has_action None) (map f cs))) (same c)
@@ -265,23 +274,23 @@ none_for_none rewards other (m ∷ ms) h = by_list (filter (has_action None) m) 
     by_list [] h k = k h
     by_list (r ∷ rs) h k = absurd cc
 
-module _ (file : prism.File) (v w : Valuation) (sound : IsSoundUnder file v) (alike : GivesAlike file v w) (none : has_monitor file ≡ false) (s : Values) where
-  abbrev mods : List (List Ready)
+module _ (file : prism.File) (v w : Valuation) (sound : IsSoundUnder file v) (alike : GivesAlike file v w) (s : Values) where
+  abbrev pub mods : List (List Ready)
   mods = (prism_moment.moment file v s).modules
 
   abbrev label : Option Name → Option Name
   label a = option_map (new_names file).action a
 
-  abbrev own : List Sum
+  abbrev pub own : List Sum
   own = map (λ r. no_reward) (jani_moment.moment (translated file) w (state_of file s)).rewards
 
-  abbrev earned : Option Name → List Sum
+  abbrev pub earned : Option Name → List Sum
   earned a = choice_rewards (prism_moment.moment file v s).rewards a
 
-  abbrev Follows : Combination → Combination → Type 0
+  abbrev pub Follows : Combination → Combination → Type 0
   Follows = FollowsCombination any_state (state_of file) label
 
-  few : 0 + length mods ≤ length (translated file).elements
+  pub few : 0 + length mods ≤ length (translated file).elements
   few =
       let names = new_names file in
       let ms = module_automata names (earns_silently file) (location_values names file) (bodies file) names.modules in
@@ -293,13 +302,13 @@ module _ (file : prism.File) (v w : Valuation) (sound : IsSoundUnder file v) (al
       let f = n_bodies file in
       omega arith
 
-  are_bodies : mods ≡ map (part_at file v s) (map body_part (bodies file))
+  pub are_bodies : mods ≡ map (part_at file v s) (map body_part (bodies file))
   are_bodies = ap (map (part_at file v s)) (written_parts file sound.written.modules)
 
-  actions_are : actions_of mods ≡ actions file
+  pub actions_are : actions_of mods ≡ actions file
   actions_are = ap (λ ms. firsts bytes_eq (flat_map (λ m. flat_map (λ r. if_some r.action) m) ms)) are_bodies ∙ ap (firsts bytes_eq) (body_actions file v s (bodies file))
 
-  rewards_none : (a : Option Name) (wanted : ItemOn → Bool) → ((o : ItemOn) → is_for_choices a (adds_of o) ≡ wanted o) → has_items wanted file ≡ false →
+  pub rewards_none : (a : Option Name) (wanted : ItemOn → Bool) → ((o : ItemOn) → is_for_choices a (adds_of o) ≡ wanted o) → has_items wanted file ≡ false →
       map (λ m. m.value) own ≡ map (λ m. m.value) (earned a)
   rewards_none a wanted e h =
       ap (λ os. map (λ m. m.value) (map (λ r. no_reward) (map (jani_moment.transient_at (translated file) w (state_of file s)) os))) (structures_owned file)
@@ -316,8 +325,8 @@ module _ (file : prism.File) (v w : Valuation) (sound : IsSoundUnder file v) (al
   both_none : (xs ys : List Combination) → xs ≡ [] → AllZip Follows xs ys → (zs : List Combination) → zs ≡ [] → AllZip Follows zs ys
   both_none xs ys e h zs q = subst (λ (r : List Combination). AllZip Follows r ys) (e ∙ sym q) h
 
-  silent_follows : AllZip Follows (silent (earned None) mods) (silent own (shifted label (length (translated file).elements) mods))
-  silent_follows = by_items (has_items for_silent file) refl (or_right (is_some_name (earning_actions file)) (earns_silently file) none)
+  pub silent_follows : earns_silently file ≡ false → AllZip Follows (silent (earned None) mods) (silent own (shifted label (length (translated file).elements) mods))
+  silent_follows quiet = by_items (has_items for_silent file) refl quiet
     where
       by_items : (b : Bool) → has_items for_silent file ≡ b → (b && list_any has_silent (bodies file)) ≡ false →
           AllZip Follows (silent (earned None) mods) (silent own (shifted label (length (translated file).elements) mods))
@@ -334,7 +343,7 @@ module _ (file : prism.File) (v w : Valuation) (sound : IsSoundUnder file v) (al
   action_alike a c h =
       together_follow any_state (state_of file) label (Some a) (Some ((new_names file).action a)) (earned (Some a)) own refl (rewards_none (Some a) (for_action a) (action_for a) h)
       (sharing a mods) (taking (map (option_map (new_names file).action) (vector_of a mods).parts) (shifted label (length (translated file).elements) mods))
-      (taking_follows file a (own_name file a c) 0 mods few)
+      (taking_follows file label a (action_follows file a (own_name file a c)) 0 mods few)
 
   actions_follow : (as_ : List Name) → All (Contains (actions file)) as_ → AllByRecursion (λ a. has_items (for_action a) file ≡ false) as_ →
       AllZip Follows (flat_map (λ a. together (Some a) (earned (Some a)) (sharing a mods)) as_)
@@ -344,10 +353,10 @@ module _ (file : prism.File) (v w : Valuation) (sound : IsSoundUnder file v) (al
       AllZip-append Follows _ _ _ _ (action_alike a (All-head (Contains (actions file)) a as_ c) h.0) (actions_follow as_ (All-tail (Contains (actions file)) a as_ c) h.1)
 
   -- ---- all combinations
-  all_follow : AllZip Follows (of_modules earned mods)
+  all_follow : has_monitor file ≡ false → AllZip Follows (of_modules earned mods)
       (of_elements own (map (λ a. renamed_vector (new_names file).action (vector_of a mods)) (actions_of mods)) (shifted label (length (translated file).elements) mods))
-  all_follow =
-      AllZip-append Follows _ _ _ _ silent_follows
+  all_follow none =
+      AllZip-append Follows _ _ _ _ (silent_follows (or_right (is_some_name (earning_actions file)) (earns_silently file) none))
       (subst (λ (r : List Combination). AllZip Follows (flat_map (λ a. together (Some a) (earned (Some a)) (sharing a mods)) (actions_of mods)) r)
       (sym (flat_map-map (λ v. together v.result own (taking v.parts (shifted label (length (translated file).elements) mods))) (λ a. renamed_vector (new_names file).action (vector_of a mods)) (actions_of mods)))
       (actions_follow (actions_of mods)
@@ -360,4 +369,4 @@ unfolding any_state
 choices_alike file v w sound alike none s h =
     let rewards = map (λ r. no_reward) (jani_moment.moment (translated file) w (state_of file s)).rewards in
     ap₂ (λ vs es. core.choices (state_of file s) (of_elements rewards vs es)) (vectors_of_actions file sound.written none v s) (edges_are_commands file v w sound alike none s h)
-    ∙ choices_same any_state (state_of file) (option_map (new_names file).action) s refl _ _ (all_follow file v w sound alike none s)
+    ∙ choices_same any_state (state_of file) (option_map (new_names file).action) s refl _ _ (all_follow file v w sound alike s none)

@@ -61,7 +61,7 @@ unfolding IsDistinct
 distinct [] h = tt
 distinct (x ∷ xs) h = (by_recursion (λ y. bytes_eq x y ≡ false) xs h.0, distinct xs h.1)
 
-actions_distinct : (file : prism.File) → IsDistinct bytes_eq (actions file)
+pub actions_distinct : (file : prism.File) → IsDistinct bytes_eq (actions file)
 actions_distinct file = distinct (actions file) (firsts_distinct bytes_eq bytes_eq-Decides _)
 
 -- ---- the entries of actions

@@ -339,7 +339,7 @@ not_one : {X : Type 0} (b : Bool) (x : X) → b ≡ false → only_if b x ≡ []
 not_one true x h = absurd cc
 not_one false x h = refl
 
-quiet_label : (new : Name → Name) (a : Option Name) → edge_label false new a ≡ option_map new a
+pub quiet_label : (new : Name → Name) (a : Option Name) → edge_label false new a ≡ option_map new a
 quiet_label new None = refl
 quiet_label new (Some a) = refl
 

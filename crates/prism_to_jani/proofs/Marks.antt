@@ -63,7 +63,7 @@ IsFarFrom x es = (i : ℕ) (u : Entry) → slice_get es i ≡ Some u → bytes_e
 abbrev AreFarFrom : Name → List Entry → Type 0
 AreFarFrom x es = (i : ℕ) (u : Entry) → slice_get es i ≡ Some u → bytes_eq u.name x ≡ false
 
-abbrev AreApart : List Entry → Type 0
+abbrev pub AreApart : List Entry → Type 0
 AreApart es = (i j : ℕ) (e u : Entry) → (i ≡ j → ⊥) → slice_get es i ≡ Some e → slice_get es j ≡ Some u → bytes_eq e.name u.name ≡ false
 
 -- what is given to each entry's name
@@ -150,7 +150,7 @@ module _ (file : prism.File) where
       values_apart file (labels_at file (entries file) + i) (labels_at file (entries file) + j) e u (omega arith) (omega arith) (λ r. d (omega arith))
       (sym (get_dropped (labels_at file (entries file)) i (entries file)) ∙ a.1) (sym (get_dropped (labels_at file (entries file)) j (entries file)) ∙ b.1)
 
-  rewards_apart : AreApart (new_names file).rewards
+  pub rewards_apart : AreApart (new_names file).rewards
   rewards_apart i j e u d g h =
       let a = get_taken (length file.rewards) i (drop (rewards_at file (entries file)) (entries file)) e g in
       let b = get_taken (length file.rewards) j (drop (rewards_at file (entries file)) (entries file)) u h in

@@ -20,7 +20,7 @@ use Rattle.prism_tree.specs.Syntax as prism
 use Rattle.prism_tree.specs.declared.syntax.ItemOn.{ItemOn}
 use Rattle.prism_tree.specs.declared.syntax.ItemOn.TheVariants as On
 use Rattle.prism_names.specs.Names.{see}
-use Rattle.prism_flat.specs.Moment.{adds_of, item_at}
+use Rattle.prism_flat.specs.Moment.{Adds, adds_of, item_at}
 use Rattle.prism_flat.specs.Process.{is_for_states}
 use Rattle.jani_table.specs.Operators.{jani_meaning}
 use Rattle.jani_table.specs.declared.operator.JaniOp.TheVariants.{Add, Ite}
@@ -138,7 +138,21 @@ module _ (names : NewNames) (old env : Name → Seen) (n : (x : Name) → env (n
       ∙ ap (λ a. joined a (sum_of (flat_map adds (map (λ i. (item_at old i).item) is)))) (item_seen i (All-head SoundItem i is h))
       ∙ sym (sum_append (adds (item_at old i).item) (flat_map adds (map (λ i. (item_at old i).item) is)))
 
--- ---- the items for states
+-- ---- the items for something
+pub wanted_items : (p : Adds → Bool) (wanted : ItemOn → Bool) → ((o : ItemOn) → p (adds_of o) ≡ wanted o) → (old : Name → Seen) (is : List prism.Item) →
+    map (λ e. e.item) (filter (λ e. p e.adds) (map (item_at old) is)) ≡ map (λ i. (item_at old i).item) (filter (λ i. wanted i.on) is)
+wanted_items p wanted h old [] = refl
+wanted_items p wanted h old (i ∷ is) = kept (p (adds_of i.on)) (wanted i.on) (h i.on) (wanted_items p wanted h old is)
+  where
+    kept : (b c : Bool) → b ≡ c →
+        map (λ e. e.item) (filter (λ e. p e.adds) (map (item_at old) is)) ≡ map (λ i. (item_at old i).item) (filter (λ i. wanted i.on) is) →
+        map (λ e. e.item) (cond b (item_at old i ∷ filter (λ e. p e.adds) (map (item_at old) is)) (filter (λ e. p e.adds) (map (item_at old) is)))
+        ≡ map (λ i. (item_at old i).item) (cond c (i ∷ filter (λ i. wanted i.on) is) (filter (λ i. wanted i.on) is))
+    kept true true e r = ap (λ l. (item_at old i).item ∷ l) r
+    kept true false e r = absurd cc
+    kept false true e r = absurd cc
+    kept false false e r = r
+
 on_states : (o : ItemOn) → is_for_states (adds_of o) ≡ for_states o
 on_states On.InState = refl
 on_states On.Silent = refl
@@ -146,14 +160,4 @@ on_states (On.Action a) = refl
 
 pub state_items : (old : Name → Seen) (is : List prism.Item) →
     map (λ e. e.item) (filter (λ e. is_for_states e.adds) (map (item_at old) is)) ≡ map (λ i. (item_at old i).item) (filter (λ i. for_states i.on) is)
-state_items old [] = refl
-state_items old (i ∷ is) = kept (is_for_states (adds_of i.on)) (for_states i.on) (on_states i.on) (state_items old is)
-  where
-    kept : (b c : Bool) → b ≡ c →
-        map (λ e. e.item) (filter (λ e. is_for_states e.adds) (map (item_at old) is)) ≡ map (λ i. (item_at old i).item) (filter (λ i. for_states i.on) is) →
-        map (λ e. e.item) (cond b (item_at old i ∷ filter (λ e. is_for_states e.adds) (map (item_at old) is)) (filter (λ e. is_for_states e.adds) (map (item_at old) is)))
-        ≡ map (λ i. (item_at old i).item) (cond c (i ∷ filter (λ i. for_states i.on) is) (filter (λ i. for_states i.on) is))
-    kept true true e r = ap (λ l. (item_at old i).item ∷ l) r
-    kept true false e r = absurd cc
-    kept false true e r = absurd cc
-    kept false false e r = r
+state_items old is = wanted_items is_for_states for_states on_states old is

@@ -1,11 +1,11 @@
 -- What a translated file is at a state: statements, which are proved of the functions of this crate.
-use Rattle.std.specs.Prelude.{◌≡◌, ℕ, ◌+◌, ◌<◌, pos, List, [], ◌∷◌, ◌++◌, length, map, Bool, false, Option, Some, None, if◌then◌else◌, IfSome, IsTrue, Contains}
+use Rattle.std.specs.Prelude.{◌≡◌, ℕ, ◌+◌, ◌<◌, pos, List, [], ◌∷◌, ◌++◌, length, map, Bool, false, not, Option, Some, None, if◌then◌else◌, IfSome, IsTrue, Contains}
 use Rattle.std.specs.List.{All, filter}
 use Rattle.std.specs.Option.{option_map}
 use Rattle.frac_core.specs.Fraction.{whole}
 use Rattle.op_trees.specs.declared.tree.Value.{Value}
 use Rattle.op_trees.specs.declared.tree.Value.TheVariants as V
-use Rattle.process_core.specs.Process.{choice_image}
+use Rattle.process_core.specs.Process.{EquallyOften, choice_image}
 use Rattle.process_core.specs.Ready.{Values, Name, Write, Update, Ready}
 use Rattle.prism_tree.specs.Syntax as prism
 use Rattle.prism_names.specs.Names.{unchanged, see}
@@ -91,6 +91,10 @@ module _ (file : prism.File) (v : Valuation) (s : Values) where
     pub labels : All (λ l. IsSoundHere l.body) file.labels
     pub items : All (λ r. All SoundItem (filter (λ i. for_states i.on) r.items)) file.rewards
 
+  -- The expressions of the items for choices are sound at the state.
+  pub record ItemsAreSound : Type 0 where
+    pub items : All (λ r. All SoundItem (filter (λ i. not (for_states i.on)) r.items)) file.rewards
+
 -- ---- commands
 -- a write of the same value, behind so many columns
 abbrev pub shifted_write : ℕ → Write → Write
@@ -144,3 +148,16 @@ abbrev pub ChoicesAlike : prism.File → Type 0
 ChoicesAlike file = (v w : Valuation) → IsSoundUnder file v → GivesAlike file v w → has_monitor file ≡ false → (s : Values) → CommandsAreSound file v s →
     (jani_process.model (translated file)).choices w (state_of file s)
     ≡ map (choice_image (option_map (new_names file).action) (state_of file)) ((prism_process.model file).choices v s)
+
+-- Where the monitor, if there is one, earns nothing for commands without action, the choices are those of the file, in order.
+abbrev pub ChoicesInOrder : prism.File → Type 0
+ChoicesInOrder file = (v w : Valuation) → IsSoundUnder file v → GivesAlike file v w → earns_silently file ≡ false → (s : Values) → CommandsAreSound file v s → ItemsAreSound file v s →
+    (jani_process.model (translated file)).choices w (state_of file s)
+    ≡ map (choice_image (option_map (new_names file).action) (state_of file)) ((prism_process.model file).choices v s)
+
+-- Whatever the monitor earns, each choice occurs equally often. Where it earns rewards for commands without action, their
+-- choices, which come first in the file, come last.
+abbrev pub ChoicesWatched : prism.File → Type 0
+ChoicesWatched file = (v w : Valuation) → IsSoundUnder file v → GivesAlike file v w → (s : Values) → CommandsAreSound file v s → ItemsAreSound file v s →
+    EquallyOften (map (choice_image (option_map (new_names file).action) (state_of file)) ((prism_process.model file).choices v s))
+    ((jani_process.model (translated file)).choices w (state_of file s))

@@ -4,7 +4,7 @@ ghost use Rattle.prism_tree.specs.Syntax.{File};
 ghost use Rattle.prism_to_jani.specs.Laws.{OneAutomatonEach, OneElementEach, ModulesComeFirst, OneEdgeEach, ConstantTypes, ConstantValues, VariableKinds, VariableStarts, OneTransientEach, VectorsOfActions, VectorsWatched};
 ghost use Rattle.prism_to_jani.specs.NameLaws.{ValuesDiffer, ConstantNames, ActionsDiffer, ActionsAreNotSilent};
 ghost use Rattle.prism_to_jani.specs.SeenLaws.{SameConstants, ConstantsSeenAlike, ColumnsSeenAlike, FaultsAlike};
-ghost use Rattle.prism_to_jani.specs.StateLaws.{ElementsAreAutomata, NamesSeenAlike, StatesAlike, InitialAlike, StatesAreThese, StatesDiffer, EdgesAreCommands, EdgesWatched, LabelsSeenAlike, MarksAlike, ChoicesAlike};
+ghost use Rattle.prism_to_jani.specs.StateLaws.{ElementsAreAutomata, NamesSeenAlike, StatesAlike, InitialAlike, StatesAreThese, StatesDiffer, EdgesAreCommands, EdgesWatched, LabelsSeenAlike, MarksAlike, ChoicesAlike, ChoicesInOrder, ChoicesWatched};
 
 /// There is an automaton for each module, and one more with a monitor; its edges are those of the module's commands, in
 /// order. Constants and variables stand one for one, with their types, and there is a transient variable for each label
@@ -51,9 +51,10 @@ pub fn seen_law()
 
 /// The elements of the translated file are its automata. With each of them at its one location, a state of the file is a
 /// state of the translated file, which has no others, and names are seen the same there. Its edges are the commands, its
-/// marks are the same, and without a monitor so are its choices, in order. The conditions are those of `seen_law`, that the
-/// expressions of commands, labels and items are sound at the state, and for marks that there is a module, whose location
-/// gives them their values.
+/// marks are the same, and so are its choices with their rewards, in order; but where the monitor earns rewards for commands
+/// without action, their choices come last and not first, so that each choice occurs equally often. The conditions are those
+/// of `seen_law`, that the expressions of commands, labels and items are sound at the state, and for marks that there is a
+/// module, whose location gives them their values.
 pub fn state_law()
     ensures elements { (file : File) → ElementsAreAutomata file }
     ensures names { (file : File) → NamesSeenAlike file }
@@ -66,4 +67,6 @@ pub fn state_law()
     ensures labels { (file : File) → LabelsSeenAlike file }
     ensures marks { (file : File) → MarksAlike file }
     ensures choices { (file : File) → ChoicesAlike file }
+    ensures ordered_choices { (file : File) → ChoicesInOrder file }
+    ensures watched_choices { (file : File) → ChoicesWatched file }
 {}

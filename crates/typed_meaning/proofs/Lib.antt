@@ -1,3 +1,4 @@
 pub mod Agreeing
 pub mod Constants
 pub mod States
+pub mod SameMeaning

@@ -1,5 +1,5 @@
 -- At a state each name has a value of its type; so the expressions of commands, labels and items are sound at it.
-use Rattle.std.specs.Prelude.{◌≡◌, ℕ, zero, suc, ◌<◌, List, [], ◌∷◌, ◌++◌, map, length, Bool, true, false, cond, nat_eq, if◌then◌else◌, Option, Some, None, IsTrue, is_some, IfSome, Contains, bytes_eq}
+use Rattle.std.specs.Prelude.{◌≡◌, ℕ, zero, suc, ◌<◌, List, [], ◌∷◌, ◌++◌, map, length, Bool, true, false, cond, nat_eq, if◌then◌else◌, Option, Some, None, IsTrue, is_some, IfSome, Contains, bytes_eq, not}
 use Rattle.std.specs.List.{All, AllByRecursion, IsDistinct, find, filter, flat_map}
 use Rattle.std.specs.Option.{option_map}
 use Rattle.std.proofs.Common.{refl, sym, ap, subst, ◌∙◌, arith}
@@ -31,7 +31,7 @@ use Rattle.prism_images.proofs.Typed.{agreeing}
 use Rattle.prism_to_jani.specs.Asks.{bodies, variables}
 use Rattle.prism_to_jani.specs.Automata.{for_states}
 use Rattle.prism_to_jani.specs.SeenLaws.{IsSound}
-use Rattle.prism_to_jani.specs.StateLaws.{IsSoundHere, SoundWrite, SoundBranch, SoundCommand, CommandsAreSound, SoundItem, MarksAreSound}
+use Rattle.prism_to_jani.specs.StateLaws.{IsSoundHere, SoundWrite, SoundBranch, SoundCommand, CommandsAreSound, SoundItem, MarksAreSound, ItemsAreSound}
 use Rattle.prism_to_jani.proofs.Fresh.{same_bytes, equal_bytes}
 use Rattle.prism_to_jani.proofs.Written.{given_reading, variable_columns, and_left, and_right}
 use Rattle.sound_translation.proofs.Clean.{no_name_fault, values_distinct, types_declared, variable_types, declared_type}
@@ -39,7 +39,7 @@ use Rattle.sound_translation.proofs.Expressions.{HasType}
 use Rattle.sound_translation.proofs.Sources.{IsFineLabel, IsFineItem, bodies_fine, labels_fine, rewards_fine}
 use Rattle.sound_translation.proofs.Writes.{IsFineWrite}
 use Rattle.sound_translation.proofs.Edges.{IsFineBranch, IsFineCommand, commands_fine}
-use Rattle.typed_meaning.specs.MeaningLaws.{GivesTyped, FlatCommandsAreSound, FlatMarksAreSound}
+use Rattle.typed_meaning.specs.MeaningLaws.{GivesTyped, FlatCommandsAreSound, FlatMarksAreSound, FlatItemsAreSound}
 use Rattle.typed_meaning.proofs.Agreeing.{all_then, some_agrees, AreTyped, sound, value_typed}
 use Rattle.typed_meaning.proofs.Constants.{constant_typed}
 
@@ -213,8 +213,8 @@ module _ (file : prism.File) (flat : IsFlat file) (v : Valuation) (gives : Gives
   item_sound : (i : prism.Item) → IsGoodItem i → SoundItem file v s i
   item_sound i h = (sound_here T.Bool i.guard h.1.0, no_number_here i.guard h.0.1 h.1.0, sound_here T.Real i.value h.1.1)
 
-  items_sound : (r : prism.Rewards) → Each IsGoodItem r.items → All (SoundItem file v s) (filter (λ i. for_states i.on) r.items)
-  items_sound r h = All-filter (λ i. for_states i.on) (SoundItem file v s) r.items (all_then IsGoodItem (SoundItem file v s) item_sound r.items h)
+  items_sound : (wanted : prism.Item → Bool) (r : prism.Rewards) → Each IsGoodItem r.items → All (SoundItem file v s) (filter wanted r.items)
+  items_sound wanted r h = All-filter wanted (SoundItem file v s) r.items (all_then IsGoodItem (SoundItem file v s) item_sound r.items h)
 
   good_items : Each (λ r. Each IsGoodItem r.items) file.rewards
   good_items =
@@ -227,11 +227,17 @@ module _ (file : prism.File) (flat : IsFlat file) (v : Valuation) (gives : Gives
     values = values;
     some_module = some_module;
     labels = all_then (IsFineLabel file flat) (λ l. IsSoundHere file v s l.body) (λ l h. sound_here T.Bool l.body h) file.labels (labels_fine file flat);
-    items = all_then (λ r. Each IsGoodItem r.items) (λ r. All (SoundItem file v s) (filter (λ i. for_states i.on) r.items)) items_sound file.rewards good_items;
+    items = all_then (λ r. Each IsGoodItem r.items) (λ r. All (SoundItem file v s) (filter (λ i. for_states i.on) r.items)) (items_sound (λ i. for_states i.on)) file.rewards good_items;
   }
+
+  pub choice_items_sound : ItemsAreSound file v s
+  choice_items_sound = record { items = all_then (λ r. Each IsGoodItem r.items) (λ r. All (SoundItem file v s) (filter (λ i. not (for_states i.on)) r.items)) (items_sound (λ i. not (for_states i.on))) file.rewards good_items }
 
 pub commands_are_sound : (file : prism.File) → FlatCommandsAreSound file
 commands_are_sound file flat v gives s state = commands_sound file flat v gives s state
 
 pub marks_are_sound : (file : prism.File) → FlatMarksAreSound file
 marks_are_sound file flat v gives s state = marks_sound file flat v gives s state
+
+pub items_are_sound : (file : prism.File) → FlatItemsAreSound file
+items_are_sound file flat v gives s state = choice_items_sound file flat v gives s state

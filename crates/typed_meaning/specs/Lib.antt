@@ -1,1 +1,2 @@
 pub mod MeaningLaws
+pub mod SameMeaning

@@ -9,7 +9,7 @@ use Rattle.prism_flat.specs.Instance.{Valuation}
 use Rattle.prism_flat.specs.Process.{model}
 use Rattle.prism_clean.specs.Flattened.{IsFlat}
 use Rattle.prism_to_jani.specs.SeenLaws.{IsSoundUnder}
-use Rattle.prism_to_jani.specs.StateLaws.{CommandsAreSound, MarksAreSound}
+use Rattle.prism_to_jani.specs.StateLaws.{CommandsAreSound, MarksAreSound, ItemsAreSound}
 
 -- what the valuation gives each constant without an expression, where it gives something, is a value of its type
 abbrev pub GivesTyped : prism.File → Valuation → Type 0
@@ -26,3 +26,7 @@ FlatCommandsAreSound file = IsFlat file → (v : Valuation) → GivesTyped file 
 -- There is a module, and at a state the expressions of labels and items are sound, and no guard of an item is a number.
 abbrev pub FlatMarksAreSound : prism.File → Type 0
 FlatMarksAreSound file = IsFlat file → (v : Valuation) → GivesTyped file v → (s : Values) → (model file).is_state v s ≡ true → MarksAreSound file v s
+
+-- At a state the expressions of items for choices are sound, and no guard of one is a number.
+abbrev pub FlatItemsAreSound : prism.File → Type 0
+FlatItemsAreSound file = IsFlat file → (v : Valuation) → GivesTyped file v → (s : Values) → (model file).is_state v s ≡ true → ItemsAreSound file v s

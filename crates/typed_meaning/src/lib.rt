@@ -1,7 +1,7 @@
 //! What a PRISM file without faults, its formulas and copies written out, has of the conditions under which its translation
-//! means the same. All of it stands in `specs/`; the functions here are its laws.
+//! means the same; and that it does. All of it stands in `specs/`; the functions here are its laws.
 #![tactic(auto)]
 
 mod laws;
 
-pub use laws::{sound_at_states_law, sound_under_law};
+pub use laws::{same_meaning_law, sound_at_states_law, sound_under_law};

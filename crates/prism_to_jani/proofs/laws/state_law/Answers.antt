@@ -4,7 +4,8 @@ use Rattle.prism_to_jani.proofs.States.{states_alike, initial_alike, states_are_
 use Rattle.prism_to_jani.proofs.Edges.{edges_are_commands, edges_watched}
 use Rattle.prism_to_jani.proofs.Marks.{labels_seen_alike, marks_alike}
 use Rattle.prism_to_jani.proofs.Choices.{choices_alike}
+use Rattle.prism_to_jani.proofs.WatchedSilently.{choices_in_order, choices_watched}
 use Rattle.prism_to_jani.proofs.laws.state_law.Goals as goal
 
 pub returns : goal.returns
-returns c = record { elements = elements_are; names = names_seen_alike; states = states_alike; initial = initial_alike; onto = states_are_these; one = states_differ; edges = edges_are_commands; watched = edges_watched; labels = labels_seen_alike; marks = marks_alike; choices = choices_alike }
+returns c = record { elements = elements_are; names = names_seen_alike; states = states_alike; initial = initial_alike; onto = states_are_these; one = states_differ; edges = edges_are_commands; watched = edges_watched; labels = labels_seen_alike; marks = marks_alike; choices = choices_alike; ordered_choices = choices_in_order; watched_choices = choices_watched }

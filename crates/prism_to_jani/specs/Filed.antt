@@ -1,0 +1,18 @@
+-- A JANI file of its parts.
+use Rattle.std.specs.Prelude.{List, map}
+use Rattle.bridge_io.specs.declared.reason.Named.{Named}
+use Rattle.jani_table.specs.Node.{array, no_nodes}
+use Rattle.jani_tree.specs.Syntax.{Const, Var, Automaton, Vector, File}
+
+-- the file of these parts, whose elements are its automata
+abbrev pub filed : List Named → List Const → List Var → List Automaton → List Vector → File
+filed actions constants variables automata vectors = record {
+  actions = actions;
+  constants = constants;
+  variables = variables;
+  automata = automata;
+  elements = map (λ a. a.name) automata;
+  elements_at = 0;
+  vectors = vectors;
+  properties = array 0 no_nodes;
+}
