@@ -303,17 +303,18 @@ pub(crate) fn verdict(digits: &Digits) -> bool
     }
 }
 
-/// Whether the longest number that ends before this next stage breaks a limit; where a number may end at that stage
-/// too, nobody asks.
+/// Whether the longest number that ends before this next stage breaks a limit; not where a number may end at that stage
+/// too, since nobody asks then.
 fn before_next(digits: &Digits, next: Stage) -> bool
-    ensures { is_end next ≡ false → result ≡ verdict digits.now }
+    ensures { result ≡ (if is_end next then false else verdict digits.now) }
 {
     if is_end(next) { false } else { verdict(digits) }
 }
 
 /// What is read of a number with a further byte, which leads to this stage.
 pub(crate) fn next_digit(digits: Digits, next: Stage, c: u8) -> Result<Digits, AllocError>
-    ensures { IfOk result (λ longer. (longer.stage ≡ next) × (longer.text ≡ digits.text ++ c ∷ []) × (is_end next ≡ false → longer.before ≡ verdict digits)) }
+    ensures open { IfOk result (λ longer. (longer.stage ≡ next) × (longer.text ≡ digits.text ++ c ∷ []) × (is_end next ≡ false → longer.before ≡ verdict digits)) }
+    ensures before { IfOk result (λ longer. longer.before ≡ (if is_end next then false else verdict digits)) }
 {
     let before = before_next(&digits, next);
     let mut text = digits.text;

@@ -1,6 +1,6 @@
 // The canonical text of a value.
 
-ghost use Rattle.std.specs.Prelude.{◌≡◌, ◌++◌, ◌≤◌, ◌<◌, ◌^◌, length, take, OnOk, IfOk, decimal, true};
+ghost use Rattle.std.specs.Prelude.{◌≡◌, ◌++◌, ◌≤◌, ◌<◌, ◌^◌, length, take, slice_index, OnOk, IfOk, decimal, true, false};
 ghost use Rattle.std.specs.Str.{is_utf8};
 ghost use Rattle.frac_core.specs.Decimal.{is_normal};
 ghost use Rattle.decimal_json.specs.Proper.{all_normal, is_kept, is_proper, SpellsValue};
@@ -125,7 +125,8 @@ fn is_bare(c: u8) -> bool
 
 /// How many of the first bytes are written as they are.
 fn bare_front(bytes: &[u8]) -> usize
-    ensures { (result ≤ length bytes.now) × AllBare (take result bytes.now) }
+    ensures all { (result ≤ length bytes.now) × AllBare (take result bytes.now) }
+    ensures stops { result < length bytes.now → is_bare (slice_index bytes.now result) ≡ false }
 {
     let mut n = 0usize;
     while n < bytes.len() && is_bare(bytes[n]) {

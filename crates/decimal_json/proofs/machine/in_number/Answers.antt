@@ -11,7 +11,7 @@ returns-then-not-is_end c = number_stuck _ _ _ c.args.digits c.args.frames (verd
 
 pub returns-in-Some : goal.returns-in-Some
 returns-in-Some c p e =
-    let d = c.in_ok-longer-in-Some.ensures in
+    let d = c.in_ok-longer-in-Some.ensures.open in
     number_goes _ _ _ c.args.digits c.args.frames _ _ p e (sym c.onward.ensures ∙ c.in-Some.is) d.0 d.1 (λ f. d.2 (sym (ap is_end d.0) ∙ f))
 
 pub returns-in-None-measure : goal.returns-in-None-measure
