@@ -30,12 +30,10 @@ fn translation(alloc: Global, text: &[u8]) -> Result<List<u8>, AllocError> {
 
 /// Whether a text has this part.
 fn has(text: &[u8], part: &[u8]) -> bool {
-    let mut at = 0usize;
-    while at < text.len() {
+    for at in 0..text.len() {
         if text[at..].starts_with(part) {
             return true;
         }
-        at += 1;
     }
     false
 }
