@@ -7,6 +7,7 @@ mod bodies;
 mod file;
 mod laws;
 mod modules;
+mod nodes;
 mod parts;
 mod renaming;
 mod rewriter;

@@ -2,12 +2,13 @@
 
 ghost use Rattle.std.specs.Prelude.{◌≡◌, IfOk};
 ghost use Rattle.std.specs.Option.{option_map};
-ghost use Rattle.op_trees.specs.Tree.{renamed, substituted, tree};
+ghost use Rattle.op_trees.specs.Tree.{Name, renamed, replaced, substituted, tree};
 ghost use Rattle.prism_tree.specs.Syntax.{range_of};
 ghost use Rattle.prism_flat.specs.Rewritten.{rewritten_name, rewritten_range};
 ghost use Rattle.prism_flat.specs.Tables.{body_in, name_in, rewriting};
 
 use crate::bodies::Table;
+use crate::nodes::{one, three, two};
 use crate::renaming::Renaming;
 use bridge_io::{Named, Text};
 use op_trees::{Bodies, Expr};
@@ -108,29 +109,32 @@ fn renamed(alloc: Global, e: &Pe, renaming: &Renaming) -> Result<Pe, AllocError>
     match e {
         Expr::Truth(at, b) => Ok(Expr::Truth(*at, *b)),
         Expr::Number(at, d) => Ok(Expr::Number(*at, *d)),
-        Expr::Name(at, x) => {
-            let name = renaming.new_name(x.as_str());
-            Ok(Expr::Name(*at, Text::copy_of(alloc, name)?))
-        }
-        Expr::One(at, o, a) => Ok(Expr::One(
+        Expr::Name(at, x) => renamed_name(alloc, *at, x.as_str(), renaming),
+        Expr::One(at, o, a) => one(alloc, *at, *o, renamed(alloc, a, renaming)),
+        Expr::Two(at, o, a, b) => two(
+            alloc,
             *at,
             *o,
-            Box::new(alloc, renamed(alloc, a, renaming)?)?,
-        )),
-        Expr::Two(at, o, a, b) => Ok(Expr::Two(
+            renamed(alloc, a, renaming),
+            renamed(alloc, b, renaming),
+        ),
+        Expr::Three(at, o, a, b, c) => three(
+            alloc,
             *at,
             *o,
-            Box::new(alloc, renamed(alloc, a, renaming)?)?,
-            Box::new(alloc, renamed(alloc, b, renaming)?)?,
-        )),
-        Expr::Three(at, o, a, b, c) => Ok(Expr::Three(
-            *at,
-            *o,
-            Box::new(alloc, renamed(alloc, a, renaming)?)?,
-            Box::new(alloc, renamed(alloc, b, renaming)?)?,
-            Box::new(alloc, renamed(alloc, c, renaming)?)?,
-        )),
+            renamed(alloc, a, renaming),
+            renamed(alloc, b, renaming),
+            renamed(alloc, c, renaming),
+        ),
     }
+}
+
+/// A name replaced.
+fn renamed_name(alloc: Global, at: usize, x: &str, renaming: &Renaming) -> Result<Pe, AllocError>
+    ensures { IfOk result (λ r. tree r ≡ Name at (name_in renaming.now x.now)) }
+{
+    let name = renaming.new_name(x);
+    Ok(Expr::Name(at, Text::copy_of(alloc, name)?))
 }
 
 /// An expression in which names that have bodies are replaced by them, and then all names are replaced.
@@ -140,30 +144,39 @@ fn written(alloc: Global, e: &Pe, bodies: &Table, renaming: &Renaming) -> Result
     match e {
         Expr::Truth(at, b) => Ok(Expr::Truth(*at, *b)),
         Expr::Number(at, d) => Ok(Expr::Number(*at, *d)),
-        Expr::Name(at, x) => match bodies.body(x.as_str()) {
-            Some(body) => Ok(renamed(alloc, body, renaming)?),
-            None => {
-                let name = renaming.new_name(x.as_str());
-                Ok(Expr::Name(*at, Text::copy_of(alloc, name)?))
-            }
-        },
-        Expr::One(at, o, a) => Ok(Expr::One(
+        Expr::Name(at, x) => written_name(alloc, *at, x.as_str(), bodies, renaming),
+        Expr::One(at, o, a) => one(alloc, *at, *o, written(alloc, a, bodies, renaming)),
+        Expr::Two(at, o, a, b) => two(
+            alloc,
             *at,
             *o,
-            Box::new(alloc, written(alloc, a, bodies, renaming)?)?,
-        )),
-        Expr::Two(at, o, a, b) => Ok(Expr::Two(
+            written(alloc, a, bodies, renaming),
+            written(alloc, b, bodies, renaming),
+        ),
+        Expr::Three(at, o, a, b, c) => three(
+            alloc,
             *at,
             *o,
-            Box::new(alloc, written(alloc, a, bodies, renaming)?)?,
-            Box::new(alloc, written(alloc, b, bodies, renaming)?)?,
-        )),
-        Expr::Three(at, o, a, b, c) => Ok(Expr::Three(
-            *at,
-            *o,
-            Box::new(alloc, written(alloc, a, bodies, renaming)?)?,
-            Box::new(alloc, written(alloc, b, bodies, renaming)?)?,
-            Box::new(alloc, written(alloc, c, bodies, renaming)?)?,
-        )),
+            written(alloc, a, bodies, renaming),
+            written(alloc, b, bodies, renaming),
+            written(alloc, c, bodies, renaming),
+        ),
+    }
+}
+
+/// The body of a name with its names replaced, or the name replaced where it has none.
+fn written_name(
+    alloc: Global,
+    at: usize,
+    x: &str,
+    bodies: &Table,
+    renaming: &Renaming,
+) -> Result<Pe, AllocError>
+    ensures { IfOk result
+        (λ r. tree r ≡ renamed (name_in renaming.now) (replaced (Name at x.now) (body_in bodies.now x.now))) }
+{
+    match bodies.body(x) {
+        Some(body) => Ok(renamed(alloc, body, renaming)?),
+        None => Ok(renamed_name(alloc, at, x, renaming)?),
     }
 }
