@@ -1,10 +1,10 @@
 // New trees made of old ones: copies, substitution, and a change of operators and names.
 
-ghost use Rattle.std.specs.Prelude.{◌≡◌, IfOk, List, Option, ℕ};
+ghost use Rattle.std.specs.Prelude.{◌≡◌, IfOk, IsOkAnd, List, Ok, Option, ℕ};
 ghost use Rattle.std.specs.Option.{option_copied, option_map};
-ghost use Rattle.op_trees.specs.Tree.{Tree, substituted, tree};
+ghost use Rattle.op_trees.specs.Tree.{Tree, Name, One, Two, Three, replaced, substituted, tree};
 ghost use Rattle.op_trees.specs.Seen.{SeesBodies};
-ghost use Rattle.op_trees.specs.Rebuilt.{KeepsAnswers, Node, mapped, shape};
+ghost use Rattle.op_trees.specs.Rebuilt.{KeepsAnswers, Node, NameNode, OneNode, TwoNode, ThreeNode, mapped, shape};
 
 use crate::operator::Operator;
 use crate::tree::Expr;
@@ -48,21 +48,17 @@ pub fn copy_expr<O: Operator>(alloc: Global, e: &Expr<O>) -> Result<Expr<O>, All
     match e {
         Expr::Truth(at, b) => Ok(Expr::Truth(*at, *b)),
         Expr::Number(at, d) => Ok(Expr::Number(*at, *d)),
-        Expr::Name(at, x) => Ok(Expr::Name(*at, Text::copy_of(alloc, x.as_str())?)),
-        Expr::One(at, o, a) => Ok(Expr::One(*at, *o, Box::new(alloc, copy_expr(alloc, a)?)?)),
-        Expr::Two(at, o, a, b) => Ok(Expr::Two(
+        Expr::Name(at, x) => name(alloc, *at, x.as_str()),
+        Expr::One(at, o, a) => one(alloc, *at, *o, copy_expr(alloc, a)),
+        Expr::Two(at, o, a, b) => two(alloc, *at, *o, copy_expr(alloc, a), copy_expr(alloc, b)),
+        Expr::Three(at, o, a, b, c) => three(
+            alloc,
             *at,
             *o,
-            Box::new(alloc, copy_expr(alloc, a)?)?,
-            Box::new(alloc, copy_expr(alloc, b)?)?,
-        )),
-        Expr::Three(at, o, a, b, c) => Ok(Expr::Three(
-            *at,
-            *o,
-            Box::new(alloc, copy_expr(alloc, a)?)?,
-            Box::new(alloc, copy_expr(alloc, b)?)?,
-            Box::new(alloc, copy_expr(alloc, c)?)?,
-        )),
+            copy_expr(alloc, a),
+            copy_expr(alloc, b),
+            copy_expr(alloc, c),
+        ),
     }
 }
 
@@ -78,32 +74,116 @@ pub fn substitute<O: Operator, B: Bodies<O>>(
     ensures answers { IfOk result
         (λ r. SeesBodies O.meaning (B.bodies bodies.now) (tree e.now) (tree r)) }
 {
+    with_bodies(alloc, e, bodies)
+}
+
+/// The same by recursion.
+fn with_bodies<O: Operator, B: Bodies<O>>(
+    alloc: Global,
+    e: &Expr<O>,
+    bodies: &B,
+) -> Result<Expr<O>, AllocError>
+    ensures { IfOk result (λ r. tree r ≡ substituted (B.bodies bodies.now) (tree e.now)) }
+{
     match e {
         Expr::Truth(at, b) => Ok(Expr::Truth(*at, *b)),
         Expr::Number(at, d) => Ok(Expr::Number(*at, *d)),
-        Expr::Name(at, x) => match bodies.body(x.as_str()) {
-            Some(b) => Ok(copy_expr(alloc, b)?),
-            None => Ok(Expr::Name(*at, Text::copy_of(alloc, x.as_str())?)),
-        },
-        Expr::One(at, o, a) => Ok(Expr::One(
+        Expr::Name(at, x) => body_or_name(alloc, *at, x.as_str(), bodies),
+        Expr::One(at, o, a) => one(alloc, *at, *o, with_bodies(alloc, a, bodies)),
+        Expr::Two(at, o, a, b) => two(
+            alloc,
             *at,
             *o,
-            Box::new(alloc, substitute(alloc, a, bodies)?)?,
-        )),
-        Expr::Two(at, o, a, b) => Ok(Expr::Two(
+            with_bodies(alloc, a, bodies),
+            with_bodies(alloc, b, bodies),
+        ),
+        Expr::Three(at, o, a, b, c) => three(
+            alloc,
             *at,
             *o,
-            Box::new(alloc, substitute(alloc, a, bodies)?)?,
-            Box::new(alloc, substitute(alloc, b, bodies)?)?,
-        )),
-        Expr::Three(at, o, a, b, c) => Ok(Expr::Three(
-            *at,
-            *o,
-            Box::new(alloc, substitute(alloc, a, bodies)?)?,
-            Box::new(alloc, substitute(alloc, b, bodies)?)?,
-            Box::new(alloc, substitute(alloc, c, bodies)?)?,
-        )),
+            with_bodies(alloc, a, bodies),
+            with_bodies(alloc, b, bodies),
+            with_bodies(alloc, c, bodies),
+        ),
     }
+}
+
+/// The body of a name, or the name where it has none.
+fn body_or_name<O: Operator, B: Bodies<O>>(
+    alloc: Global,
+    at: usize,
+    x: &str,
+    bodies: &B,
+) -> Result<Expr<O>, AllocError>
+    ensures { IfOk result (λ r. tree r ≡ replaced (Name at x.now) (B.bodies bodies.now x.now)) }
+{
+    match bodies.body(x) {
+        Some(b) => Ok(copy_expr(alloc, b)?),
+        None => Ok(name(alloc, at, x)?),
+    }
+}
+
+/// A node that is a name, which is copied.
+fn name<O: Operator>(alloc: Global, at: usize, x: &str) -> Result<Expr<O>, AllocError>
+    ensures { IfOk result (λ r. tree r ≡ Name at x.now) }
+{
+    Ok(Expr::Name(at, Text::copy_of(alloc, x)?))
+}
+
+/// A node over one operand that was made.
+fn one<O: Operator>(
+    alloc: Global,
+    at: usize,
+    o: O,
+    a: Result<Expr<O>, AllocError>,
+) -> Result<Expr<O>, AllocError>
+    ensures { IfOk result (λ r. IsOkAnd a (λ x. tree r ≡ One at o (tree x))) }
+{
+    Ok(Expr::One(at, o, boxed(alloc, a)?))
+}
+
+/// A node over two operands that were made.
+fn two<O: Operator>(
+    alloc: Global,
+    at: usize,
+    o: O,
+    a: Result<Expr<O>, AllocError>,
+    b: Result<Expr<O>, AllocError>,
+) -> Result<Expr<O>, AllocError>
+    ensures { IfOk result
+        (λ r. IsOkAnd a (λ x. IsOkAnd b (λ y. tree r ≡ Two at o (tree x) (tree y)))) }
+{
+    let first = boxed(alloc, a);
+    let second = boxed(alloc, b);
+    Ok(Expr::Two(at, o, first?, second?))
+}
+
+/// A node over three operands that were made.
+fn three<O: Operator>(
+    alloc: Global,
+    at: usize,
+    o: O,
+    a: Result<Expr<O>, AllocError>,
+    b: Result<Expr<O>, AllocError>,
+    c: Result<Expr<O>, AllocError>,
+) -> Result<Expr<O>, AllocError>
+    ensures { IfOk result (λ r. IsOkAnd a (λ x. IsOkAnd b
+        (λ y. IsOkAnd c (λ z. tree r ≡ Three at o (tree x) (tree y) (tree z))))) }
+{
+    let first = boxed(alloc, a);
+    let second = boxed(alloc, b);
+    let third = boxed(alloc, c);
+    Ok(Expr::Three(at, o, first?, second?, third?))
+}
+
+/// A tree that was made, in a place of its own.
+fn boxed<O: Operator>(
+    alloc: Global,
+    made: Result<Expr<O>, AllocError>,
+) -> Result<Box<Expr<O>>, AllocError>
+    ensures { IfOk result (λ place. made ≡ Ok place.value) }
+{
+    Ok(Box::new(alloc, made?)?)
 }
 
 /// The tree in which each node is rebuilt over its rebuilt operands. It keeps every answer, under
@@ -117,27 +197,102 @@ pub fn map_ops<O: Operator, Q: Operator, M: OpMap<O, Q>>(
     ensures answers { IfOk result
         (λ r. KeepsAnswers O.meaning Q.meaning (M.rebuilt map.now) (tree e.now) (tree r)) }
 {
+    rebuilt(alloc, e, map)
+}
+
+/// The same by recursion.
+fn rebuilt<O: Operator, Q: Operator, M: OpMap<O, Q>>(
+    alloc: Global,
+    e: &Expr<O>,
+    map: &M,
+) -> Result<Expr<Q>, AllocError>
+    ensures { IfOk result (λ r. tree r ≡ mapped (M.rebuilt map.now) (tree e.now)) }
+{
     match e {
-        Expr::Truth(at, b) => Ok(map.rebuild(alloc, Shape::Truth(*at, *b))?),
-        Expr::Number(at, d) => Ok(map.rebuild(alloc, Shape::Number(*at, *d))?),
-        Expr::Name(at, x) => Ok(map.rebuild(
+        Expr::Truth(at, b) => map.rebuild(alloc, Shape::Truth(*at, *b)),
+        Expr::Number(at, d) => map.rebuild(alloc, Shape::Number(*at, *d)),
+        Expr::Name(at, x) => rebuilt_name(alloc, map, *at, x.as_str()),
+        Expr::One(at, o, a) => rebuilt_one(alloc, map, *at, *o, rebuilt(alloc, a, map)),
+        Expr::Two(at, o, a, b) => rebuilt_two(
             alloc,
-            Shape::Name(*at, Text::copy_of(alloc, x.as_str())?),
-        )?),
-        Expr::One(at, o, a) => {
-            let first = Box::new(alloc, map_ops(alloc, a, map)?)?;
-            Ok(map.rebuild(alloc, Shape::One(*at, *o, first))?)
-        }
-        Expr::Two(at, o, a, b) => {
-            let first = Box::new(alloc, map_ops(alloc, a, map)?)?;
-            let second = Box::new(alloc, map_ops(alloc, b, map)?)?;
-            Ok(map.rebuild(alloc, Shape::Two(*at, *o, first, second))?)
-        }
-        Expr::Three(at, o, a, b, c) => {
-            let first = Box::new(alloc, map_ops(alloc, a, map)?)?;
-            let second = Box::new(alloc, map_ops(alloc, b, map)?)?;
-            let third = Box::new(alloc, map_ops(alloc, c, map)?)?;
-            Ok(map.rebuild(alloc, Shape::Three(*at, *o, first, second, third))?)
-        }
+            map,
+            *at,
+            *o,
+            rebuilt(alloc, a, map),
+            rebuilt(alloc, b, map),
+        ),
+        Expr::Three(at, o, a, b, c) => rebuilt_three(
+            alloc,
+            map,
+            *at,
+            *o,
+            rebuilt(alloc, a, map),
+            rebuilt(alloc, b, map),
+            rebuilt(alloc, c, map),
+        ),
     }
+}
+
+/// A name rebuilt.
+fn rebuilt_name<O: Operator, Q: Operator, M: OpMap<O, Q>>(
+    alloc: Global,
+    map: &M,
+    at: usize,
+    x: &str,
+) -> Result<Expr<Q>, AllocError>
+    ensures { IfOk result (λ r. tree r ≡ M.rebuilt map.now (NameNode at x.now)) }
+{
+    let name = Text::copy_of(alloc, x)?;
+    Ok(map.rebuild(alloc, Shape::Name(at, name))?)
+}
+
+/// A node rebuilt over its rebuilt operand.
+fn rebuilt_one<O: Operator, Q: Operator, M: OpMap<O, Q>>(
+    alloc: Global,
+    map: &M,
+    at: usize,
+    o: O,
+    a: Result<Expr<Q>, AllocError>,
+) -> Result<Expr<Q>, AllocError>
+    ensures { IfOk result
+        (λ r. IsOkAnd a (λ x. tree r ≡ M.rebuilt map.now (OneNode at o (tree x)))) }
+{
+    let first = boxed(alloc, a)?;
+    Ok(map.rebuild(alloc, Shape::One(at, o, first))?)
+}
+
+/// A node rebuilt over its two rebuilt operands.
+fn rebuilt_two<O: Operator, Q: Operator, M: OpMap<O, Q>>(
+    alloc: Global,
+    map: &M,
+    at: usize,
+    o: O,
+    a: Result<Expr<Q>, AllocError>,
+    b: Result<Expr<Q>, AllocError>,
+) -> Result<Expr<Q>, AllocError>
+    ensures { IfOk result (λ r. IsOkAnd a (λ x. IsOkAnd b
+        (λ y. tree r ≡ M.rebuilt map.now (TwoNode at o (tree x) (tree y))))) }
+{
+    let first = boxed(alloc, a);
+    let second = boxed(alloc, b);
+    Ok(map.rebuild(alloc, Shape::Two(at, o, first?, second?))?)
+}
+
+/// A node rebuilt over its three rebuilt operands.
+fn rebuilt_three<O: Operator, Q: Operator, M: OpMap<O, Q>>(
+    alloc: Global,
+    map: &M,
+    at: usize,
+    o: O,
+    a: Result<Expr<Q>, AllocError>,
+    b: Result<Expr<Q>, AllocError>,
+    c: Result<Expr<Q>, AllocError>,
+) -> Result<Expr<Q>, AllocError>
+    ensures { IfOk result (λ r. IsOkAnd a (λ x. IsOkAnd b (λ y. IsOkAnd c
+        (λ z. tree r ≡ M.rebuilt map.now (ThreeNode at o (tree x) (tree y) (tree z)))))) }
+{
+    let first = boxed(alloc, a);
+    let second = boxed(alloc, b);
+    let third = boxed(alloc, c);
+    Ok(map.rebuild(alloc, Shape::Three(at, o, first?, second?, third?))?)
 }
