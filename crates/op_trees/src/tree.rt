@@ -12,7 +12,7 @@ pub enum Ty {
 }
 
 /// A value: a truth value or an exact fraction.
-#[derive(Clone, Copy, Debug)]
+#[derive(Clone, Copy)]
 pub enum Value {
     Truth(bool),
     Number(Frac),
@@ -28,7 +28,7 @@ pub enum EvalFail {
 
 /// What an operator does after its first operand: it is done with a value, it has the value of its
 /// second or third operand, or it reads all operands.
-#[derive(Clone, Copy, Debug)]
+#[derive(Clone, Copy)]
 pub enum Next {
     Done(Value),
     Second,
