@@ -5,10 +5,11 @@ ghost use Rattle.bridge_io.specs.declared.reason.Refused.TheVariants.{Memory};
 
 use crate::Text;
 use std::alloc::AllocError;
+use std::fmt;
 use thiserror::Error;
 
 /// Why a file is refused. Each reason has a number and a name of its own, which a refusal line shows.
-#[derive(Clone, Copy, Debug, PartialEq, Eq)]
+#[derive(Clone, Copy, PartialEq, Eq)]
 pub enum Reason {
     /// A file, a name or a string is longer than the limit.
     TooLong = 1,
@@ -152,6 +153,12 @@ impl Reason {
             Reason::RowSyntax => "RowSyntax",
             Reason::NotYet => "NotYet",
         }
+    }
+}
+
+impl fmt::Debug for Reason {
+    fn fmt<W: fmt::Write>(&self, f: &mut fmt::Formatter<W>) -> fmt::Result {
+        f.write_str(self.name())
     }
 }
 
