@@ -2,7 +2,7 @@
 -- (The table is this project's own.)
 use Rattle.std.specs.Prelude.{ℕ, List, codes}
 use Rattle.bridge_io.specs.declared.reason.Reason.{Reason}
-use Rattle.bridge_io.specs.declared.reason.Reason.TheVariants.{TooLong, BadByte, BadNumber, Syntax, TooDeep, OtherKind, LeftOut, TwiceNamed, Unknown, Cycle, RenameMissing, RenameOfRenamed, WrongType, NotConstant, ForeignWrite, SyncGlobalWrite, WrittenTwice, Nothing, TooLarge, JsonSyntax, TwiceMember, MissingMember, UnknownMember, WrongShape, OtherFeature, UnboundedVariable, RealVariable, TransientRead, TransientInitial, TransientTwoAutomata, LabelOnEdge, BranchReward, TwoRewardWriters, SharedWrite, BadVector, InputEnable, InitialSet, NoDestination, RepeatedAutomaton, PropertyLeftOut, RowSyntax, NotYet}
+use Rattle.bridge_io.specs.declared.reason.Reason.TheVariants.{TooLong, BadByte, BadNumber, Syntax, TooDeep, OtherKind, LeftOut, TwiceNamed, Unknown, Cycle, RenameMissing, RenameOfRenamed, WrongType, NotConstant, ForeignWrite, SyncGlobalWrite, WrittenTwice, Nothing, TooLarge, JsonSyntax, TwiceMember, MissingMember, UnknownMember, WrongShape, OtherFeature, UnboundedVariable, RealVariable, TransientRead, TransientInitial, TransientTwoAutomata, LabelOnEdge, BranchReward, TwoRewardWriters, SharedWrite, BadVector, InputEnable, InitialSet, NoDestination, RepeatedAutomaton, PropertyLeftOut, RowSyntax}
 
 -- its number
 abbrev pub number_of : Reason → ℕ
@@ -47,7 +47,6 @@ number_of NoDestination = 38
 number_of RepeatedAutomaton = 39
 number_of PropertyLeftOut = 40
 number_of RowSyntax = 41
-number_of NotYet = 42
 
 -- its name
 abbrev pub name_of : Reason → List ℕ
@@ -92,4 +91,3 @@ name_of NoDestination = codes "NoDestination"
 name_of RepeatedAutomaton = codes "RepeatedAutomaton"
 name_of PropertyLeftOut = codes "PropertyLeftOut"
 name_of RowSyntax = codes "RowSyntax"
-name_of NotYet = codes "NotYet"

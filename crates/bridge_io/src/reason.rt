@@ -93,8 +93,6 @@ pub enum Reason {
     PropertyLeftOut = 40,
     /// A line of a file of states, of rows or of a path is not of its form.
     RowSyntax = 41,
-    /// A form that is not translated yet.
-    NotYet = 42,
 }
 
 impl Reason {
@@ -151,7 +149,6 @@ impl Reason {
             Reason::RepeatedAutomaton => "RepeatedAutomaton",
             Reason::PropertyLeftOut => "PropertyLeftOut",
             Reason::RowSyntax => "RowSyntax",
-            Reason::NotYet => "NotYet",
         }
     }
 }

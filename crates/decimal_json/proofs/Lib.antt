@@ -26,3 +26,4 @@ pub mod Held
 pub mod Nested
 pub mod Follows
 pub mod Once
+pub mod Behind

@@ -17,6 +17,6 @@ mod tree;
 mod write;
 
 pub use feed::read_json;
-pub use laws::one_value;
+pub use laws::{line_feed_law, one_value};
 pub use tree::{Json, Member};
 pub use write::write_json;

@@ -55,16 +55,27 @@ abbrev pub IsIn : {X : Type 0} → X → List X → Type 0
 IsIn x [] = ⊥
 IsIn x (y ∷ ys) = (x ≡ y) ⊎ IsIn x ys
 
--- Under this valuation the map of states is one to one and onto, and keeps what is seen at each state.
-pub record SameAt {V F G L K W M S T : Type 0} (p : Model V F L W M S) (q : Model V G K W M T) (label : Option L → Option K) (state : S → T) (v : V) : Type 0 where
-  pub into : (s : S) → IsTrue (p.is_state v s) → IsTrue (q.is_state v (state s))
-  pub one : (s t : S) → IsTrue (p.is_state v s) → IsTrue (p.is_state v t) → state s ≡ state t → s ≡ t
-  pub onto : (u : T) → IsTrue (q.is_state v u) → (s : S) × IsTrue (p.is_state v s) × (state s ≡ u)
-  pub initial : (s : S) → IsTrue (p.is_state v s) → p.is_initial v s ≡ q.is_initial v (state s)
-  pub marks : (s : S) → IsTrue (p.is_state v s) → p.marks v s ≡ q.marks v (state s)
-  pub choices : (s : S) → IsTrue (p.is_state v s) → EquallyOften (map (choice_image label state) (p.choices v s)) (q.choices v (state s))
+-- what a model is under one valuation
+pub record Process (L W M S : Type 0) : Type 0 where
+  pub is_state : S → Bool
+  pub is_initial : S → Bool
+  pub marks : S → List M
+  pub choices : S → List (Choice L W S)
 
--- Under each valuation the instance faults are the same, and without any the processes are.
-pub record SameProcess {V F G L K W M S T : Type 0} (p : Model V F L W M S) (q : Model V G K W M T) (fault : F → G) (label : Option L → Option K) (state : S → T) : Type 0 where
-  pub faults : (v : V) (f : G) → IsIn f (map fault (p.faults v)) ↔ IsIn f (q.faults v)
-  pub process : (v : V) → p.faults v ≡ [] → SameAt p q label state v
+abbrev pub under : {V F L W M S : Type 0} → Model V F L W M S → V → Process L W M S
+under m v = record { is_state = m.is_state v; is_initial = m.is_initial v; marks = m.marks v; choices = m.choices v }
+
+-- The map of states is one to one and onto, and keeps what is seen at each state.
+pub record SameAt {L K W M S T : Type 0} (p : Process L W M S) (q : Process K W M T) (label : Option L → Option K) (state : S → T) : Type 0 where
+  pub into : (s : S) → IsTrue (p.is_state s) → IsTrue (q.is_state (state s))
+  pub one : (s t : S) → IsTrue (p.is_state s) → IsTrue (p.is_state t) → state s ≡ state t → s ≡ t
+  pub onto : (u : T) → IsTrue (q.is_state u) → (s : S) × IsTrue (p.is_state s) × (state s ≡ u)
+  pub initial : (s : S) → IsTrue (p.is_state s) → p.is_initial s ≡ q.is_initial (state s)
+  pub marks : (s : S) → IsTrue (p.is_state s) → p.marks s ≡ q.marks (state s)
+  pub choices : (s : S) → IsTrue (p.is_state s) → EquallyOften (map (choice_image label state) (p.choices s)) (q.choices (state s))
+
+-- Under valuations that correspond the instance faults are the same, and without any the processes are.
+pub record SameProcess {V U F G L K W M S T : Type 0} (p : Model V F L W M S) (q : Model U G K W M T)
+    (Correspond : V → U → Type 0) (fault : F → G) (label : Option L → Option K) (state : S → T) : Type 0 where
+  pub faults : (v : V) (u : U) → Correspond v u → (f : G) → IsIn f (map fault (p.faults v)) ↔ IsIn f (q.faults u)
+  pub process : (v : V) (u : U) → Correspond v u → p.faults v ≡ [] → SameAt (under p v) (under q u) label state
