@@ -20,7 +20,7 @@ use Rattle.prism_exprs.proofs.Furthest.{or_then}
 use Rattle.prism_exprs.proofs.Cut.{gives_or_one}
 use Rattle.prism_exprs.proofs.Loops.{Begun, kind_begun, begun_repeats, many-folding}
 use Rattle.prism_exprs.proofs.Exprs.{gives_follows, then_follows}
-use Rattle.prism_items.specs.Parts.{in_scope, closed_by, action_part, several_pairs, further_pair, module_rest, all_but, vars_on}
+use Rattle.prism_items.specs.Parts.{in_scope, closed_by, action_part, bracketed_action, equal_name, several_pairs, bracketed_pairs, further_pair, module_rest, all_but, vars_on}
 use Rattle.prism_items.proofs.Leading.{Leads, leads_on, same_leads, or_left, or_right}
 use Rattle.prism_items.proofs.Expressions.{expressions_word}
 use Rattle.prism_items.proofs.Closing.{same_one, same_trans, same_sym, same_then, assoc, gives_then, differ, either_way, opens_in, passes, closed_one, closed_word, closed-same, optional_word}
@@ -38,6 +38,9 @@ action_one s = closed_one _ (is_kind K.Ident) optional_name_one refl
 
 pub action_word : (s : Scope) → HasWord (in_scope action_part s)
 action_word s = closed_word _ (optional_word _)
+
+pub brackets_one : (s : Scope) → IsOne (in_scope bracketed_action s) none
+brackets_one s = step_one _ (token_one _) (λ t. action_one s)
 
 pub action_none : (s : Scope) (ts : List Lexeme) → starts (is_kind (K.Symbol S.RightBracket)) ts ≡ true → Leads none (in_scope action_part s) ts (symbol S.RightBracket >>= λ t. gives None) ts
 unfolding closed_by
@@ -112,6 +115,9 @@ body_word s x = then_word (many_word _) (λ vs. then_word (many_word _) (λ cs. 
 
 -- ---- a module's copy
 
+pub equal_name_one : (s : Scope) → IsOne (in_scope equal_name s) none
+equal_name_one s = step_one _ (token_one _) (λ t. name_one)
+
 pub pair_one : (s : Scope) → IsOne (in_scope pair s) none
 unfolding pair
 pair_one s = step_one _ name_one (λ x. step_one _ (token_one _) (λ t. step_one _ name_one (λ y. gives_one _ none)))
@@ -131,6 +137,12 @@ several_pairs_one s = step_one _ (pair_one s) (λ p. folding_one with_last (p �
 
 pub pairs_word : (s : Scope) (p : NamePair) → HasWord (front (in_scope further_pair s) (p ∷ []))
 pairs_word s p = folding_word with_last _ _
+
+pub several_pairs_word : (s : Scope) → HasWord (in_scope several_pairs s)
+several_pairs_word s = then_word (pair_word s) (λ p. pairs_word s p)
+
+pub brackets_pairs_one : (s : Scope) → IsOne (in_scope bracketed_pairs s) none
+brackets_pairs_one s = step_one _ (token_one _) (λ t. closed_one _ (is_kind (K.Symbol S.Comma)) (several_pairs_one s) refl)
 
 pub copy_one : (s : Scope) (x : Named) → IsOne (in_scope (λ E V. copy E V x) s) none
 unfolding copy

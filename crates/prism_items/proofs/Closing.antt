@@ -13,7 +13,7 @@ use Rattle.prism_exprs.proofs.Laws.{IsOne, HasWord, token_follows, then_one, the
 use Rattle.prism_exprs.proofs.Choice.{Same, Opens, token_opens, then_opens, or_word}
 use Rattle.prism_exprs.proofs.Cut.{gives_or_one}
 use Rattle.prism_exprs.proofs.Exprs.{one_within, gives_follows, second_false}
-use Rattle.prism_items.specs.Parts.{closed_by, expression_from}
+use Rattle.prism_items.specs.Parts.{in_scope, closed_by, definition, expression_from}
 use Rattle.prism_items.proofs.Leading.{Leads, leads_on, same_leads}
 use Rattle.prism_items.proofs.Expressions.{expressions_one}
 
@@ -94,6 +94,24 @@ closing k K N {more = more} {us = us} l = leads_on l (same_leads more us (closed
 -- The two parts that come next are read together.
 pub grouping : {A B D : Type 0} (K : Lang A) (M : A → Lang B) (N : B → Lang D) {L : Lang D} {more : TokenKind → Bool} {ts us : List Lexeme} → Leads more L ts (K >>= λ x. M x >>= N) us → Leads more L ts ((K >>= M) >>= N) us
 grouping K M N {more = more} {us = us} l = leads_on l (same_leads more us (same_sym (assoc K M N)))
+
+-- The same, where the part that is closed stands behind a token.
+pub defining : {A B D : Type 0} (M : Lang D) (k : TokenKind) (K : Lang A) (N : A → Lang B) {L : Lang B} {more : TokenKind → Bool} {ts us : List Lexeme} →
+    Leads more L ts (M >>= λ d. K >>= λ x. token k >>= λ t. N x) us → Leads more L ts ((M >>= λ d. closed_by k K) >>= N) us
+defining M k K N {more = more} {us = us} l = grouping M (λ d. closed_by k K) N (leads_on l (same_leads more us (same_then M _ _ (λ d. closed-same k K N))))
+
+-- The same, where this part has two parts.
+pub enclosing : {A B C D : Type 0} (M : Lang D) (k : TokenKind) (K : Lang A) (F : A → Lang C) (N : C → Lang B) {L : Lang B} {more : TokenKind → Bool} {ts us : List Lexeme} →
+    Leads more L ts (M >>= λ d. K >>= λ a. F a >>= λ x. token k >>= λ t. N x) us → Leads more L ts ((M >>= λ d. closed_by k (K >>= F)) >>= N) us
+enclosing M k K F N {more = more} {us = us} l = defining M k (K >>= F) N (leads_on l (same_leads more us (same_then M _ _ (λ d. same_sym (assoc K F _)))))
+
+-- ---- an expression, and what closes it
+
+pub closed_expression_one : (s : Scope) (k : TokenKind) → goes_on k ≡ false → IsOne (closed_by k (expressions s)) none
+closed_expression_one s k h = closed_one k goes_on (expressions_one s) h
+
+pub definition_one : (s : Scope) → IsOne (in_scope definition s) none
+definition_one s = step_one _ (token_one _) (λ t. closed_expression_one s _ refl)
 
 -- ---- an expression that may be missing
 

@@ -18,7 +18,7 @@ use Rattle.prism_exprs.specs.Scope.{Scope, expressions, also}
 use Rattle.prism_exprs.proofs.Laws.{IsOne, HasWord, Follows, token_follows, then_one, then_word, step_one, token_one, token_word, gives_one, gives_word}
 use Rattle.prism_exprs.proofs.Choice.{Opens, token_opens, then_opens, or_opens, or_one, or_word, opens_follows}
 use Rattle.prism_exprs.proofs.Cut.{gives_or_one}
-use Rattle.prism_items.specs.Parts.{in_scope, domain, value_part, start_part}
+use Rattle.prism_items.specs.Parts.{in_scope, domain, domain_part, value_part, start_part}
 use Rattle.prism_items.proofs.Expressions.{expressions_one, expressions_word}
 use Rattle.prism_items.proofs.Closing.{same_one, differ, either_way, passes, closed-same, optional_word, ended_one}
 
@@ -183,6 +183,9 @@ domain_one s =
 pub domain_word : (s : Scope) → HasWord (in_scope domain s)
 unfolding domain
 domain_word s = or_word _ _ (bounds_word s)
+
+pub domain_part_one : (s : Scope) → IsOne (in_scope domain_part s) none
+domain_part_one s = step_one _ (token_one _) (λ t. domain_one s)
 
 -- [ init E ] ;
 pub start_one : (s : Scope) → IsOne (in_scope start_part s) none

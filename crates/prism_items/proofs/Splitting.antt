@@ -1,6 +1,6 @@
 -- Which of the two forms of updates stands in a list: where one of them ends, the other begins.
 use Rattle.std.proofs.Common.{◌≡◌, Bool, true, false, List, [], ◌∷◌, ◌++◌, refl, sym, subst, ◌∙◌, inl, inr, cond}
-use Rattle.std.specs.Prelude.{◌⊎◌, ◌&&◌}
+use Rattle.std.specs.Prelude.{◌⊎◌, ◌&&◌, Result, Ok, Err}
 use Rattle.std.proofs.lemmas.List.{append_cancel_right}
 use Rattle.prism_lex.specs.declared.token.TokenKind.{TokenKind}
 use Rattle.prism_lex.specs.declared.token.TokenKind.TheVariants as K
@@ -13,14 +13,15 @@ use Rattle.prism_tree.specs.Grammar.{name, write, updates}
 use Rattle.prism_exprs.specs.declared.tokens.Cause.{Cause}
 use Rattle.prism_exprs.specs.declared.tokens.Stop.{Stop}
 use Rattle.prism_exprs.specs.declared.tokens.Stop.TheVariants.{Memory, At}
+use Rattle.prism_exprs.specs.declared.tokens.Tokens.{Tokens}
 use Rattle.prism_exprs.specs.Kept.{seen}
 use Rattle.prism_exprs.specs.Reading.{Ends, none, next, Dead, Reads, starts, is_kind}
-use Rattle.prism_exprs.specs.Scope.{Scope, Halts, StopsIn}
+use Rattle.prism_exprs.specs.Scope.{Scope, Halts, StopsIn, ParsesIn}
 use Rattle.prism_exprs.proofs.Laws.{IsOne, HasWord, none_ends, none_follows, token_reads, then_word, token_one, token_word, gives_one, gives_word, step_one, then_one}
 use Rattle.prism_exprs.proofs.Choice.{or_word, same_reads, then_opens, token_opens, or_reads_left, or_reads_right}
 use Rattle.prism_exprs.proofs.Furthest.{Splits, furthest_fails}
 use Rattle.prism_exprs.proofs.Loops.{same_is}
-use Rattle.prism_items.specs.Parts.{in_scope, ended_updates, writes_on, branches_on, plain_front}
+use Rattle.prism_items.specs.Parts.{in_scope, ended_branches, ended_update, ended_updates, writes_on, branches_on, plain_front}
 use Rattle.prism_items.proofs.Leading.{Leads, begin, step, same_leads, then_begins, then_dead, stops_by}
 use Rattle.prism_items.proofs.Expressions.{expressions_word}
 use Rattle.prism_items.proofs.Closing.{same_one, closed_one, closed_word}
@@ -178,6 +179,15 @@ ended_several_reads s ts us x p = same_reads (updates-or s) (or_reads_right _ _ 
 
 pub ended_several_stops : (s : Scope) (ts : List Lexeme) (e : Stop) → plain_front ts ≡ false → StopsIn s (Several s) none ts e → StopsIn s (in_scope ended_updates s) none ts e
 ended_several_stops s ts e h p = stops_by s e (same_leads none ts (updates-or s)) (several_stops s ts e h p)
+
+-- what a function returned
+pub ended_update_parses : {X : Type 0} (view : X → List Branch) (ts : List Lexeme) (r : Result (X × Tokens) Stop) → plain_front ts ≡ true → ParsesIn view (in_scope ended_update) none ts r → ParsesIn view (in_scope ended_updates) none ts r
+ended_update_parses view ts (Ok y) h p = λ s. ended_alone_reads s _ _ _ (p s)
+ended_update_parses view ts (Err e) h p = λ s. ended_alone_stops s _ _ h (p s)
+
+pub ended_branches_parses : {X : Type 0} (view : X → List Branch) (ts : List Lexeme) (r : Result (X × Tokens) Stop) → plain_front ts ≡ false → ParsesIn view (in_scope ended_branches) none ts r → ParsesIn view (in_scope ended_updates) none ts r
+ended_branches_parses view ts (Ok y) h p = λ s. ended_several_reads s _ _ _ (p s)
+ended_branches_parses view ts (Err e) h p = λ s. ended_several_stops s _ _ h (p s)
 
 split_apart : {A : Type 0} (P Q : Lang A) (ts w z : List Lexeme) (x : A) → Splits P Q none ts → ts ≡ w ++ z → P w x → Ends none z → ⊥
 split_apart P Q ts w z x p e h i = p.dead p.rest w z x refl (sym p.parts ∙ e) h i

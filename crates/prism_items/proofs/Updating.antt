@@ -3,6 +3,7 @@ use Rattle.std.proofs.Common.{◌≡◌, Bool, true, false, List, [], ◌∷◌,
 use Rattle.std.specs.Prelude.{◌||◌, drop}
 use Rattle.std.proofs.lemmas.List.{append_cancel_right}
 use Rattle.op_trees.specs.Tree.{Truth, Name}
+use Rattle.bridge_io.specs.declared.reason.Named.{Named}
 use Rattle.prism_lex.specs.declared.token.TokenKind.{TokenKind}
 use Rattle.prism_lex.specs.declared.token.TokenKind.TheVariants as K
 use Rattle.prism_lex.specs.declared.words.Reserved.TheVariants as W
@@ -12,7 +13,7 @@ use Rattle.std.proofs.Common.{map}
 use Rattle.prism_tree.specs.declared.syntax.PrismBranch.{PrismBranch}
 use Rattle.prism_tree.specs.Syntax.{branch_of, Write, Branch, moved}
 use Rattle.prism_tree.specs.Lang.{Lang, gives, ◌>>=◌, ◌>>◌, ◌or◌, front, with_last, Begins}
-use Rattle.prism_tree.specs.Grammar.{word, symbol, write, update, weighted, updates, one_branch, expr}
+use Rattle.prism_tree.specs.Grammar.{word, symbol, name, write, update, weighted, updates, one_branch, expr}
 use Rattle.prism_exprs.specs.Reading.{Reads, Ends, none, next, Dead, starts, is_kind}
 use Rattle.prism_exprs.specs.Levels.{goes_on}
 use Rattle.prism_exprs.specs.declared.tokens.Stop.{Stop}
@@ -22,15 +23,25 @@ use Rattle.prism_exprs.proofs.Choice.{Same, Opens, Barred, Repeats, token_opens,
 use Rattle.prism_exprs.proofs.Furthest.{or_then}
 use Rattle.prism_exprs.proofs.Loops.{Begun, kind_begun, begun_repeats}
 use Rattle.prism_exprs.proofs.Exprs.{gives_follows, second_false, expr_one}
-use Rattle.prism_items.specs.Parts.{plain_front, in_scope, closed_by, further_write, several_writes, further_branch, several_branches, writes_on, branches_on}
+use Rattle.prism_items.specs.Parts.{plain_front, in_scope, closed_by, target, further_write, several_writes, further_branch, several_branches, writes_on, branches_on}
 use Rattle.prism_items.proofs.Leading.{another, halt_at, loop_done, Leads, leads_on, begin, step, step_to, same_leads, or_left, or_right, then_begins, then_dead}
 use Rattle.prism_items.proofs.Expressions.{expressions_one, expressions_word, expr_opens, short_word, expr_of_scope, true_word, name_word, parenthesis_word}
-use Rattle.prism_items.proofs.Closing.{same_trans, same_then, assoc, gives_then, differ, passes, closed_word}
+use Rattle.prism_items.proofs.Closing.{same_trans, same_sym, same_then, assoc, gives_then, differ, passes, closed_word}
 use Rattle.prism_items.proofs.Declaring.{name_one, name_word as a_name_word, expression_closed}
 use Rattle.prism_items.proofs.Choosing.{not_here, opens_off}
 use Rattle.prism_items.proofs.Lacking.{expr_lacks, prime_strange, free_inside}
 
 -- ---- writes
+
+pub target_one : (s : Scope) → IsOne (in_scope target s) none
+target_one s = step_one _ (token_one _) (λ a. step_one _ name_one (λ x. step_one _ (token_one _) (λ b. step_one _ (token_one _) (λ c. gives_one x none))))
+
+-- What is written to is read together.
+pub targeting : {B : Type 0} (s : Scope) (N : Named → Lang B) {L : Lang B} {more : TokenKind → Bool} {ts us : List Lexeme} →
+    Leads more L ts (symbol S.LeftParenthesis >>= λ a. name >>= λ x. symbol S.Prime >>= λ b. symbol S.Equal >>= λ c. N x) us → Leads more L ts (in_scope target s >>= N) us
+targeting s N {more = more} {us = us} l =
+    leads_on l (same_leads more us (same_sym (same_trans (assoc _ _ _) (same_then _ _ _ (λ a. same_trans (assoc _ _ _) (same_then _ _ _ (λ x. same_trans (assoc _ _ _) (same_then _ _ _ (λ b.
+    same_trans (assoc _ _ _) (same_then _ _ _ (λ c. gives_then x N)))))))))))
 
 pub write_one : (s : Scope) → IsOne (in_scope write s) none
 unfolding write

@@ -3,11 +3,12 @@ use Rattle.std.specs.Prelude.{ℕ, Bool, true, false, not, ◌&&◌, ◌||◌, L
 use Rattle.prism_lex.specs.declared.token.TokenKind.{TokenKind}
 use Rattle.prism_lex.specs.declared.token.TokenKind.TheVariants as K
 use Rattle.prism_lex.specs.declared.words.Reserved.TheVariants as W
+use Rattle.prism_lex.specs.declared.symbols.Symbol.{Symbol}
 use Rattle.prism_lex.specs.declared.symbols.Symbol.TheVariants as S
 use Rattle.prism_lex.specs.Tokens.{Lexeme}
 use Rattle.prism_tree.specs.Syntax.{Expression, Range, Write, Branch, Module, Item, Rewards}
 use Rattle.prism_tree.specs.Lang.{Lang, token, gives, ◌>>=◌, ◌>>◌, ◌or◌, optional, many, front}
-use Rattle.prism_tree.specs.Grammar.{word, symbol, name, range, write, weighted, updates, pair, body, copy, reward}
+use Rattle.prism_tree.specs.Grammar.{word, symbol, name, range, write, update, weighted, updates, one_branch, pair, body, copy, reward}
 use Rattle.bridge_io.specs.declared.reason.Named.{Named}
 use Rattle.prism_tree.specs.declared.syntax.NamePair.{NamePair}
 use Rattle.prism_tree.specs.declared.syntax.ItemOn.{ItemOn}
@@ -30,9 +31,21 @@ closed_by k L = do
   token k
   gives x
 
+-- an expression, and the symbol that closes it
+abbrev pub closed_expression : Symbol → Lang Expression → Lang (Option Range) → Lang Expression
+closed_expression a E V = closed_by (K.Symbol a) E
+
+-- = E ;
+abbrev pub definition : Lang Expression → Lang (Option Range) → Lang Expression
+definition E V = symbol S.Equal >> closed_expression S.Semicolon E V
+
 -- what may stand behind the colon of a variable
 unfoldable pub domain : Lang Expression → Lang (Option Range) → Lang (Option Range)
 domain E V = (range E V >>= λ r. gives (Some r)) or ((word W.BoolWord >> gives None) or V)
+
+-- the colon of a variable, and what stands behind it
+abbrev pub domain_part : Lang Expression → Lang (Option Range) → Lang (Option Range)
+domain_part E V = symbol S.Colon >> domain E V
 
 -- [ = E ] ;
 abbrev pub value_part : Lang Expression → Lang (Option Range) → Lang (Option Expression)
@@ -41,6 +54,15 @@ value_part E V = closed_by (K.Symbol S.Semicolon) (optional (symbol S.Equal >> E
 -- [ init E ] ;
 abbrev pub start_part : Lang Expression → Lang (Option Range) → Lang (Option Expression)
 start_part E V = closed_by (K.Symbol S.Semicolon) (optional (word W.Init >> E))
+
+-- ( Ident ' =
+abbrev pub target : Lang Expression → Lang (Option Range) → Lang Named
+target E V = do
+  symbol S.LeftParenthesis
+  x ← name
+  symbol S.Prime
+  symbol S.Equal
+  gives x
 
 -- & ( Ident ' = E )
 abbrev pub further_write : Lang Expression → Lang (Option Range) → Lang Write
@@ -58,6 +80,14 @@ further_branch E V = symbol S.Plus >> weighted E V
 abbrev pub several_branches : Lang Expression → Lang (Option Range) → Lang (List Branch)
 several_branches E V = weighted E V >>= λ b. front (further_branch E V) (b ∷ [])
 
+-- E : Update { + E : Update } ;
+abbrev pub ended_branches : Lang Expression → Lang (Option Range) → Lang (List Branch)
+ended_branches E V = closed_by (K.Symbol S.Semicolon) (several_branches E V)
+
+-- Update ;
+abbrev pub ended_update : Lang Expression → Lang (Option Range) → Lang (List Branch)
+ended_update E V = update E V >>= λ ws. symbol S.Semicolon >>= λ t. gives (one_branch ws)
+
 -- Updates ;
 abbrev pub ended_updates : Lang Expression → Lang (Option Range) → Lang (List Branch)
 ended_updates E V = closed_by (K.Symbol S.Semicolon) (updates E V)
@@ -66,6 +96,14 @@ ended_updates E V = closed_by (K.Symbol S.Semicolon) (updates E V)
 abbrev pub action_part : Lang Expression → Lang (Option Range) → Lang (Option Named)
 action_part E V = closed_by (K.Symbol S.RightBracket) (optional name)
 
+-- '[' [ Ident ] ']'
+abbrev pub bracketed_action : Lang Expression → Lang (Option Range) → Lang (Option Named)
+bracketed_action E V = symbol S.LeftBracket >> action_part E V
+
+-- = Ident
+abbrev pub equal_name : Lang Expression → Lang (Option Range) → Lang Named
+equal_name E V = symbol S.Equal >> name
+
 -- , Ident = Ident
 abbrev pub further_pair : Lang Expression → Lang (Option Range) → Lang NamePair
 further_pair E V = symbol S.Comma >> pair E V
@@ -73,6 +111,10 @@ further_pair E V = symbol S.Comma >> pair E V
 -- Ident = Ident { , Ident = Ident }
 abbrev pub several_pairs : Lang Expression → Lang (Option Range) → Lang (List NamePair)
 several_pairs E V = pair E V >>= λ p. front (further_pair E V) (p ∷ [])
+
+-- '[' Ident = Ident { , Ident = Ident } ']'
+abbrev pub bracketed_pairs : Lang Expression → Lang (Option Range) → Lang (List NamePair)
+bracketed_pairs E V = symbol S.LeftBracket >> closed_by (K.Symbol S.RightBracket) (several_pairs E V)
 
 -- what stands behind the name of a module
 abbrev pub module_rest : Named → Lang Expression → Lang (Option Range) → Lang Module

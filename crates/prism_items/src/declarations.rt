@@ -11,11 +11,12 @@ ghost use Rattle.prism_tree.specs.Syntax.{const_of, formula_of, label_of, range_
 ghost use Rattle.prism_exprs.specs.Kept.{seen};
 ghost use Rattle.prism_exprs.specs.Reading.{none};
 ghost use Rattle.prism_exprs.specs.Scope.{ParsesIn, expressions};
-ghost use Rattle.prism_items.specs.Parts.{in_scope, domain, value_part, start_part, kept_type, type_front};
+ghost use Rattle.prism_items.specs.Parts.{in_scope, domain, value_part, domain_part, start_part, kept_type, type_front};
 
+use crate::closed::{parse_closed, parse_definition};
 use crate::readers::{read_name, read_quoted, read_symbol, read_word, symbol_next, word_next};
 use op_trees::Ty;
-use prism_exprs::{Cause, Kept, Stop, Tokens, parse_outer};
+use prism_exprs::{Cause, Kept, Stop, Tokens};
 use prism_lex::{Reserved, Symbol};
 use prism_tree::{Pe, PrismConst, PrismFormula, PrismLabel, PrismRange, PrismVar};
 use std::alloc::Global;
@@ -53,9 +54,7 @@ fn parse_value<'a>(alloc: Global, tokens: Tokens<'a>) -> Result<(Option<Pe>, Tok
         let (_end, rest) = read_symbol(tokens, Symbol::Semicolon)?;
         return Ok((None, rest));
     }
-    let (_equal, rest) = read_symbol(tokens, Symbol::Equal)?;
-    let (value, rest) = parse_outer(alloc, rest)?;
-    let (_close, rest) = read_symbol(rest, Symbol::Semicolon)?;
+    let (value, rest) = parse_definition(alloc, tokens)?;
     Ok((Some(value), rest))
 }
 
@@ -82,9 +81,7 @@ pub(crate) fn parse_formula<'a>(
 {
     let (_formula, rest) = read_word(tokens, Reserved::Formula)?;
     let (name, rest) = read_name(alloc, rest)?;
-    let (_equal, rest) = read_symbol(rest, Symbol::Equal)?;
-    let (body, rest) = parse_outer(alloc, rest)?;
-    let (_close, rest) = read_symbol(rest, Symbol::Semicolon)?;
+    let (body, rest) = parse_definition(alloc, rest)?;
     Ok((PrismFormula { name, body }, rest))
 }
 
@@ -97,9 +94,7 @@ pub(crate) fn parse_label<'a>(
 {
     let (_label, rest) = read_word(tokens, Reserved::Label)?;
     let (name, rest) = read_quoted(alloc, rest)?;
-    let (_equal, rest) = read_symbol(rest, Symbol::Equal)?;
-    let (body, rest) = parse_outer(alloc, rest)?;
-    let (_close, rest) = read_symbol(rest, Symbol::Semicolon)?;
+    let (body, rest) = parse_definition(alloc, rest)?;
     Ok((PrismLabel { name, body }, rest))
 }
 
@@ -108,10 +103,8 @@ fn parse_range<'a>(alloc: Global, tokens: Tokens<'a>) -> Result<(PrismRange, Tok
     ensures { ParsesIn range_of (in_scope range) none (seen tokens.entry) result }
 {
     let (_left, rest) = read_symbol(tokens, Symbol::LeftBracket)?;
-    let (low, rest) = parse_outer(alloc, rest)?;
-    let (_dots, rest) = read_symbol(rest, Symbol::Dots)?;
-    let (high, rest) = parse_outer(alloc, rest)?;
-    let (_right, rest) = read_symbol(rest, Symbol::RightBracket)?;
+    let (low, rest) = parse_closed(alloc, rest, Symbol::Dots)?;
+    let (high, rest) = parse_closed(alloc, rest, Symbol::RightBracket)?;
     Ok((PrismRange { low, high }, rest))
 }
 
@@ -136,6 +129,17 @@ fn parse_domain<'a>(
     Err(Stop::At(tokens, Cause::Form))
 }
 
+/// `: ( [ E .. E ] | bool )`
+fn parse_kind<'a>(
+    alloc: Global,
+    tokens: Tokens<'a>,
+) -> Result<(Option<PrismRange>, Tokens<'a>), Stop<'a>>
+    ensures { ParsesIn (option_map range_of) (in_scope domain_part) none (seen tokens.entry) result }
+{
+    let (_colon, rest) = read_symbol(tokens, Symbol::Colon)?;
+    parse_domain(alloc, rest)
+}
+
 /// `[ init E ] ;`
 fn parse_start<'a>(alloc: Global, tokens: Tokens<'a>) -> Result<(Option<Pe>, Tokens<'a>), Stop<'a>>
     ensures { ParsesIn (option_map tree) (in_scope start_part) none (seen tokens.entry) result }
@@ -145,8 +149,7 @@ fn parse_start<'a>(alloc: Global, tokens: Tokens<'a>) -> Result<(Option<Pe>, Tok
         return Ok((None, rest));
     }
     let (_init, rest) = read_word(tokens, Reserved::Init)?;
-    let (start, rest) = parse_outer(alloc, rest)?;
-    let (_close, rest) = read_symbol(rest, Symbol::Semicolon)?;
+    let (start, rest) = parse_closed(alloc, rest, Symbol::Semicolon)?;
     Ok((Some(start), rest))
 }
 
@@ -158,8 +161,7 @@ pub(crate) fn parse_var<'a>(
     ensures { ParsesIn var_of (in_scope var) none (seen tokens.entry) result }
 {
     let (name, rest) = read_name(alloc, tokens)?;
-    let (_colon, rest) = read_symbol(rest, Symbol::Colon)?;
-    let (range, rest) = parse_domain(alloc, rest)?;
+    let (range, rest) = parse_kind(alloc, rest)?;
     let (start, rest) = parse_start(alloc, rest)?;
     Ok((PrismVar { name, range, start }, rest))
 }
@@ -172,6 +174,5 @@ pub(crate) fn parse_global<'a>(
     ensures { ParsesIn var_of (in_scope global_item) none (seen tokens.entry) result }
 {
     let (_global, rest) = read_word(tokens, Reserved::Global)?;
-    let (var, rest) = parse_var(alloc, rest)?;
-    Ok((var, rest))
+    parse_var(alloc, rest)
 }

@@ -1,6 +1,7 @@
 //! The items of PRISM files: from the tokens of a text to its tree, or the token that cannot stand there.
 #![tactic(auto)]
 
+mod closed;
 mod declarations;
 mod files;
 mod modules;

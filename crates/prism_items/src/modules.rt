@@ -9,19 +9,20 @@ ghost use Rattle.prism_tree.specs.Syntax.{var_of, command_of, module_of};
 ghost use Rattle.prism_exprs.specs.Kept.{seen};
 ghost use Rattle.prism_exprs.specs.Reading.{none, is_kind, starts};
 ghost use Rattle.prism_exprs.specs.Scope.{ParsesIn};
-ghost use Rattle.prism_items.specs.Parts.{in_scope, action_part, further_pair, several_pairs, module_rest, all_but, vars_on};
+ghost use Rattle.prism_items.specs.Parts.{in_scope, action_part, bracketed_action, equal_name, further_pair, several_pairs, bracketed_pairs, module_rest, all_but, vars_on};
 
+use crate::closed::parse_closed;
 use crate::declarations::parse_var;
 use crate::readers::{other_next, read_name, read_symbol, read_word, symbol_next};
 use crate::updates::parse_updates;
 use bridge_io::{List, Named};
-use prism_exprs::{Stop, Tokens, parse_outer};
+use prism_exprs::{Stop, Tokens};
 use prism_lex::{Reserved, Symbol};
 use prism_tree::{CopiedModule, NamePair, PlainModule, PrismCommand, PrismModule, PrismVar};
 use std::alloc::Global;
 
 /// `[ Ident ] ']'`
-pub(crate) fn parse_action<'a>(
+fn parse_action<'a>(
     alloc: Global,
     tokens: Tokens<'a>,
 ) -> Result<(Option<Named>, Tokens<'a>), Stop<'a>>
@@ -36,6 +37,17 @@ pub(crate) fn parse_action<'a>(
     Ok((Some(name), rest))
 }
 
+/// `'[' [ Ident ] ']'`
+pub(crate) fn parse_brackets<'a>(
+    alloc: Global,
+    tokens: Tokens<'a>,
+) -> Result<(Option<Named>, Tokens<'a>), Stop<'a>>
+    ensures { ParsesIn (λ x. x) (in_scope bracketed_action) none (seen tokens.entry) result }
+{
+    let (_left, rest) = read_symbol(tokens, Symbol::LeftBracket)?;
+    parse_action(alloc, rest)
+}
+
 /// `'[' [ Ident ] ']' E -> Updates ;`
 fn parse_command<'a>(
     alloc: Global,
@@ -43,10 +55,8 @@ fn parse_command<'a>(
 ) -> Result<(PrismCommand, Tokens<'a>), Stop<'a>>
     ensures { ParsesIn command_of (in_scope command) none (seen tokens.entry) result }
 {
-    let (_left, rest) = read_symbol(tokens, Symbol::LeftBracket)?;
-    let (action, rest) = parse_action(alloc, rest)?;
-    let (guard, rest) = parse_outer(alloc, rest)?;
-    let (_arrow, rest) = read_symbol(rest, Symbol::Arrow)?;
+    let (action, rest) = parse_brackets(alloc, tokens)?;
+    let (guard, rest) = parse_closed(alloc, rest, Symbol::Arrow)?;
     let (branches, rest) = parse_updates(alloc, rest)?;
     let command = PrismCommand {
         action,
@@ -118,13 +128,20 @@ fn parse_body<'a>(
     Ok((PrismModule::Plain(module), rest))
 }
 
+/// `= Ident`
+fn parse_equal_name<'a>(alloc: Global, tokens: Tokens<'a>) -> Result<(Named, Tokens<'a>), Stop<'a>>
+    ensures { ParsesIn (λ x. x) (in_scope equal_name) none (seen tokens.entry) result }
+{
+    let (_equal, rest) = read_symbol(tokens, Symbol::Equal)?;
+    read_name(alloc, rest)
+}
+
 /// `Ident = Ident`
 fn parse_pair<'a>(alloc: Global, tokens: Tokens<'a>) -> Result<(NamePair, Tokens<'a>), Stop<'a>>
     ensures { ParsesIn (λ x. x) (in_scope pair) none (seen tokens.entry) result }
 {
     let (old, rest) = read_name(alloc, tokens)?;
-    let (_equal, rest) = read_symbol(rest, Symbol::Equal)?;
-    let (new, rest) = read_name(alloc, rest)?;
+    let (new, rest) = parse_equal_name(alloc, rest)?;
     Ok((NamePair { old, new }, rest))
 }
 
@@ -136,8 +153,7 @@ fn parse_further_pair<'a>(
     ensures { ParsesIn (λ x. x) (in_scope further_pair) none (seen tokens.entry) result }
 {
     let (_comma, rest) = read_symbol(tokens, Symbol::Comma)?;
-    let (pair, rest) = parse_pair(alloc, rest)?;
-    Ok((pair, rest))
+    parse_pair(alloc, rest)
 }
 
 /// `Ident = Ident { , Ident = Ident }`
@@ -159,6 +175,19 @@ fn parse_pairs<'a>(
     Ok((pairs, rest))
 }
 
+/// `'[' Ident = Ident { , Ident = Ident } ']'`
+fn parse_renaming<'a>(
+    alloc: Global,
+    tokens: Tokens<'a>,
+) -> Result<(List<NamePair>, Tokens<'a>), Stop<'a>>
+    ensures { ParsesIn (λ x. x) (in_scope bracketed_pairs) none (seen tokens.entry) result }
+{
+    let (_left, rest) = read_symbol(tokens, Symbol::LeftBracket)?;
+    let (pairs, rest) = parse_pairs(alloc, rest)?;
+    let (_right, rest) = read_symbol(rest, Symbol::RightBracket)?;
+    Ok((pairs, rest))
+}
+
 /// `= Ident '[' Ident = Ident { , Ident = Ident } ']'`
 fn parse_copy<'a>(
     alloc: Global,
@@ -167,11 +196,8 @@ fn parse_copy<'a>(
 ) -> Result<(PrismModule, Tokens<'a>), Stop<'a>>
     ensures { ParsesIn module_of (in_scope (λ E V. copy E V name)) none (seen tokens.entry) result }
 {
-    let (_equal, rest) = read_symbol(tokens, Symbol::Equal)?;
-    let (from, rest) = read_name(alloc, rest)?;
-    let (_left, rest) = read_symbol(rest, Symbol::LeftBracket)?;
-    let (pairs, rest) = parse_pairs(alloc, rest)?;
-    let (_right, rest) = read_symbol(rest, Symbol::RightBracket)?;
+    let (from, rest) = parse_equal_name(alloc, tokens)?;
+    let (pairs, rest) = parse_renaming(alloc, rest)?;
     let module = CopiedModule { name, from, pairs };
     Ok((PrismModule::Copied(module), rest))
 }
@@ -203,6 +229,5 @@ pub(crate) fn parse_module<'a>(
 {
     let (_module, rest) = read_word(tokens, Reserved::Module)?;
     let (name, rest) = read_name(alloc, rest)?;
-    let (module, rest) = parse_rest(alloc, name, rest)?;
-    Ok((module, rest))
+    parse_rest(alloc, name, rest)
 }

@@ -10,10 +10,11 @@ ghost use Rattle.prism_exprs.specs.Reading.{none};
 ghost use Rattle.prism_exprs.specs.Scope.{ParsesIn};
 ghost use Rattle.prism_items.specs.Parts.{in_scope, gain, gains, all_but};
 
-use crate::modules::parse_action;
-use crate::readers::{other_next, quoted_next, read_quoted, read_symbol, read_word, symbol_next};
+use crate::closed::parse_closed;
+use crate::modules::parse_brackets;
+use crate::readers::{other_next, quoted_next, read_quoted, read_word, symbol_next};
 use bridge_io::{List, Named};
-use prism_exprs::{Stop, Tokens, parse_outer};
+use prism_exprs::{Stop, Tokens};
 use prism_lex::{Reserved, Symbol};
 use prism_tree::{ItemOn, PrismItem, PrismRewards};
 use std::alloc::Global;
@@ -36,10 +37,8 @@ fn parse_gain<'a>(
 ) -> Result<(PrismItem, Tokens<'a>), Stop<'a>>
     ensures { ParsesIn item_of (in_scope (gain on)) none (seen tokens.entry) result }
 {
-    let (guard, rest) = parse_outer(alloc, tokens)?;
-    let (_colon, rest) = read_symbol(rest, Symbol::Colon)?;
-    let (value, rest) = parse_outer(alloc, rest)?;
-    let (_close, rest) = read_symbol(rest, Symbol::Semicolon)?;
+    let (guard, rest) = parse_closed(alloc, tokens, Symbol::Colon)?;
+    let (value, rest) = parse_closed(alloc, rest, Symbol::Semicolon)?;
     Ok((PrismItem { on, guard, value }, rest))
 }
 
@@ -50,8 +49,7 @@ fn parse_reward<'a>(alloc: Global, tokens: Tokens<'a>) -> Result<(PrismItem, Tok
     if !symbol_next(tokens, Symbol::LeftBracket) {
         return parse_gain(alloc, ItemOn::InState, tokens);
     }
-    let (_left, rest) = read_symbol(tokens, Symbol::LeftBracket)?;
-    let (action, rest) = parse_action(alloc, rest)?;
+    let (action, rest) = parse_brackets(alloc, tokens)?;
     parse_gain(alloc, on_action(action), rest)
 }
 

@@ -77,14 +77,15 @@ fn with_section(file: PrismFile, section: Section) -> Result<PrismFile, AllocErr
     ensures { IfOk result (λ f. file_of f ≡ with_section (file_of file) (section_of section)) }
 {
     let mut whole = file;
-    match section {
-        Section::Const(item) => whole.constants.push(item)?,
-        Section::Global(item) => whole.globals.push(item)?,
-        Section::Formula(item) => whole.formulas.push(item)?,
-        Section::Module(item) => whole.modules.push(item)?,
-        Section::Label(item) => whole.labels.push(item)?,
-        Section::Rewards(item) => whole.rewards.push(item)?,
-    }
+    let pushed = match section {
+        Section::Const(item) => whole.constants.push(item),
+        Section::Global(item) => whole.globals.push(item),
+        Section::Formula(item) => whole.formulas.push(item),
+        Section::Module(item) => whole.modules.push(item),
+        Section::Label(item) => whole.labels.push(item),
+        Section::Rewards(item) => whole.rewards.push(item),
+    };
+    pushed?;
     Ok(whole)
 }
 

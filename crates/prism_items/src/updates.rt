@@ -1,31 +1,39 @@
 // Updates of variables.
-ghost use Rattle.std.specs.Prelude.{◌≡◌, map};
-ghost use Rattle.prism_tree.specs.Grammar.{write, update, weighted};
+ghost use Rattle.std.specs.Prelude.{◌≡◌, map, IfOk};
+ghost use Rattle.prism_tree.specs.Grammar.{write, update, weighted, one_branch};
 ghost use Rattle.prism_tree.specs.Syntax.{write_of, branch_of};
 ghost use Rattle.prism_exprs.specs.Kept.{seen};
 ghost use Rattle.prism_exprs.specs.Reading.{none};
 ghost use Rattle.prism_exprs.specs.Scope.{ParsesIn};
-ghost use Rattle.prism_items.specs.Parts.{in_scope, further_write, several_writes, further_branch, several_branches, ended_updates, writes_on, branches_on, plain_front};
+ghost use Rattle.prism_items.specs.Parts.{in_scope, target, further_write, several_writes, further_branch, several_branches, ended_branches, ended_update, ended_updates, writes_on, branches_on, plain_front};
 
+use crate::closed::parse_closed;
 use crate::readers::{
     behind, name_next, read_name, read_symbol, read_word, symbol_next, word_next,
 };
-use bridge_io::List;
-use prism_exprs::{Cause, Stop, Tokens, parse_outer};
+use bridge_io::{List, Named};
+use prism_exprs::{Cause, Stop, Tokens};
 use prism_lex::{Reserved, Symbol};
 use prism_tree::{PrismBranch, PrismWrite};
-use std::alloc::Global;
+use std::alloc::{AllocError, Global};
 
-/// `( Ident ' = E )`
-fn parse_write<'a>(alloc: Global, tokens: Tokens<'a>) -> Result<(PrismWrite, Tokens<'a>), Stop<'a>>
-    ensures { ParsesIn write_of (in_scope write) none (seen tokens.entry) result }
+/// `( Ident ' =`
+fn parse_target<'a>(alloc: Global, tokens: Tokens<'a>) -> Result<(Named, Tokens<'a>), Stop<'a>>
+    ensures { ParsesIn (λ x. x) (in_scope target) none (seen tokens.entry) result }
 {
     let (_open, rest) = read_symbol(tokens, Symbol::LeftParenthesis)?;
     let (name, rest) = read_name(alloc, rest)?;
     let (_prime, rest) = read_symbol(rest, Symbol::Prime)?;
     let (_equal, rest) = read_symbol(rest, Symbol::Equal)?;
-    let (value, rest) = parse_outer(alloc, rest)?;
-    let (_close, rest) = read_symbol(rest, Symbol::RightParenthesis)?;
+    Ok((name, rest))
+}
+
+/// `( Ident ' = E )`
+fn parse_write<'a>(alloc: Global, tokens: Tokens<'a>) -> Result<(PrismWrite, Tokens<'a>), Stop<'a>>
+    ensures { ParsesIn write_of (in_scope write) none (seen tokens.entry) result }
+{
+    let (name, rest) = parse_target(alloc, tokens)?;
+    let (value, rest) = parse_closed(alloc, rest, Symbol::RightParenthesis)?;
     Ok((PrismWrite { name, value }, rest))
 }
 
@@ -37,8 +45,7 @@ fn parse_further_write<'a>(
     ensures { ParsesIn write_of (in_scope further_write) none (seen tokens.entry) result }
 {
     let (_and, rest) = read_symbol(tokens, Symbol::And)?;
-    let (write, rest) = parse_write(alloc, rest)?;
-    Ok((write, rest))
+    parse_write(alloc, rest)
 }
 
 /// `( Ident ' = E ) { & ( Ident ' = E ) }`
@@ -84,8 +91,7 @@ fn parse_weighted<'a>(
 ) -> Result<(PrismBranch, Tokens<'a>), Stop<'a>>
     ensures { ParsesIn branch_of (in_scope weighted) writes_on (seen tokens.entry) result }
 {
-    let (weight, rest) = parse_outer(alloc, tokens)?;
-    let (_colon, rest) = read_symbol(rest, Symbol::Colon)?;
+    let (weight, rest) = parse_closed(alloc, tokens, Symbol::Colon)?;
     let (writes, rest) = parse_update(alloc, rest)?;
     let weight = Some(weight);
     Ok((PrismBranch { weight, writes }, rest))
@@ -99,8 +105,7 @@ fn parse_further_branch<'a>(
     ensures { ParsesIn branch_of (in_scope further_branch) writes_on (seen tokens.entry) result }
 {
     let (_plus, rest) = read_symbol(tokens, Symbol::Plus)?;
-    let (branch, rest) = parse_weighted(alloc, rest)?;
-    Ok((branch, rest))
+    parse_weighted(alloc, rest)
 }
 
 /// `E : Update { + E : Update }`
@@ -139,6 +144,41 @@ fn is_plain(tokens: Tokens) -> bool
     symbol_next(behind(second), Symbol::Prime)
 }
 
+/// `E : Update { + E : Update } ;`
+fn parse_ended_branches<'a>(
+    alloc: Global,
+    tokens: Tokens<'a>,
+) -> Result<(List<PrismBranch>, Tokens<'a>), Stop<'a>>
+    ensures { ParsesIn (map branch_of) (in_scope ended_branches) none (seen tokens.entry) result }
+{
+    let (branches, rest) = parse_branches(alloc, tokens)?;
+    let (_close, rest) = read_symbol(rest, Symbol::Semicolon)?;
+    Ok((branches, rest))
+}
+
+/// The one branch of an update without a probability.
+fn one_branch(alloc: Global, writes: List<PrismWrite>) -> Result<List<PrismBranch>, AllocError>
+    ensures { IfOk result (λ branches. map branch_of branches ≡ one_branch (map write_of writes)) }
+{
+    let mut branches = List::new(alloc);
+    let weight = None;
+    branches.push(PrismBranch { weight, writes })?;
+    Ok(branches)
+}
+
+/// `Update ;`
+fn parse_ended_update<'a>(
+    alloc: Global,
+    tokens: Tokens<'a>,
+) -> Result<(List<PrismBranch>, Tokens<'a>), Stop<'a>>
+    ensures { ParsesIn (map branch_of) (in_scope ended_update) none (seen tokens.entry) result }
+{
+    let (writes, rest) = parse_update(alloc, tokens)?;
+    let (_end, rest) = read_symbol(rest, Symbol::Semicolon)?;
+    let branches = one_branch(alloc, writes)?;
+    Ok((branches, rest))
+}
+
 /// `Update ;`, or the updates with their probabilities and `;`
 pub(crate) fn parse_updates<'a>(
     alloc: Global,
@@ -147,14 +187,7 @@ pub(crate) fn parse_updates<'a>(
     ensures { ParsesIn (map branch_of) (in_scope ended_updates) none (seen tokens.entry) result }
 {
     if !is_plain(tokens) {
-        let (branches, rest) = parse_branches(alloc, tokens)?;
-        let (_close, rest) = read_symbol(rest, Symbol::Semicolon)?;
-        return Ok((branches, rest));
+        return parse_ended_branches(alloc, tokens);
     }
-    let (writes, rest) = parse_update(alloc, tokens)?;
-    let (_end, rest) = read_symbol(rest, Symbol::Semicolon)?;
-    let mut branches = List::new(alloc);
-    let weight = None;
-    branches.push(PrismBranch { weight, writes })?;
-    Ok((branches, rest))
+    parse_ended_update(alloc, tokens)
 }

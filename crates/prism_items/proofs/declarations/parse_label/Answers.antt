@@ -1,36 +1,25 @@
-use Rattle.std.proofs.Common.{refl}
-use Rattle.prism_lex.specs.declared.token.TokenKind.TheVariants as K
-use Rattle.prism_lex.specs.declared.symbols.Symbol.TheVariants as S
 use Rattle.prism_tree.specs.Grammar.{label_item}
 use Rattle.prism_exprs.specs.Reading.{none}
-use Rattle.prism_exprs.specs.Levels.{goes_on}
-use Rattle.prism_exprs.proofs.Laws.{token_one, token_word, token_follows, then_word, gives_word, gives_reads}
+use Rattle.prism_exprs.proofs.Laws.{token_one, token_word, then_word, gives_word, gives_reads}
 use Rattle.prism_items.specs.Parts.{in_scope}
-use Rattle.prism_items.proofs.Leading.{begin, step, step_to, halt, halt_at, leaves}
-use Rattle.prism_items.proofs.Expressions.{expressions_one, expressions_word}
+use Rattle.prism_items.proofs.Leading.{begin, step, halt, leaves}
+use Rattle.prism_items.proofs.Expressions.{expressions_word}
+use Rattle.prism_items.proofs.Closing.{defining, definition_one}
 use Rattle.prism_items.proofs.Declaring.{quoted_one, quoted_word}
 use Rattle.prism_items.proofs.declarations.parse_label.Goals as goal
 
 pub returns-in_err-_label : goal.returns-in_err-_label
 unfolding label_item
-returns-in_err-_label c = leaves _ _ _ _ _ _ c.from_residual.ensures (λ s. halt _ _ s (begin (in_scope label_item s) none _) (λ _. then_word (quoted_word) (λ _. then_word (token_word _) (λ _. then_word (expressions_word s) (λ _. then_word (token_word _) (λ _. gives_word _))))) _ (c.in_err-_label.ensures s))
+returns-in_err-_label c = leaves _ _ _ _ _ _ c.from_residual.ensures (λ s. halt _ _ s (begin (in_scope label_item s) none _) (λ _. then_word quoted_word (λ _. then_word (token_word _) (λ _. then_word (expressions_word s) (λ _. then_word (token_word _) (λ _. gives_word _))))) _ (c.in_err-_label.ensures s))
 
 pub returns-in_err-name : goal.returns-in_err-name
 unfolding label_item
 returns-in_err-name c = leaves _ _ _ _ _ _ c.from_residual-in_err-name.ensures (λ s. halt _ _ s (step _ _ (begin (in_scope label_item s) none _) (token_one _) (c.in_ok-_label.ensures s)) (λ _. then_word (token_word _) (λ _. then_word (expressions_word s) (λ _. then_word (token_word _) (λ _. gives_word _)))) _ (c.in_err-name.ensures s))
 
-pub returns-in_err-_equal : goal.returns-in_err-_equal
-unfolding label_item
-returns-in_err-_equal c = leaves _ _ _ _ _ _ c.from_residual-in_err-_equal.ensures (λ s. halt _ _ s (step _ _ (step _ _ (begin (in_scope label_item s) none _) (token_one _) (c.in_ok-_label.ensures s)) (quoted_one) (c.in_ok-name.ensures s)) (λ _. then_word (expressions_word s) (λ _. then_word (token_word _) (λ _. gives_word _))) _ (c.in_err-_equal.ensures s))
-
 pub returns-in_err-body : goal.returns-in_err-body
 unfolding label_item
-returns-in_err-body c = leaves _ _ _ _ _ _ c.from_residual-in_err-body.ensures (λ s. halt_at _ _ s (step _ _ (step _ _ (step _ _ (begin (in_scope label_item s) none _) (token_one _) (c.in_ok-_label.ensures s)) (quoted_one) (c.in_ok-name.ensures s)) (token_one _) (c.in_ok-_equal.ensures s)) (λ _. then_word (token_word _) (λ _. gives_word _)) (token_follows goes_on (K.Symbol S.Semicolon) _ none refl) _ (c.in_err-body.ensures s))
-
-pub returns-in_err-_close : goal.returns-in_err-_close
-unfolding label_item
-returns-in_err-_close c = leaves _ _ _ _ _ _ c.from_residual-in_err-_close.ensures (λ s. halt _ _ s (step_to _ _ (step _ _ (step _ _ (step _ _ (begin (in_scope label_item s) none _) (token_one _) (c.in_ok-_label.ensures s)) (quoted_one) (c.in_ok-name.ensures s)) (token_one _) (c.in_ok-_equal.ensures s)) (expressions_one s) (token_follows goes_on (K.Symbol S.Semicolon) _ none refl) (c.in_ok-body.ensures s)) (λ _. gives_word _) _ (c.in_err-_close.ensures s))
+returns-in_err-body c = leaves _ _ _ _ _ _ c.from_residual-in_err-body.ensures (λ s. halt _ _ s (defining _ _ _ _ (step _ _ (step _ _ (begin (in_scope label_item s) none _) (token_one _) (c.in_ok-_label.ensures s)) quoted_one (c.in_ok-name.ensures s))) (λ _. gives_word _) _ (c.in_err-body.ensures s))
 
 pub returns : goal.returns
 unfolding label_item
-returns c = λ s. ((step _ _ (step_to _ _ (step _ _ (step _ _ (step _ _ (begin (in_scope label_item s) none _) (token_one _) (c.in_ok-_label.ensures s)) (quoted_one) (c.in_ok-name.ensures s)) (token_one _) (c.in_ok-_equal.ensures s)) (expressions_one s) (token_follows goes_on (K.Symbol S.Semicolon) _ none refl) (c.in_ok-body.ensures s)) (token_one _) (c.in_ok-_close.ensures s)).reads _ _ (gives_reads _ _))
+returns c = λ s. (step _ _ (defining _ _ _ _ (step _ _ (step _ _ (begin (in_scope label_item s) none _) (token_one _) (c.in_ok-_label.ensures s)) quoted_one (c.in_ok-name.ensures s))) (definition_one s) (c.in_ok-body.ensures s)).reads _ _ (gives_reads _ _)

@@ -1,13 +1,11 @@
 use Rattle.std.proofs.Common.{refl}
-use Rattle.prism_lex.specs.declared.token.TokenKind.TheVariants as K
-use Rattle.prism_lex.specs.declared.symbols.Symbol.TheVariants as S
 use Rattle.prism_tree.specs.Grammar.{range}
 use Rattle.prism_exprs.specs.Reading.{none}
-use Rattle.prism_exprs.specs.Levels.{goes_on}
-use Rattle.prism_exprs.proofs.Laws.{token_one, token_word, token_follows, then_word, gives_word, gives_reads}
+use Rattle.prism_exprs.proofs.Laws.{token_one, token_word, then_word, gives_word, gives_reads}
 use Rattle.prism_items.specs.Parts.{in_scope}
-use Rattle.prism_items.proofs.Leading.{begin, step, step_to, halt, halt_at, leaves}
-use Rattle.prism_items.proofs.Expressions.{expressions_one, expressions_word}
+use Rattle.prism_items.proofs.Leading.{begin, step, halt, leaves}
+use Rattle.prism_items.proofs.Expressions.{expressions_word}
+use Rattle.prism_items.proofs.Closing.{closing, closed_expression_one}
 use Rattle.prism_items.proofs.declarations.parse_range.Goals as goal
 
 pub returns-in_err-_left : goal.returns-in_err-_left
@@ -16,20 +14,12 @@ returns-in_err-_left c = leaves _ _ _ _ _ _ c.from_residual.ensures (λ s. halt 
 
 pub returns-in_err-low : goal.returns-in_err-low
 unfolding range
-returns-in_err-low c = leaves _ _ _ _ _ _ c.from_residual-in_err-low.ensures (λ s. halt_at _ _ s (step _ _ (begin (in_scope range s) none _) (token_one _) (c.in_ok-_left.ensures s)) (λ _. then_word (token_word _) (λ _. then_word (expressions_word s) (λ _. then_word (token_word _) (λ _. gives_word _)))) (token_follows goes_on (K.Symbol S.Dots) _ none refl) _ (c.in_err-low.ensures s))
-
-pub returns-in_err-_dots : goal.returns-in_err-_dots
-unfolding range
-returns-in_err-_dots c = leaves _ _ _ _ _ _ c.from_residual-in_err-_dots.ensures (λ s. halt _ _ s (step_to _ _ (step _ _ (begin (in_scope range s) none _) (token_one _) (c.in_ok-_left.ensures s)) (expressions_one s) (token_follows goes_on (K.Symbol S.Dots) _ none refl) (c.in_ok-low.ensures s)) (λ _. then_word (expressions_word s) (λ _. then_word (token_word _) (λ _. gives_word _))) _ (c.in_err-_dots.ensures s))
+returns-in_err-low c = leaves _ _ _ _ _ _ c.from_residual-in_err-low.ensures (λ s. halt _ _ s (closing _ _ _ (step _ _ (begin (in_scope range s) none _) (token_one _) (c.in_ok-_left.ensures s))) (λ _. then_word (expressions_word s) (λ _. then_word (token_word _) (λ _. gives_word _))) _ (c.in_err-low.ensures s))
 
 pub returns-in_err-high : goal.returns-in_err-high
 unfolding range
-returns-in_err-high c = leaves _ _ _ _ _ _ c.from_residual-in_err-high.ensures (λ s. halt_at _ _ s (step _ _ (step_to _ _ (step _ _ (begin (in_scope range s) none _) (token_one _) (c.in_ok-_left.ensures s)) (expressions_one s) (token_follows goes_on (K.Symbol S.Dots) _ none refl) (c.in_ok-low.ensures s)) (token_one _) (c.in_ok-_dots.ensures s)) (λ _. then_word (token_word _) (λ _. gives_word _)) (token_follows goes_on (K.Symbol S.RightBracket) _ none refl) _ (c.in_err-high.ensures s))
-
-pub returns-in_err-_right : goal.returns-in_err-_right
-unfolding range
-returns-in_err-_right c = leaves _ _ _ _ _ _ c.from_residual-in_err-_right.ensures (λ s. halt _ _ s (step_to _ _ (step _ _ (step_to _ _ (step _ _ (begin (in_scope range s) none _) (token_one _) (c.in_ok-_left.ensures s)) (expressions_one s) (token_follows goes_on (K.Symbol S.Dots) _ none refl) (c.in_ok-low.ensures s)) (token_one _) (c.in_ok-_dots.ensures s)) (expressions_one s) (token_follows goes_on (K.Symbol S.RightBracket) _ none refl) (c.in_ok-high.ensures s)) (λ _. gives_word _) _ (c.in_err-_right.ensures s))
+returns-in_err-high c = leaves _ _ _ _ _ _ c.from_residual-in_err-high.ensures (λ s. halt _ _ s (closing _ _ _ (step _ _ (closing _ _ _ (step _ _ (begin (in_scope range s) none _) (token_one _) (c.in_ok-_left.ensures s))) (closed_expression_one s _ refl) (c.in_ok-low.ensures s))) (λ _. gives_word _) _ (c.in_err-high.ensures s))
 
 pub returns : goal.returns
 unfolding range
-returns c = λ s. ((step _ _ (step_to _ _ (step _ _ (step_to _ _ (step _ _ (begin (in_scope range s) none _) (token_one _) (c.in_ok-_left.ensures s)) (expressions_one s) (token_follows goes_on (K.Symbol S.Dots) _ none refl) (c.in_ok-low.ensures s)) (token_one _) (c.in_ok-_dots.ensures s)) (expressions_one s) (token_follows goes_on (K.Symbol S.RightBracket) _ none refl) (c.in_ok-high.ensures s)) (token_one _) (c.in_ok-_right.ensures s)).reads _ _ (gives_reads _ _))
+returns c = λ s. (step _ _ (closing _ _ _ (step _ _ (closing _ _ _ (step _ _ (begin (in_scope range s) none _) (token_one _) (c.in_ok-_left.ensures s))) (closed_expression_one s _ refl) (c.in_ok-low.ensures s))) (closed_expression_one s _ refl) (c.in_ok-high.ensures s)).reads _ _ (gives_reads _ _)
