@@ -11,3 +11,4 @@ pub mod Building
 pub mod Rewarding
 pub mod Sectioning
 pub mod Filing
+pub mod Ending

@@ -210,14 +210,14 @@ fn parse_rest<'a>(
 ) -> Result<(PrismModule, Tokens<'a>), Stop<'a>>
     ensures { ParsesIn module_of (in_scope (module_rest name)) none (seen tokens.entry) result }
 {
-    if symbol_next(tokens, Symbol::Equal) {
-        let (copied, rest) = parse_copy(alloc, name, tokens)?;
-        let (_close, rest) = read_word(rest, Reserved::Endmodule)?;
-        return Ok((copied, rest));
-    }
-    let (plain, rest) = parse_body(alloc, name, tokens)?;
+    let read = if symbol_next(tokens, Symbol::Equal) {
+        parse_copy(alloc, name, tokens)
+    } else {
+        parse_body(alloc, name, tokens)
+    };
+    let (module, rest) = read?;
     let (_end, rest) = read_word(rest, Reserved::Endmodule)?;
-    Ok((plain, rest))
+    Ok((module, rest))
 }
 
 /// `module Ident .. endmodule`
