@@ -1,5 +1,5 @@
 -- The steps of the readers of a name and of arguments.
-use Rattle.std.proofs.Common.{rules, ◌≡◌, ℕ, Bool, true, false, List, [], ◌∷◌, Option, Some, None, refl, sym, subst, map}
+use Rattle.std.proofs.Common.{rules, ◌≡◌, ℕ, Bool, true, false, List, [], ◌∷◌, Option, Some, None, refl, sym, subst, map, length, ◌<◌}
 use Rattle.std.specs.Prelude.{◌||◌}
 use Rattle.op_trees.specs.Tree.{One, Two}
 use Rattle.prism_lex.specs.declared.token.TokenKind.TheVariants as K
@@ -20,13 +20,14 @@ use Rattle.prism_tree.specs.Lang.{Lang, gives, never, ◌>>=◌, ◌or◌}
 use Rattle.prism_exprs.specs.Kept.{lexeme_at}
 use Rattle.prism_exprs.specs.Reading.{Ends, none, Reads, Fails, Stops, starts, is_kind}
 use Rattle.prism_tree.specs.Grammar.{symbol, word, argument, one_argument, two_arguments, arguments, extremum, prim, expr}
-use Rattle.prism_exprs.specs.Levels.{more, goes_on, lists_on, more_arguments, listed}
-use Rattle.prism_exprs.proofs.Laws.{IsOne, HasWord, Follows, token_one, token_word, token_follows, gives_word, then_word}
-use Rattle.prism_exprs.proofs.Choice.{Barred, or_reads_left, gives_barred, then_opens, opens_follows, folding_word, folding_follows, folding_one}
-use Rattle.prism_exprs.proofs.Loops.{Leads, leads_on, begin, step, step_to, halt, halt_at, or_leads_right, folding_leads, folding_stops, folding_reads, starts_cons}
+use Rattle.prism_exprs.specs.Levels.{more, goes_on, lists_on, more_arguments, both, listed}
+use Rattle.prism_exprs.proofs.Laws.{IsOne, HasWord, Follows, token_one, token_word, token_follows, gives_one, gives_word, step_one, then_one, then_word}
+use Rattle.prism_exprs.proofs.Grouping.{same_trans, same_sym, same_then, assoc, gives_then}
+use Rattle.prism_exprs.proofs.Choice.{Same, Barred, or_reads_left, gives_barred, token_opens, then_opens, opens_follows, folding_word, folding_follows, folding_one}
+use Rattle.prism_exprs.proofs.Loops.{Leads, leads_on, begin, same_leads, step, step_to, halt, halt_at, or_leads_right, folding_leads, folding_stops, folding_reads, starts_cons, reads_shorter}
 use Rattle.prism_exprs.proofs.Keeping.{place_kept}
 use Rattle.prism_exprs.proofs.Cut.{gives_or_fails}
-use Rattle.prism_exprs.proofs.Exprs.{expr_one, expr_word, argument_opens, argument_one, comma_repeats, comma_not_on, then_follows}
+use Rattle.prism_exprs.proofs.Exprs.{expr_one, expr_word, argument_opens, argument_one, comma_repeats, comma_not_on, gives_follows, then_follows}
 use Rattle.prism_exprs.proofs.Prims.{prim_min, prim_max}
 use Rattle.prism_exprs.proofs.Operands.{kind_kept, word_reads}
 use Rattle.prism_exprs.proofs.Conditionals.{map_cons}
@@ -126,40 +127,68 @@ end_leads {L} ts us vs x y c l p q =
     let F : Expression → Type 0 = λ u. Leads (more 0) L ts (gives u) vs in
     subst F (sym q) (step _ _ l (token_one _) p)
 
--- ---- ( E , E )
+-- ---- ( E , E
 
 abbrev pub behind_two : PrismOp → ℕ → Lang Expression
-behind_two o at = expr >>= λ a. argument expr >>= λ b. symbol S.RightParenthesis >>= λ c. gives (Two at o a b)
+behind_two o at = expr >>= λ a. argument expr >>= λ b. gives (Two at o a b)
 
 abbrev pub behind_first : PrismOp → ℕ → Expression → Lang Expression
-behind_first o at a = argument expr >>= λ b. symbol S.RightParenthesis >>= λ c. gives (Two at o a b)
+behind_first o at a = argument expr >>= λ b. gives (Two at o a b)
 
 argument_word : HasWord (argument expr)
 unfolding argument
 argument_word = then_word (token_word _) (λ c. expr_word)
 
-pub two_open_stops : (o : PrismOp) (at : ℕ) (ts : List Lexeme) (e : Stop) → Stops (symbol S.LeftParenthesis) none ts e → Stops (two_arguments expr o at) (more 0) ts e
+pub two_open_stops : (o : PrismOp) (at : ℕ) (ts : List Lexeme) (e : Stop) → Stops (symbol S.LeftParenthesis) none ts e → Stops (both o at) goes_on ts e
+unfolding both
+two_open_stops o at ts e p = halt _ _ (begin (both o at) goes_on ts) (λ t. then_word expr_word (λ x. then_word argument_word (λ y. gives_word (Two at o x y)))) e p
+
+pub two_open_leads : (o : PrismOp) (at : ℕ) (ts us : List Lexeme) (c : Lexeme) → Reads (symbol S.LeftParenthesis) none ts c us → Leads goes_on (both o at) ts (behind_two o at) us
+unfolding both
+two_open_leads o at ts us c p = step _ _ (begin (both o at) goes_on ts) (token_one _) p
+
+pub two_first_stops : {L : Lang Expression} (o : PrismOp) (at : ℕ) (ts us : List Lexeme) (e : Stop) → Leads goes_on L ts (behind_two o at) us → Stops expr goes_on us e → Stops L goes_on ts e
+two_first_stops o at ts us e l p = halt_at _ _ l (λ x. then_word argument_word (λ y. gives_word (Two at o x y))) (opens_follows goes_on goes_on (λ a. then_opens _ _ (argument_opens expr)) comma_not_on) e p
+
+pub two_first_leads : {L : Lang Expression} (o : PrismOp) (at : ℕ) (ts us vs : List Lexeme) (x : Expression) → Leads goes_on L ts (behind_two o at) us → Reads expr goes_on us x vs → Leads goes_on L ts (behind_first o at x) vs
+two_first_leads o at ts us vs x l p = step_to _ _ l expr_one (opens_follows goes_on goes_on (λ a. then_opens _ _ (argument_opens expr)) comma_not_on) p
+
+pub two_second_stops : {L : Lang Expression} (o : PrismOp) (at : ℕ) (ts us : List Lexeme) (x : Expression) (e : Stop) → Leads goes_on L ts (behind_first o at x) us → Stops (argument expr) goes_on us e → Stops L goes_on ts e
+two_second_stops o at ts us x e l p = halt_at _ _ l (λ y. gives_word (Two at o x y)) (gives_follows (λ y. Two at o x y) goes_on) e p
+
+pub two_reads : {L : Lang Expression} (o : PrismOp) (at : ℕ) (ts us vs : List Lexeme) (x y z : Expression) → Leads goes_on L ts (behind_first o at x) us → Reads (argument expr) goes_on us y vs → z ≡ Two at o x y →
+    Reads L goes_on ts z vs
+unfolding gives
+two_reads o at ts us vs x y z l p q =
+    (step_to _ _ l (argument_one expr expr_one) (gives_follows (λ y. Two at o x y) goes_on) p).reads z vs (record { word = []; parts = refl; spells = (refl, q); ends = p.ends })
+
+both_one : (o : PrismOp) (at : ℕ) → IsOne (both o at) goes_on
+unfolding both
+both_one o at =
+    step_one _ (token_one _) (λ t. then_one goes_on expr_one (λ a. then_one goes_on (argument_one expr expr_one) (λ b. gives_one _ goes_on) (gives_follows (λ b. Two at o a b) goes_on))
+    (opens_follows goes_on goes_on (λ a. then_opens _ _ (argument_opens expr)) comma_not_on))
+
+both_then : (o : PrismOp) (at : ℕ) (N : Expression → Lang Expression) → Same (both o at >>= N) (symbol S.LeftParenthesis >>= λ t. expr >>= λ a. argument expr >>= λ b. N (Two at o a b))
+unfolding both
+both_then o at N =
+    same_trans (assoc _ _ _) (same_then _ _ _ (λ t. same_trans (assoc _ _ _) (same_then _ _ _ (λ a. same_trans (assoc _ _ _) (same_then _ _ _ (λ b. gives_then (Two at o a b) N))))))
+
+pub both_shorter : (o : PrismOp) (at : ℕ) (ts us : List Lexeme) (x : Expression) → Reads (both o at) goes_on ts x us → length us < length ts
+unfolding both
+both_shorter o at ts us x p = reads_shorter _ (then_opens _ _ (token_opens (K.Symbol S.LeftParenthesis))) p
+
+-- ---- ( E , E )
+
+two-both : (o : PrismOp) (at : ℕ) → Same (two_arguments expr o at) (both o at >>= λ e. symbol S.RightParenthesis >>= λ c. gives e)
 unfolding two_arguments
-two_open_stops o at ts e p =
-    halt _ _ (begin (two_arguments expr o at) (more 0) ts) (λ t. then_word expr_word (λ x. then_word argument_word (λ y. then_word (token_word _) (λ c. gives_word _)))) e p
+two-both o at = same_sym (both_then o at (λ e. symbol S.RightParenthesis >>= λ c. gives e))
 
-pub two_open_leads : (o : PrismOp) (at : ℕ) (ts us : List Lexeme) (c : Lexeme) → Reads (symbol S.LeftParenthesis) none ts c us → Leads (more 0) (two_arguments expr o at) ts (behind_two o at) us
-unfolding two_arguments
-two_open_leads o at ts us c p = step _ _ (begin (two_arguments expr o at) (more 0) ts) (token_one _) p
+pub two_both_stops : (o : PrismOp) (at : ℕ) (ts : List Lexeme) (e : Stop) → Stops (both o at) goes_on ts e → Stops (two_arguments expr o at) (more 0) ts e
+two_both_stops o at ts e p =
+    halt_at _ _ (same_leads (more 0) ts (two-both o at)) (λ x. then_word (token_word _) (λ c. gives_word x)) (token_follows goes_on (K.Symbol S.RightParenthesis) _ (more 0) refl) e p
 
-pub two_first_stops : {L : Lang Expression} (o : PrismOp) (at : ℕ) (ts us : List Lexeme) (e : Stop) → Leads (more 0) L ts (behind_two o at) us → Stops expr goes_on us e → Stops L (more 0) ts e
-two_first_stops o at ts us e l p =
-    halt_at _ _ l (λ x. then_word argument_word (λ y. then_word (token_word _) (λ c. gives_word (Two at o x y)))) (opens_follows goes_on (more 0) (λ a. then_opens _ _ (argument_opens expr)) comma_not_on) e p
-
-pub two_first_leads : {L : Lang Expression} (o : PrismOp) (at : ℕ) (ts us vs : List Lexeme) (x : Expression) → Leads (more 0) L ts (behind_two o at) us → Reads expr goes_on us x vs → Leads (more 0) L ts (behind_first o at x) vs
-two_first_leads o at ts us vs x l p = step_to _ _ l expr_one (opens_follows goes_on (more 0) (λ a. then_opens _ _ (argument_opens expr)) comma_not_on) p
-
-pub two_second_stops : {L : Lang Expression} (o : PrismOp) (at : ℕ) (ts us : List Lexeme) (x : Expression) (e : Stop) → Leads (more 0) L ts (behind_first o at x) us → Stops (argument expr) goes_on us e → Stops L (more 0) ts e
-two_second_stops o at ts us x e l p = halt_at _ _ l (λ y. then_word (token_word _) (λ c. gives_word (Two at o x y))) (token_follows goes_on (K.Symbol S.RightParenthesis) _ (more 0) refl) e p
-
-pub two_second_leads : {L : Lang Expression} (o : PrismOp) (at : ℕ) (ts us vs : List Lexeme) (x y : Expression) → Leads (more 0) L ts (behind_first o at x) us → Reads (argument expr) goes_on us y vs →
-    Leads (more 0) L ts (symbol S.RightParenthesis >>= λ c. gives (Two at o x y)) vs
-two_second_leads o at ts us vs x y l p = step_to _ _ l (argument_one expr expr_one) (token_follows goes_on (K.Symbol S.RightParenthesis) _ (more 0) refl) p
+pub two_both_leads : (o : PrismOp) (at : ℕ) (ts us : List Lexeme) (x : Expression) → Reads (both o at) goes_on ts x us → Leads (more 0) (two_arguments expr o at) ts (symbol S.RightParenthesis >>= λ c. gives x) us
+two_both_leads o at ts us x p = step_to _ _ (same_leads (more 0) ts (two-both o at)) (both_one o at) (token_follows goes_on (K.Symbol S.RightParenthesis) _ (more 0) refl) p
 
 -- ---- { , E }
 
@@ -199,42 +228,19 @@ behind_both o at x = more_arguments o at x >>= λ e. symbol S.RightParenthesis >
 behind_both_word : (o : PrismOp) (at : ℕ) (x : Expression) → HasWord (behind_both o at x)
 behind_both_word o at x = then_word (more_word o at x) (λ e. then_word (token_word _) (λ c. gives_word e))
 
-abbrev pub behind_one_listed : PrismOp → ℕ → Expression → Lang Expression
-behind_one_listed o at a = argument expr >>= λ b. behind_both o at (Two at o a b)
-
-abbrev pub behind_none_listed : PrismOp → ℕ → Lang Expression
-behind_none_listed o at = expr >>= λ a. behind_one_listed o at a
-
-pub listed_open_stops : (o : PrismOp) (at : ℕ) (ts : List Lexeme) (e : Stop) → Stops (symbol S.LeftParenthesis) none ts e → Stops (listed o at) (more 0) ts e
+listed-both : (o : PrismOp) (at : ℕ) → Same (listed o at) (both o at >>= λ x. behind_both o at x)
 unfolding listed
-listed_open_stops o at ts e p =
-    halt _ _ (begin (listed o at) (more 0) ts) (λ t. then_word expr_word (λ x. then_word argument_word (λ y. behind_both_word o at (Two at o x y)))) e p
+listed-both o at = same_sym (both_then o at (λ x. behind_both o at x))
 
-pub listed_open_leads : (o : PrismOp) (at : ℕ) (ts us : List Lexeme) (c : Lexeme) → Reads (symbol S.LeftParenthesis) none ts c us → Leads (more 0) (listed o at) ts (behind_none_listed o at) us
-unfolding listed
-listed_open_leads o at ts us c p = step _ _ (begin (listed o at) (more 0) ts) (token_one _) p
+both_follows : (o : PrismOp) (at : ℕ) → Follows goes_on (λ x. behind_both o at x) (more 0)
+both_follows o at =
+    then_follows lists_on (folding_follows (λ y z. Two at o y z) (argument_opens expr) comma_repeats (λ x. x)) (λ b. token_follows lists_on (K.Symbol S.RightParenthesis) _ (more 0) refl)
 
-pub listed_first_stops : {L : Lang Expression} (o : PrismOp) (at : ℕ) (ts us : List Lexeme) (e : Stop) → Leads (more 0) L ts (behind_none_listed o at) us → Stops expr goes_on us e → Stops L (more 0) ts e
-listed_first_stops o at ts us e l p =
-    halt_at _ _ l (λ x. then_word argument_word (λ y. behind_both_word o at (Two at o x y))) (opens_follows goes_on (more 0) (λ a. then_opens _ _ (argument_opens expr)) comma_not_on) e p
+pub listed_both_stops : (o : PrismOp) (at : ℕ) (ts : List Lexeme) (e : Stop) → Stops (both o at) goes_on ts e → Stops (listed o at) (more 0) ts e
+listed_both_stops o at ts e p = halt_at _ _ (same_leads (more 0) ts (listed-both o at)) (λ x. behind_both_word o at x) (both_follows o at) e p
 
-pub listed_first_leads : {L : Lang Expression} (o : PrismOp) (at : ℕ) (ts us vs : List Lexeme) (x : Expression) → Leads (more 0) L ts (behind_none_listed o at) us → Reads expr goes_on us x vs →
-    Leads (more 0) L ts (behind_one_listed o at x) vs
-listed_first_leads o at ts us vs x l p = step_to _ _ l expr_one (opens_follows goes_on (more 0) (λ a. then_opens _ _ (argument_opens expr)) comma_not_on) p
-
-both_follows : (o : PrismOp) (at : ℕ) (x : Expression) → Follows goes_on (λ y. behind_both o at (Two at o x y)) (more 0)
-both_follows o at x =
-    then_follows lists_on (folding_follows (λ y z. Two at o y z) (argument_opens expr) comma_repeats (λ y. Two at o x y)) (λ b. token_follows lists_on (K.Symbol S.RightParenthesis) _ (more 0) refl)
-
-pub listed_second_stops : {L : Lang Expression} (o : PrismOp) (at : ℕ) (ts us : List Lexeme) (x : Expression) (e : Stop) → Leads (more 0) L ts (behind_one_listed o at x) us → Stops (argument expr) goes_on us e →
-    Stops L (more 0) ts e
-listed_second_stops o at ts us x e l p = halt_at _ _ l (λ y. behind_both_word o at (Two at o x y)) (both_follows o at x) e p
-
-pub listed_second_leads : {L : Lang Expression} (o : PrismOp) (at : ℕ) (ts us vs : List Lexeme) (x y z : Expression) → Leads (more 0) L ts (behind_one_listed o at x) us → Reads (argument expr) goes_on us y vs →
-    z ≡ Two at o x y → Leads (more 0) L ts (behind_both o at z) vs
-listed_second_leads {L} o at ts us vs x y z l p q =
-    let F : Expression → Type 0 = λ u. Leads (more 0) L ts (behind_both o at u) vs in
-    subst F (sym q) (step_to _ _ l (argument_one expr expr_one) (both_follows o at x) p)
+pub listed_both_leads : (o : PrismOp) (at : ℕ) (ts us : List Lexeme) (x : Expression) → Reads (both o at) goes_on ts x us → Leads (more 0) (listed o at) ts (behind_both o at x) us
+listed_both_leads o at ts us x p = step_to _ _ (same_leads (more 0) ts (listed-both o at)) (both_one o at) (both_follows o at) p
 
 pub listed_more_stops : {L : Lang Expression} (o : PrismOp) (at : ℕ) (ts us : List Lexeme) (x : Expression) (e : Stop) → Leads (more 0) L ts (behind_both o at x) us → Stops (more_arguments o at x) lists_on us e →
     Stops L (more 0) ts e

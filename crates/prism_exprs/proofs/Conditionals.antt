@@ -17,10 +17,11 @@ use Rattle.prism_tree.specs.Lang.{Lang, token, gives, ◌>>=◌, ◌or◌}
 use Rattle.prism_exprs.specs.Kept.{lexeme_at, kept_infix}
 use Rattle.prism_exprs.specs.Reading.{Ends, none, Reads, Stops, starts, is_kind}
 use Rattle.prism_tree.specs.Grammar.{symbol, infix_of, at_level, operator_at, level, choice, conditional, expr}
-use Rattle.prism_exprs.specs.Levels.{more, goes_on, others}
-use Rattle.prism_exprs.proofs.Laws.{HasWord, token_follows, token_one, token_word, then_word, gives_word, then_stops}
-use Rattle.prism_exprs.proofs.Choice.{Barred, or_word, or_reads_left, gives_barred, same_stops}
-use Rattle.prism_exprs.proofs.Loops.{Leads, leads_on, same_leads, then_leads, or_leads_right, starts_cons, step, step_to, halt, halt_at}
+use Rattle.prism_exprs.specs.Levels.{more, goes_on, others, first_choice}
+use Rattle.prism_exprs.proofs.Laws.{IsOne, token_follows, token_one, token_word, then_one, then_word, step_one, gives_one, gives_word, gives_reads, then_stops}
+use Rattle.prism_exprs.proofs.Choice.{Same, Barred, or_word, or_reads_left, gives_barred, same_stops, token_opens, then_opens}
+use Rattle.prism_exprs.proofs.Grouping.{same_trans, same_sym, same_then, assoc, gives_then}
+use Rattle.prism_exprs.proofs.Loops.{Leads, leads_on, begin, same_leads, then_leads, or_leads_right, starts_cons, step, step_to, halt, halt_at, reads_shorter}
 use Rattle.prism_exprs.proofs.Keeping.{infix_kept}
 use Rattle.prism_exprs.proofs.Exprs.{level_one, expr_one, expr_word, expr-conditional, rest_follows, gives_follows}
 use Rattle.prism_exprs.proofs.Climb.{chain_end, chain_lead, operand_stops}
@@ -102,48 +103,65 @@ choice_leads ts us c p h =
     let F : List Lexeme → Type 0 = λ u. Barred (gives c) goes_on u in
     leads_on (test_leads ts us c p) (or_leads_right (gives c) (choice expr c) goes_on us (subst F (sym n.2) (gives_barred c goes_on n.0 n.1 (or_left _ _ n.3))))
 
-pub choice_word : (c : Expression) (q : Lexeme) → HasWord (expr >>= λ a. symbol S.Colon >>= λ k. expr >>= λ b. gives (Three (offset_of c) O.Ite c a b))
-choice_word c q = then_word expr_word (λ a. then_word (token_word _) (λ k. then_word expr_word (λ b. gives_word _)))
+choice-first : (c : Expression) → Same (choice expr c) (first_choice >>= λ a. expr >>= λ b. gives (Three (offset_of c) O.Ite c a b))
+unfolding choice first_choice
+choice-first c =
+    same_sym (same_trans (assoc _ _ _) (same_then _ _ _ (λ q. same_trans (assoc _ _ _) (same_then _ _ _ (λ a. same_trans (assoc _ _ _) (same_then _ _ _ (λ k.
+    gives_then a (λ a. expr >>= λ b. gives (Three (offset_of c) O.Ite c a b)))))))))
 
-pub question_stops : (ts us : List Lexeme) (c : Expression) (e : Stop) → Leads goes_on expr ts (choice expr c) us → Stops (symbol S.Question) none us e → Stops expr goes_on ts e
-unfolding choice
-question_stops ts us c e l p = halt _ _ l (choice_word c) e p
+first_choice_one : IsOne first_choice none
+unfolding first_choice
+first_choice_one =
+    step_one _ (token_one _) (λ q. then_one goes_on expr_one (λ a. step_one _ (token_one _) (λ k. gives_one a none)) (token_follows goes_on (K.Symbol S.Colon) _ none refl))
 
-pub question_leads : (ts us vs : List Lexeme) (c : Expression) (q : Lexeme) → Leads goes_on expr ts (choice expr c) us → Reads (symbol S.Question) none us q vs →
-    Leads goes_on expr ts (expr >>= λ a. symbol S.Colon >>= λ k. expr >>= λ b. gives (Three (offset_of c) O.Ite c a b)) vs
-unfolding choice
-question_leads ts us vs c q l p = step _ _ l (token_one _) p
+-- what stands behind the question mark
+abbrev pub behind_question : Lang Expression
+behind_question = expr >>= λ a. symbol S.Colon >>= λ k. gives a
 
-pub first_stops : (ts vs : List Lexeme) (c : Expression) (e : Stop) → Leads goes_on expr ts (expr >>= λ a. symbol S.Colon >>= λ k. expr >>= λ b. gives (Three (offset_of c) O.Ite c a b)) vs →
-    Stops expr goes_on vs e → Stops expr goes_on ts e
-first_stops ts vs c e l p = halt_at _ _ l (λ a. then_word (token_word _) (λ k. then_word expr_word (λ b. gives_word _))) (token_follows goes_on (K.Symbol S.Colon) _ goes_on refl) e p
+pub question_stops : (ts : List Lexeme) (e : Stop) → Stops (symbol S.Question) none ts e → Stops first_choice none ts e
+unfolding first_choice
+question_stops ts e p = halt _ _ (begin first_choice none ts) (λ q. then_word expr_word (λ a. then_word (token_word _) (λ k. gives_word a))) e p
 
-pub first_leads : (ts vs xs : List Lexeme) (c a : Expression) → Leads goes_on expr ts (expr >>= λ a. symbol S.Colon >>= λ k. expr >>= λ b. gives (Three (offset_of c) O.Ite c a b)) vs →
-    Reads expr goes_on vs a xs → Leads goes_on expr ts (symbol S.Colon >>= λ k. expr >>= λ b. gives (Three (offset_of c) O.Ite c a b)) xs
-first_leads ts vs xs c a l p = step_to _ _ l expr_one (token_follows goes_on (K.Symbol S.Colon) _ goes_on refl) p
+pub question_leads : (ts us : List Lexeme) (q : Lexeme) → Reads (symbol S.Question) none ts q us → Leads none first_choice ts behind_question us
+unfolding first_choice
+question_leads ts us q p = step _ _ (begin first_choice none ts) (token_one _) p
 
-pub colon_stops : (ts xs : List Lexeme) (c a : Expression) (e : Stop) → Leads goes_on expr ts (symbol S.Colon >>= λ k. expr >>= λ b. gives (Three (offset_of c) O.Ite c a b)) xs →
-    Stops (symbol S.Colon) none xs e → Stops expr goes_on ts e
-colon_stops ts xs c a e l p = halt _ _ l (λ k. then_word expr_word (λ b. gives_word _)) e p
+pub inside_stops : (ts us : List Lexeme) (e : Stop) → Leads none first_choice ts behind_question us → Stops expr goes_on us e → Stops first_choice none ts e
+inside_stops ts us e l p = halt_at _ _ l (λ a. then_word (token_word _) (λ k. gives_word a)) (token_follows goes_on (K.Symbol S.Colon) _ none refl) e p
 
-pub colon_leads : (ts xs ys : List Lexeme) (c a : Expression) (k : Lexeme) → Leads goes_on expr ts (symbol S.Colon >>= λ k. expr >>= λ b. gives (Three (offset_of c) O.Ite c a b)) xs →
-    Reads (symbol S.Colon) none xs k ys → Leads goes_on expr ts (expr >>= λ b. gives (Three (offset_of c) O.Ite c a b)) ys
-colon_leads ts xs ys c a k l p = step _ _ l (token_one _) p
+pub inside_leads : (ts us vs : List Lexeme) (a : Expression) → Leads none first_choice ts behind_question us → Reads expr goes_on us a vs → Leads none first_choice ts (symbol S.Colon >>= λ k. gives a) vs
+inside_leads ts us vs a l p = step_to _ _ l expr_one (token_follows goes_on (K.Symbol S.Colon) _ none refl) p
 
-pub second_stops : (ts ys : List Lexeme) (c a : Expression) (e : Stop) → Leads goes_on expr ts (expr >>= λ b. gives (Three (offset_of c) O.Ite c a b)) ys → Stops expr goes_on ys e → Stops expr goes_on ts e
-second_stops ts ys c a e l p = halt_at _ _ l (λ b. gives_word _) (gives_follows (λ b. Three (offset_of c) O.Ite c a b) goes_on) e p
+pub colon_stops : (ts us : List Lexeme) (a : Expression) (e : Stop) → Leads none first_choice ts (symbol S.Colon >>= λ k. gives a) us → Stops (symbol S.Colon) none us e → Stops first_choice none ts e
+colon_stops ts us a e l p = halt _ _ l (λ k. gives_word a) e p
 
-pub choice_reads : (ts ys zs : List Lexeme) (c a b x : Expression) → Leads goes_on expr ts (expr >>= λ b. gives (Three (offset_of c) O.Ite c a b)) ys → Reads expr goes_on ys b zs →
-    x ≡ Three (offset_of c) O.Ite c a b → Reads expr goes_on ts x zs
+pub colon_reads : (ts us vs : List Lexeme) (a : Expression) (k : Lexeme) → Leads none first_choice ts (symbol S.Colon >>= λ k. gives a) us → Reads (symbol S.Colon) none us k vs → Reads first_choice none ts a vs
+colon_reads ts us vs a k l p = (step _ _ l (token_one _) p).reads a vs (gives_reads a vs)
+
+pub first_stops : (ts : List Lexeme) (c : Expression) (e : Stop) → Stops first_choice none ts e → Stops (choice expr c) goes_on ts e
+first_stops ts c e p = halt _ _ (same_leads goes_on ts (choice-first c)) (λ a. then_word expr_word (λ b. gives_word _)) e p
+
+pub first_leads : (ts us : List Lexeme) (c a : Expression) → Reads first_choice none ts a us → Leads goes_on (choice expr c) ts (expr >>= λ b. gives (Three (offset_of c) O.Ite c a b)) us
+first_leads ts us c a p = step _ _ (same_leads goes_on ts (choice-first c)) first_choice_one p
+
+pub second_stops : (ts us : List Lexeme) (c a : Expression) (e : Stop) → Leads goes_on (choice expr c) ts (expr >>= λ b. gives (Three (offset_of c) O.Ite c a b)) us → Stops expr goes_on us e → Stops (choice expr c) goes_on ts e
+second_stops ts us c a e l p = halt_at _ _ l (λ b. gives_word _) (gives_follows (λ b. Three (offset_of c) O.Ite c a b) goes_on) e p
+
+pub choice_reads : (ts us vs : List Lexeme) (c a b x : Expression) → Leads goes_on (choice expr c) ts (expr >>= λ b. gives (Three (offset_of c) O.Ite c a b)) us → Reads expr goes_on us b vs →
+    x ≡ Three (offset_of c) O.Ite c a b → Reads (choice expr c) goes_on ts x vs
 unfolding gives
-choice_reads ts ys zs c a b x l p q =
+choice_reads ts us vs c a b x l p q =
     let m = step_to _ _ l expr_one (gives_follows (λ b. Three (offset_of c) O.Ite c a b) goes_on) p in
-    m.reads x zs (record { word = []; parts = refl; spells = (refl, q); ends = p.ends })
+    m.reads x vs (record { word = []; parts = refl; spells = (refl, q); ends = p.ends })
 
 -- ---- what was read is no longer than what stood there
 
 pub reads_length : {A : Type 0} {L : Lang A} (m : TokenKind → Bool) (ts us : List Lexeme) (x : A) → Reads L m ts x us → length us ≤ length ts
 reads_length m ts us x p = omega (arith, ap length p.parts, length-append p.word us)
+
+pub first_shorter : (ts us : List Lexeme) (a : Expression) → Reads first_choice none ts a us → suc (length us) ≤ length ts
+unfolding first_choice
+first_shorter ts us a p = reads_shorter _ (then_opens _ _ (token_opens (K.Symbol S.Question))) p
 
 pub token_shorter : (k : TokenKind) (ts us : List Lexeme) (t : Lexeme) → Reads (token k) none ts t us → suc (length us) ≤ length ts
 unfolding token

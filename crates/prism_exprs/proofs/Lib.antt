@@ -1,5 +1,6 @@
 pub mod Laws
 pub mod Choice
+pub mod Grouping
 pub mod Loops
 pub mod Limits
 pub mod Furthest

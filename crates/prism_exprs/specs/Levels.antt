@@ -90,6 +90,22 @@ others n e = folding joined_by (operand n (level expr n)) e
 abbrev pub more_arguments : PrismOp → ℕ → Expression → Lang Expression
 more_arguments o at e = folding (λ x y. Two at o x y) (argument expr) e
 
+-- ( E , E, as a node at this offset
+unfoldable pub both : PrismOp → ℕ → Lang Expression
+both o at = do
+  symbol S.LeftParenthesis
+  a ← expr
+  b ← argument expr
+  gives (Two at o a b)
+
+-- ? E :
+unfoldable pub first_choice : Lang Expression
+first_choice = do
+  symbol S.Question
+  a ← expr
+  symbol S.Colon
+  gives a
+
 -- ( E , E { , E } ), what stands behind the words min and max at this offset
 unfoldable pub listed : PrismOp → ℕ → Lang Expression
 listed o at = do

@@ -3,9 +3,9 @@ ghost use Rattle.std.specs.Prelude.{◌≤◌, suc};
 ghost use Rattle.op_trees.specs.Tree.{tree, Name};
 ghost use Rattle.prism_exprs.specs.Kept.{seen};
 ghost use Rattle.prism_tree.specs.Lang.{gives, ◌or◌};
-ghost use Rattle.prism_exprs.specs.Reading.{Parses, Ends};
-ghost use Rattle.prism_tree.specs.Grammar.{level, prim, expr, argument, one_argument, two_arguments, arguments, function_of};
-ghost use Rattle.prism_exprs.specs.Levels.{more, goes_on, lists_on, others, more_arguments, listed};
+ghost use Rattle.prism_exprs.specs.Reading.{Parses, Ends, none};
+ghost use Rattle.prism_tree.specs.Grammar.{level, prim, expr, argument, one_argument, two_arguments, arguments, choice, function_of};
+ghost use Rattle.prism_exprs.specs.Levels.{more, goes_on, lists_on, others, more_arguments, both, listed, first_choice};
 
 use crate::leaf::{leaf_next, parse_leaf};
 use crate::parts::{
@@ -42,12 +42,33 @@ fn parse_conditional<'a>(alloc: Global, tokens: Tokens<'a>) -> Result<(Pe, Token
     if !next_is(rest, Symbol::Question) {
         return Ok((test, rest));
     }
-    let (_question, rest) = read_symbol(rest, Symbol::Question)?;
-    let (first, rest) = parse_expr(alloc, rest)?;
-    let (_colon, rest) = read_symbol(rest, Symbol::Colon)?;
+    parse_choice(alloc, test, rest)
+}
+
+/// `? E : E` behind a condition.
+#[cycle(expressions)]
+fn parse_choice<'a>(
+    alloc: Global,
+    test: Pe,
+    tokens: Tokens<'a>,
+) -> Result<(Pe, Tokens<'a>), Stop<'a>>
+    ensures { Parses tree (choice expr (tree test)) goes_on (seen tokens.entry) result }
+{
+    let (first, rest) = parse_first(alloc, tokens)?;
     let (second, rest) = parse_expr(alloc, rest)?;
     let whole = choice(alloc, test, first, second)?;
     Ok((whole, rest))
+}
+
+/// `? E :`
+#[cycle(expressions)]
+fn parse_first<'a>(alloc: Global, tokens: Tokens<'a>) -> Result<(Pe, Tokens<'a>), Stop<'a>>
+    ensures { Parses tree first_choice none (seen tokens.entry) result }
+{
+    let (_question, rest) = read_symbol(tokens, Symbol::Question)?;
+    let (first, rest) = parse_expr(alloc, rest)?;
+    let (_colon, rest) = read_symbol(rest, Symbol::Colon)?;
+    Ok((first, rest))
 }
 
 /// What a level reads. Where no sign stands next: an operand, and then the chains of the operators that come.
@@ -232,6 +253,23 @@ fn parse_one_argument<'a>(
     closed(whole, rest)
 }
 
+/// `( E , E`, as a node.
+#[cycle(expressions)]
+fn parse_both<'a>(
+    alloc: Global,
+    op: PrismOp,
+    at: usize,
+    tokens: Tokens<'a>,
+) -> Result<(Pe, Tokens<'a>), Stop<'a>>
+    ensures { Parses tree (both op at) goes_on (seen tokens.entry) result }
+{
+    let (_open, rest) = read_symbol(tokens, Symbol::LeftParenthesis)?;
+    let (first, rest) = parse_expr(alloc, rest)?;
+    let (second, rest) = parse_argument(alloc, rest)?;
+    let whole = two(alloc, at, op, first, second)?;
+    Ok((whole, rest))
+}
+
 /// `( E , E )`
 #[cycle(expressions)]
 fn parse_two_arguments<'a>(
@@ -242,11 +280,8 @@ fn parse_two_arguments<'a>(
 ) -> Result<(Pe, Tokens<'a>), Stop<'a>>
     ensures { Parses tree (two_arguments expr op at) (more 0) (seen tokens.entry) result }
 {
-    let (_open, rest) = read_symbol(tokens, Symbol::LeftParenthesis)?;
-    let (first, rest) = parse_expr(alloc, rest)?;
-    let (second, rest) = parse_argument(alloc, rest)?;
+    let (whole, rest) = parse_both(alloc, op, at, tokens)?;
     let (_close, rest) = read_symbol(rest, Symbol::RightParenthesis)?;
-    let whole = two(alloc, at, op, first, second)?;
     closed(whole, rest)
 }
 
@@ -260,10 +295,7 @@ fn parse_listed<'a>(
 ) -> Result<(Pe, Tokens<'a>), Stop<'a>>
     ensures { Parses tree (listed op at) (more 0) (seen tokens.entry) result }
 {
-    let (_open, rest) = read_symbol(tokens, Symbol::LeftParenthesis)?;
-    let (first, rest) = parse_expr(alloc, rest)?;
-    let (second, rest) = parse_argument(alloc, rest)?;
-    let both = two(alloc, at, op, first, second)?;
+    let (both, rest) = parse_both(alloc, op, at, tokens)?;
     let (whole, rest) = parse_others(alloc, op, at, both, rest)?;
     let (_close, rest) = read_symbol(rest, Symbol::RightParenthesis)?;
     closed(whole, rest)

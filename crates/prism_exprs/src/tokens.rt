@@ -11,7 +11,7 @@ use prism_lex::{Reserved, Symbol};
 use std::alloc::{AllocError, AllocFailed};
 
 /// What a token is.
-#[derive(Clone, Copy, Debug, PartialEq, Eq)]
+#[derive(Clone, Copy, PartialEq, Eq)]
 pub enum Kept {
     /// A reserved word.
     Word(Reserved),
@@ -26,7 +26,7 @@ pub enum Kept {
 }
 
 /// A token: what it is, how long it is, and where it begins. A file has many, so it takes no more than 8 bytes.
-#[derive(Clone, Copy, Debug)]
+#[derive(Clone, Copy)]
 pub struct Found {
     /// What it is.
     pub kind: Kept,
@@ -39,7 +39,7 @@ pub struct Found {
 const _: () = prove!(size_of::<Found>() == 8);
 
 /// A number of the file as it is written: its value, and how many bytes it has.
-#[derive(Clone, Copy, Debug, PartialEq, Eq)]
+#[derive(Clone, Copy, PartialEq, Eq)]
 pub struct Literal {
     /// Its value.
     pub value: Decimal,
@@ -76,7 +76,7 @@ pub enum Stop<'a> {
 }
 
 /// What the place of a token that cannot stand there tells.
-#[derive(Clone, Copy, Debug, PartialEq, Eq)]
+#[derive(Clone, Copy)]
 pub enum Cause {
     /// No more than that.
     Form,

@@ -8,11 +8,11 @@ use Rattle.prism_exprs.proofs.Exprs.{argument_opens}
 use Rattle.prism_exprs.proofs.Loops.{leads_on, begin, parses_via, reads_shorter}
 use Rattle.prism_exprs.proofs.Operands.{true_leads, false_leads, open_leads, inner_stops, inner_leads, close_stops, close_leads, operand_missing, other_word, other_symbol, quoted_name}
 use Rattle.prism_exprs.proofs.Climb.{IsPlain, prefix_none, climb_stops, chain_stops, chain_reads, neg_reads, neg_stops, not_reads, not_stops}
-use Rattle.prism_exprs.proofs.Conditionals.{kept_end, kept_end_empty, kept_lead, kept_stops, kept_shorter, test_stops, test_alone, choice_leads, question_stops, question_leads, first_stops, first_leads, colon_stops, colon_leads, second_stops, choice_reads, reads_length, token_shorter}
+use Rattle.prism_exprs.proofs.Conditionals.{kept_end, kept_end_empty, kept_lead, kept_stops, kept_shorter, test_stops, test_alone, choice_leads, question_stops, question_leads, inside_stops, inside_leads, colon_stops, colon_reads, first_stops, first_leads, second_stops, choice_reads, first_shorter, reads_length, token_shorter}
 use Rattle.prism_exprs.proofs.Alone.{leaf_expr, chain_misses}
 use Rattle.prism_exprs.proofs.Rising.{sign_missing, stop_rises, risen_first, comes, risen_next, risen_stops, risen_done, chain_shorter}
 use Rattle.prism_exprs.proofs.Numbers.{number_leads, number_missing, name_leads, name_missing}
-use Rattle.prism_exprs.proofs.Arguments.{name_alone, one_called, two_called, not_called, comma_stops, comma_leads, one_open_stops, one_open_leads, one_inner_stops, one_inner_leads, end_stops, end_leads, two_open_stops, two_open_leads, two_first_stops, two_first_leads, two_second_stops, two_second_leads, more_ended, more_leads, more_stops, listed_open_stops, listed_open_leads, listed_first_stops, listed_first_leads, listed_second_stops, listed_second_leads, listed_more_stops, listed_more_leads, min_leads, max_leads}
+use Rattle.prism_exprs.proofs.Arguments.{name_alone, one_called, two_called, not_called, comma_stops, comma_leads, one_open_stops, one_open_leads, one_inner_stops, one_inner_leads, end_stops, end_leads, two_open_stops, two_open_leads, two_first_stops, two_first_leads, two_second_stops, two_reads, two_both_stops, two_both_leads, both_shorter, more_ended, more_leads, more_stops, listed_both_stops, listed_both_leads, listed_more_stops, listed_more_leads, min_leads, max_leads}
 use Rattle.prism_exprs.proofs.expressions.+expressions.Goals.{parse_low-then-chain_next+in_ok-whole, parse_low-else-chain_next, parse_climb-then-chain_next+in_ok-whole, parse_climb-else-chain_next}
 use Rattle.prism_exprs.proofs.expressions.+expressions.Goals as goal
 
@@ -183,52 +183,48 @@ parse_conditional-returns-in_err-test t c = leaves _ _ _ _ _ _ c.from_residual.e
 pub parse_conditional-returns-then-not-next_is : goal.parse_conditional-returns-then-not-next_is
 parse_conditional-returns-then-not-next_is t c = test_alone _ _ _ c.in_ok-test.ensures (search rules)
 
-pub parse_conditional-returns-in_err-_question : goal.parse_conditional-returns-in_err-_question
-parse_conditional-returns-in_err-_question t c =
-    leaves _ _ _ _ _ _ c.from_residual-in_err-_question.ensures (question_stops _ _ _ _ (choice_leads _ _ _ c.in_ok-test.ensures (search rules)) c.in_err-_question.ensures)
-
-pub parse_conditional-returns-in_err-first : goal.parse_conditional-returns-in_err-first
-parse_conditional-returns-in_err-first t c =
-    let x = tree c.in_ok-test.test in
-    let l = question_leads _ _ _ x _ (choice_leads _ _ _ c.in_ok-test.ensures (search rules)) c.in_ok-_question.ensures in
-    leaves _ _ _ _ _ _ c.from_residual-in_err-first.ensures (first_stops _ _ x _ l c.in_err-first.ensures)
-
-pub parse_conditional-returns-in_err-_colon : goal.parse_conditional-returns-in_err-_colon
-parse_conditional-returns-in_err-_colon t c =
-    let x = tree c.in_ok-test.test in
-    let y = tree c.in_ok-first.first in
-    let l = question_leads _ _ _ x _ (choice_leads _ _ _ c.in_ok-test.ensures (search rules)) c.in_ok-_question.ensures in
-    leaves _ _ _ _ _ _ c.from_residual-in_err-_colon.ensures (colon_stops _ _ x y _ (first_leads _ _ _ x y l c.in_ok-first.ensures) c.in_err-_colon.ensures)
-
-pub parse_conditional-returns-in_err-second : goal.parse_conditional-returns-in_err-second
-parse_conditional-returns-in_err-second t c =
-    let x = tree c.in_ok-test.test in
-    let y = tree c.in_ok-first.first in
-    let l = question_leads _ _ _ x _ (choice_leads _ _ _ c.in_ok-test.ensures (search rules)) c.in_ok-_question.ensures in
-    let m = colon_leads _ _ _ x y _ (first_leads _ _ _ x y l c.in_ok-first.ensures) c.in_ok-_colon.ensures in
-    leaves _ _ _ _ _ _ c.from_residual-in_err-second.ensures (second_stops _ _ x y _ m c.in_err-second.ensures)
+pub parse_conditional-parse_choice-requires : goal.parse_conditional-parse_choice-requires
+parse_conditional-parse_choice-requires t c = let a = reads_length (more 10) _ _ (tree c.in_ok-test.test) c.in_ok-test.ensures in (omega arith, tt)
 
 pub parse_conditional-returns : goal.parse_conditional-returns
-parse_conditional-returns t c =
-    let x = tree c.in_ok-test.test in
+parse_conditional-returns t c = parses_via _ _ _ goes_on _ _ c.parse_choice.result (choice_leads _ _ _ c.in_ok-test.ensures (search rules)) c.parse_choice.ensures
+
+pub parse_first-returns-in_err-_question : goal.parse_first-returns-in_err-_question
+parse_first-returns-in_err-_question t c = leaves _ _ _ _ _ _ c.from_residual.ensures (question_stops _ _ c.in_err-_question.ensures)
+
+pub parse_first-parse_expr-requires : goal.parse_first-parse_expr-requires
+parse_first-parse_expr-requires t c = let b = token_shorter _ _ _ _ c.in_ok-_question.ensures in (omega arith, tt)
+
+pub parse_first-returns-in_err-first : goal.parse_first-returns-in_err-first
+parse_first-returns-in_err-first t c = leaves _ _ _ _ _ _ c.from_residual-in_err-first.ensures (inside_stops _ _ _ (question_leads _ _ _ c.in_ok-_question.ensures) c.in_err-first.ensures)
+
+pub parse_first-returns-in_err-_colon : goal.parse_first-returns-in_err-_colon
+parse_first-returns-in_err-_colon t c =
+    let x = tree c.in_ok-first.first in
+    leaves _ _ _ _ _ _ c.from_residual-in_err-_colon.ensures (colon_stops _ _ x _ (inside_leads _ _ _ x (question_leads _ _ _ c.in_ok-_question.ensures) c.in_ok-first.ensures) c.in_err-_colon.ensures)
+
+pub parse_first-returns : goal.parse_first-returns
+parse_first-returns t c =
+    let x = tree c.in_ok-first.first in
+    colon_reads _ _ _ x _ (inside_leads _ _ _ x (question_leads _ _ _ c.in_ok-_question.ensures) c.in_ok-first.ensures) c.in_ok-_colon.ensures
+
+pub parse_choice-returns-in_err-first : goal.parse_choice-returns-in_err-first
+parse_choice-returns-in_err-first t c = leaves _ _ _ _ _ _ c.from_residual.ensures (first_stops _ (tree c.args.test) _ c.in_err-first.ensures)
+
+pub parse_choice-parse_expr-requires : goal.parse_choice-parse_expr-requires
+parse_choice-parse_expr-requires t c = let b = first_shorter _ _ (tree c.in_ok-first.first) c.in_ok-first.ensures in (omega arith, tt)
+
+pub parse_choice-returns-in_err-second : goal.parse_choice-returns-in_err-second
+parse_choice-returns-in_err-second t c =
+    let x = tree c.args.test in
     let y = tree c.in_ok-first.first in
-    let l = question_leads _ _ _ x _ (choice_leads _ _ _ c.in_ok-test.ensures (search rules)) c.in_ok-_question.ensures in
-    let m = colon_leads _ _ _ x y _ (first_leads _ _ _ x y l c.in_ok-first.ensures) c.in_ok-_colon.ensures in
-    choice_reads _ _ _ x y (tree c.in_ok-second.second) (tree c.in_ok-whole.whole) m c.in_ok-second.ensures c.in_ok-whole.ensures
+    leaves _ _ _ _ _ _ c.from_residual-in_err-second.ensures (second_stops _ _ x y _ (first_leads _ _ x y c.in_ok-first.ensures) c.in_err-second.ensures)
 
-pub parse_conditional-parse_expr-requires : goal.parse_conditional-parse_expr-requires
-parse_conditional-parse_expr-requires t c =
-    let a = reads_length (more 10) _ _ (tree c.in_ok-test.test) c.in_ok-test.ensures in
-    let b = token_shorter _ _ _ _ c.in_ok-_question.ensures in
-    (omega arith, tt)
-
-pub parse_conditional-parse_expr-requires-2 : goal.parse_conditional-parse_expr-requires-2
-parse_conditional-parse_expr-requires-2 t c =
-    let a = reads_length (more 10) _ _ (tree c.in_ok-test.test) c.in_ok-test.ensures in
-    let b = token_shorter _ _ _ _ c.in_ok-_question.ensures in
-    let d = reads_length goes_on _ _ (tree c.in_ok-first.first) c.in_ok-first.ensures in
-    let e = token_shorter _ _ _ _ c.in_ok-_colon.ensures in
-    (omega arith, tt)
+pub parse_choice-returns : goal.parse_choice-returns
+parse_choice-returns t c =
+    let x = tree c.args.test in
+    let y = tree c.in_ok-first.first in
+    choice_reads _ _ _ x y (tree c.in_ok-second.second) (tree c.in_ok-whole.whole) (first_leads _ _ x y c.in_ok-first.ensures) c.in_ok-second.ensures c.in_ok-whole.ensures
 
 -- ---- operands
 
@@ -349,102 +345,73 @@ parse_one_argument-returns t c =
     let l = one_inner_leads c.args.op c.args.at _ _ _ x (one_open_leads c.args.op c.args.at _ _ _ c.in_ok-_open.ensures) c.in_ok-argument.ensures in
     parses_via _ _ _ (more 0) _ _ c.closed.result (end_leads _ _ _ _ (tree c.in_ok-whole.whole) _ l c.in_ok-_close.ensures c.in_ok-whole.ensures) c.closed.ensures
 
-pub parse_two_arguments-returns-in_err-_open : goal.parse_two_arguments-returns-in_err-_open
-parse_two_arguments-returns-in_err-_open t c = leaves _ _ _ _ _ _ c.from_residual.ensures (two_open_stops _ _ _ _ c.in_err-_open.ensures)
+pub parse_both-returns-in_err-_open : goal.parse_both-returns-in_err-_open
+parse_both-returns-in_err-_open t c = leaves _ _ _ _ _ _ c.from_residual.ensures (two_open_stops _ _ _ _ c.in_err-_open.ensures)
 
-pub parse_two_arguments-parse_expr-requires : goal.parse_two_arguments-parse_expr-requires
-parse_two_arguments-parse_expr-requires t c = let b = token_shorter _ _ _ _ c.in_ok-_open.ensures in (omega arith, tt)
+pub parse_both-parse_expr-requires : goal.parse_both-parse_expr-requires
+parse_both-parse_expr-requires t c = let b = token_shorter _ _ _ _ c.in_ok-_open.ensures in (omega arith, tt)
 
-pub parse_two_arguments-returns-in_err-first : goal.parse_two_arguments-returns-in_err-first
-parse_two_arguments-returns-in_err-first t c =
+pub parse_both-returns-in_err-first : goal.parse_both-returns-in_err-first
+parse_both-returns-in_err-first t c =
     leaves _ _ _ _ _ _ c.from_residual-in_err-first.ensures
     (two_first_stops c.args.op c.args.at _ _ _ (two_open_leads c.args.op c.args.at _ _ _ c.in_ok-_open.ensures) c.in_err-first.ensures)
 
-pub parse_two_arguments-parse_argument-requires : goal.parse_two_arguments-parse_argument-requires
-parse_two_arguments-parse_argument-requires t c =
+pub parse_both-parse_argument-requires : goal.parse_both-parse_argument-requires
+parse_both-parse_argument-requires t c =
     let b = token_shorter _ _ _ _ c.in_ok-_open.ensures in
     let d = reads_length goes_on _ _ (tree c.in_ok-first.first) c.in_ok-first.ensures in
     (omega arith, tt)
 
-pub parse_two_arguments-returns-in_err-second : goal.parse_two_arguments-returns-in_err-second
-parse_two_arguments-returns-in_err-second t c =
+pub parse_both-returns-in_err-second : goal.parse_both-returns-in_err-second
+parse_both-returns-in_err-second t c =
     let x = tree c.in_ok-first.first in
     let l = two_first_leads c.args.op c.args.at _ _ _ x (two_open_leads c.args.op c.args.at _ _ _ c.in_ok-_open.ensures) c.in_ok-first.ensures in
     leaves _ _ _ _ _ _ c.from_residual-in_err-second.ensures (two_second_stops c.args.op c.args.at _ _ x _ l c.in_err-second.ensures)
 
+pub parse_both-returns : goal.parse_both-returns
+parse_both-returns t c =
+    let x = tree c.in_ok-first.first in
+    let l = two_first_leads c.args.op c.args.at _ _ _ x (two_open_leads c.args.op c.args.at _ _ _ c.in_ok-_open.ensures) c.in_ok-first.ensures in
+    two_reads c.args.op c.args.at _ _ _ x (tree c.in_ok-second.second) (tree c.in_ok-whole.whole) l c.in_ok-second.ensures c.in_ok-whole.ensures
+
+pub parse_two_arguments-returns-in_err-whole : goal.parse_two_arguments-returns-in_err-whole
+parse_two_arguments-returns-in_err-whole t c = leaves _ _ _ _ _ _ c.from_residual.ensures (two_both_stops c.args.op c.args.at _ _ c.in_err-whole.ensures)
+
 pub parse_two_arguments-returns-in_err-_close : goal.parse_two_arguments-returns-in_err-_close
 parse_two_arguments-returns-in_err-_close t c =
-    let x = tree c.in_ok-first.first in
-    let y = tree c.in_ok-second.second in
-    let l = two_first_leads c.args.op c.args.at _ _ _ x (two_open_leads c.args.op c.args.at _ _ _ c.in_ok-_open.ensures) c.in_ok-first.ensures in
-    leaves _ _ _ _ _ _ c.from_residual-in_err-_close.ensures
-    (end_stops _ _ _ _ (two_second_leads c.args.op c.args.at _ _ _ x y l c.in_ok-second.ensures) c.in_err-_close.ensures)
+    leaves _ _ _ _ _ _ c.from_residual-in_err-_close.ensures (end_stops _ _ _ _ (two_both_leads c.args.op c.args.at _ _ (tree c.in_ok-whole.whole) c.in_ok-whole.ensures) c.in_err-_close.ensures)
 
 pub parse_two_arguments-returns : goal.parse_two_arguments-returns
 parse_two_arguments-returns t c =
-    let x = tree c.in_ok-first.first in
-    let y = tree c.in_ok-second.second in
-    let l = two_first_leads c.args.op c.args.at _ _ _ x (two_open_leads c.args.op c.args.at _ _ _ c.in_ok-_open.ensures) c.in_ok-first.ensures in
-    let m = two_second_leads c.args.op c.args.at _ _ _ x y l c.in_ok-second.ensures in
-    parses_via _ _ _ (more 0) _ _ c.closed.result (end_leads _ _ _ _ (tree c.in_ok-whole.whole) _ m c.in_ok-_close.ensures c.in_ok-whole.ensures) c.closed.ensures
+    let x = tree c.in_ok-whole.whole in
+    parses_via _ _ _ (more 0) _ _ c.closed.result (end_leads _ _ _ _ x _ (two_both_leads c.args.op c.args.at _ _ x c.in_ok-whole.ensures) c.in_ok-_close.ensures refl) c.closed.ensures
 
 -- ---- min and max
 
-pub parse_listed-returns-in_err-_open : goal.parse_listed-returns-in_err-_open
-parse_listed-returns-in_err-_open t c = leaves _ _ _ _ _ _ c.from_residual.ensures (listed_open_stops _ _ _ _ c.in_err-_open.ensures)
-
-pub parse_listed-parse_expr-requires : goal.parse_listed-parse_expr-requires
-parse_listed-parse_expr-requires t c = let b = token_shorter _ _ _ _ c.in_ok-_open.ensures in (omega arith, tt)
-
-pub parse_listed-returns-in_err-first : goal.parse_listed-returns-in_err-first
-parse_listed-returns-in_err-first t c =
-    leaves _ _ _ _ _ _ c.from_residual-in_err-first.ensures
-    (listed_first_stops c.args.op c.args.at _ _ _ (listed_open_leads c.args.op c.args.at _ _ _ c.in_ok-_open.ensures) c.in_err-first.ensures)
-
-pub parse_listed-parse_argument-requires : goal.parse_listed-parse_argument-requires
-parse_listed-parse_argument-requires t c =
-    let b = token_shorter _ _ _ _ c.in_ok-_open.ensures in
-    let d = reads_length goes_on _ _ (tree c.in_ok-first.first) c.in_ok-first.ensures in
-    (omega arith, tt)
-
-pub parse_listed-returns-in_err-second : goal.parse_listed-returns-in_err-second
-parse_listed-returns-in_err-second t c =
-    let x = tree c.in_ok-first.first in
-    let l = listed_first_leads c.args.op c.args.at _ _ _ x (listed_open_leads c.args.op c.args.at _ _ _ c.in_ok-_open.ensures) c.in_ok-first.ensures in
-    leaves _ _ _ _ _ _ c.from_residual-in_err-second.ensures (listed_second_stops c.args.op c.args.at _ _ x _ l c.in_err-second.ensures)
+pub parse_listed-returns-in_err-both : goal.parse_listed-returns-in_err-both
+parse_listed-returns-in_err-both t c = leaves _ _ _ _ _ _ c.from_residual.ensures (listed_both_stops c.args.op c.args.at _ _ c.in_err-both.ensures)
 
 pub parse_listed-parse_others-requires : goal.parse_listed-parse_others-requires
 parse_listed-parse_others-requires t c =
-    let b = token_shorter _ _ _ _ c.in_ok-_open.ensures in
-    let d = reads_length goes_on _ _ (tree c.in_ok-first.first) c.in_ok-first.ensures in
-    let p = c.in_ok-second.ensures in
-    let e = reads_length goes_on _ _ (tree c.in_ok-second.second) p in
+    let p = c.in_ok-both.ensures in
+    let b = both_shorter c.args.op c.args.at _ _ (tree c.in_ok-both.both) p in
     (omega arith, p.ends)
 
 pub parse_listed-returns-in_err-whole : goal.parse_listed-returns-in_err-whole
 parse_listed-returns-in_err-whole t c =
-    let x = tree c.in_ok-first.first in
-    let y = tree c.in_ok-second.second in
-    let l = listed_first_leads c.args.op c.args.at _ _ _ x (listed_open_leads c.args.op c.args.at _ _ _ c.in_ok-_open.ensures) c.in_ok-first.ensures in
-    let m = listed_second_leads c.args.op c.args.at _ _ _ x y (tree c.in_ok-both.both) l c.in_ok-second.ensures c.in_ok-both.ensures in
-    leaves _ _ _ _ _ _ c.from_residual-in_err-whole.ensures (listed_more_stops c.args.op c.args.at _ _ (tree c.in_ok-both.both) _ m c.in_err-whole.ensures)
+    let x = tree c.in_ok-both.both in
+    leaves _ _ _ _ _ _ c.from_residual-in_err-whole.ensures (listed_more_stops c.args.op c.args.at _ _ x _ (listed_both_leads c.args.op c.args.at _ _ x c.in_ok-both.ensures) c.in_err-whole.ensures)
 
 pub parse_listed-returns-in_err-_close : goal.parse_listed-returns-in_err-_close
 parse_listed-returns-in_err-_close t c =
-    let x = tree c.in_ok-first.first in
-    let y = tree c.in_ok-second.second in
-    let l = listed_first_leads c.args.op c.args.at _ _ _ x (listed_open_leads c.args.op c.args.at _ _ _ c.in_ok-_open.ensures) c.in_ok-first.ensures in
-    let m = listed_second_leads c.args.op c.args.at _ _ _ x y (tree c.in_ok-both.both) l c.in_ok-second.ensures c.in_ok-both.ensures in
-    let n = listed_more_leads c.args.op c.args.at _ _ _ (tree c.in_ok-both.both) (tree c.in_ok-whole.whole) m c.in_ok-whole.ensures in
+    let x = tree c.in_ok-both.both in
+    let n = listed_more_leads c.args.op c.args.at _ _ _ x (tree c.in_ok-whole.whole) (listed_both_leads c.args.op c.args.at _ _ x c.in_ok-both.ensures) c.in_ok-whole.ensures in
     leaves _ _ _ _ _ _ c.from_residual-in_err-_close.ensures (end_stops _ _ _ _ n c.in_err-_close.ensures)
 
 pub parse_listed-returns : goal.parse_listed-returns
 parse_listed-returns t c =
-    let x = tree c.in_ok-first.first in
-    let y = tree c.in_ok-second.second in
-    let l = listed_first_leads c.args.op c.args.at _ _ _ x (listed_open_leads c.args.op c.args.at _ _ _ c.in_ok-_open.ensures) c.in_ok-first.ensures in
-    let m = listed_second_leads c.args.op c.args.at _ _ _ x y (tree c.in_ok-both.both) l c.in_ok-second.ensures c.in_ok-both.ensures in
-    let n = listed_more_leads c.args.op c.args.at _ _ _ (tree c.in_ok-both.both) (tree c.in_ok-whole.whole) m c.in_ok-whole.ensures in
+    let x = tree c.in_ok-both.both in
+    let n = listed_more_leads c.args.op c.args.at _ _ _ x (tree c.in_ok-whole.whole) (listed_both_leads c.args.op c.args.at _ _ x c.in_ok-both.ensures) c.in_ok-whole.ensures in
     parses_via _ _ _ (more 0) _ _ c.closed.result (end_leads _ _ _ _ (tree c.in_ok-whole.whole) _ n c.in_ok-_close.ensures refl) c.closed.ensures
 
 pub parse_others-arguments-init : goal.parse_others-arguments-init

@@ -14,6 +14,12 @@ decreases-parse_expr l = 300 * length (seen l.tokens) + 51
 abbrev pub decreases-parse_conditional : goal.decreases-parse_conditional
 decreases-parse_conditional l = 300 * length (seen l.tokens) + 50
 
+abbrev pub decreases-parse_choice : goal.decreases-parse_choice
+decreases-parse_choice l = 300 * length (seen l.tokens) + 2
+
+abbrev pub decreases-parse_first : goal.decreases-parse_first
+decreases-parse_first l = 300 * length (seen l.tokens) + 1
+
 abbrev pub decreases-parse_level : goal.decreases-parse_level
 decreases-parse_level l = 300 * length (seen l.tokens) + l.height + 31
 
@@ -61,16 +67,19 @@ abbrev pub decreases-parse_chain-chain : goal.decreases-parse_chain-chain
 decreases-parse_chain-chain l = length (seen l.rest)
 
 abbrev pub decreases-parse_name : goal.decreases-parse_name
-decreases-parse_name l = 300 * length (seen l.tokens) + 1
+decreases-parse_name l = 300 * length (seen l.tokens) + 2
 
 abbrev pub decreases-parse_one_argument : goal.decreases-parse_one_argument
 decreases-parse_one_argument l = 300 * length (seen l.tokens)
 
 abbrev pub decreases-parse_two_arguments : goal.decreases-parse_two_arguments
-decreases-parse_two_arguments l = 300 * length (seen l.tokens)
+decreases-parse_two_arguments l = 300 * length (seen l.tokens) + 1
+
+abbrev pub decreases-parse_both : goal.decreases-parse_both
+decreases-parse_both l = 300 * length (seen l.tokens)
 
 abbrev pub decreases-parse_listed : goal.decreases-parse_listed
-decreases-parse_listed l = 300 * length (seen l.tokens)
+decreases-parse_listed l = 300 * length (seen l.tokens) + 1
 
 abbrev pub decreases-parse_argument : goal.decreases-parse_argument
 decreases-parse_argument l = 300 * length (seen l.tokens)
