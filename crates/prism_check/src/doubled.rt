@@ -8,6 +8,7 @@ ghost use Rattle.prism_check.specs.Lowest.{by_lowest, lower, lowest_in, lowest_o
 
 use crate::least::sooner;
 use crate::named::Entry;
+use crate::tables::put;
 use bridge_io::{Fault, Reason};
 use indexmap::IndexMap;
 use std::alloc::{AllocError, Global};
@@ -113,8 +114,5 @@ fn note<'a>(
     ensures { OnOk result
         ((q : List ℕ) → lowest_in lowest.new q ≡ (if bytes_eq name.now q then Some at else lowest_in lowest.old q)) }
 {
-    match lowest.insert(name, at) {
-        Ok(_) => Ok(()),
-        Err(_) => Err(AllocError),
-    }
+    put(lowest, name, at)
 }

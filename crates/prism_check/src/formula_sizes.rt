@@ -6,6 +6,7 @@ ghost use Rattle.prism_names.specs.Places.{IsPlaceOrder};
 ghost use Rattle.prism_check.specs.Counted.{AreSizes, size_in};
 ghost use Rattle.prism_check.specs.Tables.{under};
 
+use crate::tables::put;
 use crate::tree_size::{Size, measure};
 use indexmap::IndexMap;
 use prism_tree::PrismFile;
@@ -40,8 +41,5 @@ fn note<'a>(
     ensures { OnOk result
         ((q : List ℕ) → under sizes.new q ≡ (if bytes_eq name.now q then Some size else under sizes.old q)) }
 {
-    match sizes.insert(name, size) {
-        Ok(_) => Ok(()),
-        Err(_) => Err(AllocError),
-    }
+    put(sizes, name, size)
 }

@@ -5,6 +5,7 @@ ghost use Rattle.prism_check.specs.Views.{named_by};
 ghost use Rattle.prism_check.specs.NameFaults.{is_among};
 ghost use Rattle.prism_check.specs.Tables.{has_name};
 
+use crate::tables::put;
 use indexmap::IndexMap;
 use std::alloc::{AllocError, Global};
 
@@ -28,10 +29,7 @@ impl<'a> NameSet<'a> {
     {
         let mut places = IndexMap::with_capacity(alloc, entries.len())?;
         for entry in entries {
-            match places.insert(entry.name, ()) {
-                Ok(_) => {}
-                Err(_) => return Err(AllocError),
-            }
+            put(&mut places, entry.name, ())?;
         }
         Ok(NameSet { places })
     }
@@ -49,10 +47,7 @@ impl<'a> NameSet<'a> {
     pub(crate) fn add(&mut self, name: &'a str) -> Result<(), AllocError>
         ensures { OnOk result ((x : List ℕ) → has_name self.new x ≡ (if bytes_eq name.now x then true else has_name self.old x)) }
     {
-        match self.places.insert(name, ()) {
-            Ok(_) => Ok(()),
-            Err(_) => Err(AllocError),
-        }
+        put(&mut self.places, name, ())
     }
 
     /// Whether a name is one of them.

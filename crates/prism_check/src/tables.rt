@@ -11,6 +11,21 @@ use indexmap::IndexMap;
 use prism_tree::{NamePair, Pe, PrismFormula, PrismModule};
 use std::alloc::{AllocError, Global};
 
+/// Puts a value under a name, in place of one that stood there.
+pub(crate) fn put<'a, T: Copy>(
+    table: &mut IndexMap<&'a str, T>,
+    name: &'a str,
+    value: T,
+) -> Result<(), AllocError>
+    ensures { OnOk result
+        ((x : List ℕ) → under table.new x ≡ (if bytes_eq name.now x then Some value else under table.old x)) }
+{
+    match table.insert(name, value) {
+        Ok(_) => Ok(()),
+        Err(_) => Err(AllocError),
+    }
+}
+
 /// Adds a value under a name, if none stands there.
 pub(crate) fn add_first<'a, T: Copy>(
     table: &mut IndexMap<&'a str, T>,
@@ -23,10 +38,7 @@ pub(crate) fn add_first<'a, T: Copy>(
     if table.get(name).is_some() {
         return Ok(());
     }
-    match table.insert(name, value) {
-        Ok(_) => Ok(()),
-        Err(_) => Err(AllocError),
-    }
+    put(table, name, value)
 }
 
 /// The renaming of a copy.

@@ -15,7 +15,7 @@ ghost use Rattle.prism_check.specs.Typing.{declared_type, is_declared_variable, 
 
 use crate::demands::Wanted;
 use crate::least::sooner_if;
-use crate::tables::Renaming;
+use crate::tables::{Renaming, put};
 use crate::variables::Declared;
 use bridge_io::{Fault, Reason};
 use indexmap::IndexMap;
@@ -362,8 +362,5 @@ fn set<'b>(
     ensures { OnOk result
         ((x : List ℕ) → under table.new x ≡ (if bytes_eq name.now x then Some value else under table.old x)) }
 {
-    match table.insert(name, value) {
-        Ok(_) => Ok(()),
-        Err(_) => Err(AllocError),
-    }
+    put(table, name, value)
 }

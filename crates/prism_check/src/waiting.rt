@@ -4,6 +4,7 @@ ghost use Rattle.std.specs.Prelude.{◌≡◌, ◌<◌, ◌+◌, List, ℕ, [], 
 ghost use Rattle.prism_check.specs.Circles.{count_in, declared_by, one_if, waiting};
 
 use crate::declarations::{Declaration, Telling};
+use crate::tables::put;
 use indexmap::IndexMap;
 use std::alloc::{AllocError, Global};
 
@@ -41,10 +42,7 @@ impl<'a> Waiting<'a> {
     fn put(&mut self, name: &'a str, count: usize) -> Result<(), AllocError>
         ensures { OnOk result ((x : List ℕ) → count_in self.new x ≡ (if bytes_eq name.now x then count else count_in self.old x)) }
     {
-        match self.counts.insert(name, count) {
-            Ok(_) => Ok(()),
-            Err(_) => Err(AllocError),
-        }
+        put(&mut self.counts, name, count)
     }
 
     /// One of this name is placed.
