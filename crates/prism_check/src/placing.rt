@@ -24,14 +24,21 @@ pub(crate) fn place_all<'a>(
     ensures placed { IfOk result (IsPlaced all.now) }
     ensures stuck { IfOk result (IsStuckIn all.now) }
 {
-    let mut placing = Placing {
-        waiting: Waiting::of(alloc, all)?,
-        placed: vec![in alloc; false; all.len()]?,
-        turns: Vec::new(alloc),
-    };
+    let mut placing = placed_none(alloc, all)?;
     place_each(all, first, &mut placing)?;
     while place_some(all, &mut placing)? {}
     Ok(placing)
+}
+
+// None of them placed.
+fn placed_none<'a>(alloc: Global, all: &[Declaration<'a>]) -> Result<Placing<'a>, AllocError>
+    ensures { IfOk result (IsPlaced all.now) }
+{
+    Ok(Placing {
+        waiting: Waiting::of(alloc, all)?,
+        placed: vec![in alloc; false; all.len()]?,
+        turns: Vec::new(alloc),
+    })
 }
 
 // Places those that can be, in this order.

@@ -5,6 +5,7 @@ ghost use Rattle.prism_check.specs.Circles.{declared_by, rank_in, some_use, AreF
 
 use crate::declarations::{Declaration, Telling, some_use};
 use crate::placing::Placing;
+use crate::tables::put;
 use crate::users::Users;
 use indexmap::IndexMap;
 use std::alloc::{AllocError, Global};
@@ -26,10 +27,7 @@ impl<'a> Ranks<'a> {
     }
 
     fn put(&mut self, name: &'a str, rank: usize) -> Result<(), AllocError> {
-        match self.numbers.insert(name, rank) {
-            Ok(_) => Ok(()),
-            Err(_) => Err(AllocError),
-        }
+        put(&mut self.numbers, name, rank)
     }
 }
 
@@ -122,25 +120,33 @@ fn circle_ranks<'a>(
     let mut todo = Vec::new(alloc);
     let mut rank = all.len();
     for i in first.iter().rev() {
-        if let (Some(declaration), Some(false)) = (all.get(*i), placed.get(*i).copied())
-            && ranks.rank(declaration.name) == 0
-        {
-            todo.push(*i)?;
-            give_rank(all, users, rank, &mut todo, &mut ranks)?;
+        if lacks_rank(all, placed, &ranks, *i) {
+            give_rank(all, users, rank, *i, &mut todo, &mut ranks)?;
             rank = rank.saturating_sub(1);
         }
     }
     Ok(ranks)
 }
 
-// Gives a rank to the names declared at these places, and to those that lead to them, where they have none.
+// Whether the name declared at this place has neither a place nor a rank.
+fn lacks_rank(all: &[Declaration], placed: &[bool], ranks: &Ranks, i: usize) -> bool {
+    match (all.get(i), placed.get(i).copied()) {
+        (Some(declaration), Some(false)) => ranks.rank(declaration.name) == 0,
+        _ => false,
+    }
+}
+
+// Gives a rank to the name declared at this place, and to those that lead to it, where they have none. Nothing is left to do
+// before and after.
 fn give_rank<'a>(
     all: &[Declaration<'a>],
     users: &Users<'a>,
     rank: usize,
+    first: usize,
     todo: &mut Vec<usize>,
     ranks: &mut Ranks<'a>,
 ) -> Result<(), AllocError> {
+    todo.push(first)?;
     for _ in 0..usize::MAX {
         let Some(i) = todo.pop() else {
             break;

@@ -24,30 +24,51 @@ struct Search {
 /// The places of these declarations as a search by depth leaves them, those of one name together: what leads round in no
 /// circle is left after all that it leads to.
 pub(crate) fn by_depth(alloc: Global, all: &[Declaration]) -> Result<Vec<usize>, AllocError> {
+    let mut search = Search::of(alloc, all.len())?;
     let places = Places::of(alloc, all)?;
-    let mut search = Search {
-        visits: Vec::with_capacity(alloc, all.len())?,
-        entered: vec![in alloc; false; all.len()]?,
-        left: Vec::with_capacity(alloc, all.len())?,
-    };
-    for (_, first) in &places.first {
-        search.visits.push(Visit::Enter(*first))?;
-    }
-    search.run(all, &places)?;
+    search.visit_all(all, &places)?;
     Ok(search.left)
 }
 
 impl Search {
+    // Nothing to do, and nothing done, with room for so many places.
+    fn of(alloc: Global, count: usize) -> Result<Search, AllocError> {
+        Ok(Search {
+            visits: Vec::with_capacity(alloc, count)?,
+            entered: vec![in alloc; false; count]?,
+            left: Vec::with_capacity(alloc, count)?,
+        })
+    }
+
+    // Goes into all names.
+    fn visit_all(&mut self, all: &[Declaration], places: &Places) -> Result<(), AllocError> {
+        for (_, first) in &places.first {
+            self.visits.push(Visit::Enter(*first))?;
+        }
+        self.run(all, places)
+    }
+
     // Goes on until nothing is left to do.
     fn run(&mut self, all: &[Declaration], places: &Places) -> Result<(), AllocError> {
         for _ in 0..usize::MAX {
-            match self.visits.pop() {
-                Some(Visit::Enter(first)) => self.enter(all, places, first)?,
-                Some(Visit::Leave(first)) => self.leave(places, first)?,
-                None => break,
-            }
+            let Some(visit) = self.visits.pop() else {
+                break;
+            };
+            self.go_on(all, places, visit)?;
         }
         Ok(())
+    }
+
+    fn go_on(
+        &mut self,
+        all: &[Declaration],
+        places: &Places,
+        visit: Visit,
+    ) -> Result<(), AllocError> {
+        match visit {
+            Visit::Enter(first) => self.enter(all, places, first),
+            Visit::Leave(first) => self.leave(places, first),
+        }
     }
 
     // What is entered the first time is left later, after all that it uses.

@@ -7,7 +7,8 @@ ghost use Rattle.prism_tree.specs.Syntax.{file_of, module_of, var_of, const_of};
 ghost use Rattle.prism_names.specs.Names.{is_called};
 ghost use Rattle.prism_check.specs.Demands.{var_type};
 ghost use Rattle.prism_check.specs.Tables.{first_some, module_under, named_module, new_name, under};
-ghost use Rattle.prism_check.specs.Typing.{IsDeclared, module_variables_by, numbered_by, owned_in, variables_by};
+ghost use Rattle.prism_check.specs.TypeFaults.{variable_called};
+ghost use Rattle.prism_check.specs.Typing.{IsDeclared, module_variables_by, numbered_by, owned, owned_in, variables_by};
 
 use crate::tables::{Modules, Renaming, add_first};
 use crate::values::vars_in;
@@ -40,14 +41,28 @@ pub(crate) fn declarations<'a>(
     ensures { IfOk result (λ d. IsDeclared d (file_of file.now)) }
 {
     let constants = constant_types(alloc, file.constants.as_slice())?;
-    let mut variables = IndexMap::new(alloc);
-    let unchanged = Renaming::of(alloc, &[])?;
-    add_variables(file.globals.as_slice(), &unchanged, None, &mut variables)?;
-    add_all(alloc, file.modules.as_slice(), modules, &mut variables)?;
+    let variables = owned_variables(alloc, file, modules)?;
     Ok(Declared {
         constants,
         variables,
     })
+}
+
+// The variables of this file, those of a copy under their new names.
+fn owned_variables<'a>(
+    alloc: Global,
+    file: &'a PrismFile,
+    modules: &Modules<'a>,
+) -> Result<IndexMap<&'a str, Owned>, AllocError>
+    requires { (x : List ℕ) → module_under modules.now x ≡ named_module file.now.modules x }
+    ensures { IfOk result
+        (λ table. (x : List ℕ) → under table x ≡ option_map owned (variable_called (file_of file.now) x)) }
+{
+    let mut variables = IndexMap::new(alloc);
+    let unchanged = Renaming::of(alloc, &[])?;
+    add_variables(file.globals.as_slice(), &unchanged, None, &mut variables)?;
+    add_all(alloc, file.modules.as_slice(), modules, &mut variables)?;
+    Ok(variables)
 }
 
 // The types of these constants.

@@ -3,10 +3,10 @@ use Rattle.std.proofs.Common.{◌∙◌, sym, ap, subst}
 use Rattle.std.proofs.lemmas.List.{length-map}
 use Rattle.prism_check.specs.Circles.{count_in, declared_by, IsPlacing}
 use Rattle.prism_check.proofs.Placed.{placing_none}
-use Rattle.prism_check.proofs.placing.place_all.Goals as goal
+use Rattle.prism_check.proofs.placing.placed_none.Goals as goal
 
-pub place_each-requires : goal.place_each-requires
-place_each-requires c =
+pub returns : goal.returns
+returns c =
     let all = c.args.all.now in
     let ds = map declared_by all in
     let left = count_in c.in_ok-of.field-0 in
