@@ -2,7 +2,6 @@ mod Examples
 pub mod OneReason
 pub mod Append
 pub mod LowestOffsets
-pub mod Sets
 pub mod Parts
 pub mod Known
 pub mod First

@@ -27,14 +27,11 @@ impl<'a> NameSet<'a> {
     pub(crate) fn of(alloc: Global, entries: &[Entry<'a>]) -> Result<NameSet<'a>, AllocError>
         ensures { IfOk result (λ set. (x : List ℕ) → has_name set x ≡ is_among (map named_by entries.now) x) }
     {
-        let mut places = IndexMap::new(alloc);
+        let mut set = NameSet::new(alloc);
         for entry in entries {
-            match places.insert(entry.name, ()) {
-                Ok(_) => {}
-                Err(_) => return Err(AllocError),
-            }
+            set.add(entry.name)?;
         }
-        Ok(NameSet { places })
+        Ok(set)
     }
 
     /// No names.

@@ -1,12 +1,15 @@
-use Rattle.std.proofs.lemmas.Map.Text.{hash_map_updates_str}
-use Rattle.jani_check.specs.Tables.{under}
-use Rattle.jani_check.proofs.Sets.{one_name_more, no_name_more}
+use Rattle.jani_check.specs.Tables.{has_name}
+use Rattle.jani_check.specs.Things.{is_called}
+use Rattle.jani_check.specs.Views.{named_by}
+use Rattle.jani_check.proofs.Growing.{none_in, one_in}
+use Rattle.jani_check.proofs.LowestOffsets.{no_entry}
 use Rattle.jani_check.proofs.named.NameSet.of.Goals as goal
 
 pub loop-entry-preserved : goal.loop-entry-preserved
 loop-entry-preserved c = λ x.
-    one_name_more (under c.loop-entry.places) (under c.insert.new.self) x _ c.args.entries.now c.loop-entry.entry-index c.loop-entry-test.true
-    (hash_map_updates_str _ c.loop-entry.places c.insert.new.self _ c.in-Ok.ensures.updates x) (c.loop-entry.invariant x)
+    one_in named_by (is_called x) (has_name c.loop-entry.set x) (has_name c.add.new.self x) c.args.entries.now c.loop-entry.entry-index no_entry _
+    c.loop-entry-test.true (c.in_ok-add.ensures x) (c.loop-entry.invariant x)
 
 pub returns : goal.returns
-returns c = λ x. no_name_more (under c.loop-entry.places) x c.args.entries.now c.loop-entry.entry-index c.loop-entry-test.false (c.loop-entry.invariant x)
+returns c = λ x.
+    none_in named_by (is_called x) (has_name c.loop-entry.set x) c.args.entries.now c.loop-entry.entry-index _ c.loop-entry-test.false (c.loop-entry.invariant x)
