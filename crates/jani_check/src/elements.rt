@@ -8,7 +8,7 @@ ghost use Rattle.jani_check.specs.Faults.{edge_count};
 ghost use Rattle.jani_check.specs.NameLists.{names_under};
 ghost use Rattle.jani_check.specs.Rewarding.{element_rewards, rewarded_in};
 ghost use Rattle.jani_check.specs.Scopes.{thing_under};
-ghost use Rattle.jani_check.specs.Things.{global_thing};
+ghost use Rattle.jani_check.specs.Things.{automaton_called, global_thing};
 ghost use Rattle.jani_check.specs.TypeFaults.{shared_by, with_automaton};
 ghost use Rattle.jani_check.specs.ProfileFaults.{rewards_with};
 
@@ -57,9 +57,23 @@ pub(crate) fn shared_of<'a>(
     ensures { IfOk result (λ list. map names_under list.items ≡ map (element_shared (file_of file.now)) file.now.elements) }
 {
     let automata = Automata::of(alloc, file.automata.as_slice())?;
+    each_shared(alloc, file, &automata, global)
+}
+
+// The same by the automata of the file.
+fn each_shared<'a>(
+    alloc: Global,
+    file: &JaniFile,
+    automata: &Automata<'a>,
+    global: &Things,
+) -> Result<Vec<NameLists<'a>>, AllocError>
+    requires things { (x : List ℕ) → thing_under global.now x ≡ global_thing (file_of file.now) x }
+    requires automata { (x : List ℕ) → automaton_under automata.now x ≡ automaton_called (file_of file.now) x }
+    ensures { IfOk result (λ list. map names_under list.items ≡ map (element_shared (file_of file.now)) file.now.elements) }
+{
     let mut list = Vec::new(alloc);
     for e in file.elements.as_slice() {
-        let shared = element_shared(alloc, &automata, global, e)?;
+        let shared = element_shared(alloc, automata, global, e)?;
         list.push(shared)?;
     }
     Ok(list)
@@ -91,9 +105,23 @@ pub(crate) fn rewarding_of<'a>(
     ensures { IfOk result (λ list. map rewarded_in list.items ≡ map (element_rewards (file_of file.now)) file.now.elements) }
 {
     let automata = Automata::of(alloc, file.automata.as_slice())?;
+    each_rewarding(alloc, file, &automata, global)
+}
+
+// The same by the automata of the file.
+fn each_rewarding<'a>(
+    alloc: Global,
+    file: &JaniFile,
+    automata: &Automata<'a>,
+    global: &Things,
+) -> Result<Vec<Rewarding<'a>>, AllocError>
+    requires things { (x : List ℕ) → thing_under global.now x ≡ global_thing (file_of file.now) x }
+    requires automata { (x : List ℕ) → automaton_under automata.now x ≡ automaton_called (file_of file.now) x }
+    ensures { IfOk result (λ list. map rewarded_in list.items ≡ map (element_rewards (file_of file.now)) file.now.elements) }
+{
     let mut list = Vec::new(alloc);
     for e in file.elements.as_slice() {
-        let rewarding = element_rewarding(alloc, &automata, global, e)?;
+        let rewarding = element_rewarding(alloc, automata, global, e)?;
         list.push(rewarding)?;
     }
     Ok(list)

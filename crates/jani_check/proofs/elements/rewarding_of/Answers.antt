@@ -1,20 +1,11 @@
-use Rattle.std.specs.Prelude.{false, map}
-use Rattle.std.proofs.Common.{◌∙◌, ap, ap₂}
-use Rattle.std.proofs.Math.Path.{fun_ext}
-use Rattle.jani_tree.specs.Syntax.{automaton_of, file_of}
+use Rattle.std.specs.Prelude.{map}
+use Rattle.std.proofs.Common.{◌∙◌, ap}
+use Rattle.jani_tree.specs.Syntax.{automaton_of}
 use Rattle.jani_check.specs.Participants.{automaton_in}
-use Rattle.jani_check.specs.ProfileFaults.{rewards_with}
-use Rattle.jani_check.specs.Rewarding.{element_rewards, rewarded_in}
-use Rattle.jani_check.specs.TypeFaults.{with_automaton}
-use Rattle.jani_check.proofs.Taking.{one_element}
 use Rattle.jani_check.proofs.elements.rewarding_of.Goals as goal
 
-pub loop-e-preserved : goal.loop-e-preserved
-loop-e-preserved c =
-    let f = file_of c.args.file.now in
-    one_element rewarded_in (element_rewards f) c.loop-e.list.items _ _ c.as_slice-e-items.result.now c.loop-e.e-index c.e-item.result _ c.loop-e-test.true c.e-item.is
-    c.in_ok-push.ensures.items
-    (λ y. c.in_ok-rewarding.ensures y
-    ∙ ap₂ (λ k o. with_automaton (λ a. rewards_with k a y) false o) (fun_ext c.requires)
-    (c.in_ok-automata.ensures c.e-item.result.name ∙ ap (λ l. automaton_in (map automaton_of l) c.e-item.result.name) c.as_slice.ensures))
-    c.loop-e.invariant
+pub each_rewarding-requires : goal.each_rewarding-requires
+each_rewarding-requires c = record {
+  things = c.requires;
+  automata = λ x. c.in_ok-automata.ensures x ∙ ap (λ l. automaton_in (map automaton_of l) x) c.as_slice.ensures;
+}

@@ -1,19 +1,11 @@
-use Rattle.std.specs.Prelude.{[], map}
-use Rattle.std.proofs.Common.{◌∙◌, ap, ap₂}
-use Rattle.std.proofs.Math.Path.{fun_ext}
-use Rattle.jani_tree.specs.Syntax.{automaton_of, file_of}
-use Rattle.jani_check.specs.NameLists.{names_under}
-use Rattle.jani_check.specs.Participants.{automaton_in, element_shared}
-use Rattle.jani_check.specs.TypeFaults.{shared_by, with_automaton}
-use Rattle.jani_check.proofs.Taking.{one_element}
+use Rattle.std.specs.Prelude.{map}
+use Rattle.std.proofs.Common.{◌∙◌, ap}
+use Rattle.jani_tree.specs.Syntax.{automaton_of}
+use Rattle.jani_check.specs.Participants.{automaton_in}
 use Rattle.jani_check.proofs.elements.shared_of.Goals as goal
 
-pub loop-e-preserved : goal.loop-e-preserved
-loop-e-preserved c =
-    let f = file_of c.args.file.now in
-    one_element names_under (element_shared f) c.loop-e.list.items _ _ c.as_slice-e-items.result.now c.loop-e.e-index c.e-item.result _ c.loop-e-test.true c.e-item.is
-    c.in_ok-push.ensures.items
-    (λ y. c.in_ok-shared.ensures y
-    ∙ ap₂ (λ k o. with_automaton (λ a. shared_by k a y) [] o) (fun_ext c.requires)
-    (c.in_ok-automata.ensures c.e-item.result.name ∙ ap (λ l. automaton_in (map automaton_of l) c.e-item.result.name) c.as_slice.ensures))
-    c.loop-e.invariant
+pub each_shared-requires : goal.each_shared-requires
+each_shared-requires c = record {
+  things = c.requires;
+  automata = λ x. c.in_ok-automata.ensures x ∙ ap (λ l. automaton_in (map automaton_of l) x) c.as_slice.ensures;
+}

@@ -1,7 +1,7 @@
 use Rattle.std.specs.Prelude.{◌≡◌, ◌++◌, map, drop}
 use Rattle.jani_tree.specs.Syntax.{file_of}
 use Rattle.jani_check.specs.Rewarding.{element_rewards, rewarded_in}
-use Rattle.jani_check.proofs.elements.rewarding_of.Given as goal
+use Rattle.jani_check.proofs.elements.each_rewarding.Given as goal
 
 abbrev pub invariant-loop-e : goal.invariant-loop-e
 invariant-loop-e l =

@@ -2,7 +2,7 @@ use Rattle.std.specs.Prelude.{◌≡◌, ◌++◌, map, drop}
 use Rattle.jani_tree.specs.Syntax.{file_of}
 use Rattle.jani_check.specs.NameLists.{names_under}
 use Rattle.jani_check.specs.Participants.{element_shared}
-use Rattle.jani_check.proofs.elements.shared_of.Given as goal
+use Rattle.jani_check.proofs.elements.each_shared.Given as goal
 
 abbrev pub invariant-loop-e : goal.invariant-loop-e
 invariant-loop-e l =

@@ -1,0 +1,19 @@
+use Rattle.std.specs.Prelude.{false}
+use Rattle.std.proofs.Common.{◌∙◌, ap₂}
+use Rattle.std.proofs.Math.Path.{fun_ext}
+use Rattle.jani_tree.specs.Syntax.{file_of}
+use Rattle.jani_check.specs.ProfileFaults.{rewards_with}
+use Rattle.jani_check.specs.Rewarding.{element_rewards, rewarded_in}
+use Rattle.jani_check.specs.TypeFaults.{with_automaton}
+use Rattle.jani_check.proofs.Taking.{one_element}
+use Rattle.jani_check.proofs.elements.each_rewarding.Goals as goal
+
+pub loop-e-preserved : goal.loop-e-preserved
+loop-e-preserved c =
+    let f = file_of c.args.file.now in
+    one_element rewarded_in (element_rewards f) c.loop-e.list.items _ _ c.as_slice-e-items.result.now c.loop-e.e-index c.e-item.result _ c.loop-e-test.true c.e-item.is
+    c.in_ok-push.ensures.items
+    (λ y. c.in_ok-rewarding.ensures y
+    ∙ ap₂ (λ k o. with_automaton (λ a. rewards_with k a y) false o) (fun_ext c.requires.things)
+    (c.requires.automata c.e-item.result.name))
+    c.loop-e.invariant
