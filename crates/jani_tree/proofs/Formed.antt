@@ -27,7 +27,7 @@ use Rattle.jani_tree.specs.Syntax.{Expression, Const, VarKind, Var, Write, Locat
 use Rattle.jani_tree.specs.Jani.{Optional, Each, IsItems, IsList, IsListAt, IsNamed, IsKeyed, IsOperation, IsExpr, IsBoxed, range_of, ty_in, IsWord, IsRange, IsKind, IsKindAt, IsConst, IsVar, IsWrite, IsLocation, IsDestination, IsEdge, IsAutomaton, IsPart, IsVector, IsSystem, IsKept, IsFile}
 use Rattle.jani_tree.specs.Canonical.{OfSome, OfAll}
 use Rattle.jani_tree.proofs.Types.{unless_clean}
-use Rattle.jani_tree.specs.Form.{HasItems, HasOne, IsGiven, IsName, NormalNode, NormalNodes, NormalFields, NameForm, ExprForm, KindForm, ConstRead, VarRead, WriteRead, LocationRead, DestinationRead, EdgeRead, AutomatonRead, PartForm, VectorRead, FileRead, KeysOnce, KeysApart}
+use Rattle.jani_tree.specs.Form.{HasItems, HasOne, IsGiven, IsShortName, NormalNode, NormalNodes, NormalFields, NameForm, ExprForm, KindForm, ConstRead, VarRead, WriteRead, LocationRead, DestinationRead, EdgeRead, AutomatonRead, PartForm, VectorRead, FileWith, FileShort, KeysOnce, KeysApart}
 
 -- ---- parts
 
@@ -128,11 +128,11 @@ within : (n at : ℕ) (t : Bool) → nat_lt n 256 ≡ t → fault_if at (unless 
 within n at true e c = grind (arith, nat_tests)
 within n at false e c = absurd cc
 
-name_text : (at : ℕ) (s : List ℕ) → fault_if at (name_fault s) ≡ [] → IsName s
+name_text : (at : ℕ) (s : List ℕ) → fault_if at (name_fault s) ≡ [] → IsShortName s
 name_text at [] c = absurd cc
 name_text at (b ∷ bs) c = record { some = tt; short = within (length (b ∷ bs)) at (nat_lt (length (b ∷ bs)) 256) refl c }
 
-name_read : (w : Node) (n : Named) → faults F.Name w ≡ [] → NormalNode w → IsNamed w n → NameForm n
+name_read : (w : Node) (n : Named) → faults F.Name w ≡ [] → NormalNode w → IsNamed w n → (NameForm IsShortName) n
 name_read w n c m e = name_text n.at n.name (subst (λ x. faults F.Name x ≡ []) e c)
 
 unary_arity : (o : JaniOp) → op_kind o ≡ O.Unary → arity o ≡ 1
@@ -164,51 +164,51 @@ operation_faults (number from d) at o k i c = absurd (let e = i.op in cc)
 operation_faults (text from s) at o k i c = absurd (let e = i.op in cc)
 operation_faults (array from vs) at o k i c = absurd (let e = i.op in cc)
 
-expr_read : (v : Node) (e : Expression) → faults F.Expression v ≡ [] → NormalNode v → IsExpr v e → ExprForm e
+expr_read : (v : Node) (e : Expression) → faults F.Expression v ≡ [] → NormalNode v → IsExpr v e → (ExprForm IsShortName) e
 expr_read v (Truth at b) c n p = tt
 expr_read v (Number at d) c n p = subst NormalNode p n
 expr_read v (Name at x) c n p = name_text at x (subst (λ w. faults F.Expression w ≡ []) p c)
 expr_read v (One at o a) c n p =
     let k = operation_faults v at o O.Unary p.0 c in
-    (unary_arity o p.0.takes, operand_read O.Unary K.Exp v (λ w. IsExpr w a) (ExprForm a) refl k n p.1 (λ w c n q. expr_read w a c n q))
+    (unary_arity o p.0.takes, operand_read O.Unary K.Exp v (λ w. IsExpr w a) ((ExprForm IsShortName) a) refl k n p.1 (λ w c n q. expr_read w a c n q))
 expr_read v (Two at o a b) c n p =
     let k = operation_faults v at o O.Binary p.0 c in (
       binary_arity o p.0.takes,
-      operand_read O.Binary K.Left v (λ w. IsExpr w a) (ExprForm a) refl k n p.1 (λ w c n q. expr_read w a c n q),
-      operand_read O.Binary K.Right v (λ w. IsExpr w b) (ExprForm b) refl k n p.2 (λ w c n q. expr_read w b c n q),
+      operand_read O.Binary K.Left v (λ w. IsExpr w a) ((ExprForm IsShortName) a) refl k n p.1 (λ w c n q. expr_read w a c n q),
+      operand_read O.Binary K.Right v (λ w. IsExpr w b) ((ExprForm IsShortName) b) refl k n p.2 (λ w c n q. expr_read w b c n q),
     )
 expr_read v (Three at o a b d) c n p =
     let k = operation_faults v at o O.Choice p.0 c in (
       choice_arity o p.0.takes,
-      operand_read O.Choice K.If v (λ w. IsExpr w a) (ExprForm a) refl k n p.1 (λ w c n q. expr_read w a c n q),
-      operand_read O.Choice K.Then v (λ w. IsExpr w b) (ExprForm b) refl k n p.2 (λ w c n q. expr_read w b c n q),
-      operand_read O.Choice K.Else v (λ w. IsExpr w d) (ExprForm d) refl k n p.3 (λ w c n q. expr_read w d c n q),
+      operand_read O.Choice K.If v (λ w. IsExpr w a) ((ExprForm IsShortName) a) refl k n p.1 (λ w c n q. expr_read w a c n q),
+      operand_read O.Choice K.Then v (λ w. IsExpr w b) ((ExprForm IsShortName) b) refl k n p.2 (λ w c n q. expr_read w b c n q),
+      operand_read O.Choice K.Else v (λ w. IsExpr w d) ((ExprForm IsShortName) d) refl k n p.3 (λ w c n q. expr_read w d c n q),
     )
 
-boxed_read : (v : Node) (e : Expression) → faults F.Boxed v ≡ [] → NormalNode v → IsBoxed v e → ExprForm e
-boxed_read v e c n p = one_read F.Boxed K.Exp v refl refl c n (λ w. IsExpr w e) (ExprForm e) p (λ w c n q. expr_read w e c n q)
+boxed_read : (v : Node) (e : Expression) → faults F.Boxed v ≡ [] → NormalNode v → IsBoxed v e → (ExprForm IsShortName) e
+boxed_read v e c n p = one_read F.Boxed K.Exp v refl refl c n (λ w. IsExpr w e) ((ExprForm IsShortName) e) p (λ w c n q. expr_read w e c n q)
 
 -- ---- types
 
-word_read : (o : Option Ty) (k : VarKind) → IsWord o k → KindForm k
+word_read : (o : Option Ty) (k : VarKind) → IsWord o k → (KindForm IsShortName) k
 word_read None k p = absurd p
-word_read (Some T.Bool) k p = subst KindForm (sym p) tt
-word_read (Some T.Int) k p = subst KindForm (sym p) tt
-word_read (Some T.Real) k p = subst KindForm (sym p) tt
+word_read (Some T.Bool) k p = subst (KindForm IsShortName) (sym p) tt
+word_read (Some T.Int) k p = subst (KindForm IsShortName) (sym p) tt
+word_read (Some T.Real) k p = subst (KindForm IsShortName) (sym p) tt
 
 -- the bounds of a bounded type have no faults
-bounds_read : (t : Option Ty) (low high : Option Node) (k : VarKind) → ((w : Node) → low ≡ Some w → (faults F.Expression w ≡ []) × NormalNode w) → ((w : Node) → high ≡ Some w → (faults F.Expression w ≡ []) × NormalNode w) → IsRange (range_of t low high) k → KindForm k
+bounds_read : (t : Option Ty) (low high : Option Node) (k : VarKind) → ((w : Node) → low ≡ Some w → (faults F.Expression w ≡ []) × NormalNode w) → ((w : Node) → high ≡ Some w → (faults F.Expression w ≡ []) × NormalNode w) → IsRange (range_of t low high) k → (KindForm IsShortName) k
 bounds_read None low high k f g p = absurd p
 bounds_read (Some T.Bool) low high k f g p = absurd p
-bounds_read (Some T.Real) low high k f g p = subst KindForm (sym p) tt
-bounds_read (Some T.Int) None None k f g p = subst KindForm (sym p) tt
-bounds_read (Some T.Int) None (Some h) k f g p = subst KindForm (sym p) tt
-bounds_read (Some T.Int) (Some l) None k f g p = subst KindForm (sym p) tt
+bounds_read (Some T.Real) low high k f g p = subst (KindForm IsShortName) (sym p) tt
+bounds_read (Some T.Int) None None k f g p = subst (KindForm IsShortName) (sym p) tt
+bounds_read (Some T.Int) None (Some h) k f g p = subst (KindForm IsShortName) (sym p) tt
+bounds_read (Some T.Int) (Some l) None k f g p = subst (KindForm IsShortName) (sym p) tt
 bounds_read (Some T.Int) (Some l) (Some h) k f g p =
     let a = f l refl in let b = g h refl in
-    subst KindForm (sym p.kind) (expr_read l p.first a.0 a.1 p.low_is, expr_read h p.last b.0 b.1 p.high_is)
+    subst (KindForm IsShortName) (sym p.kind) (expr_read l p.first a.0 a.1 p.low_is, expr_read h p.last b.0 b.1 p.high_is)
 
-kind_read : (v : Node) (k : VarKind) → faults F.VariableType v ≡ [] → NormalNode v → IsKind v k → KindForm k
+kind_read : (v : Node) (k : VarKind) → faults F.VariableType v ≡ [] → NormalNode v → IsKind v k → (KindForm IsShortName) k
 kind_read (text at s) k c n p = word_read (ty_of s) k p
 kind_read (object at ms close) k c n p =
     let v : Node = object at ms close in
@@ -222,10 +222,10 @@ kind_read (array at vs) k c n p = absurd p
 
 -- ---- objects
 
-const_read : (v : Node) (x : Const) → faults F.Constant v ≡ [] → NormalNode v → IsConst v x → ConstRead x
+const_read : (v : Node) (x : Const) → faults F.Constant v ≡ [] → NormalNode v → IsConst v x → (ConstRead IsShortName) x
 const_read v x c n p = record {
-  name = one_read F.Constant K.Name v refl refl c n (λ w. IsNamed w x.name) (NameForm x.name) p.name (λ w c n q. name_read w x.name c n q);
-  value = optional_read F.Constant K.Value v refl refl c n IsExpr ExprForm x.value p.value expr_read;
+  name = one_read F.Constant K.Name v refl refl c n (λ w. IsNamed w x.name) ((NameForm IsShortName) x.name) p.name (λ w c n q. name_read w x.name c n q);
+  value = optional_read F.Constant K.Value v refl refl c n IsExpr (ExprForm IsShortName) x.value p.value expr_read;
 }
 
 -- a variable has a first value
@@ -242,37 +242,37 @@ given_of P o (Some x) s p = tt
 given_of P None None s p = absurd cc
 given_of P (Some w) None s p = absurd p
 
-var_read : (v : Node) (x : Var) → faults F.Variable v ≡ [] → NormalNode v → IsVar v x → VarRead x
+var_read : (v : Node) (x : Var) → faults F.Variable v ≡ [] → NormalNode v → IsVar v x → (VarRead IsShortName) x
 var_read v x c n p = record {
-  name = one_read F.Variable K.Name v refl refl c n (λ w. IsNamed w x.name) (NameForm x.name) p.name (λ w c n q. name_read w x.name c n q);
-  kind = one_read F.Variable K.Type v refl refl c n (λ w. IsKindAt w x.kind x.kind_at) (KindForm x.kind) p.kind (λ w c n q. kind_read w x.kind c n q.kind);
-  start = optional_read F.Variable K.InitialValue v refl refl c n IsExpr ExprForm x.start p.start expr_read;
+  name = one_read F.Variable K.Name v refl refl c n (λ w. IsNamed w x.name) ((NameForm IsShortName) x.name) p.name (λ w c n q. name_read w x.name c n q);
+  kind = one_read F.Variable K.Type v refl refl c n (λ w. IsKindAt w x.kind x.kind_at) ((KindForm IsShortName) x.kind) p.kind (λ w c n q. kind_read w x.kind c n q.kind);
+  start = optional_read F.Variable K.InitialValue v refl refl c n IsExpr (ExprForm IsShortName) x.start p.start expr_read;
   begins = given_of IsExpr (part K.InitialValue v) x.start (start_there v (object_clean F.Variable v refl c)) p.start;
 }
 
-value_read : (v : Node) (x : Write) → faults F.TransientValue v ≡ [] → NormalNode v → IsWrite v x → WriteRead x
+value_read : (v : Node) (x : Write) → faults F.TransientValue v ≡ [] → NormalNode v → IsWrite v x → (WriteRead IsShortName) x
 value_read v x c n p = record {
-  target = one_read F.TransientValue K.Ref v refl refl c n (λ w. IsNamed w x.target) (NameForm x.target) p.target (λ w c n q. name_read w x.target c n q);
-  value = one_read F.TransientValue K.Value v refl refl c n (λ w. IsExpr w x.value) (ExprForm x.value) p.value (λ w c n q. expr_read w x.value c n q);
+  target = one_read F.TransientValue K.Ref v refl refl c n (λ w. IsNamed w x.target) ((NameForm IsShortName) x.target) p.target (λ w c n q. name_read w x.target c n q);
+  value = one_read F.TransientValue K.Value v refl refl c n (λ w. IsExpr w x.value) ((ExprForm IsShortName) x.value) p.value (λ w c n q. expr_read w x.value c n q);
 }
 
-assignment_read : (v : Node) (x : Write) → faults F.Assignment v ≡ [] → NormalNode v → IsWrite v x → WriteRead x
+assignment_read : (v : Node) (x : Write) → faults F.Assignment v ≡ [] → NormalNode v → IsWrite v x → (WriteRead IsShortName) x
 assignment_read v x c n p = record {
-  target = one_read F.Assignment K.Ref v refl refl c n (λ w. IsNamed w x.target) (NameForm x.target) p.target (λ w c n q. name_read w x.target c n q);
-  value = one_read F.Assignment K.Value v refl refl c n (λ w. IsExpr w x.value) (ExprForm x.value) p.value (λ w c n q. expr_read w x.value c n q);
+  target = one_read F.Assignment K.Ref v refl refl c n (λ w. IsNamed w x.target) ((NameForm IsShortName) x.target) p.target (λ w c n q. name_read w x.target c n q);
+  value = one_read F.Assignment K.Value v refl refl c n (λ w. IsExpr w x.value) ((ExprForm IsShortName) x.value) p.value (λ w c n q. expr_read w x.value c n q);
 }
 
-location_read : (v : Node) (x : Location) → faults F.Location v ≡ [] → NormalNode v → IsLocation v x → LocationRead x
+location_read : (v : Node) (x : Location) → faults F.Location v ≡ [] → NormalNode v → IsLocation v x → (LocationRead IsShortName) x
 location_read v x c n p = record {
-  name = one_read F.Location K.Name v refl refl c n (λ w. IsNamed w x.name) (NameForm x.name) p.name (λ w c n q. name_read w x.name c n q);
-  values = maybe_read F.TransientValue IsWrite WriteRead value_read (part K.TransientValues v) x.values (λ w e. list_clean F.TransientValues w refl (part_read F.Location K.TransientValues v refl refl c n w e)) (λ w e. part_normal K.TransientValues v w n e) p.values;
+  name = one_read F.Location K.Name v refl refl c n (λ w. IsNamed w x.name) ((NameForm IsShortName) x.name) p.name (λ w c n q. name_read w x.name c n q);
+  values = maybe_read F.TransientValue IsWrite (WriteRead IsShortName) value_read (part K.TransientValues v) x.values (λ w e. list_clean F.TransientValues w refl (part_read F.Location K.TransientValues v refl refl c n w e)) (λ w e. part_normal K.TransientValues v w n e) p.values;
 }
 
-destination_read : (v : Node) (x : Destination) → faults F.Destination v ≡ [] → NormalNode v → IsDestination v x → DestinationRead x
+destination_read : (v : Node) (x : Destination) → faults F.Destination v ≡ [] → NormalNode v → IsDestination v x → (DestinationRead IsShortName) x
 destination_read v x c n p = record {
-  location = one_read F.Destination K.Location v refl refl c n (λ w. IsNamed w x.location) (NameForm x.location) p.location (λ w c n q. name_read w x.location c n q);
-  weight = optional_read F.Destination K.Probability v refl refl c n IsBoxed ExprForm x.weight p.weight boxed_read;
-  writes = maybe_read F.Assignment IsWrite WriteRead assignment_read (part K.Assignments v) x.writes (λ w e. list_clean F.Assignments w refl (part_read F.Destination K.Assignments v refl refl c n w e)) (λ w e. part_normal K.Assignments v w n e) p.writes;
+  location = one_read F.Destination K.Location v refl refl c n (λ w. IsNamed w x.location) ((NameForm IsShortName) x.location) p.location (λ w c n q. name_read w x.location c n q);
+  weight = optional_read F.Destination K.Probability v refl refl c n IsBoxed (ExprForm IsShortName) x.weight p.weight boxed_read;
+  writes = maybe_read F.Assignment IsWrite (WriteRead IsShortName) assignment_read (part K.Assignments v) x.writes (λ w e. list_clean F.Assignments w refl (part_read F.Destination K.Assignments v refl refl c n w e)) (λ w e. part_normal K.Assignments v w n e) p.writes;
 }
 
 -- there is a destination
@@ -286,12 +286,12 @@ some_destination (number at d) xs c p = absurd cc
 some_destination (text at s) xs c p = absurd cc
 some_destination (object at ms close) xs c p = absurd cc
 
-edge_read : (v : Node) (x : Edge) → faults F.Edge v ≡ [] → NormalNode v → IsEdge v x → EdgeRead x
+edge_read : (v : Node) (x : Edge) → faults F.Edge v ≡ [] → NormalNode v → IsEdge v x → (EdgeRead IsShortName) x
 edge_read v x c n p = record {
-  location = one_read F.Edge K.Location v refl refl c n (λ w. IsNamed w x.location) (NameForm x.location) p.location (λ w c n q. name_read w x.location c n q);
-  action = optional_read F.Edge K.Action v refl refl c n IsNamed NameForm x.action p.action name_read;
-  guard = optional_read F.Edge K.Guard v refl refl c n IsBoxed ExprForm x.guard p.guard boxed_read;
-  destinations = one_read F.Edge K.Destinations v refl refl c n (λ w. IsListAt IsDestination w x.destinations x.at) (OfAll DestinationRead x.destinations) p.destinations (λ w c n q. items_read F.Destination IsDestination DestinationRead destination_read w x.destinations (list_clean F.Destinations w refl c) n q.items);
+  location = one_read F.Edge K.Location v refl refl c n (λ w. IsNamed w x.location) ((NameForm IsShortName) x.location) p.location (λ w c n q. name_read w x.location c n q);
+  action = optional_read F.Edge K.Action v refl refl c n IsNamed (NameForm IsShortName) x.action p.action name_read;
+  guard = optional_read F.Edge K.Guard v refl refl c n IsBoxed (ExprForm IsShortName) x.guard p.guard boxed_read;
+  destinations = one_read F.Edge K.Destinations v refl refl c n (λ w. IsListAt IsDestination w x.destinations x.at) (OfAll (DestinationRead IsShortName) x.destinations) p.destinations (λ w c n q. items_read F.Destination IsDestination (DestinationRead IsShortName) destination_read w x.destinations (list_clean F.Destinations w refl c) n q.items);
   some = one_read F.Edge K.Destinations v refl refl c n (λ w. IsListAt IsDestination w x.destinations x.at) (HasItems x.destinations) p.destinations (λ w c n q. some_destination w x.destinations c q.items);
 }
 
@@ -312,49 +312,49 @@ one_there : (o : Option Node) (xs : List Named) → is_some o ≡ true → ((w :
 one_there None xs s c p = absurd cc
 one_there (Some w) xs s c p = one_initial w xs (c w refl) p
 
-automaton_read : (v : Node) (x : Automaton) → faults F.Automaton v ≡ [] → NormalNode v → IsAutomaton v x → AutomatonRead x
+automaton_read : (v : Node) (x : Automaton) → faults F.Automaton v ≡ [] → NormalNode v → IsAutomaton v x → (AutomatonRead IsShortName) x
 automaton_read v x c n p = record {
-  name = one_read F.Automaton K.Name v refl refl c n (λ w. IsNamed w x.name) (NameForm x.name) p.name (λ w c n q. name_read w x.name c n q);
-  variables = maybe_read F.Variable IsVar VarRead var_read (part K.Variables v) x.variables (λ w e. list_clean F.Variables w refl (part_read F.Automaton K.Variables v refl refl c n w e)) (λ w e. part_normal K.Variables v w n e) p.variables;
-  locations = maybe_read F.Location IsLocation LocationRead location_read (part K.Locations v) x.locations (λ w e. list_clean F.Locations w refl (part_read F.Automaton K.Locations v refl refl c n w e)) (λ w e. part_normal K.Locations v w n e) p.locations;
-  initial = maybe_read F.Name IsNamed NameForm name_read (part K.InitialLocations v) x.initial (λ w e. list_clean F.InitialLocations w refl (part_read F.Automaton K.InitialLocations v refl refl c n w e)) (λ w e. part_normal K.InitialLocations v w n e) p.initial;
+  name = one_read F.Automaton K.Name v refl refl c n (λ w. IsNamed w x.name) ((NameForm IsShortName) x.name) p.name (λ w c n q. name_read w x.name c n q);
+  variables = maybe_read F.Variable IsVar (VarRead IsShortName) var_read (part K.Variables v) x.variables (λ w e. list_clean F.Variables w refl (part_read F.Automaton K.Variables v refl refl c n w e)) (λ w e. part_normal K.Variables v w n e) p.variables;
+  locations = maybe_read F.Location IsLocation (LocationRead IsShortName) location_read (part K.Locations v) x.locations (λ w e. list_clean F.Locations w refl (part_read F.Automaton K.Locations v refl refl c n w e)) (λ w e. part_normal K.Locations v w n e) p.locations;
+  initial = maybe_read F.Name IsNamed (NameForm IsShortName) name_read (part K.InitialLocations v) x.initial (λ w e. list_clean F.InitialLocations w refl (part_read F.Automaton K.InitialLocations v refl refl c n w e)) (λ w e. part_normal K.InitialLocations v w n e) p.initial;
   begins = one_there (part K.InitialLocations v) x.initial (plain_part_there F.Automaton K.InitialLocations v refl refl c) (λ w e. part_read F.Automaton K.InitialLocations v refl refl c n w e) p.initial;
-  edges = maybe_read F.Edge IsEdge EdgeRead edge_read (part K.Edges v) x.edges (λ w e. list_clean F.Edges w refl (part_read F.Automaton K.Edges v refl refl c n w e)) (λ w e. part_normal K.Edges v w n e) p.edges;
+  edges = maybe_read F.Edge IsEdge (EdgeRead IsShortName) edge_read (part K.Edges v) x.edges (λ w e. list_clean F.Edges w refl (part_read F.Automaton K.Edges v refl refl c n w e)) (λ w e. part_normal K.Edges v w n e) p.edges;
 }
 
-part_form_read : (w : Node) (x : Option Named) → faults F.NameOrNull w ≡ [] → NormalNode w → IsPart w x → PartForm x
+part_form_read : (w : Node) (x : Option Named) → faults F.NameOrNull w ≡ [] → NormalNode w → IsPart w x → (PartForm IsShortName) x
 part_form_read w None c n p = tt
 part_form_read w (Some m) c n p = name_text m.at m.name (subst (λ x. faults F.NameOrNull x ≡ []) p c)
 
-vector_read : (v : Node) (x : Vector) → faults F.Vector v ≡ [] → NormalNode v → IsVector v x → VectorRead x
+vector_read : (v : Node) (x : Vector) → faults F.Vector v ≡ [] → NormalNode v → IsVector v x → (VectorRead IsShortName) x
 vector_read v x c n p = record {
-  parts = one_read F.Vector K.Synchronise v refl refl c n (λ w. IsListAt IsPart w x.parts x.at) (OfAll PartForm x.parts) p.parts (λ w c n q. items_read F.NameOrNull IsPart PartForm part_form_read w x.parts (list_clean F.Synchronise w refl c) n q.items);
-  result = optional_read F.Vector K.Result v refl refl c n IsNamed NameForm x.result p.result name_read;
+  parts = one_read F.Vector K.Synchronise v refl refl c n (λ w. IsListAt IsPart w x.parts x.at) (OfAll (PartForm IsShortName) x.parts) p.parts (λ w c n q. items_read F.NameOrNull IsPart (PartForm IsShortName) part_form_read w x.parts (list_clean F.Synchronise w refl c) n q.items);
+  result = optional_read F.Vector K.Result v refl refl c n IsNamed (NameForm IsShortName) x.result p.result name_read;
 }
 
-keyed_action : (v : Node) (x : Named) → faults F.Action v ≡ [] → NormalNode v → IsKeyed K.Name v x → NameForm x
-keyed_action v x c n p = one_read F.Action K.Name v refl refl c n (λ w. IsNamed w x) (NameForm x) p (λ w c n q. name_read w x c n q)
+keyed_action : (v : Node) (x : Named) → faults F.Action v ≡ [] → NormalNode v → IsKeyed K.Name v x → (NameForm IsShortName) x
+keyed_action v x c n p = one_read F.Action K.Name v refl refl c n (λ w. IsNamed w x) ((NameForm IsShortName) x) p (λ w c n q. name_read w x c n q)
 
-keyed_element : (v : Node) (x : Named) → faults F.Element v ≡ [] → NormalNode v → IsKeyed K.Automaton v x → NameForm x
-keyed_element v x c n p = one_read F.Element K.Automaton v refl refl c n (λ w. IsNamed w x) (NameForm x) p (λ w c n q. name_read w x c n q)
+keyed_element : (v : Node) (x : Named) → faults F.Element v ≡ [] → NormalNode v → IsKeyed K.Automaton v x → (NameForm IsShortName) x
+keyed_element v x c n p = one_read F.Element K.Automaton v refl refl c n (λ w. IsNamed w x) ((NameForm IsShortName) x) p (λ w c n q. name_read w x c n q)
 
-elements_read : (v : Node) (xs : List Named) (at : ℕ) (ys : List Vector) → faults F.System v ≡ [] → NormalNode v → IsSystem v xs at ys → OfAll NameForm xs
-elements_read v xs at ys c n p = one_read F.System K.Elements v refl refl c n (λ w. IsListAt (IsKeyed K.Automaton) w xs at) (OfAll NameForm xs) p.elements_are (λ w c n q. items_read F.Element (IsKeyed K.Automaton) NameForm keyed_element w xs (list_clean F.Elements w refl c) n q.items)
+elements_read : (v : Node) (xs : List Named) (at : ℕ) (ys : List Vector) → faults F.System v ≡ [] → NormalNode v → IsSystem v xs at ys → OfAll (NameForm IsShortName) xs
+elements_read v xs at ys c n p = one_read F.System K.Elements v refl refl c n (λ w. IsListAt (IsKeyed K.Automaton) w xs at) (OfAll (NameForm IsShortName) xs) p.elements_are (λ w c n q. items_read F.Element (IsKeyed K.Automaton) (NameForm IsShortName) keyed_element w xs (list_clean F.Elements w refl c) n q.items)
 
-vectors_read : (v : Node) (xs : List Named) (at : ℕ) (ys : List Vector) → faults F.System v ≡ [] → NormalNode v → IsSystem v xs at ys → OfAll VectorRead ys
-vectors_read v xs at ys c n p = maybe_read F.Vector IsVector VectorRead vector_read (part K.Syncs v) ys (λ w e. list_clean F.Vectors w refl (part_read F.System K.Syncs v refl refl c n w e)) (λ w e. part_normal K.Syncs v w n e) p.vectors_are
+vectors_read : (v : Node) (xs : List Named) (at : ℕ) (ys : List Vector) → faults F.System v ≡ [] → NormalNode v → IsSystem v xs at ys → OfAll (VectorRead IsShortName) ys
+vectors_read v xs at ys c n p = maybe_read F.Vector IsVector (VectorRead IsShortName) vector_read (part K.Syncs v) ys (λ w e. list_clean F.Vectors w refl (part_read F.System K.Syncs v refl refl c n w e)) (λ w e. part_normal K.Syncs v w n e) p.vectors_are
 
 kept_normal : (o : Option Node) (p : Node) → ((w : Node) → o ≡ Some w → NormalNode w) → IsKept o p → NormalNode p
 kept_normal None p n e = subst NormalNode (sym e) tt
 kept_normal (Some v) p n e = subst NormalNode (sym e) (n v refl)
 
-pub file_read : (v : Node) (x : File) → faults F.Model v ≡ [] → NormalNode v → IsFile v x → FileRead x
+pub file_read : (v : Node) (x : File) → faults F.Model v ≡ [] → NormalNode v → IsFile v x → FileShort x
 file_read v x c n p = record {
-  actions = maybe_read F.Action (IsKeyed K.Name) NameForm keyed_action (part K.Actions v) x.actions (λ w e. list_clean F.Actions w refl (part_read F.Model K.Actions v refl refl c n w e)) (λ w e. part_normal K.Actions v w n e) p.actions;
-  constants = maybe_read F.Constant IsConst ConstRead const_read (part K.Constants v) x.constants (λ w e. list_clean F.Constants w refl (part_read F.Model K.Constants v refl refl c n w e)) (λ w e. part_normal K.Constants v w n e) p.constants;
-  variables = maybe_read F.Variable IsVar VarRead var_read (part K.Variables v) x.variables (λ w e. list_clean F.Variables w refl (part_read F.Model K.Variables v refl refl c n w e)) (λ w e. part_normal K.Variables v w n e) p.variables;
-  automata = maybe_read F.Automaton IsAutomaton AutomatonRead automaton_read (part K.Automata v) x.automata (λ w e. list_clean F.Automata w refl (part_read F.Model K.Automata v refl refl c n w e)) (λ w e. part_normal K.Automata v w n e) p.automata;
-  elements = one_read F.Model K.System v refl refl c n (λ w. IsSystem w x.elements x.elements_at x.vectors) (OfAll NameForm x.elements) p.system (λ w c n q. elements_read w x.elements x.elements_at x.vectors c n q);
-  vectors = one_read F.Model K.System v refl refl c n (λ w. IsSystem w x.elements x.elements_at x.vectors) (OfAll VectorRead x.vectors) p.system (λ w c n q. vectors_read w x.elements x.elements_at x.vectors c n q);
+  actions = maybe_read F.Action (IsKeyed K.Name) (NameForm IsShortName) keyed_action (part K.Actions v) x.actions (λ w e. list_clean F.Actions w refl (part_read F.Model K.Actions v refl refl c n w e)) (λ w e. part_normal K.Actions v w n e) p.actions;
+  constants = maybe_read F.Constant IsConst (ConstRead IsShortName) const_read (part K.Constants v) x.constants (λ w e. list_clean F.Constants w refl (part_read F.Model K.Constants v refl refl c n w e)) (λ w e. part_normal K.Constants v w n e) p.constants;
+  variables = maybe_read F.Variable IsVar (VarRead IsShortName) var_read (part K.Variables v) x.variables (λ w e. list_clean F.Variables w refl (part_read F.Model K.Variables v refl refl c n w e)) (λ w e. part_normal K.Variables v w n e) p.variables;
+  automata = maybe_read F.Automaton IsAutomaton (AutomatonRead IsShortName) automaton_read (part K.Automata v) x.automata (λ w e. list_clean F.Automata w refl (part_read F.Model K.Automata v refl refl c n w e)) (λ w e. part_normal K.Automata v w n e) p.automata;
+  elements = one_read F.Model K.System v refl refl c n (λ w. IsSystem w x.elements x.elements_at x.vectors) (OfAll (NameForm IsShortName) x.elements) p.system (λ w c n q. elements_read w x.elements x.elements_at x.vectors c n q);
+  vectors = one_read F.Model K.System v refl refl c n (λ w. IsSystem w x.elements x.elements_at x.vectors) (OfAll (VectorRead IsShortName) x.vectors) p.system (λ w c n q. vectors_read w x.elements x.elements_at x.vectors c n q);
   properties = kept_normal (part K.Properties v) x.properties (λ w e. part_normal K.Properties v w n e) p.properties;
 }

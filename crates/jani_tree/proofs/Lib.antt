@@ -14,3 +14,6 @@ pub mod Filled
 pub mod Sound
 pub mod Bared
 pub mod Back
+pub mod Wider
+pub mod Text
+pub mod Mapped

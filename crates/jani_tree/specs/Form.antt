@@ -1,6 +1,7 @@
--- The form of the trees that are read: a name is not empty and has at most 255 bytes, each literal is in normal form, each
--- node has its operator's number of operands, each variable has a first value, each automaton one initial location, and each
--- edge a destination. And that no object of a JSON value has a key twice.
+-- The form of trees: no name is empty, each literal is in normal form, each node has its operator's number of operands, each
+-- variable has a first value, each automaton one initial location, and each edge a destination. Names in trees that are read
+-- have at most 255 bytes besides; those in trees that are written may be longer. And that no object of a JSON value has a key
+-- twice.
 use Rattle.std.specs.Prelude.{◌≡◌, ℕ, ◌<◌, List, [], ◌∷◌, length, true, Option, Some, None}
 use Rattle.bridge_io.specs.declared.reason.Named.{Named}
 use Rattle.frac_core.specs.declared.decimal.Decimal.{Decimal}
@@ -66,82 +67,93 @@ abbrev mutual
   KeysApart no_fields = Unit {0}
   KeysApart (field n v rest) = (member_text n.name rest ≡ None) × KeysOnce v × KeysApart rest
 
--- ---- names and expressions
+-- ---- names
 
 -- at most 255 bytes, and not empty
-pub record IsName (s : List ℕ) : Type 0 where
+pub record IsShortName (s : List ℕ) : Type 0 where
   pub some : HasItems s
   pub short : length s < 256
 
-abbrev pub NameForm : Named → Type 0
-NameForm n = IsName n.name
+-- ---- trees, by what is asked of names
 
-abbrev pub ExprForm : Expression → Type 0
-ExprForm (Truth at b) = Unit {0}
-ExprForm (Number at d) = IsNormal d
-ExprForm (Name at x) = IsName x
-ExprForm (One at o a) = (arity o ≡ 1) × ExprForm a
-ExprForm (Two at o a b) = (arity o ≡ 2) × ExprForm a × ExprForm b
-ExprForm (Three at o a b c) = (arity o ≡ 3) × ExprForm a × ExprForm b × ExprForm c
+module _ (IsName : List ℕ → Type 0) where
+  abbrev pub NameForm : Named → Type 0
+  NameForm n = IsName n.name
 
-abbrev pub KindForm : VarKind → Type 0
-KindForm boolean = Unit {0}
-KindForm integer = Unit {0}
-KindForm real = Unit {0}
-KindForm real_bounded = Unit {0}
-KindForm one_sided = Unit {0}
-KindForm (bounded low high) = ExprForm low × ExprForm high
+  abbrev pub ExprForm : Expression → Type 0
+  ExprForm (Truth at b) = Unit {0}
+  ExprForm (Number at d) = IsNormal d
+  ExprForm (Name at x) = IsName x
+  ExprForm (One at o a) = (arity o ≡ 1) × ExprForm a
+  ExprForm (Two at o a b) = (arity o ≡ 2) × ExprForm a × ExprForm b
+  ExprForm (Three at o a b c) = (arity o ≡ 3) × ExprForm a × ExprForm b × ExprForm c
 
-pub record ConstRead (c : Const) : Type 0 where
-  pub name : NameForm c.name
-  pub value : OfSome ExprForm c.value
+  abbrev pub KindForm : VarKind → Type 0
+  KindForm boolean = Unit {0}
+  KindForm integer = Unit {0}
+  KindForm real = Unit {0}
+  KindForm real_bounded = Unit {0}
+  KindForm one_sided = Unit {0}
+  KindForm (bounded low high) = ExprForm low × ExprForm high
 
-pub record VarRead (x : Var) : Type 0 where
-  pub name : NameForm x.name
-  pub kind : KindForm x.kind
-  pub start : OfSome ExprForm x.start
-  pub begins : IsGiven x.start
+  pub record ConstRead (c : Const) : Type 0 where
+    pub name : NameForm c.name
+    pub value : OfSome ExprForm c.value
 
-pub record WriteRead (w : Write) : Type 0 where
-  pub target : NameForm w.target
-  pub value : ExprForm w.value
+  pub record VarRead (x : Var) : Type 0 where
+    pub name : NameForm x.name
+    pub kind : KindForm x.kind
+    pub start : OfSome ExprForm x.start
+    pub begins : IsGiven x.start
 
-pub record LocationRead (l : Location) : Type 0 where
-  pub name : NameForm l.name
-  pub values : OfAll WriteRead l.values
+  pub record WriteRead (w : Write) : Type 0 where
+    pub target : NameForm w.target
+    pub value : ExprForm w.value
 
-pub record DestinationRead (d : Destination) : Type 0 where
-  pub location : NameForm d.location
-  pub weight : OfSome ExprForm d.weight
-  pub writes : OfAll WriteRead d.writes
+  pub record LocationRead (l : Location) : Type 0 where
+    pub name : NameForm l.name
+    pub values : OfAll WriteRead l.values
 
-pub record EdgeRead (e : Edge) : Type 0 where
-  pub location : NameForm e.location
-  pub action : OfSome NameForm e.action
-  pub guard : OfSome ExprForm e.guard
-  pub destinations : OfAll DestinationRead e.destinations
-  pub some : HasItems e.destinations
+  pub record DestinationRead (d : Destination) : Type 0 where
+    pub location : NameForm d.location
+    pub weight : OfSome ExprForm d.weight
+    pub writes : OfAll WriteRead d.writes
 
-pub record AutomatonRead (a : Automaton) : Type 0 where
-  pub name : NameForm a.name
-  pub variables : OfAll VarRead a.variables
-  pub locations : OfAll LocationRead a.locations
-  pub initial : OfAll NameForm a.initial
-  pub begins : HasOne a.initial
-  pub edges : OfAll EdgeRead a.edges
+  pub record EdgeRead (e : Edge) : Type 0 where
+    pub location : NameForm e.location
+    pub action : OfSome NameForm e.action
+    pub guard : OfSome ExprForm e.guard
+    pub destinations : OfAll DestinationRead e.destinations
+    pub some : HasItems e.destinations
 
-abbrev pub PartForm : Option Named → Type 0
-PartForm p = OfSome NameForm p
+  pub record AutomatonRead (a : Automaton) : Type 0 where
+    pub name : NameForm a.name
+    pub variables : OfAll VarRead a.variables
+    pub locations : OfAll LocationRead a.locations
+    pub initial : OfAll NameForm a.initial
+    pub begins : HasOne a.initial
+    pub edges : OfAll EdgeRead a.edges
 
-pub record VectorRead (x : Vector) : Type 0 where
-  pub parts : OfAll PartForm x.parts
-  pub result : OfSome NameForm x.result
+  abbrev pub PartForm : Option Named → Type 0
+  PartForm p = OfSome NameForm p
 
-pub record FileRead (f : File) : Type 0 where
-  pub actions : OfAll NameForm f.actions
-  pub constants : OfAll ConstRead f.constants
-  pub variables : OfAll VarRead f.variables
-  pub automata : OfAll AutomatonRead f.automata
-  pub elements : OfAll NameForm f.elements
-  pub vectors : OfAll VectorRead f.vectors
-  pub properties : NormalNode f.properties
+  pub record VectorRead (x : Vector) : Type 0 where
+    pub parts : OfAll PartForm x.parts
+    pub result : OfSome NameForm x.result
+
+  pub record FileWith (f : File) : Type 0 where
+    pub actions : OfAll NameForm f.actions
+    pub constants : OfAll ConstRead f.constants
+    pub variables : OfAll VarRead f.variables
+    pub automata : OfAll AutomatonRead f.automata
+    pub elements : OfAll NameForm f.elements
+    pub vectors : OfAll VectorRead f.vectors
+    pub properties : NormalNode f.properties
+
+-- no name is empty
+abbrev pub FileRead : File → Type 0
+FileRead = FileWith HasItems
+
+-- and none has more than 255 bytes
+abbrev pub FileShort : File → Type 0
+FileShort = FileWith IsShortName

@@ -5,3 +5,4 @@ pub mod Canonical
 pub mod Places
 pub mod Form
 pub mod Back
+pub mod Text

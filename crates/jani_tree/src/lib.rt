@@ -11,7 +11,7 @@ mod syntax;
 mod write;
 
 pub use jani_table::JaniOp;
-pub use laws::{places_law, reads_back_law};
+pub use laws::{places_law, reads_back_law, written_law};
 pub use read::from_json;
 pub use syntax::{
     JaniAutomaton, JaniConst, JaniDestination, JaniEdge, JaniFile, JaniKind, JaniLocation, JaniVar,

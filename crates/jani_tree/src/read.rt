@@ -7,7 +7,7 @@ ghost use Rattle.jani_table.specs.Faults.{faults};
 ghost use Rattle.jani_tree.specs.Syntax.{File, file_of};
 ghost use Rattle.jani_tree.specs.Jani.{IsFile};
 ghost use Rattle.jani_tree.specs.Faults.{FailsFor};
-ghost use Rattle.jani_tree.specs.Form.{FileRead, KeysOnce};
+ghost use Rattle.jani_tree.specs.Form.{FileRead, FileShort, KeysOnce};
 
 use crate::objects::file;
 use crate::syntax::JaniFile;
@@ -21,7 +21,7 @@ fn tree(alloc: Global, value: &Json) -> Result<JaniFile, AllocError>
     requires { faults F.Model (node value.now) ≡ [] }
     ensures spelled { IfOk result (λ f. IsFile (node value.now) (file_of f)) }
     ensures only { IfOk result (λ f. (x : File) → IsFile (node value.now) x → x ≡ file_of f) }
-    ensures form { IfOk result (λ f. all_normal value.now ≡ true → FileRead (file_of f)) }
+    ensures form { IfOk result (λ f. all_normal value.now ≡ true → FileShort (file_of f)) }
     ensures once { IfOk result (λ f. keys_once value.now ≡ true → KeysOnce (node f.properties)) }
 {
     let tree = file(alloc, value)?;
@@ -34,15 +34,16 @@ fn tree(alloc: Global, value: &Json) -> Result<JaniFile, AllocError>
 /// not known; `WrongShape` at a value of another kind than may stand there; `OtherFeature` at a feature that is not
 /// supported; `InputEnable`, `InitialSet` and `NoDestination` where a list or a condition is not of the profile. The only
 /// other error is want of memory. Where each number of the value is in normal form, as in each value that is read from a
-/// text, the tree has the form of trees that are read: a name is not empty and has at most 255 bytes, each literal is in
-/// normal form, each node has its operator's number of operands, each variable has a first value, each automaton one initial
-/// location, and each edge a destination. No object of the properties has a key twice where none of the value
+/// text, the tree has the form of trees: no name is empty, each literal is in normal form, each node has its operator's number
+/// of operands, each variable has a first value, each automaton one initial location, and each edge a destination; and its
+/// names have at most 255 bytes. No object of the properties has a key twice where none of the value
 /// has, as in each value that is read from a text.
 pub fn from_json(alloc: Global, json: &Json) -> Result<JaniFile, Refused>
     ensures clean { OnOk result (faults F.Model (node json.now) ≡ []) }
     ensures spelled { IfOk result (λ f. IsFile (node json.now) (file_of f)) }
     ensures only { IfOk result (λ f. (x : File) → IsFile (node json.now) x → x ≡ file_of f) }
     ensures form { IfOk result (λ f. all_normal json.now ≡ true → FileRead (file_of f)) }
+    ensures short { IfOk result (λ f. all_normal json.now ≡ true → FileShort (file_of f)) }
     ensures once { IfOk result (λ f. keys_once json.now ≡ true → KeysOnce (node f.properties)) }
     ensures least { IfErr result (λ e. FailsFor (faults F.Model (node json.now)) e) }
 {

@@ -673,9 +673,9 @@ fn file_json(alloc: Global, file: &JaniFile) -> Result<Json, AllocError>
 
 /// The canonical value of a tree: members in one order; names, expressions and the lists whose offset is kept at their own
 /// offsets, all else at 0. It spells the same tree, if each node has its operator's number of operands, and each bounded
-/// type is an int with both bounds. If besides the tree has the form of trees that are read, and no object of its properties
-/// has a key twice, then the value has no fault of shape, each number of it is in normal form, and no object of it has a key
-/// twice. `Err` is want of memory.
+/// type is an int with both bounds. If besides the tree has the form of trees, and no object of its properties has a key twice,
+/// then the value has no fault of shape but names of more than 255 bytes, each number of it is in normal form, and no object of
+/// it has a key twice. `Err` is want of memory.
 pub fn to_json(alloc: Global, file: &JaniFile) -> Result<Json, AllocError>
     ensures value { IfOk result (λ v. node v ≡ file_node (file_of file.now)) }
     ensures again { IfOk result (λ v. FileForm (file_of file.now) → IsFile (node v) (file_of file.now)) }
