@@ -1,4 +1,5 @@
 pub mod Columns
 pub mod Proper
 pub mod Constants
+pub mod Bare
 mod Worked

@@ -6,6 +6,7 @@ use Rattle.op_trees.specs.Tree.{AllNames}
 use Rattle.process_core.specs.Ready.{Values, Name}
 use Rattle.process_core.specs.Distribution.{IsProper}
 use Rattle.jani_tree.specs.Syntax.{Expression, Const, File}
+use Rattle.jani_tree.specs.Places.{bare_file}
 use Rattle.prism_flat.specs.Instance.{Valuation, numbered, constant_faults, column_faults}
 use Rattle.jani_meaning.specs.Elements.{lasting, labels, structures}
 use Rattle.jani_meaning.specs.Scene.{constant_called, constant_value, constant, constant_names, column, scene}
@@ -46,3 +47,8 @@ pub record IsConstantRank (file : File) (rank : Name → ℕ) : Type 0 where
 -- then a constant has the value that is given for it, or that of its expression, in which constants have their values
 abbrev pub ConstantsHaveValues : File → Type 0
 ConstantsHaveValues file = (v : Valuation) (x : Name) → constant file v x ≡ constant_value (v x) (constant_names file v) (constant_called file x)
+
+-- ---- places
+-- files that are the same but for the places that their trees keep mean the same
+abbrev pub PlacesMeanNothing : File → File → Type 0
+PlacesMeanNothing f g = bare_file f ≡ bare_file g → model f ≡ model g

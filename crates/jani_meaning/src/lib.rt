@@ -5,7 +5,7 @@
 ghost use Rattle.std.specs.Prelude.{ℕ};
 ghost use Rattle.process_core.specs.Ready.{Name};
 ghost use Rattle.jani_tree.specs.Syntax.{File};
-ghost use Rattle.jani_meaning.specs.Laws.{ChoicesAreProper, ConstantsHaveValues, IsConstantRank, LocationsHaveNoFault, MarksOfTransients, StatesHaveColumns};
+ghost use Rattle.jani_meaning.specs.Laws.{ChoicesAreProper, ConstantsHaveValues, IsConstantRank, LocationsHaveNoFault, MarksOfTransients, PlacesMeanNothing, StatesHaveColumns};
 
 /// Every file, with faults or without: a state has a value for the location of each element and for each variable that isn't
 /// transient, there is a mark for each transient variable, a good choice of a state is a distribution over states and any
@@ -21,4 +21,9 @@ pub fn meaning_laws()
 /// the values of the constants.
 pub fn constant_law()
     ensures { (file : File) (rank : Name → ℕ) → IsConstantRank file rank → ConstantsHaveValues file }
+{}
+
+/// Files that are the same but for the places that their trees keep mean the same.
+pub fn places_law()
+    ensures { (f g : File) → PlacesMeanNothing f g }
 {}
