@@ -31,15 +31,15 @@ use Rattle.prism_to_jani.proofs.OneForOne.{lasting_are}
 
 -- ---- constants, in order
 constants_alike : (new : Name → Name) (v w : Valuation) (old env : Name → Seen) (cs : List prism.Const) (es : List Entry) → ((x : Name) → env (new x) ≡ old x) →
-    Takes new (map (λ c. c.name.name) cs) es → All (λ c. w (new c.name.name) ≡ v c.name.name) cs → All (λ c. IfSome c.value (IsSound old)) cs →
+    Takes new (map (λ c. c.name.name) cs) es → All (λ c. c.value ≡ None → w (new c.name.name) ≡ v c.name.name) cs → All (λ c. IfSome c.value (IsSound old)) cs →
     map (λ c. jani_scene.constant_seen (w c.name.name) env c.value) (map (λ p. constant new p.0 p.1) (zip cs es)) ≡ map (λ c. prism_scene.constant_seen (v c.name.name) old c.value) cs
 constants_alike new v w old env [] es n t a s = refl
 constants_alike new v w old env (c ∷ cs) [] n t a s = absurd t
 constants_alike new v w old env (c ∷ cs) (e ∷ es) n t a s =
     ap₂ (λ x r. x ∷ r)
     (constant_alike new old env (w e.name) (v c.name.name) c.value n
-    (ap w t.0 ∙ All-head (λ c. w (new c.name.name) ≡ v c.name.name) c cs a) (All-head (λ c. IfSome c.value (IsSound old)) c cs s))
-    (constants_alike new v w old env cs es n t.1 (All-tail (λ c. w (new c.name.name) ≡ v c.name.name) c cs a) (All-tail (λ c. IfSome c.value (IsSound old)) c cs s))
+    (λ k. ap w t.0 ∙ All-head (λ c. c.value ≡ None → w (new c.name.name) ≡ v c.name.name) c cs a k) (All-head (λ c. IfSome c.value (IsSound old)) c cs s))
+    (constants_alike new v w old env cs es n t.1 (All-tail (λ c. c.value ≡ None → w (new c.name.name) ≡ v c.name.name) c cs a) (All-tail (λ c. IfSome c.value (IsSound old)) c cs s))
 
 pub constants_seen_alike : (file : prism.File) → ConstantsSeenAlike file
 constants_seen_alike file v w sound alike =

@@ -27,7 +27,7 @@ use Rattle.prism_images.proofs.Values.{seen_alike}
 use Rattle.prism_to_jani.specs.Asks.{variables, value_names, entries, new_names}
 use Rattle.prism_to_jani.specs.Parts.{constant}
 use Rattle.prism_to_jani.specs.Translated.{translated}
-use Rattle.prism_to_jani.specs.SeenLaws.{IsSound, SoundConstant, IsSoundUnder, GivesAlike}
+use Rattle.prism_to_jani.specs.SeenLaws.{IsSound, SoundConstant, IsSoundUnder, GivenAlike, GivesAlike}
 use Rattle.prism_to_jani.proofs.Each.{for_constants}
 use Rattle.prism_to_jani.proofs.Fresh.{equal_bytes, Agrees, values_agree, agrees_front, agrees_back}
 
@@ -43,14 +43,14 @@ unfolding reading
 plain_reading file given e = ap (λ n. looked_up prism_meaning (formula_body file) n given) (ap length e)
 
 -- ---- a constant
-pub constant_alike : (new : Name → Name) (old env : Name → Seen) (g h : Option Value) (d : Option prism.Expression) → ((x : Name) → env (new x) ≡ old x) → g ≡ h → IfSome d (IsSound old) →
+pub constant_alike : (new : Name → Name) (old env : Name → Seen) (g h : Option Value) (d : Option prism.Expression) → ((x : Name) → env (new x) ≡ old x) → (d ≡ None → g ≡ h) → IfSome d (IsSound old) →
     jani_scene.constant_seen g env (option_map (image new) d) ≡ prism_scene.constant_seen h old d
-constant_alike new old env g h None n e s = ap known e
+constant_alike new old env g h None n e s = ap known (e refl)
 constant_alike new old env g h (Some t) n e s = image_seen new t old env n s
 
 value_alike : (new : Name → Name) (old env : Name → Seen) (g h : Option Value) (o : Option jani.Const) (p : Option prism.Const) →
     option_map (λ c. c.value) o ≡ option_map (λ c. option_map (image new) c.value) p → ((x : Name) → env (new x) ≡ old x) →
-    ((c : prism.Const) → p ≡ Some c → (g ≡ h) × IfSome c.value (IsSound old)) →
+    ((c : prism.Const) → p ≡ Some c → (c.value ≡ None → g ≡ h) × IfSome c.value (IsSound old)) →
     jani_scene.constant_value g env o ≡ prism_scene.constant_value h old p
 value_alike new old env g h None None e n s = refl
 value_alike new old env g h None (Some c) e n s = absurd cc
@@ -115,10 +115,10 @@ module _ (file : prism.File) (v w : Valuation) (sound : IsSoundUnder file v) (al
       ap (λ ps. option_map (λ k. k.value) (find (λ k. is_called ((new_names file).value x) k.name) (map (λ p. constant (new_names file).value p.0 p.1) ps))) (zip-take file.constants (entries file))
       ∙ find_alike (new_names file).value x ((new_names file).value x) file.constants (entries file) (constants_agree x)
 
-  given_alike : (x : Name) (c : prism.Const) → prism_scene.constant_called file x ≡ Some c → w ((new_names file).value x) ≡ v x
+  given_alike : (x : Name) (c : prism.Const) → prism_scene.constant_called file x ≡ Some c → c.value ≡ None → w ((new_names file).value x) ≡ v x
   given_alike x c h =
-      let f = found (λ d. w ((new_names file).value d.name.name) ≡ v d.name.name) x file.constants c alike h in
-      subst (λ y. w ((new_names file).value y) ≡ v y) f.name f.has
+      let f = found (GivenAlike file v w) x file.constants c alike h in
+      subst (λ y. c.value ≡ None → w ((new_names file).value y) ≡ v y) f.name f.has
 
   sound_constant : (x : Name) (c : prism.Const) → prism_scene.constant_called file x ≡ Some c → SoundConstant file v c
   sound_constant x c h = (found (SoundConstant file v) x file.constants c sound.constants h).has

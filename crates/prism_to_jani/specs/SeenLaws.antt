@@ -1,6 +1,6 @@
 -- What holds of the constants and the columns of a translated file, under any valuation: statements, which are proved of the
 -- functions of this crate.
-use Rattle.std.specs.Prelude.{◌≡◌, ℕ, ◌++◌, length, map, bytes_eq, IfSome}
+use Rattle.std.specs.Prelude.{◌≡◌, ℕ, ◌++◌, length, map, bytes_eq, IfSome, None}
 use Rattle.std.specs.List.{All, IsDistinct}
 use Rattle.op_trees.specs.Seen.{Seen, known}
 use Rattle.process_core.specs.Ready.{Name}
@@ -40,9 +40,12 @@ module _ (file : prism.File) (v : Valuation) where
     pub constants : All SoundConstant file.constants
     pub variables : All SoundVariable (variables file)
 
-  -- another valuation gives each constant, under its new name, the value that this one gives it
+  -- another valuation gives each constant without an expression, under its new name, the value that this one gives it
+  abbrev pub GivenAlike : Valuation → prism.Const → Type 0
+  GivenAlike w c = c.value ≡ None → w ((new_names file).value c.name.name) ≡ v c.name.name
+
   abbrev pub GivesAlike : Valuation → Type 0
-  GivesAlike w = All (λ c. w ((new_names file).value c.name.name) ≡ v c.name.name) file.constants
+  GivesAlike w = All (GivenAlike w) file.constants
 
 -- ---- what follows
 -- the column, under its new name
