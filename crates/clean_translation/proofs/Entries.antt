@@ -10,7 +10,7 @@ use Rattle.std.proofs.lemmas.Option.{slice_get_within}
 use Rattle.process_core.specs.Ready.{Name}
 use Rattle.prism_tree.specs.Syntax as prism
 use Rattle.prism_print.specs.Printable.{Each}
-use Rattle.jani_tree.specs.Form.{HasItems, IsName}
+use Rattle.jani_tree.specs.Form.{HasItems}
 use Rattle.name_table.specs.declared.class.NameClass.{NameClass}
 use Rattle.name_table.specs.declared.class.NameClass.TheVariants.{Constant, Variable, Location, Module, Action, Label, Reward, Property}
 use Rattle.name_table.specs.declared.class.Target.TheVariants.{Jani}
@@ -22,7 +22,6 @@ use Rattle.name_table.proofs.EntryLemmas.{Comes, was_kept, was_made, placed, one
 use Rattle.prism_to_jani.specs.Asks.{asks, entries, some_from, new_name, value_names, new_names, actions, actions_at}
 use Rattle.prism_to_jani.proofs.Each.{n_entries}
 use Rattle.prism_to_jani.proofs.Fresh.{no_empty, enough}
-use Rattle.clean_translation.specs.Laws.{HasShortName, HasShortNames}
 
 -- ---- lists
 pub each_at : {A : Type 0} (P : A → Type 0) (xs : List A) → ((i : ℕ) (x : A) → slice_get xs i ≡ Some x → P x) → Each P xs
@@ -58,62 +57,20 @@ all_at P (y ∷ xs) zero x h e = let q : y ≡ x = cc in subst P q (All-head P y
 all_at P (y ∷ xs) (suc i) x h e = all_at P xs i x (All-tail P y xs h) e
 
 -- ---- names that are made
-digits_short : (n : ℕ) → n < 2 ^ 64 → length (digits n) ≤ 20
-digits_short n h = let e = ap length (digits_decimal n h) in let l = length-decimal-le 20 n (omega arith) (omega arith) h in omega arith
-
-prefix_short : (c : NameClass) → length (prefix c) ≤ 7
-prefix_short Constant = omega arith
-prefix_short Variable = omega arith
-prefix_short Location = omega arith
-prefix_short Module = omega arith
-prefix_short Action = omega arith
-prefix_short Label = omega arith
-prefix_short Reward = omega arith
-prefix_short Property = omega arith
-
-made_short : (c : NameClass) (n : ℕ) → n < 2 ^ 64 → length (made_name c n) < 256
-made_short c n h =
-    let l = length-append (prefix c) (digits n) in
-    let p = prefix_short c in
-    let d = digits_short n h in
-    omega arith
-
 some_items : (x : Name) → (x ≡ [] → ⊥) → HasItems x
 some_items [] h = absurd (h refl)
 some_items (b ∷ x) h = tt
 
-short_by : (es : List Entry) (c : NameClass) (o : Option Name) (e : Entry) → length es < 2 ^ 64 → IfSome o (λ x. length x ≤ 255) → Comes Jani es c o e → length e.name < 256
-short_by es c o e l s (was_kept x p k h) =
-    let q : IfSome (Some x) (λ y. length y ≤ 255) = subst (λ r. IfSome r (λ y. length y ≤ 255)) p s in
-    let n : length e.name ≡ length x = ap (λ (u : Entry). length u.name) h in
-    omega (arith, q, n)
-short_by es c o e l s (was_made h) =
-    let n = count_by-le-length (λ (u : Entry). same_class u.class c) es in
-    let m = made_short c (count_of c es) (omega arith) in
-    let k : length e.name ≡ length (made_name c (count_of c es)) = ap (λ (u : Entry). length u.name) h in
-    omega (arith, m, k)
-
 -- ---- the names of a file
-module _ (file : prism.File) (short : HasShortNames file) where
-  pub entry_name : (i : ℕ) (e : Entry) → slice_get (entries file) i ≡ Some e → IsName e.name
-  entry_name i e h =
-      let p = placed Jani (asks file) i e h in
-      let w = slice_get_within (entries file) i e h in
-      let n = one_each Jani (asks file) in
-      let m = length-take-le i (entries file) (omega arith) in
-      let c = short.count in
-      record {
-        some = some_items e.name (no_empty file i e h);
-        short =
-            short_by (take i (entries file)) p.asked.0 p.asked.1 e (omega arith)
-            (all_at HasShortName (asks file) i p.asked short.names p.ask) p.comes;
-      }
+module _ (file : prism.File) where
+  pub entry_name : (i : ℕ) (e : Entry) → slice_get (entries file) i ≡ Some e → HasItems e.name
+  entry_name i e h = some_items e.name (no_empty file i e h)
 
-  pub entry_names : Each (λ e. IsName e.name) (entries file)
-  entry_names = each_at (λ e. IsName e.name) (entries file) entry_name
+  pub entry_names : Each (λ e. HasItems e.name) (entries file)
+  entry_names = each_at (λ e. HasItems e.name) (entries file) entry_name
 
-  pub names_from : (at n : ℕ) → Each (λ e. IsName e.name) (some_from at n (entries file))
-  names_from at n = each_take (λ e. IsName e.name) n (drop at (entries file)) (each_drop (λ e. IsName e.name) at (entries file) entry_names)
+  pub names_from : (at n : ℕ) → Each (λ e. HasItems e.name) (some_from at n (entries file))
+  names_from at n = each_take (λ e. HasItems e.name) n (drop at (entries file)) (each_drop (λ e. HasItems e.name) at (entries file) entry_names)
 
 -- the new name of an old one is that of an entry
 pub new_has : (P : Name → Type 0) (ys : List Name) (es : List Entry) (x : Name) → length ys ≤ length es → list_any (λ y. bytes_eq y x) ys ≡ true →
@@ -126,13 +83,13 @@ new_has P (y ∷ ys) (e ∷ es) x l k h = by_test (bytes_eq y x) k (λ q. new_ha
     by_test true q r = h.0
     by_test false q r = r q
 
-module _ (file : prism.File) (short : HasShortNames file) where
-  pub known_name : (x : Name) → list_any (λ y. bytes_eq y x) (value_names file) ≡ true → IsName ((new_names file).value x)
-  known_name x k = new_has IsName (value_names file) (entries file) x (enough file) k (entry_names file short)
+module _ (file : prism.File) where
+  pub known_name : (x : Name) → list_any (λ y. bytes_eq y x) (value_names file) ≡ true → HasItems ((new_names file).value x)
+  known_name x k = new_has HasItems (value_names file) (entries file) x (enough file) k (entry_names file)
 
-  pub action_name : (x : Name) → list_any (λ y. bytes_eq y x) (actions file) ≡ true → IsName ((new_names file).action x)
+  pub action_name : (x : Name) → list_any (λ y. bytes_eq y x) (actions file) ≡ true → HasItems ((new_names file).action x)
   action_name x k =
       let n = n_entries file in
       let d = length-drop (actions_at file (entries file)) (entries file) in
-      new_has IsName (actions file) (drop (actions_at file (entries file)) (entries file)) x (omega arith) k
-      (each_drop (λ e. IsName e.name) (actions_at file (entries file)) (entries file) (entry_names file short))
+      new_has HasItems (actions file) (drop (actions_at file (entries file)) (entries file)) x (omega arith) k
+      (each_drop (λ e. HasItems e.name) (actions_at file (entries file)) (entries file) (entry_names file))

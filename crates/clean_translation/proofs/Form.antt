@@ -15,7 +15,7 @@ use Rattle.prism_check.proofs.Each.{each_map, each_join, any_map}
 use Rattle.jani_table.specs.declared.operator.JaniOp.TheVariants.{Add}
 use Rattle.jani_tree.specs.Canonical.{OfSome, OfAll}
 use Rattle.jani_tree.specs.Syntax.{Expression, Write, Edge, Automaton}
-use Rattle.jani_tree.specs.Form.{HasItems, IsName, IsNormal, NameForm, ExprForm, KindForm, ConstRead, VarRead, WriteRead, DestinationRead, EdgeRead, AutomatonRead, PartForm, VectorRead}
+use Rattle.jani_tree.specs.Form.{HasItems, IsNormal, NameForm, ExprForm, KindForm, ConstRead, VarRead, WriteRead, DestinationRead, EdgeRead, AutomatonRead, PartForm, VectorRead}
 use Rattle.name_table.specs.declared.entry.Entry.{Entry}
 use Rattle.prism_images.specs.Image.{image}
 use Rattle.prism_images.specs.Laws.{HasItsOperands}
@@ -24,7 +24,7 @@ use Rattle.prism_to_jani.specs.Asks.{bodies, variables, actions, NewNames, new_n
 use Rattle.prism_to_jani.specs.Parts.{made, instead, instead_if, nought, kind_of, start_of, constant, variable, label, structure}
 use Rattle.prism_to_jani.specs.Automata.{loc, zz_silent, zz_monitor, for_states, for_silent, for_action, earning_actions, earns_silently, has_monitor, item_value, sum_behind, sum_to, reward_of, rewards_of, label_value, location_values, write, destination, edge_action, edge, automaton, module_automata, monitor_edge, monitor_edges, monitor, automata, has_silent, has_items}
 use Rattle.prism_to_jani.specs.Translated.{has_command, part_if, silent_vector, silent_vectors, global_variables, jani_actions, action_vector, vectors, translated}
-use Rattle.clean_translation.specs.Laws.{HasShortNames, TranslatedHasForm}
+use Rattle.clean_translation.specs.Laws.{TranslatedHasForm}
 use Rattle.clean_translation.proofs.Known.{IsKnown, Good, GoodConst, GoodRange, GoodVar, GoodLabel, GoodWrite, GoodBranch, GoodCommand, GoodBody, GoodItem, GoodRewards, IsGood, is_good}
 use Rattle.clean_translation.proofs.Entries.{each_zip, each_filter, names_from, known_name, action_name}
 use Rattle.clean_translation.proofs.Actions.{IsAction, HasAction, actions_among, actions_of_commands}
@@ -71,136 +71,136 @@ literals (One at o a) p = literals a p.1
 literals (Two at o a b) p = (literals a p.1, literals b p.2)
 literals (Three at o a b c) p = (literals a p.1, literals b p.2, literals c p.3)
 
-loc_name : NameForm loc
-loc_name = record { some = tt; short = omega arith }
+loc_name : (NameForm HasItems) loc
+loc_name = tt
 
-silent_name : NameForm zz_silent
-silent_name = record { some = tt; short = omega arith }
+silent_name : (NameForm HasItems) zz_silent
+silent_name = tt
 
-monitor_name : NameForm zz_monitor
-monitor_name = record { some = tt; short = omega arith }
+monitor_name : (NameForm HasItems) zz_monitor
+monitor_name = tt
 
-nought_form : ExprForm nought
+nought_form : (ExprForm HasItems) nought
 nought_form = refl
 
 -- ---- a file, under its new names
-module _ (file : prism.File) (short : HasShortNames file) where
+module _ (file : prism.File) where
   abbrev names : NewNames
   names = new_names file
 
   abbrev HasName : Entry → Type 0
-  HasName e = IsName e.name
+  HasName e = HasItems e.name
 
-  form : (e : prism.Expression) → Good file e → ExprForm (image names.value e)
+  form : (e : prism.Expression) → Good file e → (ExprForm HasItems) (image names.value e)
   form e g =
       form_kept names.value e (operands e g.0) (literals e g.0)
-      (names_then (IsKnown file) (λ x. IsName (names.value x)) (λ x k. known_name file short x k) e g.1)
+      (names_then (IsKnown file) (λ x. HasItems (names.value x)) (λ x k. known_name file x k) e g.1)
 
-  forms : (o : Option prism.Expression) → IfAny (Good file) o → OfSome ExprForm (option_map (image names.value) o)
-  forms o g = of_some ExprForm (option_map (image names.value) o) (any_map (Good file) ExprForm (image names.value) form o g)
+  forms : (o : Option prism.Expression) → IfAny (Good file) o → OfSome (ExprForm HasItems) (option_map (image names.value) o)
+  forms o g = of_some (ExprForm HasItems) (option_map (image names.value) o) (any_map (Good file) (ExprForm HasItems) (image names.value) form o g)
 
   -- ---- constants and variables
-  constant_read : (c : prism.Const) (e : Entry) → GoodConst file c → HasName e → ConstRead (constant names.value c e)
+  constant_read : (c : prism.Const) (e : Entry) → GoodConst file c → HasName e → (ConstRead HasItems) (constant names.value c e)
   constant_read c e g n = record { name = n; value = forms c.value g }
 
-  kind_form : (r : Option prism.Range) → IfAny (GoodRange file) r → KindForm (kind_of names.value r)
+  kind_form : (r : Option prism.Range) → IfAny (GoodRange file) r → (KindForm HasItems) (kind_of names.value r)
   kind_form None g = tt
   kind_form (Some r) g = (form r.low g.0, form r.high g.1)
 
-  start_form : (s : Option prism.Expression) (r : Option prism.Range) → IfAny (Good file) s → IfAny (GoodRange file) r → ExprForm (start_of names.value s r)
+  start_form : (s : Option prism.Expression) (r : Option prism.Range) → IfAny (Good file) s → IfAny (GoodRange file) r → (ExprForm HasItems) (start_of names.value s r)
   start_form (Some e) r g h = form e g
   start_form None (Some r) g h = form r.low h.0
   start_form None None g h = tt
 
-  variable_read : (x : prism.Var) (e : Entry) → GoodVar file x → HasName e → VarRead (variable names.value x e)
+  variable_read : (x : prism.Var) (e : Entry) → GoodVar file x → HasName e → (VarRead HasItems) (variable names.value x e)
   variable_read x e g n = record { name = n; kind = kind_form x.range g.0; start = start_form x.start x.range g.1 g.0; begins = tt }
 
-  label_read : (l : prism.Label) (e : Entry) → HasName e → VarRead (label l e)
+  label_read : (l : prism.Label) (e : Entry) → HasName e → (VarRead HasItems) (label l e)
   label_read l e n = record { name = n; kind = tt; start = tt; begins = tt }
 
-  instead_name : (o : Option Named) (x : Name) → IsName x → NameForm (instead_if o x)
+  instead_name : (o : Option Named) (x : Name) → HasItems x → (NameForm HasItems) (instead_if o x)
   instead_name None x n = n
   instead_name (Some m) x n = n
 
-  structure_read : (r : prism.Rewards) (e : Entry) → HasName e → VarRead (structure r e)
+  structure_read : (r : prism.Rewards) (e : Entry) → HasName e → (VarRead HasItems) (structure r e)
   structure_read r e n = record { name = instead_name r.name e.name n; kind = tt; start = nought_form; begins = tt }
 
   -- ---- rewards
-  item_form : (i : prism.Item) → GoodItem file i → ExprForm (item_value names i)
+  item_form : (i : prism.Item) → GoodItem file i → (ExprForm HasItems) (item_value names i)
   item_form i g = (refl, form i.guard g.0, form i.value g.1, nought_form)
 
-  sum_form : (e : Expression) (is : List prism.Item) → ExprForm e → Each (GoodItem file) is → ExprForm (sum_behind names e is)
+  sum_form : (e : Expression) (is : List prism.Item) → (ExprForm HasItems) e → Each (GoodItem file) is → (ExprForm HasItems) (sum_behind names e is)
   sum_form e [] h g = h
   sum_form e (i ∷ is) h g = sum_form (Two 0 Add e (item_value names i)) is (refl, h, item_form i g.0) g.1
 
-  sum_read : (x : Named) (is : List prism.Item) → NameForm x → Each (GoodItem file) is → Each WriteRead (sum_to names x is)
+  sum_read : (x : Named) (is : List prism.Item) → (NameForm HasItems) x → Each (GoodItem file) is → Each (WriteRead HasItems) (sum_to names x is)
   sum_read x [] n g = tt
   sum_read x (i ∷ is) n g = (record { target = n; value = sum_form (item_value names i) is (item_form i g.0) g.1 }, tt)
 
-  reward_read : (wanted : ItemOn → Bool) (r : prism.Rewards) (e : Entry) → GoodRewards file r → HasName e → Each WriteRead (reward_of names wanted r e)
+  reward_read : (wanted : ItemOn → Bool) (r : prism.Rewards) (e : Entry) → GoodRewards file r → HasName e → Each (WriteRead HasItems) (reward_of names wanted r e)
   reward_read wanted r e g n =
       sum_read (instead_if r.name e.name) (filter (λ i. wanted i.on) r.items) (instead_name r.name e.name n) (each_filter (GoodItem file) (λ i. wanted i.on) r.items g)
 
-  rewards_read : (wanted : ItemOn → Bool) → Each (GoodRewards file) file.rewards → Each WriteRead (rewards_of names wanted file.rewards)
+  rewards_read : (wanted : ItemOn → Bool) → Each (GoodRewards file) file.rewards → Each (WriteRead HasItems) (rewards_of names wanted file.rewards)
   rewards_read wanted g =
-      each_flat (λ p. GoodRewards file p.0 × HasName p.1) WriteRead (λ p. reward_of names wanted p.0 p.1) (λ p h. reward_read wanted p.0 p.1 h.0 h.1)
+      each_flat (λ p. GoodRewards file p.0 × HasName p.1) (WriteRead HasItems) (λ p. reward_of names wanted p.0 p.1) (λ p h. reward_read wanted p.0 p.1 h.0 h.1)
       (zip file.rewards names.rewards)
-      (each_zip (GoodRewards file) HasName file.rewards names.rewards g (names_from file short (rewards_at file (entries file)) (length file.rewards)))
+      (each_zip (GoodRewards file) HasName file.rewards names.rewards g (names_from file (rewards_at file (entries file)) (length file.rewards)))
 
-  values_read : Each (GoodLabel file) file.labels → Each (GoodRewards file) file.rewards → Each WriteRead (location_values names file)
+  values_read : Each (GoodLabel file) file.labels → Each (GoodRewards file) file.rewards → Each (WriteRead HasItems) (location_values names file)
   values_read ls rs =
-      each_join WriteRead (map (λ p. label_value names p.0 p.1) (zip file.labels names.labels)) (rewards_of names for_states file.rewards)
-      (each_map (λ p. GoodLabel file p.0 × HasName p.1) WriteRead (λ p. label_value names p.0 p.1) (λ p h. record { target = h.1; value = form (p.0).body h.0 })
+      each_join (WriteRead HasItems) (map (λ p. label_value names p.0 p.1) (zip file.labels names.labels)) (rewards_of names for_states file.rewards)
+      (each_map (λ p. GoodLabel file p.0 × HasName p.1) (WriteRead HasItems) (λ p. label_value names p.0 p.1) (λ p h. record { target = h.1; value = form (p.0).body h.0 })
       (zip file.labels names.labels)
-      (each_zip (GoodLabel file) HasName file.labels names.labels ls (names_from file short (labels_at file (entries file)) (length file.labels))))
+      (each_zip (GoodLabel file) HasName file.labels names.labels ls (names_from file (labels_at file (entries file)) (length file.labels))))
       (rewards_read for_states rs)
 
   -- ---- commands
-  write_read : (w : prism.Write) → GoodWrite file w → WriteRead (write names w)
-  write_read w g = record { target = known_name file short w.name.name g.0; value = form w.value g.1 }
+  write_read : (w : prism.Write) → GoodWrite file w → (WriteRead HasItems) (write names w)
+  write_read w g = record { target = known_name file w.name.name g.0; value = form w.value g.1 }
 
-  destination_read : (b : prism.Branch) → GoodBranch file b → DestinationRead (destination names b)
+  destination_read : (b : prism.Branch) → GoodBranch file b → (DestinationRead HasItems) (destination names b)
   destination_read b g = record {
     location = loc_name;
     weight = forms b.weight g.0;
-    writes = of_all WriteRead (map (write names) b.writes) (each_map (GoodWrite file) WriteRead (write names) write_read b.writes g.1);
+    writes = of_all (WriteRead HasItems) (map (write names) b.writes) (each_map (GoodWrite file) (WriteRead HasItems) (write names) write_read b.writes g.1);
   }
 
   some_branch : (bs : List prism.Branch) → AreBranches bs → HasItems (map (destination names) bs)
   some_branch [] h = h
   some_branch (b ∷ bs) h = tt
 
-  action_form : (silently : Bool) (o : Option Named) → IfAny (λ a. IsAction file a.name) o → OfSome NameForm (edge_action names silently o)
+  action_form : (silently : Bool) (o : Option Named) → IfAny (λ a. IsAction file a.name) o → OfSome (NameForm HasItems) (edge_action names silently o)
   action_form true None h = silent_name
   action_form false None h = tt
-  action_form silently (Some a) h = action_name file short a.name h
+  action_form silently (Some a) h = action_name file a.name h
 
-  edge_read : (silently : Bool) (c : prism.Command) → GoodCommand file c → HasAction file c → EdgeRead (edge names silently c)
+  edge_read : (silently : Bool) (c : prism.Command) → GoodCommand file c → HasAction file c → (EdgeRead HasItems) (edge names silently c)
   edge_read silently c g a = record {
     location = loc_name;
     action = action_form silently c.action a;
     guard = form c.guard g.0;
-    destinations = of_all DestinationRead (map (destination names) c.branches) (each_map (GoodBranch file) DestinationRead (destination names) destination_read c.branches g.2);
+    destinations = of_all (DestinationRead HasItems) (map (destination names) c.branches) (each_map (GoodBranch file) (DestinationRead HasItems) (destination names) destination_read c.branches g.2);
     some = some_branch c.branches g.1;
   }
 
-  edges_read : (silently : Bool) (cs : List prism.Command) → Each (GoodCommand file) cs → Each (HasAction file) cs → Each EdgeRead (map (edge names silently) cs)
+  edges_read : (silently : Bool) (cs : List prism.Command) → Each (GoodCommand file) cs → Each (HasAction file) cs → Each (EdgeRead HasItems) (map (edge names silently) cs)
   edges_read silently [] g a = tt
   edges_read silently (c ∷ cs) g a = (edge_read silently c g.0 a.0, edges_read silently cs g.1 a.1)
 
   -- ---- automata
-  automaton_read : (x : Named) (ws : List Write) (es : List Edge) → NameForm x → Each WriteRead ws → Each EdgeRead es → AutomatonRead (automaton names x ws es)
+  automaton_read : (x : Named) (ws : List Write) (es : List Edge) → (NameForm HasItems) x → Each (WriteRead HasItems) ws → Each (EdgeRead HasItems) es → (AutomatonRead HasItems) (automaton names x ws es)
   automaton_read x ws es n w e = record {
     name = n;
     variables = tt;
-    locations = (record { name = loc_name; values = of_all WriteRead ws w }, tt);
+    locations = (record { name = loc_name; values = of_all (WriteRead HasItems) ws w }, tt);
     initial = (loc_name, tt);
     begins = tt;
-    edges = of_all EdgeRead es e;
+    edges = of_all (EdgeRead HasItems) es e;
   }
 
-  modules_read : (silently : Bool) (ws : List Write) (ms : List prism.Body) (es : List Entry) → Each WriteRead ws → Each (GoodBody file) ms →
-      Each (λ m. Each (HasAction file) m.commands) ms → Each HasName es → Each AutomatonRead (module_automata names silently ws ms es)
+  modules_read : (silently : Bool) (ws : List Write) (ms : List prism.Body) (es : List Entry) → Each (WriteRead HasItems) ws → Each (GoodBody file) ms →
+      Each (λ m. Each (HasAction file) m.commands) ms → Each HasName es → Each (AutomatonRead HasItems) (module_automata names silently ws ms es)
   modules_read silently ws [] es w g a n = tt
   modules_read silently ws (m ∷ ms) [] w g a n = tt
   modules_read silently ws (m ∷ ms) (e ∷ es) w g a n = (
@@ -209,115 +209,115 @@ module _ (file : prism.File) (short : HasShortNames file) where
   )
 
   -- ---- the monitor
-  monitor_edge_read : Each (GoodRewards file) file.rewards → (a : Named) (wanted : ItemOn → Bool) → NameForm a → EdgeRead (monitor_edge names file a wanted)
+  monitor_edge_read : Each (GoodRewards file) file.rewards → (a : Named) (wanted : ItemOn → Bool) → (NameForm HasItems) a → (EdgeRead HasItems) (monitor_edge names file a wanted)
   monitor_edge_read g a wanted n = record {
     location = loc_name;
     action = n;
     guard = tt;
-    destinations = (record { location = loc_name; weight = tt; writes = of_all WriteRead (rewards_of names wanted file.rewards) (rewards_read wanted g) }, tt);
+    destinations = (record { location = loc_name; weight = tt; writes = of_all (WriteRead HasItems) (rewards_of names wanted file.rewards) (rewards_read wanted g) }, tt);
     some = tt;
   }
 
-  monitor_edges_read : Each (GoodRewards file) file.rewards → Each EdgeRead (monitor_edges names file)
+  monitor_edges_read : Each (GoodRewards file) file.rewards → Each (EdgeRead HasItems) (monitor_edges names file)
   monitor_edges_read g =
-      each_join EdgeRead (map (λ a. monitor_edge names file (made (names.action a)) (for_action a)) (earning_actions file))
+      each_join (EdgeRead HasItems) (map (λ a. monitor_edge names file (made (names.action a)) (for_action a)) (earning_actions file))
       (only_if (earns_silently file) (monitor_edge names file zz_silent for_silent))
-      (each_map (IsAction file) EdgeRead (λ a. monitor_edge names file (made (names.action a)) (for_action a))
-      (λ a h. monitor_edge_read g (made (names.action a)) (for_action a) (action_name file short a h)) (earning_actions file)
+      (each_map (IsAction file) (EdgeRead HasItems) (λ a. monitor_edge names file (made (names.action a)) (for_action a))
+      (λ a h. monitor_edge_read g (made (names.action a)) (for_action a) (action_name file a h)) (earning_actions file)
       (each_filter (IsAction file) (λ a. has_items (for_action a) file) (actions file) (actions_among file)))
-      (each_only EdgeRead (earns_silently file) (monitor_edge names file zz_silent for_silent) (monitor_edge_read g zz_silent for_silent silent_name))
+      (each_only (EdgeRead HasItems) (earns_silently file) (monitor_edge names file zz_silent for_silent) (monitor_edge_read g zz_silent for_silent silent_name))
 
-  automata_read : IsGood file → Each AutomatonRead (automata names file)
+  automata_read : IsGood file → Each (AutomatonRead HasItems) (automata names file)
   automata_read g =
-      each_join AutomatonRead (module_automata names (earns_silently file) (location_values names file) (bodies file) names.modules) (monitor names file)
+      each_join (AutomatonRead HasItems) (module_automata names (earns_silently file) (location_values names file) (bodies file) names.modules) (monitor names file)
       (modules_read (earns_silently file) (location_values names file) (bodies file) names.modules (values_read g.labels g.rewards) g.bodies (actions_of_commands file)
-      (names_from file short (modules_at file (entries file)) (length file.modules)))
-      (each_only AutomatonRead (has_monitor file) (automaton names zz_monitor [] (monitor_edges names file))
+      (names_from file (modules_at file (entries file)) (length file.modules)))
+      (each_only (AutomatonRead HasItems) (has_monitor file) (automaton names zz_monitor [] (monitor_edges names file))
       (automaton_read zz_monitor [] (monitor_edges names file) monitor_name tt (monitor_edges_read g.rewards)))
 
   -- ---- vectors
-  part_form : (b : Bool) (a : Named) → NameForm a → PartForm (part_if b a)
+  part_form : (b : Bool) (a : Named) → (NameForm HasItems) a → (PartForm HasItems) (part_if b a)
   part_form true a n = n
   part_form false a n = tt
 
-  silent_read : (i : ℕ) → VectorRead (silent_vector file i)
+  silent_read : (i : ℕ) → (VectorRead HasItems) (silent_vector file i)
   silent_read i = record {
     parts =
-        of_all PartForm (numbered (λ k m. part_if (nat_eq i k) zz_silent ∷ []) 0 (bodies file) ++ Some zz_silent ∷ [])
-        (each_join PartForm (numbered (λ k m. part_if (nat_eq i k) zz_silent ∷ []) 0 (bodies file)) (Some zz_silent ∷ [])
-        (each_numbered PartForm (λ k m. part_if (nat_eq i k) zz_silent ∷ []) (λ k m. (part_form (nat_eq i k) zz_silent silent_name, tt)) 0 (bodies file))
+        of_all (PartForm HasItems) (numbered (λ k m. part_if (nat_eq i k) zz_silent ∷ []) 0 (bodies file) ++ Some zz_silent ∷ [])
+        (each_join (PartForm HasItems) (numbered (λ k m. part_if (nat_eq i k) zz_silent ∷ []) 0 (bodies file)) (Some zz_silent ∷ [])
+        (each_numbered (PartForm HasItems) (λ k m. part_if (nat_eq i k) zz_silent ∷ []) (λ k m. (part_form (nat_eq i k) zz_silent silent_name, tt)) 0 (bodies file))
         (silent_name, tt));
     result = tt;
   }
 
-  silents_read : Each VectorRead (silent_vectors file)
+  silents_read : Each (VectorRead HasItems) (silent_vectors file)
   silents_read =
-      each_numbered VectorRead (λ i m. only_if (has_silent m) (silent_vector file i))
-      (λ i m. each_only VectorRead (has_silent m) (silent_vector file i) (silent_read i)) 0 (bodies file)
+      each_numbered (VectorRead HasItems) (λ i m. only_if (has_silent m) (silent_vector file i))
+      (λ i m. each_only (VectorRead HasItems) (has_silent m) (silent_vector file i) (silent_read i)) 0 (bodies file)
 
-  action_read : (a : Name) → IsAction file a → VectorRead (action_vector names file a)
+  action_read : (a : Name) → IsAction file a → (VectorRead HasItems) (action_vector names file a)
   action_read a h =
-      let n = action_name file short a h in
+      let n = action_name file a h in
       record {
         parts =
-            of_all PartForm
+            of_all (PartForm HasItems)
             (map (λ m. part_if (has_command a m) (made (names.action a))) (bodies file) ++ only_if (has_monitor file) (part_if (has_items (for_action a) file) (made (names.action a))))
-            (each_join PartForm (map (λ m. part_if (has_command a m) (made (names.action a))) (bodies file))
+            (each_join (PartForm HasItems) (map (λ m. part_if (has_command a m) (made (names.action a))) (bodies file))
             (only_if (has_monitor file) (part_if (has_items (for_action a) file) (made (names.action a))))
-            (each_any PartForm (λ m. part_if (has_command a m) (made (names.action a))) (λ m. part_form (has_command a m) (made (names.action a)) n) (bodies file))
-            (each_only PartForm (has_monitor file) (part_if (has_items (for_action a) file) (made (names.action a)))
+            (each_any (PartForm HasItems) (λ m. part_if (has_command a m) (made (names.action a))) (λ m. part_form (has_command a m) (made (names.action a)) n) (bodies file))
+            (each_only (PartForm HasItems) (has_monitor file) (part_if (has_items (for_action a) file) (made (names.action a)))
             (part_form (has_items (for_action a) file) (made (names.action a)) n)));
         result = n;
       }
 
-  silents_if : (b : Bool) → Each VectorRead (if b then silent_vectors file else [])
+  silents_if : (b : Bool) → Each (VectorRead HasItems) (if b then silent_vectors file else [])
   silents_if true = silents_read
   silents_if false = tt
 
-  vectors_read : Each VectorRead (vectors names file)
+  vectors_read : Each (VectorRead HasItems) (vectors names file)
   vectors_read =
-      each_join VectorRead (map (action_vector names file) (actions file)) (if earns_silently file then silent_vectors file else [])
-      (each_map (IsAction file) VectorRead (action_vector names file) action_read (actions file) (actions_among file)) (silents_if (earns_silently file))
+      each_join (VectorRead HasItems) (map (action_vector names file) (actions file)) (if earns_silently file then silent_vectors file else [])
+      (each_map (IsAction file) (VectorRead HasItems) (action_vector names file) action_read (actions file) (actions_among file)) (silents_if (earns_silently file))
 
   -- ---- lists of the file
-  actions_form : Each NameForm (jani_actions names file)
+  actions_form : Each (NameForm HasItems) (jani_actions names file)
   actions_form =
-      each_join NameForm (map (λ a. made (names.action a)) (actions file)) (only_if (earns_silently file) zz_silent)
-      (each_map (IsAction file) NameForm (λ a. made (names.action a)) (λ a h. action_name file short a h) (actions file) (actions_among file))
-      (each_only NameForm (earns_silently file) zz_silent silent_name)
+      each_join (NameForm HasItems) (map (λ a. made (names.action a)) (actions file)) (only_if (earns_silently file) zz_silent)
+      (each_map (IsAction file) (NameForm HasItems) (λ a. made (names.action a)) (λ a h. action_name file a h) (actions file) (actions_among file))
+      (each_only (NameForm HasItems) (earns_silently file) zz_silent silent_name)
 
-  constants_read : Each (GoodConst file) file.constants → Each ConstRead (map (λ p. constant names.value p.0 p.1) (zip file.constants names.constants))
+  constants_read : Each (GoodConst file) file.constants → Each (ConstRead HasItems) (map (λ p. constant names.value p.0 p.1) (zip file.constants names.constants))
   constants_read g =
-      each_map (λ p. GoodConst file p.0 × HasName p.1) ConstRead (λ p. constant names.value p.0 p.1) (λ p h. constant_read p.0 p.1 h.0 h.1) (zip file.constants names.constants)
-      (each_zip (GoodConst file) HasName file.constants names.constants g (names_from file short 0 (length file.constants)))
+      each_map (λ p. GoodConst file p.0 × HasName p.1) (ConstRead HasItems) (λ p. constant names.value p.0 p.1) (λ p h. constant_read p.0 p.1 h.0 h.1) (zip file.constants names.constants)
+      (each_zip (GoodConst file) HasName file.constants names.constants g (names_from file 0 (length file.constants)))
 
-  variables_read : IsGood file → Each VarRead (global_variables names file)
+  variables_read : IsGood file → Each (VarRead HasItems) (global_variables names file)
   variables_read g =
       let vs = map (λ p. variable names.value p.0 p.1) (zip (variables file) names.variables) in
       let ls = map (λ p. label p.0 p.1) (zip file.labels names.labels) in
       let rs = map (λ p. structure p.0 p.1) (zip file.rewards names.rewards) in
-      each_join VarRead vs (ls ++ rs)
-      (each_map (λ p. GoodVar file p.0 × HasName p.1) VarRead (λ p. variable names.value p.0 p.1) (λ p h. variable_read p.0 p.1 h.0 h.1) (zip (variables file) names.variables)
-      (each_zip (GoodVar file) HasName (variables file) names.variables g.variables (names_from file short (length file.constants) (length (variables file)))))
-      (each_join VarRead ls rs
-      (each_map (λ p. GoodLabel file p.0 × HasName p.1) VarRead (λ p. label p.0 p.1) (λ p h. label_read p.0 p.1 h.1) (zip file.labels names.labels)
-      (each_zip (GoodLabel file) HasName file.labels names.labels g.labels (names_from file short (labels_at file (entries file)) (length file.labels))))
-      (each_map (λ p. GoodRewards file p.0 × HasName p.1) VarRead (λ p. structure p.0 p.1) (λ p h. structure_read p.0 p.1 h.1) (zip file.rewards names.rewards)
-      (each_zip (GoodRewards file) HasName file.rewards names.rewards g.rewards (names_from file short (rewards_at file (entries file)) (length file.rewards)))))
+      each_join (VarRead HasItems) vs (ls ++ rs)
+      (each_map (λ p. GoodVar file p.0 × HasName p.1) (VarRead HasItems) (λ p. variable names.value p.0 p.1) (λ p h. variable_read p.0 p.1 h.0 h.1) (zip (variables file) names.variables)
+      (each_zip (GoodVar file) HasName (variables file) names.variables g.variables (names_from file (length file.constants) (length (variables file)))))
+      (each_join (VarRead HasItems) ls rs
+      (each_map (λ p. GoodLabel file p.0 × HasName p.1) (VarRead HasItems) (λ p. label p.0 p.1) (λ p h. label_read p.0 p.1 h.1) (zip file.labels names.labels)
+      (each_zip (GoodLabel file) HasName file.labels names.labels g.labels (names_from file (labels_at file (entries file)) (length file.labels))))
+      (each_map (λ p. GoodRewards file p.0 × HasName p.1) (VarRead HasItems) (λ p. structure p.0 p.1) (λ p h. structure_read p.0 p.1 h.1) (zip file.rewards names.rewards)
+      (each_zip (GoodRewards file) HasName file.rewards names.rewards g.rewards (names_from file (rewards_at file (entries file)) (length file.rewards)))))
 
-  elements_form : (as_ : List Automaton) → Each AutomatonRead as_ → Each NameForm (map (λ a. a.name) as_)
-  elements_form as_ h = each_map AutomatonRead NameForm (λ a. a.name) (λ a r. r.name) as_ h
+  elements_form : (as_ : List Automaton) → Each (AutomatonRead HasItems) as_ → Each (NameForm HasItems) (map (λ a. a.name) as_)
+  elements_form as_ h = each_map (AutomatonRead HasItems) (NameForm HasItems) (λ a. a.name) (λ a r. r.name) as_ h
 
 pub translated_has_form : (file : prism.File) → TranslatedHasForm file
-translated_has_form file flat short =
+translated_has_form file flat =
     let g = is_good file flat in
-    let as_ = automata_read file short g in
+    let as_ = automata_read file g in
     record {
-      actions = of_all NameForm (translated file).actions (actions_form file short);
-      constants = of_all ConstRead (translated file).constants (constants_read file short g.constants);
-      variables = of_all VarRead (translated file).variables (variables_read file short g);
-      automata = of_all AutomatonRead (translated file).automata as_;
-      elements = of_all NameForm (translated file).elements (elements_form file short (translated file).automata as_);
-      vectors = of_all VectorRead (translated file).vectors (vectors_read file short);
+      actions = of_all (NameForm HasItems) (translated file).actions (actions_form file);
+      constants = of_all (ConstRead HasItems) (translated file).constants (constants_read file g.constants);
+      variables = of_all (VarRead HasItems) (translated file).variables (variables_read file g);
+      automata = of_all (AutomatonRead HasItems) (translated file).automata as_;
+      elements = of_all (NameForm HasItems) (translated file).elements (elements_form file (translated file).automata as_);
+      vectors = of_all (VectorRead HasItems) (translated file).vectors (vectors_read file);
       properties = tt;
     }

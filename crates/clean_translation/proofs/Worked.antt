@@ -19,7 +19,6 @@ use Rattle.jani_tree.specs.Form.{FileRead}
 use Rattle.jani_check.specs.NameFaults.{name_faults}
 use Rattle.prism_to_jani.specs.Asks.{asks}
 use Rattle.prism_to_jani.specs.Translated.{translated}
-use Rattle.clean_translation.specs.Laws.{HasShortName, HasShortNames}
 use Rattle.clean_translation.proofs.Form.{translated_has_form}
 use Rattle.clean_translation.proofs.Composition.{no_name_faults}
 
@@ -79,14 +78,8 @@ ordered = record { within = All-nil _; count = omega arith; listed = tt; covers 
 flat : IsFlat example
 flat = record { checked = record { form = printable; sound = sound; order = ordered }; form = record { formulas = refl; modules = refl } }
 
-short : HasShortNames example
-short = record {
-  names = All-from_recursion HasShortName (asks example) (omega arith, (omega arith, (omega arith, (omega arith, (omega arith, (omega arith, tt))))));
-  count = omega arith;
-}
-
 example_form : FileRead (translated example)
-example_form = translated_has_form example flat short
+example_form = translated_has_form example flat
 
 example_clean : name_faults (translated example) ≡ []
 example_clean = no_name_faults example flat

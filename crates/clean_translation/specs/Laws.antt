@@ -1,32 +1,16 @@
 -- What holds of the JANI file that a PRISM file is translated to, where the PRISM file has no fault and is written out:
 -- statements, which are proved of the functions of this crate.
-use Rattle.std.specs.Prelude.{◌≡◌, ◌<◌, ◌≤◌, ◌^◌, [], length, IfSome}
-use Rattle.std.specs.List.{All}
+use Rattle.std.specs.Prelude.{◌≡◌, []}
 use Rattle.prism_tree.specs.Syntax as prism
 use Rattle.prism_clean.specs.Flattened.{IsFlat}
 use Rattle.jani_tree.specs.Form.{FileRead}
 use Rattle.jani_check.specs.NameFaults.{circles, composition_faults, doubled_names, name_faults, unknown_names}
-use Rattle.name_table.specs.Entries.{Ask}
-use Rattle.prism_to_jani.specs.Asks.{asks}
 use Rattle.prism_to_jani.specs.Translated.{translated}
 
--- ---- what is asked of the names of a file
--- the old name, if there is one, has at most 255 bytes
-abbrev pub HasShortName : Ask → Type 0
-HasShortName a = IfSome a.1 (λ x. length x ≤ 255)
-
--- Each declared name has at most 255 bytes, and there are fewer than 2 ^ 64 of them. (Longer names are refused when a text is
--- read, as tokens. But a tree need not have been read, so that it has no fault says nothing of how long its names are.)
-pub record HasShortNames (file : prism.File) : Type 0 where
-  pub names : All HasShortName (asks file)
-  pub count : length (asks file) < 2 ^ 64
-
--- ---- what follows
--- A translated file has the form of a file that is read: its names have from 1 to 255 bytes, its literals are in normal form,
--- each node has its operator's number of operands, each variable a first value, each automaton one initial location and each
--- edge a destination.
+-- A translated file has the form of trees: no name is empty, its literals are in normal form, each node has its operator's number
+-- of operands, each variable a first value, each automaton one initial location and each edge a destination.
 abbrev pub TranslatedHasForm : prism.File → Type 0
-TranslatedHasForm file = IsFlat file → HasShortNames file → FileRead (translated file)
+TranslatedHasForm file = IsFlat file → FileRead (translated file)
 
 -- No two names that have to differ are the same in it, whether the PRISM file has a fault or not: those of constants and
 -- variables, the transient ones too, those of actions, and those of automata.

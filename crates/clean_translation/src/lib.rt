@@ -5,8 +5,7 @@
 ghost use Rattle.prism_tree.specs.Syntax.{File};
 ghost use Rattle.clean_translation.specs.Laws.{NoCircles, NoCompositionFaults, NoDoubledNames, NoNameFaults, NoUnknownNames, TranslatedHasForm};
 
-/// Where a file has no fault and is written out, and its names are short, its translation has the form of a file that is
-/// read.
+/// Where a file has no fault and is written out, its translation has the form of trees.
 pub fn form_law()
     ensures { (file : File) → TranslatedHasForm file }
 {}

@@ -2,7 +2,7 @@
 
 ghost use Rattle.prism_tree.specs.Syntax.{File};
 ghost use Rattle.typed_meaning.specs.MeaningLaws.{FlatCommandsAreSound, FlatIsSound, FlatItemsAreSound, FlatMarksAreSound};
-ghost use Rattle.typed_meaning.specs.SameMeaning.{MeansTheSame};
+ghost use Rattle.typed_meaning.specs.SameMeaning.{TranslationMeansTheSame};
 
 /// Where a valuation gives each constant without an expression a value of its type, or none, the expressions of constants,
 /// bounds and first values have their operands, and no `<=>` of them stands between two numbers.
@@ -18,10 +18,10 @@ pub fn sound_at_states_law()
     ensures items { (file : File) → FlatItemsAreSound file }
 {}
 
-/// A file without faults, its formulas and copies written out, and what it is translated to mean the same process under
+/// A file without faults and what it is translated to, its formulas and copies written out, mean the same process under
 /// valuations that give the constants the same values, of their types: they have the same instance faults; and without any
 /// the states go one to one onto each other, with the same marks, and each choice occurs equally often, its label's name new,
-/// with the same probabilities, rewards and targets, or the same kinds of faults.
+/// with the same probabilities, rewards and targets, or the same kinds of faults. Places mean nothing.
 pub fn same_meaning_law()
-    ensures same { (file : File) → MeansTheSame file }
+    ensures { TranslationMeansTheSame }
 {}
