@@ -16,3 +16,5 @@ pub mod Taking
 pub mod Phases
 pub mod Few
 pub mod UsesOf
+pub mod Bare
+pub mod Profiled

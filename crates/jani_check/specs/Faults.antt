@@ -5,7 +5,7 @@ use Rattle.std.specs.List.{sum_by}
 use Rattle.bridge_io.specs.declared.reason.Named.{Named}
 use Rattle.bridge_io.specs.declared.reason.Fault.{Fault}
 use Rattle.jani_tree.specs.Syntax.{Edge, File}
-use Rattle.jani_tree.specs.Form.{FileRead}
+use Rattle.jani_tree.specs.Form.{FileRead, KeysOnce}
 use Rattle.jani_check.specs.Things.{automaton_called}
 use Rattle.jani_check.specs.NameFaults.{name_faults}
 use Rattle.jani_check.specs.TypeFaults.{with_automaton, type_faults}
@@ -19,10 +19,11 @@ or_else (f ∷ fs) others = f ∷ fs
 abbrev pub faults : File → List Fault
 faults file = or_else (name_faults file) (or_else (type_faults file) (profile_faults file))
 
--- A file of the profile: it has no fault, and the form of trees that are read.
+-- A file of the profile: it has no fault, the form of trees, and no object of its properties has a key twice.
 pub record IsChecked (file : File) : Type 0 where
   pub clean : faults file ≡ []
   pub form : FileRead file
+  pub once : KeysOnce file.properties
 
 -- the edges of the automata that take part
 abbrev pub element_edges : File → Named → List Edge

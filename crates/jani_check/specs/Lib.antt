@@ -14,3 +14,4 @@ pub mod Participants
 pub mod Assigned
 pub mod Rewarding
 pub mod Ranks
+pub mod Laws

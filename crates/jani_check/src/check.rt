@@ -2,7 +2,8 @@
 
 ghost use Rattle.std.specs.Prelude.{◌≡◌, [], None, IfErr, IfOk, length};
 ghost use Rattle.jani_tree.specs.Syntax.{file_of};
-ghost use Rattle.jani_tree.specs.Form.{FileRead};
+ghost use Rattle.jani_tree.specs.Form.{FileRead, KeysOnce};
+ghost use Rattle.jani_table.specs.Node.{node};
 ghost use Rattle.jani_tree.specs.Faults.{FailsFor};
 ghost use Rattle.jani_check.specs.Faults.{IsChecked, edge_count, faults, or_else};
 ghost use Rattle.jani_check.specs.TypeFaults.{type_faults};
@@ -18,7 +19,7 @@ use jani_tree::JaniFile;
 use std::alloc::{AllocError, Global};
 use std::marker::Model;
 
-/// A JANI file of the profile. Contracts see its tree, which has no fault and the form of trees that are read.
+/// A JANI file of the profile. Contracts see its tree, which has no fault and the form of trees.
 #[derive(Drop)]
 pub struct CheckedJani {
     file: JaniFile,
@@ -44,6 +45,15 @@ impl Model for CheckedJani {
 }
 
 impl CheckedJani {
+    /// A file that is known to be of the profile; it isn't judged. `Err` is want of memory.
+    pub fn without_fault(alloc: Global, file: JaniFile) -> Result<CheckedJani, AllocError>
+        requires { IsChecked (file_of file) }
+        ensures { IfOk result (λ c. c ≡ file) }
+    {
+        let edges = count_edges(alloc, &file)?;
+        Ok(CheckedJani { file, edges })
+    }
+
     /// The tree. It takes no memory.
     pub fn file(&self) -> &JaniFile
         ensures same { result.now ≡ self.now }
@@ -90,7 +100,8 @@ impl CheckedJani {
 ///
 /// The only other error is want of memory.
 pub fn check_jani(alloc: Global, file: JaniFile) -> Result<CheckedJani, Refused>
-    requires { FileRead (file_of file) }
+    requires form { FileRead (file_of file) }
+    requires once { KeysOnce (node file.properties) }
     ensures ok { IfOk result (λ c. c ≡ file) }
     ensures clean { IfOk result (λ c. faults (file_of file) ≡ []) }
     ensures least { IfErr result (λ e. FailsFor (faults (file_of file)) e) }

@@ -11,6 +11,7 @@ mod doubled;
 mod elements;
 mod given;
 mod kinds;
+mod laws;
 mod least;
 mod lists;
 mod named;
@@ -33,3 +34,4 @@ mod writers;
 mod writes;
 
 pub use check::{CheckedJani, check_jani};
+pub use laws::{places_law, writable_law};

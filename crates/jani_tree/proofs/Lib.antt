@@ -17,3 +17,4 @@ pub mod Back
 pub mod Wider
 pub mod Text
 pub mod Mapped
+pub mod BareForm

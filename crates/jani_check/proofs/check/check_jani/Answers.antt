@@ -9,7 +9,7 @@ returns-in-Some-clause-least c = soonest_some (faults (file_of c.args.file)) c.i
 
 pub invariant_of-result : goal.invariant_of-result
 invariant_of-result c = record {
-  checked = record { clean = soonest_none (faults (file_of c.args.file)) (sym c.in_ok-fault.ensures ∙ c.in-None.is); form = c.requires };
+  checked = record { clean = soonest_none (faults (file_of c.args.file)) (sym c.in_ok-fault.ensures ∙ c.in-None.is); form = c.requires.form; once = c.requires.once };
   edges_are = c.in_ok-edges-in-None.ensures;
 }
 
