@@ -6,9 +6,9 @@ ghost use Rattle.op_trees.specs.Tree.{tree};
 ghost use Rattle.jani_table.specs.declared.table.Form.{Form};
 ghost use Rattle.jani_table.specs.declared.table.Form.TheVariants as F;
 ghost use Rattle.jani_table.specs.declared.key.Key.TheVariants as K;
-ghost use Rattle.jani_table.specs.Node.{Node, node};
+ghost use Rattle.jani_table.specs.Node.{Node, at_of, node};
 ghost use Rattle.jani_table.specs.Table.{item_form};
-ghost use Rattle.jani_table.specs.Faults.{faults, is_known, is_needed, part, part_form};
+ghost use Rattle.jani_table.specs.Faults.{faults, is_known, is_needed, object_faults, op_in, op_kind, part, part_form};
 ghost use Rattle.jani_table.specs.Parts.{is_plain, kind_of, item_of, is_list_form};
 ghost use Rattle.jani_tree.specs.Jani.{IsBoxed, IsExpr, IsItems, IsKeyed, IsList, IsNamed, IsPart, IsText, Optional};
 
@@ -16,13 +16,54 @@ use crate::syntax::Je;
 use bridge_io::{List, Named, Text};
 use decimal_json::Json;
 use jani_table::{
-    Form, Key, Kind, Operands, items_of, named_operator, operand_count, optional_part, required_of,
-    required_part, text_of,
+    Form, JaniOp, Key, Kind, Operands, items_of, named_operator, operand_count, optional_part,
+    required_of, required_part, text_of,
 };
 use op_trees::Expr;
 use std::alloc::{AllocError, Global};
 
+/// The operand that is the member with this key.
+#[cycle(expression)]
+fn operand(alloc: Global, kind: Kind, key: Key, value: &Json) -> Result<Box<Je>, AllocError>
+    requires known { IsTrue (is_known kind key) }
+    requires needed { IsTrue (is_needed kind key) }
+    requires form { part_form kind key ≡ F.Expression }
+    requires clean { object_faults kind (node value.now) ≡ [] }
+    ensures { IfOk result (λ b. IsSomeAnd (part key (node value.now)) (λ w. IsExpr w (tree b.value))) }
+{
+    let operand = expression(alloc, required_of(kind, key, value))?;
+    Ok(Box::new(alloc, operand)?)
+}
+
+/// The tree of an operator's object.
+#[cycle(expression)]
+fn operation(alloc: Global, at: usize, op: JaniOp, value: &Json) -> Result<Je, AllocError>
+    requires offset { at_of (node value.now) ≡ at }
+    requires op { op_in (part K.Op (node value.now)) ≡ Some op }
+    requires clean { object_faults (op_kind op) (node value.now) ≡ [] }
+    ensures { IfOk result (λ e. IsExpr (node value.now) (tree e)) }
+{
+    match operand_count(op) {
+        Operands::One => {
+            let a = operand(alloc, Kind::Unary, Key::Exp, value)?;
+            Ok(Expr::One(at, op, a))
+        }
+        Operands::Two => {
+            let a = operand(alloc, Kind::Binary, Key::Left, value)?;
+            let b = operand(alloc, Kind::Binary, Key::Right, value)?;
+            Ok(Expr::Two(at, op, a, b))
+        }
+        Operands::Three => {
+            let a = operand(alloc, Kind::Choice, Key::If, value)?;
+            let b = operand(alloc, Kind::Choice, Key::Then, value)?;
+            let c = operand(alloc, Kind::Choice, Key::Else, value)?;
+            Ok(Expr::Three(at, op, a, b, c))
+        }
+    }
+}
+
 /// The tree of an expression.
+#[cycle(expression)]
 #[tactic(auto, using(crate::proofs::Operation::operation_clean))]
 pub(crate) fn expression(alloc: Global, value: &Json) -> Result<Je, AllocError>
     requires { faults F.Expression (node value.now) ≡ [] }
@@ -31,34 +72,9 @@ pub(crate) fn expression(alloc: Global, value: &Json) -> Result<Je, AllocError>
     match value {
         Json::Truth(at, b) => Ok(Expr::Truth(*at, *b)),
         Json::Number(at, d) => Ok(Expr::Number(*at, *d)),
-        Json::Str(at, s) => {
-            let name = Text::copy_of(alloc, s.as_str())?;
-            Ok(Expr::Name(*at, name))
-        }
+        Json::Str(at, s) => Ok(Expr::Name(*at, Text::copy_of(alloc, s.as_str())?)),
         Json::Object(at, members, _) => match named_operator(members.as_slice()) {
-            Some(op) => match operand_count(op) {
-                Operands::One => {
-                    let a = expression(alloc, required_of(Kind::Unary, Key::Exp, value))?;
-                    Ok(Expr::One(*at, op, Box::new(alloc, a)?))
-                }
-                Operands::Two => {
-                    let a = expression(alloc, required_of(Kind::Binary, Key::Left, value))?;
-                    let b = expression(alloc, required_of(Kind::Binary, Key::Right, value))?;
-                    Ok(Expr::Two(*at, op, Box::new(alloc, a)?, Box::new(alloc, b)?))
-                }
-                Operands::Three => {
-                    let a = expression(alloc, required_of(Kind::Choice, Key::If, value))?;
-                    let b = expression(alloc, required_of(Kind::Choice, Key::Then, value))?;
-                    let c = expression(alloc, required_of(Kind::Choice, Key::Else, value))?;
-                    Ok(Expr::Three(
-                        *at,
-                        op,
-                        Box::new(alloc, a)?,
-                        Box::new(alloc, b)?,
-                        Box::new(alloc, c)?,
-                    ))
-                }
-            },
+            Some(op) => operation(alloc, *at, op, value),
             None => unreachable!(),
         },
         Json::Null(_) => unreachable!(),

@@ -12,7 +12,7 @@ ghost use Rattle.jani_table.specs.Faults.{faults, is_known, is_needed, is_true, 
 ghost use Rattle.jani_table.specs.Parts.{is_plain};
 ghost use Rattle.jani_table.specs.Parts as Parts;
 ghost use Rattle.jani_tree.specs.Syntax.{Automaton, Const, Destination, Edge, Location, Var, Vector, Write, automaton_of, const_of, destination_of, edge_of, file_of, kind_of, location_of, var_of, vector_of, write_of};
-ghost use Rattle.jani_tree.specs.Jani.{IsAutomaton, IsConst, IsDestination, IsEdge, IsFile, IsItems, IsKept, IsKeyed, IsKind, IsKindAt, IsList, IsListAt, IsLocation, IsNamed, IsPart, IsRange, IsSystem, IsVar, IsVector, IsWrite, range_in, range_of, ty_in};
+ghost use Rattle.jani_tree.specs.Jani.{IsAutomaton, IsConst, IsDestination, IsEdge, IsExpr, IsFile, IsItems, IsKept, IsKeyed, IsKind, IsKindAt, IsList, IsListAt, IsLocation, IsNamed, IsPart, IsRange, IsSystem, IsText, IsVar, IsVector, IsWrite, Optional, range_in, range_of, ty_in};
 
 use crate::build::{
     Build, expression, expression_of, items, list, name_of, names_of, note_of, optional_boxed,
@@ -21,9 +21,9 @@ use crate::build::{
 use crate::copy::copy_json;
 use crate::syntax::{
     JaniAutomaton, JaniConst, JaniDestination, JaniEdge, JaniFile, JaniKind, JaniLocation, JaniVar,
-    JaniVector, JaniWrite,
+    JaniVector, JaniWrite, Je,
 };
-use bridge_io::{List, Named};
+use bridge_io::{List, Named, Text};
 use decimal_json::Json;
 use jani_table::{
     Form, Key, Kind, items_of, offset, optional_of, optional_part, part, required_of,
@@ -52,6 +52,29 @@ fn constant_type(value: &Json) -> Ty
     }
 }
 
+/// The name and the comment of a declaration.
+#[derive(Drop)]
+struct Heading {
+    name: Named,
+    note: Option<Text>,
+}
+
+fn heading_of(alloc: Global, form: Form, value: &Json) -> Result<Heading, AllocError>
+    requires plain { IsTrue (is_plain form) }
+    requires name_known { IsTrue (is_known (Parts.kind_of form) K.Name) }
+    requires name_needed { IsTrue (is_needed (Parts.kind_of form) K.Name) }
+    requires name_form { part_form (Parts.kind_of form) K.Name ≡ F.Name }
+    requires note_known { IsTrue (is_known (Parts.kind_of form) K.Comment) }
+    requires note_form { part_form (Parts.kind_of form) K.Comment ≡ F.Text }
+    requires clean { faults form (node value.now) ≡ [] }
+    ensures name { IfOk result (λ h. IsKeyed K.Name (node value.now) h.name) }
+    ensures note { IfOk result (λ h. Optional IsText (part K.Comment (node value.now)) h.note) }
+{
+    let name = name_of(alloc, form, Key::Name, value)?;
+    let note = note_of(alloc, form, value)?;
+    Ok(Heading { name, note })
+}
+
 impl Build for JaniConst {
     ghost Tree = { Const };
 
@@ -62,15 +85,14 @@ impl Build for JaniConst {
     ghost is = { IsConst };
 
     fn build(alloc: Global, value: &Json) -> Result<JaniConst, AllocError> {
-        let name = name_of(alloc, Form::Constant, Key::Name, value)?;
         let ty = constant_type(required_part(Form::Constant, Key::Type, value));
         let tree = optional_expression(alloc, Form::Constant, Key::Value, value)?;
-        let note = note_of(alloc, Form::Constant, value)?;
+        let heading = heading_of(alloc, Form::Constant, value)?;
         Ok(JaniConst {
-            name,
+            name: heading.name,
             ty,
             value: tree,
-            note,
+            note: heading.note,
         })
     }
 }
@@ -148,6 +170,29 @@ fn flag(key: Key, value: &Json) -> bool
     }
 }
 
+/// The type of a variable, its offset, and the initial value.
+#[derive(Drop)]
+struct Typed {
+    kind: JaniKind,
+    at: usize,
+    start: Option<Je>,
+}
+
+fn typed_start(alloc: Global, value: &Json) -> Result<Typed, AllocError>
+    requires { faults F.Variable (node value.now) ≡ [] }
+    ensures kind { IfOk result (λ t. IsSomeAnd (part K.Type (node value.now)) (λ w. IsKindAt w (kind_of t.kind) t.at)) }
+    ensures start { IfOk result (λ t. Optional IsExpr (part K.InitialValue (node value.now)) (option_map tree t.start)) }
+{
+    let at = required_part(Form::Variable, Key::Type, value);
+    let kind = kind(alloc, at)?;
+    let start = optional_expression(alloc, Form::Variable, Key::InitialValue, value)?;
+    Ok(Typed {
+        kind,
+        at: offset(at),
+        start,
+    })
+}
+
 impl Build for JaniVar {
     ghost Tree = { Var };
 
@@ -158,18 +203,15 @@ impl Build for JaniVar {
     ghost is = { IsVar };
 
     fn build(alloc: Global, value: &Json) -> Result<JaniVar, AllocError> {
-        let name = name_of(alloc, Form::Variable, Key::Name, value)?;
-        let at = required_part(Form::Variable, Key::Type, value);
-        let kind = kind(alloc, at)?;
-        let start = optional_expression(alloc, Form::Variable, Key::InitialValue, value)?;
-        let note = note_of(alloc, Form::Variable, value)?;
+        let heading = heading_of(alloc, Form::Variable, value)?;
+        let typed = typed_start(alloc, value)?;
         Ok(JaniVar {
-            name,
-            kind,
-            kind_at: offset(at),
+            name: heading.name,
+            kind: typed.kind,
+            kind_at: typed.at,
             transient: flag(Key::Transient, value),
-            start,
-            note,
+            start: typed.start,
+            note: heading.note,
         })
     }
 }
