@@ -184,8 +184,8 @@ fn typed_start(alloc: Global, value: &Json) -> Result<Typed, AllocError>
     ensures start { IfOk result (λ t. Optional IsExpr (part K.InitialValue (node value.now)) (option_map tree t.start)) }
 {
     let at = required_part(Form::Variable, Key::Type, value);
-    let kind = kind(alloc, at)?;
     let start = optional_expression(alloc, Form::Variable, Key::InitialValue, value)?;
+    let kind = kind(alloc, at)?;
     Ok(Typed {
         kind,
         at: offset(at),
@@ -312,8 +312,8 @@ impl Build for JaniDestination {
 
     fn build(alloc: Global, value: &Json) -> Result<JaniDestination, AllocError> {
         let location = name_of(alloc, Form::Destination, Key::Location, value)?;
-        let weight = optional_boxed(alloc, Form::Destination, Key::Probability, value)?;
         let writes = assignments(alloc, value)?;
+        let weight = optional_boxed(alloc, Form::Destination, Key::Probability, value)?;
         Ok(JaniDestination {
             location,
             weight,
@@ -354,8 +354,8 @@ impl Build for JaniEdge {
     fn build(alloc: Global, value: &Json) -> Result<JaniEdge, AllocError> {
         let location = name_of(alloc, Form::Edge, Key::Location, value)?;
         let action = optional_name(alloc, Form::Edge, Key::Action, value)?;
-        let guard = optional_boxed(alloc, Form::Edge, Key::Guard, value)?;
         let destinations = destinations(alloc, value)?;
+        let guard = optional_boxed(alloc, Form::Edge, Key::Guard, value)?;
         Ok(JaniEdge {
             location,
             action,

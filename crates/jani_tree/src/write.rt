@@ -5,6 +5,7 @@ ghost use Rattle.bridge_io.specs.declared.reason.Named.{Named};
 ghost use Rattle.op_trees.specs.Tree.{tree};
 ghost use Rattle.jani_table.specs.declared.key.Key.TheVariants as K;
 ghost use Rattle.jani_table.specs.Node.{Node, fields, no_fields, node, text};
+ghost use Rattle.jani_table.specs.Operators.{op_text};
 ghost use Rattle.jani_table.specs.Words.{ty_text};
 ghost use Rattle.jani_tree.specs.Syntax.{bounded, Automaton, Const, Destination, Edge, Location, Var, Vector, Write, automaton_of, const_of, destination_of, edge_of, file_of, kind_of, location_of, var_of, vector_of, write_of};
 ghost use Rattle.jani_tree.specs.Jani.{IsFile};
@@ -19,7 +20,7 @@ use crate::syntax::{
 use bridge_io::{List, Named, Text};
 use decimal_json::{Json, Member};
 use frac_core::Decimal;
-use jani_table::{Feature, Key, ty_text};
+use jani_table::{Feature, JaniOp, Key, ty_text};
 use op_trees::{Expr, Ty};
 use std::alloc::{AllocError, Global};
 
@@ -64,21 +65,51 @@ fn name_json(alloc: Global, n: &Named) -> Result<Json, AllocError>
     text_json(alloc, n.at, n.name.as_str())
 }
 
-fn some_name(alloc: Global, n: &Option<Named>) -> Result<Option<Json>, AllocError>
-    ensures { IfOk result (λ v. option_map node v ≡ option_map name_node n.now) }
+/// Adds a name.
+fn add_name(
+    alloc: Global,
+    members: &mut List<Member>,
+    key: Key,
+    n: &Named,
+) -> Result<(), AllocError>
+    ensures { OnOk result (fields members.new ≡ with_entry (fields members.old) key (name_node n.now)) }
+{
+    add(alloc, members, key, name_json(alloc, n)?)
+}
+
+/// Adds a name, if there is one.
+fn add_some_name(
+    alloc: Global,
+    members: &mut List<Member>,
+    key: Key,
+    n: &Option<Named>,
+) -> Result<(), AllocError>
+    ensures { OnOk result (fields members.new ≡ with_maybe (fields members.old) key (option_map name_node n.now)) }
 {
     match n {
-        Some(n) => Ok(Some(name_json(alloc, n)?)),
-        None => Ok(None),
+        Some(n) => add_name(alloc, members, key, n),
+        None => Ok(()),
     }
 }
 
-fn some_note(alloc: Global, note: &Option<Text>) -> Result<Option<Json>, AllocError>
-    ensures { IfOk result (λ v. option_map node v ≡ option_map word note.now) }
+/// Adds a word, which stands at 0.
+fn add_word(alloc: Global, members: &mut List<Member>, key: Key, s: &str) -> Result<(), AllocError>
+    ensures { OnOk result (fields members.new ≡ with_entry (fields members.old) key (word s.now)) }
+{
+    add(alloc, members, key, text_json(alloc, 0, s)?)
+}
+
+/// Adds a comment, if there is one.
+fn add_note(
+    alloc: Global,
+    members: &mut List<Member>,
+    note: &Option<Text>,
+) -> Result<(), AllocError>
+    ensures { OnOk result (fields members.new ≡ with_maybe (fields members.old) K.Comment (option_map word note.now)) }
 {
     match note {
-        Some(s) => Ok(Some(text_json(alloc, 0, s.as_str())?)),
-        None => Ok(None),
+        Some(s) => add_word(alloc, members, Key::Comment, s.as_str()),
+        None => Ok(()),
     }
 }
 
@@ -86,11 +117,20 @@ fn keyed_json(alloc: Global, key: Key, n: &Named) -> Result<Json, AllocError>
     ensures { IfOk result (λ v. node v ≡ keyed_node key n.now) }
 {
     let mut members = List::new(alloc);
-    add(alloc, &mut members, key, name_json(alloc, n)?)?;
+    add_name(alloc, &mut members, key, n)?;
     Ok(Json::Object(0, members, 0))
 }
 
 // ---- expressions
+
+/// The first member of an operator's object.
+fn operator_json(alloc: Global, op: JaniOp) -> Result<List<Member>, AllocError>
+    ensures { IfOk result (λ ms. fields ms ≡ with_entry no_fields K.Op (word (op_text op))) }
+{
+    let mut members = List::new(alloc);
+    add_word(alloc, &mut members, Key::Op, op.text())?;
+    Ok(members)
+}
 
 fn expression_json(alloc: Global, e: &Je) -> Result<Json, AllocError>
     ensures { IfOk result (λ v. node v ≡ expr_node (tree e.now)) }
@@ -98,38 +138,20 @@ fn expression_json(alloc: Global, e: &Je) -> Result<Json, AllocError>
     match e {
         Expr::Truth(at, b) => Ok(Json::Truth(*at, *b)),
         Expr::Number(at, d) => Ok(Json::Number(*at, *d)),
-        Expr::Name(at, x) => Ok(Json::Str(*at, Text::copy_of(alloc, x.as_str())?)),
+        Expr::Name(at, x) => text_json(alloc, *at, x.as_str()),
         Expr::One(at, op, a) => {
-            let mut members = List::new(alloc);
-            add(
-                alloc,
-                &mut members,
-                Key::Op,
-                text_json(alloc, 0, op.text())?,
-            )?;
+            let mut members = operator_json(alloc, *op)?;
             add(alloc, &mut members, Key::Exp, expression_json(alloc, a)?)?;
             Ok(Json::Object(*at, members, 0))
         }
         Expr::Two(at, op, a, b) => {
-            let mut members = List::new(alloc);
-            add(
-                alloc,
-                &mut members,
-                Key::Op,
-                text_json(alloc, 0, op.text())?,
-            )?;
+            let mut members = operator_json(alloc, *op)?;
             add(alloc, &mut members, Key::Left, expression_json(alloc, a)?)?;
             add(alloc, &mut members, Key::Right, expression_json(alloc, b)?)?;
             Ok(Json::Object(*at, members, 0))
         }
         Expr::Three(at, op, a, b, c) => {
-            let mut members = List::new(alloc);
-            add(
-                alloc,
-                &mut members,
-                Key::Op,
-                text_json(alloc, 0, op.text())?,
-            )?;
+            let mut members = operator_json(alloc, *op)?;
             add(alloc, &mut members, Key::If, expression_json(alloc, a)?)?;
             add(alloc, &mut members, Key::Then, expression_json(alloc, b)?)?;
             add(alloc, &mut members, Key::Else, expression_json(alloc, c)?)?;
@@ -138,12 +160,30 @@ fn expression_json(alloc: Global, e: &Je) -> Result<Json, AllocError>
     }
 }
 
-fn some_expression(alloc: Global, e: &Option<Je>) -> Result<Option<Json>, AllocError>
-    ensures { IfOk result (λ v. option_map node v ≡ option_map expr_node (option_map tree e.now)) }
+/// Adds an expression.
+fn add_expression(
+    alloc: Global,
+    members: &mut List<Member>,
+    key: Key,
+    e: &Je,
+) -> Result<(), AllocError>
+    ensures { OnOk result (fields members.new ≡ with_entry (fields members.old) key (expr_node (tree e.now))) }
+{
+    add(alloc, members, key, expression_json(alloc, e)?)
+}
+
+/// Adds an expression, if there is one.
+fn add_some_expression(
+    alloc: Global,
+    members: &mut List<Member>,
+    key: Key,
+    e: &Option<Je>,
+) -> Result<(), AllocError>
+    ensures { OnOk result (fields members.new ≡ with_maybe (fields members.old) key (option_map expr_node (option_map tree e.now))) }
 {
     match e {
-        Some(e) => Ok(Some(expression_json(alloc, e)?)),
-        None => Ok(None),
+        Some(e) => add_expression(alloc, members, key, e),
+        None => Ok(()),
     }
 }
 
@@ -151,16 +191,22 @@ fn boxed_json(alloc: Global, e: &Je) -> Result<Json, AllocError>
     ensures { IfOk result (λ v. node v ≡ boxed_node (tree e.now)) }
 {
     let mut members = List::new(alloc);
-    add(alloc, &mut members, Key::Exp, expression_json(alloc, e)?)?;
+    add_expression(alloc, &mut members, Key::Exp, e)?;
     Ok(Json::Object(0, members, 0))
 }
 
-fn some_boxed(alloc: Global, e: &Option<Je>) -> Result<Option<Json>, AllocError>
-    ensures { IfOk result (λ v. option_map node v ≡ option_map boxed_node (option_map tree e.now)) }
+/// Adds a guard or a probability, if there is one.
+fn add_some_boxed(
+    alloc: Global,
+    members: &mut List<Member>,
+    key: Key,
+    e: &Option<Je>,
+) -> Result<(), AllocError>
+    ensures { OnOk result (fields members.new ≡ with_maybe (fields members.old) key (option_map boxed_node (option_map tree e.now))) }
 {
     match e {
-        Some(e) => Ok(Some(boxed_json(alloc, e)?)),
-        None => Ok(None),
+        Some(e) => add(alloc, members, key, boxed_json(alloc, e)?),
+        None => Ok(()),
     }
 }
 
@@ -190,14 +236,32 @@ fn list_json<T: Written>(alloc: Global, at: usize, trees: &List<T>) -> Result<Js
     Ok(Json::Array(at, items))
 }
 
-/// A list, if it has items.
-fn some_json<T: Written>(alloc: Global, trees: &List<T>) -> Result<Option<Json>, AllocError>
-    ensures { IfOk result (λ v. option_map node v ≡ some_list T.shown (map T.seen trees.now)) }
+/// Adds a list.
+fn add_list<T: Written>(
+    alloc: Global,
+    members: &mut List<Member>,
+    key: Key,
+    at: usize,
+    trees: &List<T>,
+) -> Result<(), AllocError>
+    ensures { OnOk result (fields members.new ≡ with_entry (fields members.old) key (list_node T.shown at (map T.seen trees.now))) }
+{
+    add(alloc, members, key, list_json(alloc, at, trees)?)
+}
+
+/// Adds a list, if it has items.
+fn add_some_list<T: Written>(
+    alloc: Global,
+    members: &mut List<Member>,
+    key: Key,
+    trees: &List<T>,
+) -> Result<(), AllocError>
+    ensures { OnOk result (fields members.new ≡ with_maybe (fields members.old) key (some_list T.shown (map T.seen trees.now))) }
 {
     if trees.len() == 0 {
-        return Ok(None);
+        return Ok(());
     }
-    Ok(Some(list_json(alloc, 0, trees)?))
+    add_list(alloc, members, key, 0, trees)
 }
 
 /// Objects that have each a name.
@@ -210,6 +274,20 @@ fn keyed_list(alloc: Global, at: usize, key: Key, names: &List<Named>) -> Result
         items.push(item)?;
     }
     Ok(Json::Array(at, items))
+}
+
+/// Adds a list of objects that have each a name.
+fn add_keyed(
+    alloc: Global,
+    members: &mut List<Member>,
+    key: Key,
+    at: usize,
+    item_key: Key,
+    names: &List<Named>,
+) -> Result<(), AllocError>
+    ensures { OnOk result (fields members.new ≡ with_entry (fields members.old) key (list_node (keyed_node item_key) at names.now)) }
+{
+    add(alloc, members, key, keyed_list(alloc, at, item_key, names)?)
 }
 
 impl Written for Named {
@@ -264,30 +342,10 @@ impl Written for JaniConst {
 
     fn json(&self, alloc: Global) -> Result<Json, AllocError> {
         let mut members = List::new(alloc);
-        add(
-            alloc,
-            &mut members,
-            Key::Name,
-            name_json(alloc, &self.name)?,
-        )?;
-        add(
-            alloc,
-            &mut members,
-            Key::Type,
-            text_json(alloc, 0, ty_text(self.ty))?,
-        )?;
-        add_some(
-            alloc,
-            &mut members,
-            Key::Value,
-            some_expression(alloc, &self.value)?,
-        )?;
-        add_some(
-            alloc,
-            &mut members,
-            Key::Comment,
-            some_note(alloc, &self.note)?,
-        )?;
+        add_name(alloc, &mut members, Key::Name, &self.name)?;
+        add_word(alloc, &mut members, Key::Type, ty_text(self.ty))?;
+        add_some_expression(alloc, &mut members, Key::Value, &self.value)?;
+        add_note(alloc, &mut members, &self.note)?;
         Ok(Json::Object(0, members, 0))
     }
 }
@@ -297,18 +355,8 @@ fn range_json(alloc: Global, ty: Ty) -> Result<List<Member>, AllocError>
     ensures { IfOk result (λ ms. fields ms ≡ with_entry (with_entry no_fields K.Kind bounded_word) K.Base (word (ty_text ty))) }
 {
     let mut members = List::new(alloc);
-    add(
-        alloc,
-        &mut members,
-        Key::Kind,
-        text_json(alloc, 0, "bounded")?,
-    )?;
-    add(
-        alloc,
-        &mut members,
-        Key::Base,
-        text_json(alloc, 0, ty_text(ty))?,
-    )?;
+    add_word(alloc, &mut members, Key::Kind, "bounded")?;
+    add_word(alloc, &mut members, Key::Base, ty_text(ty))?;
     Ok(members)
 }
 
@@ -316,18 +364,8 @@ fn bounded_json(alloc: Global, at: usize, low: &Je, high: &Je) -> Result<Json, A
     ensures { IfOk result (λ v. node v ≡ kind_node at (bounded (tree low.now) (tree high.now))) }
 {
     let mut members = range_json(alloc, Ty::Int)?;
-    add(
-        alloc,
-        &mut members,
-        Key::LowerBound,
-        expression_json(alloc, low)?,
-    )?;
-    add(
-        alloc,
-        &mut members,
-        Key::UpperBound,
-        expression_json(alloc, high)?,
-    )?;
+    add_expression(alloc, &mut members, Key::LowerBound, low)?;
+    add_expression(alloc, &mut members, Key::UpperBound, high)?;
     Ok(Json::Object(at, members, 0))
 }
 
@@ -362,12 +400,7 @@ impl Written for JaniVar {
 
     fn json(&self, alloc: Global) -> Result<Json, AllocError> {
         let mut members = List::new(alloc);
-        add(
-            alloc,
-            &mut members,
-            Key::Name,
-            name_json(alloc, &self.name)?,
-        )?;
+        add_name(alloc, &mut members, Key::Name, &self.name)?;
         add(
             alloc,
             &mut members,
@@ -380,18 +413,8 @@ impl Written for JaniVar {
             Key::Transient,
             flag_json(self.transient),
         )?;
-        add_some(
-            alloc,
-            &mut members,
-            Key::InitialValue,
-            some_expression(alloc, &self.start)?,
-        )?;
-        add_some(
-            alloc,
-            &mut members,
-            Key::Comment,
-            some_note(alloc, &self.note)?,
-        )?;
+        add_some_expression(alloc, &mut members, Key::InitialValue, &self.start)?;
+        add_note(alloc, &mut members, &self.note)?;
         Ok(Json::Object(0, members, 0))
     }
 }
@@ -407,18 +430,8 @@ impl Written for JaniWrite {
 
     fn json(&self, alloc: Global) -> Result<Json, AllocError> {
         let mut members = List::new(alloc);
-        add(
-            alloc,
-            &mut members,
-            Key::Ref,
-            name_json(alloc, &self.target)?,
-        )?;
-        add(
-            alloc,
-            &mut members,
-            Key::Value,
-            expression_json(alloc, &self.value)?,
-        )?;
+        add_name(alloc, &mut members, Key::Ref, &self.target)?;
+        add_expression(alloc, &mut members, Key::Value, &self.value)?;
         Ok(Json::Object(0, members, 0))
     }
 }
@@ -432,18 +445,8 @@ impl Written for JaniLocation {
 
     fn json(&self, alloc: Global) -> Result<Json, AllocError> {
         let mut members = List::new(alloc);
-        add(
-            alloc,
-            &mut members,
-            Key::Name,
-            name_json(alloc, &self.name)?,
-        )?;
-        add_some(
-            alloc,
-            &mut members,
-            Key::TransientValues,
-            some_json(alloc, &self.values)?,
-        )?;
+        add_name(alloc, &mut members, Key::Name, &self.name)?;
+        add_some_list(alloc, &mut members, Key::TransientValues, &self.values)?;
         Ok(Json::Object(0, members, 0))
     }
 }
@@ -457,24 +460,9 @@ impl Written for JaniDestination {
 
     fn json(&self, alloc: Global) -> Result<Json, AllocError> {
         let mut members = List::new(alloc);
-        add(
-            alloc,
-            &mut members,
-            Key::Location,
-            name_json(alloc, &self.location)?,
-        )?;
-        add_some(
-            alloc,
-            &mut members,
-            Key::Probability,
-            some_boxed(alloc, &self.weight)?,
-        )?;
-        add_some(
-            alloc,
-            &mut members,
-            Key::Assignments,
-            some_json(alloc, &self.writes)?,
-        )?;
+        add_name(alloc, &mut members, Key::Location, &self.location)?;
+        add_some_boxed(alloc, &mut members, Key::Probability, &self.weight)?;
+        add_some_list(alloc, &mut members, Key::Assignments, &self.writes)?;
         Ok(Json::Object(0, members, 0))
     }
 }
@@ -488,26 +476,16 @@ impl Written for JaniEdge {
 
     fn json(&self, alloc: Global) -> Result<Json, AllocError> {
         let mut members = List::new(alloc);
-        add(
+        add_name(alloc, &mut members, Key::Location, &self.location)?;
+        add_some_name(alloc, &mut members, Key::Action, &self.action)?;
+        add_some_boxed(alloc, &mut members, Key::Guard, &self.guard)?;
+        add_list(
             alloc,
             &mut members,
-            Key::Location,
-            name_json(alloc, &self.location)?,
+            Key::Destinations,
+            self.at,
+            &self.destinations,
         )?;
-        add_some(
-            alloc,
-            &mut members,
-            Key::Action,
-            some_name(alloc, &self.action)?,
-        )?;
-        add_some(
-            alloc,
-            &mut members,
-            Key::Guard,
-            some_boxed(alloc, &self.guard)?,
-        )?;
-        let destinations = list_json(alloc, self.at, &self.destinations)?;
-        add(alloc, &mut members, Key::Destinations, destinations)?;
         Ok(Json::Object(0, members, 0))
     }
 }
@@ -521,36 +499,16 @@ impl Written for JaniAutomaton {
 
     fn json(&self, alloc: Global) -> Result<Json, AllocError> {
         let mut members = List::new(alloc);
-        add(
-            alloc,
-            &mut members,
-            Key::Name,
-            name_json(alloc, &self.name)?,
-        )?;
-        add_some(
-            alloc,
-            &mut members,
-            Key::Variables,
-            some_json(alloc, &self.variables)?,
-        )?;
-        add(
-            alloc,
-            &mut members,
-            Key::Locations,
-            list_json(alloc, 0, &self.locations)?,
-        )?;
+        add_name(alloc, &mut members, Key::Name, &self.name)?;
+        add_some_list(alloc, &mut members, Key::Variables, &self.variables)?;
+        add_list(alloc, &mut members, Key::Locations, 0, &self.locations)?;
         add(
             alloc,
             &mut members,
             Key::InitialLocations,
             names_json(alloc, &self.initial)?,
         )?;
-        add(
-            alloc,
-            &mut members,
-            Key::Edges,
-            list_json(alloc, 0, &self.edges)?,
-        )?;
+        add_list(alloc, &mut members, Key::Edges, 0, &self.edges)?;
         Ok(Json::Object(0, members, 0))
     }
 }
@@ -572,12 +530,7 @@ impl Written for JaniVector {
             Key::Synchronise,
             parts_json(alloc, self.at, &self.parts)?,
         )?;
-        add_some(
-            alloc,
-            &mut members,
-            Key::Result,
-            some_name(alloc, &self.result)?,
-        )?;
+        add_some_name(alloc, &mut members, Key::Result, &self.result)?;
         Ok(Json::Object(0, members, 0))
     }
 }
@@ -586,14 +539,15 @@ fn system_json(alloc: Global, file: &JaniFile) -> Result<Json, AllocError>
     ensures { IfOk result (λ v. node v ≡ system_node file.now.elements file.now.elements_at (map vector_of file.now.vectors)) }
 {
     let mut members = List::new(alloc);
-    let elements = keyed_list(alloc, file.elements_at, Key::Automaton, &file.elements)?;
-    add(alloc, &mut members, Key::Elements, elements)?;
-    add(
+    add_keyed(
         alloc,
         &mut members,
-        Key::Syncs,
-        list_json(alloc, 0, &file.vectors)?,
+        Key::Elements,
+        file.elements_at,
+        Key::Automaton,
+        &file.elements,
     )?;
+    add_list(alloc, &mut members, Key::Syncs, 0, &file.vectors)?;
     Ok(Json::Object(0, members, 0))
 }
 
@@ -626,13 +580,8 @@ fn head_json(alloc: Global) -> Result<List<Member>, AllocError>
 {
     let mut members = List::new(alloc);
     add(alloc, &mut members, Key::JaniVersion, version_json())?;
-    add(
-        alloc,
-        &mut members,
-        Key::Name,
-        text_json(alloc, 0, "model")?,
-    )?;
-    add(alloc, &mut members, Key::Type, text_json(alloc, 0, "mdp")?)?;
+    add_word(alloc, &mut members, Key::Name, "model")?;
+    add_word(alloc, &mut members, Key::Type, "mdp")?;
     add(alloc, &mut members, Key::Features, features_json(alloc)?)?;
     Ok(members)
 }
@@ -641,32 +590,23 @@ fn file_json(alloc: Global, file: &JaniFile) -> Result<Json, AllocError>
     ensures { IfOk result (λ v. node v ≡ file_node (file_of file.now)) }
 {
     let mut members = head_json(alloc)?;
-    let actions = keyed_list(alloc, 0, Key::Name, &file.actions)?;
-    add(alloc, &mut members, Key::Actions, actions)?;
-    add(
+    add_keyed(
         alloc,
         &mut members,
-        Key::Constants,
-        list_json(alloc, 0, &file.constants)?,
+        Key::Actions,
+        0,
+        Key::Name,
+        &file.actions,
     )?;
-    add(
-        alloc,
-        &mut members,
-        Key::Variables,
-        list_json(alloc, 0, &file.variables)?,
-    )?;
+    add_list(alloc, &mut members, Key::Constants, 0, &file.constants)?;
+    add_list(alloc, &mut members, Key::Variables, 0, &file.variables)?;
     add(
         alloc,
         &mut members,
         Key::Properties,
         copy_json(alloc, &file.properties)?,
     )?;
-    add(
-        alloc,
-        &mut members,
-        Key::Automata,
-        list_json(alloc, 0, &file.automata)?,
-    )?;
+    add_list(alloc, &mut members, Key::Automata, 0, &file.automata)?;
     add(alloc, &mut members, Key::System, system_json(alloc, file)?)?;
     Ok(Json::Object(0, members, 0))
 }
