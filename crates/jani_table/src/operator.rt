@@ -10,7 +10,7 @@ use op_trees::{EvalFail, Next, Operator, Ty, Value};
 use std::cmp::Ordering;
 
 /// The operators of an expression.
-#[derive(Clone, Copy, Debug, PartialEq, Eq)]
+#[derive(Clone, Copy, PartialEq, Eq)]
 pub enum JaniOp {
     /// `ite`
     Ite,

@@ -78,7 +78,7 @@ pub fn named_operator(members: &[Member]) -> Option<JaniOp>
 }
 
 /// How many operands there are.
-#[derive(Clone, Copy, Debug, PartialEq, Eq)]
+#[derive(Clone, Copy)]
 pub enum Operands {
     One,
     Two,

@@ -6,7 +6,7 @@ ghost use Rattle.jani_table.specs.Table.{item_form, known_form, row_of, rows_of}
 use crate::key::Key;
 
 /// What a value has to be.
-#[derive(Clone, Copy, Debug, PartialEq, Eq)]
+#[derive(Clone, Copy)]
 pub enum Form {
     /// any string
     Text,
@@ -105,7 +105,7 @@ pub enum Form {
 }
 
 /// The objects of the format. Each has a table of members.
-#[derive(Clone, Copy, Debug, PartialEq, Eq)]
+#[derive(Clone, Copy)]
 pub enum Kind {
     /// a model
     Model,
@@ -154,7 +154,7 @@ pub enum Kind {
 }
 
 /// Whether a member has to be there.
-#[derive(Clone, Copy, Debug, PartialEq, Eq)]
+#[derive(Clone, Copy)]
 pub enum Need {
     /// It has to be there.
     Required,

@@ -42,7 +42,7 @@ fn is_base(text: &str) -> bool
 }
 
 /// The features that a file may ask for. Neither changes how it is read.
-#[derive(Clone, Copy, Debug, PartialEq, Eq)]
+#[derive(Clone, Copy)]
 pub enum Feature {
     /// Operators that others express.
     DerivedOperators,
@@ -76,7 +76,7 @@ impl Feature {
 }
 
 /// Operators of the standard that are left out.
-#[derive(Clone, Copy, Debug, PartialEq, Eq)]
+#[derive(Clone, Copy)]
 pub enum RefusedOp {
     Pow,
     Log,
