@@ -20,7 +20,7 @@ use Rattle.jani_table.specs.Faults.{faults as shape_faults}
 use Rattle.jani_tree.specs.Syntax.{File as JaniFile}
 use Rattle.jani_tree.specs.Jani.{IsFile}
 use Rattle.jani_check.specs.Faults.{faults as jani_faults}
-use Rattle.model_command.specs.PrismFile.{of_text, of_tree}
+use Rattle.model_command.specs.PrismFile.{IsFaultless, IsPrismFault, of_text, of_tree}
 use Rattle.model_command.specs.JaniFile.{IsFaultlessJani, IsJaniFault, of_json, of_shape, of_model}
 use Rattle.model_command.specs.Tasks.{IsFit, IsLeastFor}
 use Rattle.model_command.specs.Outcome.{status_of}
@@ -88,14 +88,17 @@ not_faultless_jani bytes f tree (of_model value other read least) ok =
     let trees : tree ≡ other = read.only tree (subst (λ v. IsFile (node v) tree) same ok.read.spells) in
     no_least_of_jani _ f (subst (λ t. jani_faults t ≡ []) trees ok.sound) least
 
--- bytes that have a fault are not fit for the task
-pub least_not_fit : (task : Task) (bytes : List ℕ) (f : Fault) → IsLeastFor task bytes f → IsFit task bytes → ⊥
-least_not_fit ToJani bytes f (inl least) small = least.faulty small.0
-least_not_fit ToJani bytes f (inr not_yet) small = not_yet.none small
-least_not_fit CheckPrism bytes f (of_text least) (other, ok) = least.faulty ok.read.clean
-least_not_fit CheckPrism bytes f (of_tree tree read least) (other, ok) =
+-- nor has a PRISM file
+not_faultless : (bytes : List ℕ) (f : Fault) (tree : File) → IsPrismFault bytes f → IsFaultless bytes tree → ⊥
+not_faultless bytes f other (of_text least) ok = least.faulty ok.read.clean
+not_faultless bytes f other (of_tree tree read least) ok =
     let same : other ≡ tree = read.only other ok.read.spells in
     no_least tree f (subst (λ t. faults t ≡ []) same ok.sound) least
+
+-- bytes that have a fault are not fit for the task
+pub least_not_fit : (task : Task) (bytes : List ℕ) (f : Fault) → IsLeastFor task bytes f → IsFit task bytes → ⊥
+least_not_fit ToJani bytes f fault (tree, ok) = not_faultless bytes f tree fault ok
+least_not_fit CheckPrism bytes f fault (tree, ok) = not_faultless bytes f tree fault ok
 least_not_fit CheckJani bytes f fault (tree, ok) = not_faultless_jani bytes f tree fault ok
 
 fit_kept : (task : Task) (lefts : Lefts) (after : Option Lefts) (name bytes : List ℕ) (reason : Reason) (place : Place) → lefts name ≡ Some bytes → IsFit task bytes → length bytes ≤ 16777216

@@ -32,7 +32,7 @@ appended xs (Some ys) more h = ap Some h
 
 -- what a task is done for is fit for it
 makes_fit : (task : Task) (bytes text : List ℕ) → Makes task bytes text → IsFit task bytes
-makes_fit ToJani bytes text (tree, small, model, all) = (all.read.clean, (tree, all.read.spells, (small, all.small_form)))
+makes_fit ToJani bytes text (tree, model, all) = (tree, all.faultless)
 makes_fit CheckPrism bytes text (tree, all) = (tree, all.faultless)
 makes_fit CheckJani bytes text (tree, all) = (tree, all.faultless)
 

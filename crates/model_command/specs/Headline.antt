@@ -12,9 +12,8 @@ abbrev pub IsAccepted : Task → List ℕ → Type 0
 IsAccepted task bytes = (length bytes ≤ 16777216) × IsFit task bytes
 
 -- The least fault of a file that isn't accepted: it is too long, which is said at the first byte past the limit; or, where it
--- isn't, the least fault of its tokens, else of its grammar; else, where it is to be translated, that it isn't small, and where it
--- is checked, the least fault of its names, else of its size, else of its types. Of a JANI file it is the least fault of its JSON,
--- else of its shape, else of its names, else of its types, else of the profile.
+-- isn't, the least fault of its tokens, else of its grammar, else of its names, else of its size, else of its types. Of a JANI file
+-- it is the least fault of its JSON, else of its shape, else of its names, else of its types, else of the profile.
 pub record IsFault (task : Task) (bytes : List ℕ) (f : Fault) : Type 0 where
   pub long : 16777216 < length bytes → f ≡ record { reason = TooLong; at = 16777216 }
   pub short : length bytes ≤ 16777216 → IsLeastFor task bytes f

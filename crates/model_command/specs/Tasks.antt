@@ -8,7 +8,7 @@ use Rattle.model_command.specs.declared.words.Task.TheVariants.{ToJani, CheckPri
 use Rattle.model_command.specs.PrismFile.{HasNoFault, IsPrismFault}
 use Rattle.model_command.specs.JaniFile.{HasNoJaniFault, IsJaniFault}
 use Rattle.model_command.specs.Checking.{Checks, ChecksJani}
-use Rattle.model_command.specs.Translation.{IsSmallFile, Translates, IsLeast}
+use Rattle.model_command.specs.Translation.{Translates}
 
 -- the text is what the task makes of the bytes
 abbrev pub Makes : Task → List ℕ → List ℕ → Type 0
@@ -18,13 +18,13 @@ Makes CheckJani bytes text = ChecksJani bytes text
 
 -- the bytes that it is done for, up to their length
 abbrev pub IsFit : Task → List ℕ → Type 0
-IsFit ToJani bytes = IsSmallFile bytes
+IsFit ToJani bytes = HasNoFault bytes
 IsFit CheckPrism bytes = HasNoFault bytes
 IsFit CheckJani bytes = HasNoJaniFault bytes
 
 -- the least fault of all others
 abbrev pub IsLeastFor : Task → List ℕ → Fault → Type 0
-IsLeastFor ToJani bytes f = IsLeast bytes f
+IsLeastFor ToJani bytes f = IsPrismFault bytes f
 IsLeastFor CheckPrism bytes f = IsPrismFault bytes f
 IsLeastFor CheckJani bytes f = IsJaniFault bytes f
 

@@ -33,8 +33,8 @@ const WRITE_FAULT: u8 = 5;
 ///
 /// | status | when | on `out` | on `err`, each line with its LF |
 /// |---|---|---|---|
-/// | 0 | the file is small, and was translated; or it has no fault, and was checked | the text | nothing |
-/// | 2 | the file is longer than 16,777,216 bytes, or has a fault of its tokens or grammar; or it isn't small, where it is to be translated; or it has a fault of its names, its size or its types, where it is checked; or a JANI file has a fault of its JSON, its shape, its names, its types or the profile | nothing | `FILE:LINE:COLUMN: reason NO Name` |
+/// | 0 | the file has no fault, and was translated or checked | the text | nothing |
+/// | 2 | the file is longer than 16,777,216 bytes; or a PRISM file has a fault of its tokens, its grammar, its names, its size or its types; or a JANI file has a fault of its JSON, its shape, its names, its types or the profile | nothing | `FILE:LINE:COLUMN: reason NO Name` |
 /// | 3 | the words are of no form | nothing | `bridge: word K`, K being the first word with which no form goes on |
 /// | 4 | a read failed | nothing | `bridge: read fault FILE` |
 /// | 5 | a write failed | a front of the text | a front of `bridge: write fault`, or of the line, where `err` failed |
@@ -74,8 +74,9 @@ pub fn run<H: Shelf, K: Sink, E: Sink>(
         → (result ≡ 0) ⊎ (result ≡ 4) ⊎ (result ≡ 5) ⊎ (result ≡ 6) }
 
     // Where the shelf and the sinks tell their bytes, and no read, no write and no memory failed, the status is 0
-    // exactly where the file is fit for the task and within the limits, and what the task makes of it was written: its
-    // translation, or the line that counts; any other file is refused at its least fault.
+    // exactly where the file is fit for the task, that is, has no fault, and is within the limits, and what the task makes of it
+    // was written: the text of a JANI file that means the same process under every valuation, or the line that counts; any
+    // other file is refused at its least fault.
     ensures headline { (left : Lefts) (task : Task) (name bytes was said : List ℕ) → H.left shelf.old ≡ Some left → left name ≡ Some bytes
         → K.taken out.old ≡ Some was → E.taken err.old ≡ Some said → IsRequest (texts words.now) task name
         → (result ≡ 4 → ⊥) → (result ≡ 5 → ⊥) → (result ≡ 6 → ⊥)
