@@ -1,6 +1,7 @@
 -- The members of an object, found by their keys.
 use Rattle.std.proofs.Common.{◌≡◌, ℕ, zero, suc, ◌<◌, ◌≤◌, Bool, true, false, ◌||◌, List, [], ◌∷◌, ◌++◌, map, take, drop, length, String, string_bytes, refl, sym, ap, ◌∙◌, arith}
-use Rattle.std.specs.Prelude.{Option, Some, None, is_some, bytes_eq}
+use Rattle.std.specs.Prelude.{Option, Some, None, is_some, bytes_eq, nat_lt, if◌then◌else◌}
+use Rattle.std.proofs.lemmas.Bool.Decides.{nat_tests}
 use Rattle.std.specs.Global.{Box, Global}
 use Rattle.std.specs.Map.{lookup}
 use Rattle.std.proofs.lemmas.List.{take-append-drop, length-append, drop_all}
@@ -49,6 +50,14 @@ module _ (list : List Member) (n : ℕ) where
       drop_more zero xs ys h = refl
       drop_more (suc n) [] ys h = absurd (omega arith)
       drop_more (suc n) (x ∷ xs) ys h = drop_more n xs ys (omega arith)
+
+  -- and the names of the later ones with it
+  pub named_more : (m : Member) (more : List Member) (late later : List (List ℕ)) (size : ℕ) → more ≡ list ++ m ∷ [] → size ≡ length list → late ≡ names (drop n list) → later ≡ (if nat_lt size n then late else late ++ m.key.name ∷ []) → later ≡ names (drop n more)
+  named_more m more late later size e l f g = go (nat_lt size n) refl g
+    where
+      go : (b : Bool) → nat_lt size n ≡ b → later ≡ (if b then late else late ++ m.key.name ∷ []) → later ≡ names (drop n more)
+      go true t g = g ∙ none_later m more late e (grind (arith, nat_tests, t, l)) f
+      go false t g = one_later m more late later e (grind (arith, nat_tests, t, l)) f g
 
 -- ---- in the map
 

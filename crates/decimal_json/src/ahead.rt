@@ -96,13 +96,7 @@ fn whole_text(alloc: Global, at: usize, bytes: &[u8]) -> Result<Option<(Json, us
 {
     let (n, now, text) = Letters::new(alloc).along(Within::Between, &bytes[1..])?;
     let end = n + 1;
-    if end == bytes.len() {
-        return Ok(None);
-    }
-    if !closes(now, bytes[end]) {
-        return Ok(None);
-    }
-    if end + 1 == bytes.len() {
+    if end == bytes.len() || !closes(now, bytes[end]) || end + 1 == bytes.len() {
         return Ok(None);
     }
     Ok(Some((Json::Str(at, text.into_text()?), end + 1)))
@@ -152,20 +146,11 @@ fn named(alloc: Global, at: usize, members: Members, bytes: &[u8]) -> Result<Ahe
 {
     let (n, now, text) = Letters::new(alloc).along(Within::Between, &bytes[1..])?;
     let end = n + 1;
-    if end == bytes.len() {
-        return Ok(Ahead::Open(members));
-    }
-    if !closes(now, bytes[end]) {
-        return Ok(Ahead::Open(members));
-    }
-    if members.has(text.as_str()) {
+    if end == bytes.len() || !closes(now, bytes[end]) || members.has(text.as_str()) {
         return Ok(Ahead::Open(members));
     }
     let colon = past_spaces(bytes, end + 1);
-    if colon == bytes.len() {
-        return Ok(Ahead::Open(members));
-    }
-    if bytes[colon] != b':' {
+    if colon == bytes.len() || bytes[colon] != b':' {
         return Ok(Ahead::Open(members));
     }
     let behind = past_spaces(bytes, colon + 1);
@@ -310,10 +295,7 @@ fn whole_array(
                 let end = n + size;
                 list.push(value)?;
                 if bytes[end] != b',' {
-                    if bytes[end] != b']' {
-                        return Ok(None);
-                    }
-                    if end + 1 == bytes.len() {
+                    if bytes[end] != b']' || end + 1 == bytes.len() {
                         return Ok(None);
                     }
                     return Ok(Some((Json::Array(at, list), end + 1)));
@@ -356,10 +338,7 @@ fn whole_object(
                 let end = n + m + size;
                 done = pending.with(alloc, value)?;
                 if bytes[end] != b',' {
-                    if bytes[end] != b'}' {
-                        return Ok(None);
-                    }
-                    if end + 1 == bytes.len() {
+                    if bytes[end] != b'}' || end + 1 == bytes.len() {
                         return Ok(None);
                     }
                     return Ok(Some((Json::Object(at, done.into_list(), at + end), end + 1)));

@@ -7,7 +7,7 @@ ghost use Rattle.decimal_json.specs.Characters.{is_hex, digit, short};
 ghost use Rattle.decimal_json.specs.Strings.{is_plain, shifted, is_tail, is_second, escape_onward, bytes_onward, begin_char, onward, escape_ended, bytes_ended, ended, character, is_between, in_utf8};
 
 /// How far the character now read has come.
-#[derive(Clone, Copy, Debug)]
+#[derive(Clone, Copy)]
 pub enum Within {
     Between,
     InEscape(Escape),
@@ -15,7 +15,7 @@ pub enum Within {
 }
 
 /// What is read of an escape: the digits of a unit of UTF-16, and of the second unit of a pair.
-#[derive(Clone, Copy, Debug)]
+#[derive(Clone, Copy)]
 pub enum Escape {
     Backslash,
     Unit0,
@@ -33,7 +33,7 @@ pub enum Escape {
 }
 
 /// The bytes read of a character of two, three or four bytes.
-#[derive(Clone, Copy, Debug)]
+#[derive(Clone, Copy)]
 pub enum Encoded {
     Two(u8),
     Three(u8),

@@ -56,7 +56,7 @@ pub struct State {
 }
 
 /// Why a byte was not taken.
-#[derive(Clone, Copy, Debug)]
+#[derive(Clone, Copy)]
 pub enum Stop {
     /// Memory was refused.
     Memory,

@@ -1,6 +1,6 @@
 // The members of an object while it is read, found by their keys.
 
-ghost use Rattle.std.specs.Prelude.{◌≡◌, [], ◌∷◌, ◌++◌, false, Some, IfOk};
+ghost use Rattle.std.specs.Prelude.{◌≡◌, [], ◌∷◌, ◌++◌, nat_lt, if◌then◌else◌, false, Some, IfOk};
 ghost use Rattle.decimal_json.specs.Grammar.{is_among, names};
 ghost use Rattle.decimal_json.specs.Kept.{late_names};
 
@@ -88,6 +88,18 @@ fn noted(alloc: Global, late: Late, key: &str) -> Result<Late, AllocError>
     }
 }
 
+/// The later names, with one more where so many members stand before it.
+fn with_name(alloc: Global, late: Late, members: usize, key: &str) -> Result<Late, AllocError>
+    requires { is_among (late_names late) key.now ≡ false }
+    ensures { IfOk result (λ more. late_names more ≡ (if nat_lt members 8 then late_names late else late_names late ++ key.now ∷ [])) }
+{
+    if members < FEW {
+        Ok(late)
+    } else {
+        noted(alloc, late, key)
+    }
+}
+
 impl Members {
     /// No members.
     pub(crate) fn new(alloc: Global) -> Members
@@ -119,14 +131,7 @@ impl Members {
         ensures { IfOk result (λ all. all ≡ self ++ member ∷ []) }
     {
         let mut list = self.list;
-        if list.len() < FEW {
-            list.push(member)?;
-            return Ok(Members {
-                list,
-                late: self.late,
-            });
-        }
-        let late = noted(alloc, self.late, member.key.name.as_str())?;
+        let late = with_name(alloc, self.late, list.len(), member.key.name.as_str())?;
         list.push(member)?;
         Ok(Members { list, late })
     }

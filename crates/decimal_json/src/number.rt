@@ -9,7 +9,7 @@ use frac_core::Decimal;
 use std::alloc::{AllocError, Global};
 
 /// How far a number has come, by its last byte.
-#[derive(Clone, Copy, Debug)]
+#[derive(Clone, Copy)]
 pub enum Stage {
     Minus,
     Zero,
@@ -82,7 +82,7 @@ pub(crate) fn first_digit(alloc: Global, c: u8, stage: Stage) -> Result<Digits, 
 }
 
 /// What is read of a number.
-#[derive(Clone, Copy, Debug)]
+#[derive(Clone, Copy)]
 pub struct Parts {
     pub real: bool,
     pub negative: bool,

@@ -9,7 +9,7 @@ use Rattle.decimal_json.proofs.Whole.{whole_of, looks_of, trailed, whole_within}
 use Rattle.decimal_json.proofs.Held.{nothing_left, tail_some, text_none, word_none, number_none, too_deep, trailed_none, none_of, some_of, stops_on, word_first, look_other, looks_all, no_member, looks_named, named_end, at_tail}
 use Rattle.decimal_json.proofs.Nested.{null_whole, items_first, items_on, items_end, items_out, items_refused, items_over, items_held, array_empty, array_unended, array_out, members_first, members_on, members_end, members_out, members_refused, members_over, members_no_key, members_held, members_within, object_empty, object_unended, object_out}
 use Rattle.decimal_json.proofs.ahead.+whole.Goals as goal
-use Rattle.decimal_json.proofs.ahead.+whole.Goals.{whole_object-then-loop-n-test+else-bytes-n-eq34, whole_object-else-loop-n-test}
+use Rattle.decimal_json.proofs.ahead.+whole.Goals.{whole_array-then-bytes-end-ne93-via-then-bytes-end-ne93, whole_array-then-bytes-end-ne93-via-else-bytes-end-ne93+then-end-bytes, whole_object-then-bytes-end-ne125-via-then-bytes-end-ne125, whole_object-then-bytes-end-ne125-via-else-bytes-end-ne125+then-end-bytes, whole_object-then-loop-n-test+else-bytes-n-eq34, whole_object-else-loop-n-test}
 
 pub whole-returns-else-end-bytes-clause-whole : goal.whole-returns-else-end-bytes-clause-whole
 whole-returns-else-end-bytes-clause-whole t c =
@@ -115,13 +115,13 @@ whole_array-returns-in-None-clause-none t c = items_held c.args.bytes.now c.args
 pub whole_array-returns-then-bytes-end-ne93-clause-none : goal.whole_array-returns-then-bytes-end-ne93-clause-none
 whole_array-returns-then-bytes-end-ne93-clause-none t c =
     let e = tail_is c.loop-n.n c.args.bytes.now in
-    items_refused c.args.bytes.now c.args.at c.args.depth _ c.loop-n.n c.in-Some.size c.loop-n.list _ c.in-Some.value e c.loop-n.invariant c.loop-n-test.true (whole_of _ _ _ _ c.in-Some.value c.in-Some.size c.in-Some.is c.in_ok-item.ensures.whole) c.in_ok-push-in-Some.ensures.ok
-    (stops_on c.args.bytes.now _ c.loop-n.n c.in-Some.size _ e refl (some_of _ _ (c.in-Some.value, c.in-Some.size) c.in-Some.is c.in_ok-item.ensures.stops)) (differs _ _ c.if-bytes-end-ne44.true) (differs _ _ c.if-bytes-end-ne93.true)
-
-pub whole_array-returns-then-end-bytes-clause-none : goal.whole_array-returns-then-end-bytes-clause-none
-whole_array-returns-then-end-bytes-clause-none t c =
-    let e = tail_is c.loop-n.n c.args.bytes.now in
-    items_out c.args.bytes.now c.args.at c.args.depth _ c.loop-n.n c.in-Some.size c.loop-n.list _ c.in-Some.value e c.loop-n.invariant c.loop-n-test.true (whole_of _ _ _ _ c.in-Some.value c.in-Some.size c.in-Some.is c.in_ok-item.ensures.whole) c.in_ok-push-in-Some.ensures.ok c.if-bytes-end-ne93.false c.if-end-bytes.true
+    let i = whole_of _ _ _ _ c.in-Some.value c.in-Some.size c.in-Some.is c.in_ok-item.ensures.whole in
+    elim c.then-bytes-end-ne93.branch [
+      | whole_array-then-bytes-end-ne93-via-then-bytes-end-ne93 w ↦
+          items_refused c.args.bytes.now c.args.at c.args.depth _ c.loop-n.n c.in-Some.size c.loop-n.list _ c.in-Some.value e c.loop-n.invariant c.loop-n-test.true i c.in_ok-push-in-Some.ensures.ok
+          (stops_on c.args.bytes.now _ c.loop-n.n c.in-Some.size _ e refl (some_of _ _ (c.in-Some.value, c.in-Some.size) c.in-Some.is c.in_ok-item.ensures.stops)) (differs _ _ c.if-bytes-end-ne44.true) (differs _ _ w.if-bytes-end-ne93.true)
+      | whole_array-then-bytes-end-ne93-via-else-bytes-end-ne93+then-end-bytes w ↦ items_out c.args.bytes.now c.args.at c.args.depth _ c.loop-n.n c.in-Some.size c.loop-n.list _ c.in-Some.value e c.loop-n.invariant c.loop-n-test.true i c.in_ok-push-in-Some.ensures.ok w.if-bytes-end-ne93.false w.if-end-bytes.true
+    ]
 
 pub whole_array-returns-clause-none : goal.whole_array-returns-clause-none
 whole_array-returns-clause-none t c = items_over c.args.bytes.now c.args.at c.args.depth c.loop-n.n c.loop-n.list c.loop-n.invariant (let a = c.loop-n.invariant.0 in let b = c.loop-n-test.false in omega (arith, a, b))
@@ -136,14 +136,12 @@ pub whole_object-returns-then-bytes-end-ne125-clause-none : goal.whole_object-re
 whole_object-returns-then-bytes-end-ne125-clause-none t c =
     let e = tail_is c.loop-n.n c.args.bytes.now in
     let k = looks_of _ _ _ _ _ (Valued c.in-Valued.pending c.in-Valued.m c.in-Valued.value c.in-Valued.size) c.in-Valued.is c.in_ok-pending.ensures.whole in
-    members_refused c.args.bytes.now c.args.at c.args.depth _ c.loop-n.n c.in-Valued.m c.in-Valued.size c.loop-n.done _ c.in-Valued.pending c.in-Valued.value e c.loop-n.invariant c.loop-n-test.true c.if-bytes-n-eq34.true k.0 k.1 c.in_ok-done-in-Valued.ensures
-    (stops_on c.args.bytes.now _ c.loop-n.n (c.in-Valued.m + c.in-Valued.size) _ e (omega arith) (looks_all c.args.depth (c.args.at + c.loop-n.n) (take (length c.args.bytes.now - c.loop-n.n) (drop c.loop-n.n c.args.bytes.now)) c.loop-n.done c.in_ok-pending.field-0 (Valued c.in-Valued.pending c.in-Valued.m c.in-Valued.value c.in-Valued.size) c.in-Valued.is c.in_ok-pending.ensures.none)) (differs _ _ c.if-bytes-end-ne44.true) (differs _ _ c.if-bytes-end-ne125.true)
-
-pub whole_object-returns-then-end-bytes-clause-none : goal.whole_object-returns-then-end-bytes-clause-none
-whole_object-returns-then-end-bytes-clause-none t c =
-    let e = tail_is c.loop-n.n c.args.bytes.now in
-    let k = looks_of _ _ _ _ _ (Valued c.in-Valued.pending c.in-Valued.m c.in-Valued.value c.in-Valued.size) c.in-Valued.is c.in_ok-pending.ensures.whole in
-    members_out c.args.bytes.now c.args.at c.args.depth _ c.loop-n.n c.in-Valued.m c.in-Valued.size c.loop-n.done _ c.in-Valued.pending c.in-Valued.value e c.loop-n.invariant c.loop-n-test.true c.if-bytes-n-eq34.true k.0 k.1 c.in_ok-done-in-Valued.ensures c.if-bytes-end-ne125.false c.if-end-bytes.true
+    elim c.then-bytes-end-ne125.branch [
+      | whole_object-then-bytes-end-ne125-via-then-bytes-end-ne125 w ↦
+          members_refused c.args.bytes.now c.args.at c.args.depth _ c.loop-n.n c.in-Valued.m c.in-Valued.size c.loop-n.done _ c.in-Valued.pending c.in-Valued.value e c.loop-n.invariant c.loop-n-test.true c.if-bytes-n-eq34.true k.0 k.1 c.in_ok-done-in-Valued.ensures
+          (stops_on c.args.bytes.now _ c.loop-n.n (c.in-Valued.m + c.in-Valued.size) _ e (omega arith) (looks_all c.args.depth (c.args.at + c.loop-n.n) (take (length c.args.bytes.now - c.loop-n.n) (drop c.loop-n.n c.args.bytes.now)) c.loop-n.done c.in_ok-pending.field-0 (Valued c.in-Valued.pending c.in-Valued.m c.in-Valued.value c.in-Valued.size) c.in-Valued.is c.in_ok-pending.ensures.none)) (differs _ _ c.if-bytes-end-ne44.true) (differs _ _ w.if-bytes-end-ne125.true)
+      | whole_object-then-bytes-end-ne125-via-else-bytes-end-ne125+then-end-bytes w ↦ members_out c.args.bytes.now c.args.at c.args.depth _ c.loop-n.n c.in-Valued.m c.in-Valued.size c.loop-n.done _ c.in-Valued.pending c.in-Valued.value e c.loop-n.invariant c.loop-n-test.true c.if-bytes-n-eq34.true k.0 k.1 c.in_ok-done-in-Valued.ensures w.if-bytes-end-ne125.false w.if-end-bytes.true
+    ]
 
 pub whole_object-returns-in_default : goal.whole_object-returns-in_default
 whole_object-returns-in_default t c =

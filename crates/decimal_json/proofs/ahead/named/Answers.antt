@@ -4,33 +4,31 @@ use Rattle.decimal_json.proofs.Values.{differs}
 use Rattle.decimal_json.proofs.Whole.{naming_on}
 use Rattle.decimal_json.proofs.Held.{skipped_within, tail_within, key_unended, key_refused, key_twice, key_without_colon, key_no_colon, naming}
 use Rattle.decimal_json.proofs.ahead.named.Goals as goal
+use Rattle.decimal_json.proofs.ahead.named.Goals.{then-end-bytes-via-then-end-bytes, then-end-bytes-via-else-end-bytes+then-not-closes, then-end-bytes-via-else-end-bytes+else-not-closes+then-has, then-colon-bytes-via-then-colon-bytes, then-colon-bytes-via-else-colon-bytes+then-bytes-colon-ne58}
 
 pub returns-then-end-bytes-clause-none : goal.returns-then-end-bytes-clause-none
-returns-then-end-bytes-clause-none c = key_unended c.args.bytes.now _ _ c.args.at c.in_ok-n.n _ _ refl c.new.ensures c.in_ok-n.ensures.passes.1 c.args.members c.if-end-bytes.true
-
-pub returns-then-not-closes-clause-none : goal.returns-then-not-closes-clause-none
-returns-then-not-closes-clause-none c =
-    let l = tail_within c.args.bytes.now _ c.in_ok-n.n refl c.in_ok-n.ensures.passes.0 c.requires.some c.if-end-bytes.false in
-    key_refused c.args.bytes.now _ _ c.args.at c.in_ok-n.n _ _ refl c.new.ensures c.in_ok-n.ensures.passes.1 c.args.members _ c.closes.ensures l c.if-not-closes.true c.in_ok-n.ensures.stops
-
-pub returns-then-has-clause-none : goal.returns-then-has-clause-none
-returns-then-has-clause-none c =
-    let l = tail_within c.args.bytes.now _ c.in_ok-n.n refl c.in_ok-n.ensures.passes.0 c.requires.some c.if-end-bytes.false in
-    key_twice c.args.bytes.now _ _ c.args.at c.in_ok-n.n _ _ refl c.new.ensures c.in_ok-n.ensures.passes.1 c.args.members _ c.closes.ensures l c.if-not-closes.false _ (c.has.ensures ∙ ap (λ (u : List ℕ). is_among (names c.args.members) u) c.as_str.ensures) c.if-has.true
+returns-then-end-bytes-clause-none c =
+    elim c.then-end-bytes.branch [
+      | then-end-bytes-via-then-end-bytes w ↦ key_unended c.args.bytes.now _ _ c.args.at c.in_ok-n.n _ _ refl c.new.ensures c.in_ok-n.ensures.passes.1 c.args.members w.if-end-bytes.true
+      | then-end-bytes-via-else-end-bytes+then-not-closes w ↦
+          let l = tail_within c.args.bytes.now _ c.in_ok-n.n refl c.in_ok-n.ensures.passes.0 c.requires.some w.if-end-bytes.false in
+          key_refused c.args.bytes.now _ _ c.args.at c.in_ok-n.n _ _ refl c.new.ensures c.in_ok-n.ensures.passes.1 c.args.members _ w.closes.ensures l w.if-not-closes.true c.in_ok-n.ensures.stops
+      | then-end-bytes-via-else-end-bytes+else-not-closes+then-has w ↦
+          let l = tail_within c.args.bytes.now _ c.in_ok-n.n refl c.in_ok-n.ensures.passes.0 c.requires.some w.if-end-bytes.false in
+          key_twice c.args.bytes.now _ _ c.args.at c.in_ok-n.n _ _ refl c.new.ensures c.in_ok-n.ensures.passes.1 c.args.members _ w.closes.ensures l w.if-not-closes.false _ (w.has.ensures ∙ ap (λ (u : List ℕ). is_among (names c.args.members) u) w.as_str.ensures) w.if-has.true
+    ]
 
 pub returns-then-colon-bytes-clause-none : goal.returns-then-colon-bytes-clause-none
 returns-then-colon-bytes-clause-none c =
     let l = tail_within c.args.bytes.now _ c.in_ok-n.n refl c.in_ok-n.ensures.passes.0 c.requires.some c.if-end-bytes.false in
-    key_without_colon c.args.bytes.now _ _ c.args.at c.in_ok-n.n _ _ refl c.new.ensures c.in_ok-n.ensures.passes.1 c.args.members _ c.closes.ensures l c.if-not-closes.false _ (c.has.ensures ∙ ap (λ (u : List ℕ). is_among (names c.args.members) u) c.as_str.ensures) c.if-has.false
-    c.past_spaces-colon.result c.past_spaces-colon.ensures.skips c.if-colon-bytes.true
-
-pub returns-then-bytes-colon-ne58-clause-none : goal.returns-then-bytes-colon-ne58-clause-none
-returns-then-bytes-colon-ne58-clause-none c =
-    let l = tail_within c.args.bytes.now _ c.in_ok-n.n refl c.in_ok-n.ensures.passes.0 c.requires.some c.if-end-bytes.false in
     let k = c.past_spaces-colon.ensures.skips in
-    let m = skipped_within _ _ _ k c.if-colon-bytes.false in
-    key_no_colon c.args.bytes.now _ _ c.args.at c.in_ok-n.n _ _ refl c.new.ensures c.in_ok-n.ensures.passes.1 c.args.members _ c.closes.ensures l c.if-not-closes.false _ (c.has.ensures ∙ ap (λ (u : List ℕ). is_among (names c.args.members) u) c.as_str.ensures) c.if-has.false
-    c.past_spaces-colon.result k m (c.past_spaces-colon.ensures.stops m) (differs _ _ c.if-bytes-colon-ne58.true)
+    let has = c.has.ensures ∙ ap (λ (u : List ℕ). is_among (names c.args.members) u) c.as_str.ensures in
+    elim c.then-colon-bytes.branch [
+      | then-colon-bytes-via-then-colon-bytes w ↦ key_without_colon c.args.bytes.now _ _ c.args.at c.in_ok-n.n _ _ refl c.new.ensures c.in_ok-n.ensures.passes.1 c.args.members _ c.closes.ensures l c.if-not-closes.false _ has c.if-has.false c.past_spaces-colon.result k w.if-colon-bytes.true
+      | then-colon-bytes-via-else-colon-bytes+then-bytes-colon-ne58 w ↦
+          let m = skipped_within _ _ _ k w.if-colon-bytes.false in
+          key_no_colon c.args.bytes.now _ _ c.args.at c.in_ok-n.n _ _ refl c.new.ensures c.in_ok-n.ensures.passes.1 c.args.members _ c.closes.ensures l c.if-not-closes.false _ has c.if-has.false c.past_spaces-colon.result k m (c.past_spaces-colon.ensures.stops m) (differs _ _ w.if-bytes-colon-ne58.true)
+    ]
 
 pub returns-clause-whole : goal.returns-clause-whole
 returns-clause-whole c =

@@ -2,19 +2,19 @@ use Rattle.std.proofs.Common.{refl, arith}
 use Rattle.decimal_json.proofs.Whole.{text_whole}
 use Rattle.decimal_json.proofs.Held.{tail_within, text_unended, text_refused, text_out}
 use Rattle.decimal_json.proofs.ahead.whole_text.Goals as goal
+use Rattle.decimal_json.proofs.ahead.whole_text.Goals.{then-end-bytes-via-then-end-bytes, then-end-bytes-via-else-end-bytes+then-not-closes, then-end-bytes-via-else-end-bytes+else-not-closes+then-end-bytes-2}
 
 pub returns-then-end-bytes-clause-none : goal.returns-then-end-bytes-clause-none
-returns-then-end-bytes-clause-none c = text_unended c.args.bytes.now _ _ c.args.at c.in_ok-n.n _ _ refl c.new.ensures c.in_ok-n.ensures.passes.1 c.requires.quote c.requires.some c.if-end-bytes.true
-
-pub returns-then-not-closes-clause-none : goal.returns-then-not-closes-clause-none
-returns-then-not-closes-clause-none c =
-    let l = tail_within c.args.bytes.now _ c.in_ok-n.n refl c.in_ok-n.ensures.passes.0 c.requires.some c.if-end-bytes.false in
-    text_refused c.args.bytes.now _ _ c.args.at c.in_ok-n.n _ _ refl c.new.ensures c.in_ok-n.ensures.passes.1 c.requires.quote c.requires.some _ c.closes.ensures l c.if-not-closes.true c.in_ok-n.ensures.stops
-
-pub returns-then-end-bytes-2-clause-none : goal.returns-then-end-bytes-2-clause-none
-returns-then-end-bytes-2-clause-none c =
-    let l = tail_within c.args.bytes.now _ c.in_ok-n.n refl c.in_ok-n.ensures.passes.0 c.requires.some c.if-end-bytes.false in
-    text_out c.args.bytes.now _ _ c.args.at c.in_ok-n.n _ _ refl c.new.ensures c.in_ok-n.ensures.passes.1 c.requires.quote c.requires.some _ c.closes.ensures l c.if-not-closes.false c.if-end-bytes-2.true
+returns-then-end-bytes-clause-none c =
+    elim c.then-end-bytes.branch [
+      | then-end-bytes-via-then-end-bytes w ↦ text_unended c.args.bytes.now _ _ c.args.at c.in_ok-n.n _ _ refl c.new.ensures c.in_ok-n.ensures.passes.1 c.requires.quote c.requires.some w.if-end-bytes.true
+      | then-end-bytes-via-else-end-bytes+then-not-closes w ↦
+          let l = tail_within c.args.bytes.now _ c.in_ok-n.n refl c.in_ok-n.ensures.passes.0 c.requires.some w.if-end-bytes.false in
+          text_refused c.args.bytes.now _ _ c.args.at c.in_ok-n.n _ _ refl c.new.ensures c.in_ok-n.ensures.passes.1 c.requires.quote c.requires.some _ w.closes.ensures l w.if-not-closes.true c.in_ok-n.ensures.stops
+      | then-end-bytes-via-else-end-bytes+else-not-closes+then-end-bytes-2 w ↦
+          let l = tail_within c.args.bytes.now _ c.in_ok-n.n refl c.in_ok-n.ensures.passes.0 c.requires.some w.if-end-bytes.false in
+          text_out c.args.bytes.now _ _ c.args.at c.in_ok-n.n _ _ refl c.new.ensures c.in_ok-n.ensures.passes.1 c.requires.quote c.requires.some _ w.closes.ensures l w.if-not-closes.false w.if-end-bytes-2.true
+    ]
 
 pub returns-clause-whole : goal.returns-clause-whole
 returns-clause-whole c =

@@ -1,7 +1,8 @@
-use Rattle.std.proofs.Common.{List, ℕ, [], ◌∷◌, ◌++◌, ap, ◌∙◌, arith}
+use Rattle.std.proofs.Common.{List, ℕ, [], ◌∷◌, ◌++◌, ap, ◌∙◌, nat_lt}
+use Rattle.std.specs.Prelude.{if◌then◌else◌}
 use Rattle.decimal_json.specs.Kept.{late_names}
-use Rattle.decimal_json.proofs.Found.{one_later}
+use Rattle.decimal_json.proofs.Found.{named_more}
 use Rattle.decimal_json.proofs.members.Members.with.Goals as goal
 
-pub invariant_of-result-2 : goal.invariant_of-result-2
-invariant_of-result-2 c = one_later c.self.inside.list 8 c.args.member _ (late_names c.self.inside.late) _ c.in_ok-push-2.ensures.ok (let a = c.len.ensures in let b = c.if-len-lt-FEW.false in omega (arith, a, b)) c.self.invariant (c.in_ok-late.ensures ∙ ap (λ (u : List ℕ). late_names c.self.inside.late ++ u ∷ []) c.as_str.ensures)
+pub invariant_of-result : goal.invariant_of-result
+invariant_of-result c = named_more c.self.inside.list 8 c.args.member _ (late_names c.self.inside.late) _ c.len.result c.in_ok-push.ensures.ok c.len.ensures c.self.invariant (c.in_ok-late.ensures ∙ ap (λ (u : List ℕ). if nat_lt c.len.result 8 then late_names c.self.inside.late else late_names c.self.inside.late ++ u ∷ []) c.as_str.ensures)
