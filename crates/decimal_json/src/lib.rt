@@ -1,5 +1,5 @@
 //! JSON texts (RFC 8259) with exact decimals and a place for everything: `read_json` gives the value that bytes spell or
-//! their least fault, `write_json` the canonical text of a value.
+//! their least fault, `write_json` the canonical text of a value; `push_value` and its kin write it behind other text.
 #![tactic(auto)]
 
 mod ahead;
@@ -19,4 +19,4 @@ mod write;
 pub use feed::read_json;
 pub use laws::{line_feed_law, one_value};
 pub use tree::{Json, Member};
-pub use write::write_json;
+pub use write::{push_number, push_string, push_value, write_json};

@@ -68,8 +68,9 @@ fn push_real(out: &mut Vec<u8>, digits: u128, exponent: i32) -> Result<(), Alloc
     Ok(())
 }
 
-/// Writes a number, which is within the bounds of its type.
-fn push_number(out: &mut Vec<u8>, number: Decimal) -> Result<(), AllocError>
+/// Writes a number's canonical text behind what `out` holds; a number in normal form is within the bounds of its type. `Err` is
+/// want of memory, alone.
+pub fn push_number(out: &mut Vec<u8>, number: Decimal) -> Result<(), AllocError>
     ensures text { OnOk result (out.new.items ≡ out.old.items ++ number_text number) }
     ensures kept { is_normal number ≡ true → is_kept number ≡ true }
 {
@@ -150,8 +151,9 @@ fn push_some(out: &mut Vec<u8>, bytes: &[u8]) -> Result<usize, AllocError>
     Ok(1)
 }
 
-/// Writes a string between quotation marks. It is UTF-8.
-fn push_string(out: &mut Vec<u8>, text: &str) -> Result<(), AllocError>
+/// Writes a string's canonical text behind what `out` holds: quotation marks round it (RFC 8259, section 7), and in it an escape
+/// for the quotation mark, the backslash and control characters, all else in UTF-8. `Err` is want of memory, alone.
+pub fn push_string(out: &mut Vec<u8>, text: &str) -> Result<(), AllocError>
     ensures text { OnOk result (out.new.items ≡ out.old.items ++ quoted text.now) }
     ensures utf8 { OnOk result (is_utf8 text.now ≡ true) }
 {
@@ -165,8 +167,9 @@ fn push_string(out: &mut Vec<u8>, text: &str) -> Result<(), AllocError>
     Ok(())
 }
 
-/// Writes a value. Each number in it is within the bounds of its type, and each string is UTF-8.
-fn push_value(out: &mut Vec<u8>, value: &Json) -> Result<(), AllocError>
+/// Writes a value's canonical text behind what `out` holds. Where each number of the value is in normal form, each is within the
+/// bounds of its type, and each string is UTF-8. `Err` is want of memory, alone.
+pub fn push_value(out: &mut Vec<u8>, value: &Json) -> Result<(), AllocError>
     ensures text { OnOk result (out.new.items ≡ out.old.items ++ text_of value.now) }
     ensures kept { OnOk result (all_normal value.now ≡ true → is_proper value.now ≡ true) }
 {
