@@ -1,17 +1,25 @@
 //! Times exact fractions and the evaluation of trees beside the same loops over plain integers. Without words it does each once on
-//! small sizes and prints what they come to; with the word `time` it does them on large ones and prints nanoseconds.
+//! small sizes and prints what they come to; with the word `time` it does them on large ones and prints nanoseconds. Without words
+//! it also prints worked answers of the calls of the lowest crates, which its stored run compares with what was worked out by hand.
+//! The trees are of an operator set of their own: strict and lazy operators with one, two and three operands.
 #![tactic(auto)]
 
 mod plain;
+mod point;
+mod tables;
+mod toy;
+mod trees;
 
 use bridge_io::Text;
-use core_tests::{Point, Toy};
 use frac_core::{Decimal, Frac};
 use op_trees::{Expr, count, eval};
 use plain::{Plain, Ratio, plain_eval, plain_tree};
+use point::Point;
 use std::alloc::{AllocError, Global};
 use std::time::Instant;
 use std::{env, io};
+use toy::Toy;
+use trees::{call_laws, show_sameness, show_trees};
 
 const SMALL: u32 = 1_000;
 
@@ -26,6 +34,16 @@ fn main(rt: HostRuntime) -> io::Result<()> {
         time_fractions(&rt)?;
         return time_trees(&rt);
     }
+    show_small(&rt)?;
+    show_tables(&rt)?;
+    show_trees(&rt)?;
+    show_sameness(&rt)?;
+    call_laws();
+    Ok(())
+}
+
+// What the loops come to on small sizes.
+fn show_small(rt: &HostRuntime) -> io::Result<()> {
     let (sums, products) = (fraction_loop(SMALL, false), fraction_loop(SMALL, true));
     println!(rt; "fractions {sums} {products}")?;
     let (sums, products) = (ratio_loop(SMALL, false), ratio_loop(SMALL, true));
@@ -35,6 +53,23 @@ fn main(rt: HostRuntime) -> io::Result<()> {
     let holds = holds(&tree);
     let same = plain_eval(&plain_tree(rt.alloc(), 8)?, 3) == 1;
     println!(rt; "nodes {nodes} holds {holds} {same}")?;
+    Ok(())
+}
+
+// How many rows of each table are answered as they say.
+fn show_tables(rt: &HostRuntime) -> io::Result<()> {
+    let rows = [
+        ("fractions", tables::made()),
+        ("combinations", tables::combinations()),
+        ("pairs", tables::pairs()),
+        ("rounded", tables::rounded()),
+        ("rests", tables::rests()),
+        ("literals", tables::literals()),
+        ("tokens", tables::tokens()),
+    ];
+    for (name, right) in rows {
+        println!(rt; "{name}: {right} right")?;
+    }
     Ok(())
 }
 

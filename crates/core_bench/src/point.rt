@@ -1,7 +1,7 @@
 // Names, bodies and a change of operators for the tests.
 
 ghost use Rattle.std.specs.Prelude.{◌≡◌};
-ghost use Rattle.core_tests.specs.Point.{number_at, turned};
+ghost use Rattle.core_bench.specs.Point.{number_at, turned};
 
 use crate::toy::Toy;
 use bridge_io::Text;
@@ -16,8 +16,8 @@ pub struct Point {
 }
 
 impl Names for Point {
-    ghost use Rattle.core_tests.specs.Point.{point_types, point_values};
-    ghost use Rattle.core_tests.specs.PointLaws.{point_typed};
+    ghost use Rattle.core_bench.specs.Point.{point_types, point_values};
+    ghost use Rattle.core_bench.specs.PointLaws.{point_typed};
 
     ghost values = { λ p. point_values p.x };
 
@@ -50,7 +50,7 @@ pub struct Bodied {
 }
 
 impl Bodies<Toy> for Bodied {
-    ghost use Rattle.core_tests.specs.Point.{body_of};
+    ghost use Rattle.core_bench.specs.Point.{body_of};
     ghost use Rattle.op_trees.specs.Tree.{tree};
 
     ghost bodies = { λ b. body_of (tree b.body) };
@@ -66,7 +66,7 @@ pub struct Turned;
 
 impl OpMap<Toy, Toy> for Turned {
     ghost use Rattle.std.specs.Prelude.{◌≡◌, IfOk};
-    ghost use Rattle.core_tests.specs.Point.{turned_node};
+    ghost use Rattle.core_bench.specs.Point.{turned_node};
     ghost use Rattle.op_trees.specs.Rebuilt.{shape};
     ghost use Rattle.op_trees.specs.Tree.{tree};
 

@@ -11,9 +11,9 @@ use Rattle.op_trees.specs.declared.tree.Value.TheVariants.{Truth, Number}
 use Rattle.op_trees.specs.declared.tree.Next.TheVariants.{Done, Second, Third, All}
 use Rattle.op_trees.specs.Types.{fits, has_type}
 use Rattle.op_trees.specs.Operators.{IsLawful, given_count, fits_some}
-use Rattle.core_tests.specs.declared.toy.Toy.{Toy}
-use Rattle.core_tests.specs.declared.toy.Toy.TheVariants.{Not, Equal, Greater, Divide, And, Choose}
-use Rattle.core_tests.specs.Toy.{toy, toy_arity, toy_sort, toy_strict, toy_first, toy_value, same_order}
+use Rattle.core_bench.specs.declared.toy.Toy.{Toy}
+use Rattle.core_bench.specs.declared.toy.Toy.TheVariants.{Not, Equal, Greater, Divide, And, Choose}
+use Rattle.core_bench.specs.Toy.{toy, toy_arity, toy_sort, toy_strict, toy_first, toy_value, same_order}
 
 counted : (o : Toy) (a : Ty) (b c : Option Ty) (t : Ty) → toy_sort o a b c ≡ Some t → given_count b c ≡ toy_arity o
 counted Not T.Bool None None t h = refl

@@ -8,8 +8,8 @@ use Rattle.op_trees.specs.declared.tree.Value.{Value}
 use Rattle.op_trees.specs.declared.tree.Value.TheVariants as V
 use Rattle.op_trees.specs.Tree.{Tree, Truth, Number, Name, One, Two, Three}
 use Rattle.op_trees.specs.Rebuilt.{Node, TruthNode, NumberNode, NameNode, OneNode, TwoNode, ThreeNode}
-use Rattle.core_tests.specs.declared.toy.Toy.{Toy}
-use Rattle.core_tests.specs.declared.toy.Toy.TheVariants.{Equal, Greater}
+use Rattle.core_bench.specs.declared.toy.Toy.{Toy}
+use Rattle.core_bench.specs.declared.toy.Toy.TheVariants.{Equal, Greater}
 
 abbrev pub number_at : ℤ → Option Value
 number_at x = if is_wide (quotient x (pos 1)) then None else Some (V.Number (quotient x (pos 1)))

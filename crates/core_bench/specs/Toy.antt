@@ -11,8 +11,8 @@ use Rattle.op_trees.specs.declared.tree.Value.TheVariants.{Truth, Number}
 use Rattle.op_trees.specs.declared.tree.Next.{Next}
 use Rattle.op_trees.specs.declared.tree.Next.TheVariants.{Done, Second, Third, All}
 use Rattle.op_trees.specs.Meaning.{Meaning}
-use Rattle.core_tests.specs.declared.toy.Toy.{Toy}
-use Rattle.core_tests.specs.declared.toy.Toy.TheVariants.{Not, Equal, Greater, Divide, And, Choose}
+use Rattle.core_bench.specs.declared.toy.Toy.{Toy}
+use Rattle.core_bench.specs.declared.toy.Toy.TheVariants.{Not, Equal, Greater, Divide, And, Choose}
 
 abbrev pub toy_arity : Toy → ℕ
 toy_arity Not = 1

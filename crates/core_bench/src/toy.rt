@@ -2,14 +2,14 @@
 
 ghost use Rattle.std.specs.Prelude.{◌≡◌};
 ghost use Rattle.op_trees.specs.Meaning.{narrowed};
-ghost use Rattle.core_tests.specs.Toy.{and_next, choice_next, compared_value, not_value, number_in, numbers_in, quotient_value};
+ghost use Rattle.core_bench.specs.Toy.{and_next, choice_next, compared_value, not_value, number_in, numbers_in, quotient_value};
 
 use frac_core::{Frac, FracFail};
 use op_trees::{EvalFail, Next, Operator, Ty, Value};
 use std::cmp::Ordering;
 
 /// Not, equal, greater and divide are strict; and and choose are lazy. Divide takes whole numbers.
-#[derive(Clone, Copy, PartialEq, Eq, Debug)]
+#[derive(Clone, Copy, PartialEq, Eq)]
 pub enum Toy {
     Not,
     Equal,
@@ -21,8 +21,8 @@ pub enum Toy {
 
 impl Operator for Toy {
     ghost use Rattle.std.proofs.Common.{rules};
-    ghost use Rattle.core_tests.specs.Toy.{toy};
-    ghost use Rattle.core_tests.specs.ToyLaws.{toy_lawful};
+    ghost use Rattle.core_bench.specs.Toy.{toy};
+    ghost use Rattle.core_bench.specs.ToyLaws.{toy_lawful};
 
     ghost meaning = { toy };
 
