@@ -7,7 +7,8 @@ use op_trees::*;
 use std::alloc::{AllocError, Global};
 use std::io;
 
-type Tree = Result<Box<Expr<Toy>>, AllocError>;
+/// A tree, where memory was ample.
+pub type Tree = Result<Box<Expr<Toy>>, AllocError>;
 
 #[derive(Clone, Copy)]
 enum Worked {
@@ -42,26 +43,39 @@ const WORKED: [(&str, Worked); 11] = [
 pub fn show_trees(rt: &HostRuntime) -> io::Result<()> {
     for (name, worked) in WORKED {
         let e = tree_of(rt.alloc(), worked)?;
-        let [a, b, c, d] = [value(&e, 0), value(&e, 1), value(&e, 2), value(&e, 3)];
-        let (ty, height, nodes) = (ty(&e), height(&*e), count(&*e));
-        println!(rt; "{name}: {a} {b} {c} {d}, {ty}, {height} high, {nodes} nodes")?;
+        show_tree(rt, name, &e)?;
     }
     Ok(())
 }
 
+fn show_tree(rt: &HostRuntime, name: &str, e: &Expr<Toy>) -> io::Result<()> {
+    let [a, b, c, d] = [value(e, 0), value(e, 1), value(e, 2), value(e, 3)];
+    let (ty, height, nodes) = (ty(e), height(e), count(e));
+    println!(rt; "{name}: {a} {b} {c} {d}, {ty}, {height} high, {nodes} nodes")
+}
+
 /// Prints which of these trees are the same as `x > 0 & 6 / x = 3`, and the value and height of a deep one.
 pub fn show_sameness(rt: &HostRuntime) -> io::Result<()> {
-    let alloc = rt.alloc();
-    let copied = is_guarded(alloc, copy(alloc))?;
-    let moved = is_guarded(
-        alloc,
-        two(alloc, 30, Toy::And, positive(alloc), ratio(alloc)),
-    )?;
-    let turned = is_guarded(alloc, tree_of(alloc, Worked::Turned))?;
+    let (copied, moved, turned) = sameness(rt.alloc())?;
     println!(rt; "copied {copied}, at other offsets {moved}, turned {turned}")?;
-    let deep = deep(alloc)?;
+    let deep = deep(rt.alloc())?;
     let (value, height) = (value(&deep, 0), height(&*deep));
     println!(rt; "deep {value}, {height} high")
+}
+
+fn sameness(alloc: Global) -> Result<(bool, bool, bool), AllocError> {
+    let guarded = tree_of(alloc, Worked::Guarded)?;
+    let copied = is_same(&guarded, copy(alloc))?;
+    let moved = is_same(
+        &guarded,
+        two(alloc, 30, Toy::And, positive(alloc), ratio(alloc)),
+    )?;
+    let turned = is_same(&guarded, tree_of(alloc, Worked::Turned))?;
+    Ok((copied, moved, turned))
+}
+
+fn is_same(guarded: &Expr<Toy>, e: Tree) -> Result<bool, AllocError> {
+    Ok(same(&*e?, guarded))
 }
 
 /// The laws of trees hold for these operators, names and maps.
@@ -114,7 +128,8 @@ fn boxed(alloc: Global, e: Expr<Toy>) -> Tree {
     Ok(Box::new(alloc, e)?)
 }
 
-fn number(alloc: Global, at: usize, digits: u128) -> Tree {
+/// A whole number.
+pub fn number(alloc: Global, at: usize, digits: u128) -> Tree {
     let decimal = Decimal {
         real: false,
         negative: false,
@@ -124,7 +139,8 @@ fn number(alloc: Global, at: usize, digits: u128) -> Tree {
     boxed(alloc, Expr::Number(at, decimal))
 }
 
-fn name(alloc: Global, at: usize, text: &str) -> Tree {
+/// A name.
+pub fn name(alloc: Global, at: usize, text: &str) -> Tree {
     boxed(alloc, Expr::Name(at, Text::copy_of(alloc, text)?))
 }
 
@@ -136,7 +152,8 @@ fn one(alloc: Global, at: usize, a: Tree) -> Tree {
     boxed(alloc, Expr::One(at, Toy::Not, a?))
 }
 
-fn two(alloc: Global, at: usize, o: Toy, a: Tree, b: Tree) -> Tree {
+/// An operator with two operands.
+pub fn two(alloc: Global, at: usize, o: Toy, a: Tree, b: Tree) -> Tree {
     boxed(alloc, Expr::Two(at, o, a?, b?))
 }
 
@@ -202,7 +219,8 @@ fn given(alloc: Global) -> Tree {
         name(alloc, 4, "y"),
         number(alloc, 8, 3),
     )?;
-    let body = Expr::Two(0, Toy::Divide, number(alloc, 0, 6)?, name(alloc, 0, "x")?);
+    let (six, x) = both(number(alloc, 0, 6), name(alloc, 0, "x"))?;
+    let body = Expr::Two(0, Toy::Divide, six, x);
     replaced(alloc, &e, &Bodied { body })
 }
 
@@ -220,11 +238,6 @@ fn mapped(alloc: Global) -> Tree {
 fn copy(alloc: Global) -> Tree {
     let e = tree_of(alloc, Worked::Guarded)?;
     boxed(alloc, copy_expr(alloc, &*e)?)
-}
-
-fn is_guarded(alloc: Global, e: Tree) -> Result<bool, AllocError> {
-    let (e, guarded) = both(e, tree_of(alloc, Worked::Guarded))?;
-    Ok(same(&*e, &*guarded))
 }
 
 fn deep(alloc: Global) -> Tree {
