@@ -1,8 +1,4 @@
 mod devices;
-mod lists;
-mod places;
-mod reasons;
 mod runs;
 mod steady;
-mod transfers;
-mod trees;
+mod values;

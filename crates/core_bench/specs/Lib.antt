@@ -1,0 +1,4 @@
+pub mod Toy
+pub mod ToyLaws
+pub mod Point
+pub mod PointLaws

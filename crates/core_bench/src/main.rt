@@ -1,40 +1,94 @@
 //! Times exact fractions and the evaluation of trees beside the same loops over plain integers. Without words it does each once on
-//! small sizes and prints what they come to; with the word `time` it does them on large ones and prints nanoseconds.
+//! small sizes and prints what they come to; with the word `time` it does them on large ones and prints nanoseconds. Without words
+//! it also prints worked answers of the calls of the lowest crates, which its stored run compares with what was worked out by hand.
+//! The trees are of an operator set of their own: strict and lazy operators with one, two and three operands.
 #![tactic(auto)]
 
 mod plain;
+mod point;
+mod tables;
+mod toy;
+mod trees;
 
-use bridge_io::Text;
-use core_tests::{Point, Toy};
-use frac_core::{Decimal, Frac};
+use frac_core::Frac;
 use op_trees::{Expr, count, eval};
-use plain::{Plain, Ratio, plain_eval, plain_tree};
+use plain::{Ratio, plain_eval, plain_tree};
+use point::Point;
 use std::alloc::{AllocError, Global};
 use std::time::Instant;
 use std::{env, io};
+use toy::Toy;
+use trees::{Tree, call_laws, name, number, show_sameness, show_trees, two};
 
 const SMALL: u32 = 1_000;
 
 const LARGE: u32 = 1_000_000;
 
 fn main(rt: HostRuntime) -> io::Result<()> {
+    if is_timed(&rt)? {
+        time_all(&rt)
+    } else {
+        show_all(&rt)
+    }
+}
+
+// Whether a word after the program's name is `time`.
+fn is_timed(rt: &HostRuntime) -> io::Result<bool> {
     let mut timed = false;
-    for word in env::args(&rt)?.skip(1) {
+    for word in env::args(rt)?.skip(1) {
         timed = timed || word.as_str() == "time";
     }
-    if timed {
-        time_fractions(&rt)?;
-        return time_trees(&rt);
-    }
+    Ok(timed)
+}
+
+fn time_all(rt: &HostRuntime) -> io::Result<()> {
+    time_fractions(rt)?;
+    time_trees(rt)
+}
+
+fn show_all(rt: &HostRuntime) -> io::Result<()> {
+    call_laws();
+    show_loops(rt)?;
+    show_tree(rt)?;
+    show_tables(rt)?;
+    show_trees(rt)?;
+    show_sameness(rt)
+}
+
+// What the loops come to on small sizes.
+fn show_loops(rt: &HostRuntime) -> io::Result<()> {
     let (sums, products) = (fraction_loop(SMALL, false), fraction_loop(SMALL, true));
     println!(rt; "fractions {sums} {products}")?;
     let (sums, products) = (ratio_loop(SMALL, false), ratio_loop(SMALL, true));
-    println!(rt; "integers {sums} {products}")?;
-    let tree = tree(rt.alloc(), 8)?;
-    let nodes = count(&tree);
-    let holds = holds(&tree);
+    println!(rt; "integers {sums} {products}")
+}
+
+// What a small tree comes to.
+fn show_tree(rt: &HostRuntime) -> io::Result<()> {
+    let (nodes, holds) = size_and_value(rt.alloc())?;
     let same = plain_eval(&plain_tree(rt.alloc(), 8)?, 3) == 1;
-    println!(rt; "nodes {nodes} holds {holds} {same}")?;
+    println!(rt; "nodes {nodes} holds {holds} {same}")
+}
+
+fn size_and_value(alloc: Global) -> Result<(u64, bool), AllocError> {
+    let tree = tree(alloc, 8)?;
+    Ok((count(&*tree), holds(&tree)))
+}
+
+// How many rows of each table are answered as they say.
+fn show_tables(rt: &HostRuntime) -> io::Result<()> {
+    let rows = [
+        ("fractions", tables::made()),
+        ("combinations", tables::combinations()),
+        ("pairs", tables::pairs()),
+        ("rounded", tables::rounded()),
+        ("rests", tables::rests()),
+        ("literals", tables::literals()),
+        ("tokens", tables::tokens()),
+    ];
+    for (name, right) in rows {
+        println!(rt; "{name}: {right} right")?;
+    }
     Ok(())
 }
 
@@ -102,12 +156,8 @@ fn ratio_loop(rounds: u32, product: bool) -> u64 {
 // Nanoseconds of a million sums and products each.
 fn time_fractions(rt: &HostRuntime) -> io::Result<()> {
     for product in [false, true] {
-        let start = Instant::now(rt)?;
-        let check = fraction_loop(LARGE, product);
-        let exact = start.elapsed(rt)?.as_nanos();
-        let start = Instant::now(rt)?;
-        let plain_check = ratio_loop(LARGE, product);
-        let plain = start.elapsed(rt)?.as_nanos();
+        let (exact, check) = time_exact_loop(rt, product)?;
+        let (plain, plain_check) = time_plain_loop(rt, product)?;
         println!(rt;
             "product {product}: fractions {exact} ns, integers {plain} ns ({check} {plain_check})"
         )?;
@@ -115,25 +165,32 @@ fn time_fractions(rt: &HostRuntime) -> io::Result<()> {
     Ok(())
 }
 
-fn int(digits: u128) -> Decimal {
-    Decimal {
-        real: false,
-        negative: false,
-        digits,
-        exponent: 0,
-    }
+fn time_exact_loop(rt: &HostRuntime, product: bool) -> io::Result<(u128, u64)> {
+    let start = Instant::now(rt)?;
+    let check = fraction_loop(LARGE, product);
+    Ok((start.elapsed(rt)?.as_nanos(), check))
+}
+
+fn time_plain_loop(rt: &HostRuntime, product: bool) -> io::Result<(u128, u64)> {
+    let start = Instant::now(rt)?;
+    let check = ratio_loop(LARGE, product);
+    Ok((start.elapsed(rt)?.as_nanos(), check))
 }
 
 // A balanced tree of conjunctions of this height over comparisons.
-fn tree(alloc: Global, height: u32) -> Result<Expr<Toy>, AllocError> {
+fn tree(alloc: Global, height: u32) -> Tree {
     if height == 0 {
-        let left = Box::new(alloc, Expr::Name(0, Text::copy_of(alloc, "x")?))?;
-        let right = Box::new(alloc, Expr::Number(0, int(3)))?;
-        return Ok(Expr::Two(0, Toy::Equal, left, right));
+        return two(
+            alloc,
+            0,
+            Toy::Equal,
+            name(alloc, 0, "x"),
+            number(alloc, 0, 3),
+        );
     }
-    let left = Box::new(alloc, tree(alloc, height - 1)?)?;
-    let right = Box::new(alloc, tree(alloc, height - 1)?)?;
-    Ok(Expr::Two(0, Toy::And, left, right))
+    let left = tree(alloc, height - 1);
+    let right = tree(alloc, height - 1);
+    two(alloc, 0, Toy::And, left, right)
 }
 
 fn holds(tree: &Expr<Toy>) -> bool {
@@ -142,15 +199,22 @@ fn holds(tree: &Expr<Toy>) -> bool {
 
 // Nanoseconds of one evaluation of a balanced tree of a million nodes.
 fn time_trees(rt: &HostRuntime) -> io::Result<()> {
-    let exact_tree = tree(rt.alloc(), 18)?;
-    let plain: Plain = plain_tree(rt.alloc(), 18)?;
-    let nodes = count(&exact_tree);
+    let exact = tree(rt.alloc(), 18)?;
+    let nodes = count(&*exact);
+    let (exact, value) = time_eval(rt, &exact)?;
+    let (plain, plain_value) = time_plain_eval(rt)?;
+    println!(rt; "nodes {nodes}: eval {exact} ns, integers {plain} ns ({value} {plain_value})")
+}
+
+fn time_eval(rt: &HostRuntime, tree: &Expr<Toy>) -> io::Result<(u128, bool)> {
     let start = Instant::now(rt)?;
-    let value = holds(&exact_tree);
-    let exact = start.elapsed(rt)?.as_nanos();
+    let value = holds(tree);
+    Ok((start.elapsed(rt)?.as_nanos(), value))
+}
+
+fn time_plain_eval(rt: &HostRuntime) -> io::Result<(u128, i64)> {
+    let tree = plain_tree(rt.alloc(), 18)?;
     let start = Instant::now(rt)?;
-    let plain_value = plain_eval(&plain, 3);
-    let plain = start.elapsed(rt)?.as_nanos();
-    println!(rt; "nodes {nodes}: eval {exact} ns, integers {plain} ns ({value} {plain_value})")?;
-    Ok(())
+    let value = plain_eval(&tree, 3);
+    Ok((start.elapsed(rt)?.as_nanos(), value))
 }

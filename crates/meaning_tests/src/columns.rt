@@ -70,9 +70,9 @@ fn column(alloc: Global, names: &Naming, var: &PrismVar) -> Result<PlainColumn, 
     ensures { IfOk result (λ c. column_of c ≡ column unchanged (seen_in names.now) (var_of var.now)) }
 {
     Ok(PlainColumn {
-        name: Text::copy_of(alloc, var.name.name.as_str())?,
         domain: domain(names, &var.range)?,
         first: first(names, var)?,
+        name: Text::copy_of(alloc, var.name.name.as_str())?,
     })
 }
 

@@ -109,8 +109,8 @@ fn command_under(
         (λ c. command_of c ≡ command_under (columns_in names.now) (seen_in names.now) (syntax.command_of command.now)) }
 {
     Ok(PlainCommand {
-        action: action(alloc, &command.action)?,
         guard: value_of(&command.guard, names)?,
+        action: action(alloc, &command.action)?,
         updates: updates(alloc, command.branches.as_slice(), names)?,
     })
 }
@@ -281,9 +281,9 @@ fn item_at(alloc: Global, item: &PrismItem, names: &Naming) -> Result<PlainItem,
     ensures { IfOk result (λ i. item_of i ≡ item_at (seen_in names.now) (syntax.item_of item.now)) }
 {
     Ok(PlainItem {
-        adds: adds_of(alloc, &item.on)?,
         guard: value_of(&item.guard, names)?,
         value: value_of(&item.value, names)?,
+        adds: adds_of(alloc, &item.on)?,
     })
 }
 

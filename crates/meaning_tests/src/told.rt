@@ -1,5 +1,6 @@
-// What the plain program tells of a file at a state, in lines.
+// What the plain program tells of a case, in lines.
 
+use crate::cases::{Case, Plainly};
 use crate::columns::columns;
 use crate::data::{PlainColumn, PlainFail, PlainFault};
 use crate::faults::{is_initial, is_state};
@@ -15,54 +16,17 @@ use prism_tree::PrismFile;
 use process_core::{Bad, Branch, Choice, FaultKind, Given, Mark, Outcome, State};
 use std::alloc::{AllocError, Global};
 
-/// A whole number.
-pub(crate) fn number(n: i64) -> Value {
-    ratio(n, 1)
-}
-
-/// A fraction.
-pub(crate) fn ratio(n: i64, d: i64) -> Value {
-    Value::Number(Frac::new(n, d).unwrap_or(Frac::zero()))
-}
-
-/// What is told of a file at a state under given values: `refused` where the file has a fault, the faults of the instance
-/// where it has some, `no state` where these are no values of its variables, `wide` where a number passes the bound of
-/// fractions, else the names of the variables, the state, its marks and its choices.
-pub(crate) fn told(
-    alloc: Global,
-    text: &[u8],
-    given: &[(&str, Value)],
-    values: &[Value],
-) -> Result<String, AllocError> {
-    let Some(flat) = flat_file(alloc, text)? else {
+/// What is told of a case: `refused` where the file has a fault, the faults of the instance where it has some, `no state`
+/// where the values are none of its variables, `wide` where a number passes the bound of fractions, else the names of the
+/// variables, the state and whether it is the initial one, its marks and its choices.
+pub(crate) fn told(alloc: Global, case: &Case) -> Result<String, AllocError> {
+    let Some(flat) = flat_file(alloc, case.text.as_bytes())? else {
         return String::from_str(alloc, "refused\n");
     };
-    let given = all_given(alloc, given)?;
-    let s = State {
-        values: List::from_vec(values.to_vec(alloc)?),
-    };
-    match lines(alloc, &flat, &given, &s) {
+    match lines(alloc, &flat, case) {
         Ok(lines) => Ok(lines),
         Err(PlainFail::Memory(e)) => Err(e),
         Err(PlainFail::Wide) => String::from_str(alloc, "wide\n"),
-    }
-}
-
-/// Whether these values are the initial state of a file without faults under given values.
-pub(crate) fn begins(
-    alloc: Global,
-    text: &[u8],
-    given: &[(&str, Value)],
-    values: &[Value],
-) -> Result<bool, AllocError> {
-    let Some(flat) = flat_file(alloc, text)? else {
-        return Ok(false);
-    };
-    let given = all_given(alloc, given)?;
-    match columns(alloc, flat.file(), &given) {
-        Ok(columns) => Ok(is_initial(columns.as_slice(), values)),
-        Err(PlainFail::Memory(e)) => Err(e),
-        Err(PlainFail::Wide) => Ok(false),
     }
 }
 
@@ -81,47 +45,106 @@ fn flat_file(alloc: Global, text: &[u8]) -> Result<Option<FlatPrism>, AllocError
     }
 }
 
-fn all_given(alloc: Global, given: &[(&str, Value)]) -> Result<List<Given>, AllocError> {
+fn value_of(value: Plainly) -> Value {
+    match value {
+        Plainly::Truth(b) => Value::Truth(b),
+        Plainly::Whole(n) => number(n, 1),
+        Plainly::Ratio(n, d) => number(n, d),
+    }
+}
+
+fn number(n: i64, d: i64) -> Value {
+    Value::Number(Frac::new(n, d).unwrap_or(Frac::zero()))
+}
+
+fn all_given(alloc: Global, given: &[(&'static str, Plainly)]) -> Result<List<Given>, AllocError> {
     let mut list = List::new(alloc);
-    for pair in given {
+    for (name, value) in given {
         list.push(Given {
-            name: Text::copy_of(alloc, pair.0)?,
-            value: pair.1,
+            name: Text::copy_of(alloc, name)?,
+            value: value_of(*value),
         })?;
     }
     Ok(list)
 }
 
-fn lines(
+fn state_of(alloc: Global, values: &[Plainly]) -> Result<State, AllocError> {
+    let mut list = List::new(alloc);
+    for value in values {
+        list.push(value_of(*value))?;
+    }
+    Ok(State { values: list })
+}
+
+fn lines(alloc: Global, flat: &FlatPrism, case: &Case) -> Result<String, PlainFail> {
+    let mut out = String::new(alloc);
+    push_case(alloc, flat, case, &mut out)?;
+    Ok(out)
+}
+
+// The faults of the instance, or what is told of the state.
+fn push_case(
+    alloc: Global,
+    flat: &FlatPrism,
+    case: &Case,
+    out: &mut String,
+) -> Result<(), PlainFail> {
+    let given = all_given(alloc, case.given)?;
+    let columns = columns(alloc, flat.file(), &given)?;
+    if push_faults(alloc, flat, &given, columns.as_slice(), out)? {
+        return Ok(());
+    }
+    push_instance(alloc, flat, &given, columns.as_slice(), case, out)
+}
+
+// What is told of the state, if these are values of the variables.
+fn push_instance(
     alloc: Global,
     flat: &FlatPrism,
     given: &List<Given>,
+    columns: &[PlainColumn],
+    case: &Case,
+    out: &mut String,
+) -> Result<(), PlainFail> {
+    let s = state_of(alloc, case.values)?;
+    if is_state(columns, s.values.as_slice()) {
+        push_header(columns, out)?;
+        push_meaning(alloc, flat, given, columns, &s, out)
+    } else {
+        Ok(out.push_str("no state\n")?)
+    }
+}
+
+// The state, its marks and its choices.
+fn push_meaning(
+    alloc: Global,
+    flat: &FlatPrism,
+    given: &List<Given>,
+    columns: &[PlainColumn],
     s: &State,
-) -> Result<String, PlainFail> {
-    let mut out = String::new(alloc);
+    out: &mut String,
+) -> Result<(), PlainFail> {
+    push_state(alloc, s, out)?;
+    let initial = is_initial(columns, s.values.as_slice());
+    out.push_str(if initial { " initial\n" } else { "\n" })?;
+    push_marks(alloc, flat.file(), &marks_of(alloc, flat, given, s)?, out)?;
+    push_choices(alloc, &choices_of(alloc, flat, given, s)?, out)?;
+    Ok(())
+}
+
+// The faults of the instance, and whether there are some.
+fn push_faults(
+    alloc: Global,
+    flat: &FlatPrism,
+    given: &List<Given>,
+    columns: &[PlainColumn],
+    out: &mut String,
+) -> Result<bool, PlainFail> {
     let faults = faults_of(alloc, flat, given)?;
-    let columns = columns(alloc, flat.file(), given)?;
-    if faults.len() > 0 {
-        for fault in faults.as_slice() {
-            push_fault(flat.file(), columns.as_slice(), *fault, &mut out)?;
-        }
-        return Ok(out);
+    for fault in faults.as_slice() {
+        push_fault(flat.file(), columns, *fault, out)?;
     }
-    if !is_state(columns.as_slice(), s.values.as_slice()) {
-        out.push_str("no state\n")?;
-        return Ok(out);
-    }
-    push_header(columns.as_slice(), &mut out)?;
-    push_state(alloc, s, &mut out)?;
-    out.push_str("\n")?;
-    push_marks(
-        alloc,
-        flat.file(),
-        &marks_of(alloc, flat, given, s)?,
-        &mut out,
-    )?;
-    push_choices(alloc, &choices_of(alloc, flat, given, s)?, &mut out)?;
-    Ok(out)
+    Ok(faults.len() > 0)
 }
 
 fn kind_text(kind: FaultKind) -> &'static str {

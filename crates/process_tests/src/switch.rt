@@ -38,20 +38,8 @@ impl Steps for Switch {
     }
 
     fn choices(&self, alloc: Global, s: &State) -> Result<List<Choice>, StepFail> {
-        let on = position(s) == Some(true);
-        let mut rewards = List::new(alloc);
-        rewards.push(Frac::one())?;
-        let mut branches = List::new(alloc);
-        branches.push(Branch {
-            weight: Frac::one(),
-            target: state(alloc, !on)?,
-            rewards,
-        })?;
         let mut choices = List::new(alloc);
-        choices.push(Choice {
-            label: Some(Text::copy_of(alloc, "turn")?),
-            outcome: Outcome::Good(branches),
-        })?;
+        choices.push(turn(alloc, s)?)?;
         Ok(choices)
     }
 
@@ -77,7 +65,10 @@ impl Steps for Switch {
 
 ghost use Rattle.std.specs.Prelude.{◌≡◌, ◌∷◌, [], IfOk};
 ghost use Rattle.op_trees.specs.declared.tree.Value.TheVariants as values;
-ghost use Rattle.process_tests.specs.Switch.{position_of};
+ghost use Rattle.std.specs.Prelude.{map};
+ghost use Rattle.frac_core.specs.Fraction.{unit};
+ghost use Rattle.process_core.specs.Seen.{seen_branch, seen_choice};
+ghost use Rattle.process_tests.specs.Switch.{position_of, turn, turned};
 
 /// Whether the switch is on, where this is a state.
 fn position(s: &State) -> Option<bool>
@@ -95,4 +86,43 @@ fn state(alloc: Global, on: bool) -> Result<State, AllocError>
     let mut values = List::new(alloc);
     values.push(Value::Truth(on))?;
     Ok(State { values })
+}
+
+/// The one choice of a state.
+fn turn(alloc: Global, s: &State) -> Result<Choice, AllocError>
+    ensures { IfOk result (λ c. seen_choice c ≡ turn s.now.values) }
+{
+    Ok(Choice {
+        label: Some(Text::copy_of(alloc, "turn")?),
+        outcome: Outcome::Good(branches(alloc, s)?),
+    })
+}
+
+/// The one branch of the choice.
+fn branches(alloc: Global, s: &State) -> Result<List<Branch>, AllocError>
+    ensures { IfOk result (λ bs. map seen_branch bs ≡ turned s.now.values ∷ []) }
+{
+    let mut branches = List::new(alloc);
+    branches.push(turned(alloc, s)?)?;
+    Ok(branches)
+}
+
+/// The branch to the other state.
+fn turned(alloc: Global, s: &State) -> Result<Branch, AllocError>
+    ensures { IfOk result (λ b. seen_branch b ≡ turned s.now.values) }
+{
+    let on = position(s) == Some(true);
+    Ok(Branch {
+        weight: Frac::one(),
+        target: state(alloc, !on)?,
+        rewards: one_reward(alloc)?,
+    })
+}
+
+fn one_reward(alloc: Global) -> Result<List<Frac>, AllocError>
+    ensures { IfOk result (λ rewards. rewards ≡ unit ∷ []) }
+{
+    let mut rewards = List::new(alloc);
+    rewards.push(Frac::one())?;
+    Ok(rewards)
 }

@@ -1,4 +1,5 @@
-//! Tests of `prism_to_jani`: worked PRISM files, and parts of the JANI texts that they are translated to.
+//! Tests of PRISM files with ample memory: what worked files are translated to, read back as JANI files; and what files are written
+//! back as.
 #![tactic(auto)]
 
 #[cfg(test)]

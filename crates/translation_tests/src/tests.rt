@@ -1,31 +1,49 @@
 use bridge_io::{List, Refused};
-use decimal_json::write_json;
-use jani_tree::to_json;
-use prism_check::check_prism;
+use decimal_json::{read_json, write_json};
+use jani_tree::{JaniFile, from_json, to_json};
+use prism_check::{CheckedPrism, check_prism};
 use prism_clean::flatten;
 use prism_parse::parse;
-use prism_print::printable_law;
+use prism_print::{print, printable_law};
 use prism_to_jani::translate;
 use std::alloc::{AllocError, Global};
 use std::test::Fail;
 
-/// The canonical text of what a PRISM file is translated to; empty where the file has a fault.
-fn translation(alloc: Global, text: &[u8]) -> Result<List<u8>, AllocError> {
+/// The file that the bytes spell, if it has no fault.
+fn checked(alloc: Global, text: &[u8]) -> Result<CheckedPrism, Refused> {
     printable_law();
-    let file = match parse(alloc, text) {
-        Ok(file) => file,
-        Err(Refused::At(_)) => return Ok(List::new(alloc)),
-        Err(Refused::Memory(e)) => return Err(e),
-    };
-    let checked = match check_prism(alloc, file) {
-        Ok(checked) => checked,
-        Err(Refused::At(_)) => return Ok(List::new(alloc)),
-        Err(Refused::Memory(e)) => return Err(e),
-    };
-    let flat = flatten(alloc, &checked)?;
-    let jani = translate(alloc, flat.file())?;
-    let value = to_json(alloc, &jani)?;
+    match parse(alloc, text) {
+        Ok(file) => check_prism(alloc, file),
+        Err(e) => Err(e),
+    }
+}
+
+/// The canonical text of what a PRISM file is translated to.
+fn translation(alloc: Global, text: &[u8]) -> Result<List<u8>, Refused> {
+    let checked = checked(alloc, text)?;
+    Ok(jani_text(alloc, &checked)?)
+}
+
+fn jani_text(alloc: Global, checked: &CheckedPrism) -> Result<List<u8>, AllocError> {
+    let flat = flatten(alloc, checked)?;
+    written(alloc, &translate(alloc, flat.file())?)
+}
+
+fn written(alloc: Global, file: &JaniFile) -> Result<List<u8>, AllocError> {
+    let value = to_json(alloc, file)?;
     write_json(alloc, &value)
+}
+
+/// The canonical text of the JANI file that the bytes spell.
+fn written_back(alloc: Global, text: &[u8]) -> Result<List<u8>, Refused> {
+    let json = read_json(alloc, text)?;
+    let file = from_json(alloc, &json)?;
+    Ok(written(alloc, &file)?)
+}
+
+/// Whether a text has these parts.
+fn has_all(text: &[u8], parts: &[&[u8]]) -> bool {
+    parts.iter().all(|part| has(text, *part))
 }
 
 /// Whether a text has this part.
@@ -38,29 +56,20 @@ fn has(text: &[u8], part: &[u8]) -> bool {
     false
 }
 
-#[test]
-fn one_module(rt: HostRuntime) -> Result<(), Fail> {
-    let text = translation(
-        rt.alloc(),
-        b"mdp
-module M
-  x : [0..2] init 0;
-  [] x=0 -> (x'=1);
-  [] x=1 -> (x'=2);
-endmodule
-",
-    )?;
-    let expected: &[u8] =
-        b"{\"jani-version\":1,\"name\":\"model\",\"type\":\"mdp\",\"features\":[\"derived-operators\",\"state-exit-rewards\"],\"actions\":[],\"constants\":[],\"variables\":[{\"name\":\"x\",\"type\":{\"kind\":\"bounded\",\"base\":\"int\",\"lower-bound\":0,\"upper-bound\":2},\"initial-value\":0}],\"properties\":[],\"automata\":[{\"name\":\"M\",\"locations\":[{\"name\":\"loc\"}],\"initial-locations\":[\"loc\"],\"edges\":[{\"location\":\"loc\",\"guard\":{\"exp\":{\"op\":\"=\",\"left\":\"x\",\"right\":0}},\"destinations\":[{\"location\":\"loc\",\"assignments\":[{\"ref\":\"x\",\"value\":1}]}]},{\"location\":\"loc\",\"guard\":{\"exp\":{\"op\":\"=\",\"left\":\"x\",\"right\":1}},\"destinations\":[{\"location\":\"loc\",\"assignments\":[{\"ref\":\"x\",\"value\":2}]}]}]}],\"system\":{\"elements\":[{\"automaton\":\"M\"}],\"syncs\":[]}}";
-    assert_eq!(rt; text.as_slice(), expected);
-    Ok(())
+/// Whether a PRISM file is translated to a text with these parts, which is read and written back as it is.
+fn is_translated(alloc: Global, text: &[u8], parts: &[&[u8]]) -> Result<bool, Refused> {
+    let jani = translation(alloc, text)?;
+    let again = written_back(alloc, jani.as_slice())?;
+    Ok(has_all(jani.as_slice(), parts) && again.as_slice() == jani.as_slice())
 }
 
-#[test]
-fn two_processes_and_one_lock(rt: HostRuntime) -> Result<(), Fail> {
-    let text = translation(
-        rt.alloc(),
-        b"// two processes, one lock
+/// Whether a PRISM file has this canonical text.
+fn is_written(alloc: Global, text: &[u8], wanted: &[u8]) -> Result<bool, Refused> {
+    let file = parse(alloc, text)?;
+    Ok(print(alloc, &file)?.as_slice() == wanted)
+}
+
+const LOCK: &[u8] = b"// two processes, one lock
 mdp
 const int K = 2;
 global lock : [0..1] init 0;
@@ -81,24 +90,40 @@ endrewards
 rewards \"rounds\"
   [done] true : 1;
 endrewards
-",
-    )?;
-    let parts: [&[u8]; 3] = [
-        b"\"elements\":[{\"automaton\":\"proc1\"},{\"automaton\":\"proc2\"},{\"automaton\":\"zz_monitor\"}]",
-        b"\"syncs\":[{\"synchronise\":[\"done\",\"done\",\"done\"],\"result\":\"done\"}]",
-        b"\"edges\":[{\"location\":\"loc\",\"action\":\"done\",\"destinations\":[{\"location\":\"loc\",\"assignments\":[{\"ref\":\"rounds\",\"value\":{\"op\":\"ite\",\"if\":true,\"then\":1,\"else\":0}}]}]}]",
-    ];
-    for part in parts {
-        assert!(rt; has(text.as_slice(), part));
-    }
-    Ok(())
-}
+";
 
-#[test]
-fn rewards_by_a_monitor(rt: HostRuntime) -> Result<(), Fail> {
-    let text = translation(
-        rt.alloc(),
-        b"mdp
+const LOCK_WRITTEN: &[u8] = b"mdp
+
+const int K = 2;
+
+global lock : [0..1] init 0;
+
+formula crit = ((p1 = 2) ? 1 : 0) + ((p2 = 2) ? 1 : 0);
+
+module proc1
+  p1 : [0..2] init 0;
+  n1 : [0..K];
+
+  [] p1 = 0 -> 0.9 : (p1'=1) + 0.1 : true;
+  [] (p1 = 1) & (lock = 0) -> (p1'=2) & (lock'=1);
+  [] (p1 = 2) & (n1 < K) -> (p1'=0) & (n1'=n1 + 1) & (lock'=0);
+  [done] n1 = K -> true;
+endmodule
+
+module proc2 = proc1 [p1=p2, p2=p1, n1=n2] endmodule
+
+label \"mutex\" = crit <= 1;
+
+rewards \"work\"
+  (p1 = 2) | (p2 = 2) : 1;
+endrewards
+
+rewards \"rounds\"
+  [done] true : 1;
+endrewards
+";
+
+const EARNING: &[u8] = b"mdp
 module M
   x : [0..1] init 0;
   [a] x=0 -> (x'=1);
@@ -112,48 +137,18 @@ endrewards
 rewards
   [a] true : 5;
 endrewards
-",
-    )?;
-    let parts: [&[u8]; 3] = [
-        b"{\"name\":\"zz_r_1\",\"type\":\"real\",\"transient\":true,\"initial-value\":0,\"comment\":\"reward:\"}",
-        b"{\"location\":\"loc\",\"action\":\"zz_silent\",\"guard\":{\"exp\":{\"op\":\"=\",\"left\":\"x\",\"right\":1}}",
-        b"\"syncs\":[{\"synchronise\":[\"a\",\"a\"],\"result\":\"a\"},{\"synchronise\":[\"zz_silent\",\"zz_silent\"]}]",
-    ];
-    for part in parts {
-        assert!(rt; has(text.as_slice(), part));
-    }
-    Ok(())
-}
+";
 
-#[test]
-fn formulas_in_a_copy_are_renamed(rt: HostRuntime) -> Result<(), Fail> {
-    let text = translation(
-        rt.alloc(),
-        b"mdp
+const COPIED: &[u8] = b"mdp
 formula f = x + y;
 module M1
   x : [0..3] init 1;
   [] f<3 -> (x'=x+1);
 endmodule
 module M2 = M1 [x=y, y=x] endmodule
-",
-    )?;
-    let parts: [&[u8]; 3] = [
-        b"\"guard\":{\"exp\":{\"op\":\"<\",\"left\":{\"op\":\"+\",\"left\":\"x\",\"right\":\"y\"},\"right\":3}}",
-        b"\"guard\":{\"exp\":{\"op\":\"<\",\"left\":{\"op\":\"+\",\"left\":\"y\",\"right\":\"x\"},\"right\":3}}",
-        b"\"destinations\":[{\"location\":\"loc\",\"assignments\":[{\"ref\":\"y\",\"value\":{\"op\":\"+\",\"left\":\"y\",\"right\":1}}]}]",
-    ];
-    for part in parts {
-        assert!(rt; has(text.as_slice(), part));
-    }
-    Ok(())
-}
+";
 
-#[test]
-fn names_constants_and_first_values(rt: HostRuntime) -> Result<(), Fail> {
-    let text = translation(
-        rt.alloc(),
-        b"mdp
+const NAMED: &[u8] = b"mdp
 const double p;
 const int L = 2;
 module M
@@ -163,15 +158,94 @@ module M
   [] x=2 -> p : (x'=3) + 1-p : true;
 endmodule
 label \"x\" = x=3;
-",
-    )?;
-    let parts: [&[u8]; 3] = [
-        b"\"constants\":[{\"name\":\"p\",\"type\":\"real\"},{\"name\":\"L\",\"type\":\"int\",\"value\":2}]",
-        b"\"variables\":[{\"name\":\"x\",\"type\":{\"kind\":\"bounded\",\"base\":\"int\",\"lower-bound\":2,\"upper-bound\":5},\"initial-value\":2},{\"name\":\"y\",\"type\":{\"kind\":\"bounded\",\"base\":\"int\",\"lower-bound\":\"L\",\"upper-bound\":5},\"initial-value\":\"L\"},{\"name\":\"b\",\"type\":\"bool\",\"initial-value\":false}",
-        b"{\"name\":\"zz_l_0\",\"type\":\"bool\",\"transient\":true,\"initial-value\":false,\"comment\":\"label:x\"}",
+";
+
+#[test]
+fn files_are_translated(rt: HostRuntime) {
+    let rows: [(&[u8], &[&[u8]]); 4] = [
+        (
+            LOCK,
+            &[
+                b"\"elements\":[{\"automaton\":\"proc1\"},{\"automaton\":\"proc2\"},{\"automaton\":\"zz_monitor\"}]",
+                b"\"syncs\":[{\"synchronise\":[\"done\",\"done\",\"done\"],\"result\":\"done\"}]",
+                b"\"edges\":[{\"location\":\"loc\",\"action\":\"done\",\"destinations\":[{\"location\":\"loc\",\"assignments\":[{\"ref\":\"rounds\",\"value\":{\"op\":\"ite\",\"if\":true,\"then\":1,\"else\":0}}]}]}]",
+            ],
+        ),
+        (
+            EARNING,
+            &[
+                b"{\"name\":\"zz_r_1\",\"type\":\"real\",\"transient\":true,\"initial-value\":0,\"comment\":\"reward:\"}",
+                b"{\"location\":\"loc\",\"action\":\"zz_silent\",\"guard\":{\"exp\":{\"op\":\"=\",\"left\":\"x\",\"right\":1}}",
+                b"\"syncs\":[{\"synchronise\":[\"a\",\"a\"],\"result\":\"a\"},{\"synchronise\":[\"zz_silent\",\"zz_silent\"]}]",
+            ],
+        ),
+        (
+            COPIED,
+            &[
+                b"\"guard\":{\"exp\":{\"op\":\"<\",\"left\":{\"op\":\"+\",\"left\":\"x\",\"right\":\"y\"},\"right\":3}}",
+                b"\"guard\":{\"exp\":{\"op\":\"<\",\"left\":{\"op\":\"+\",\"left\":\"y\",\"right\":\"x\"},\"right\":3}}",
+                b"\"destinations\":[{\"location\":\"loc\",\"assignments\":[{\"ref\":\"y\",\"value\":{\"op\":\"+\",\"left\":\"y\",\"right\":1}}]}]",
+            ],
+        ),
+        (
+            NAMED,
+            &[
+                b"\"constants\":[{\"name\":\"p\",\"type\":\"real\"},{\"name\":\"L\",\"type\":\"int\",\"value\":2}]",
+                b"\"variables\":[{\"name\":\"x\",\"type\":{\"kind\":\"bounded\",\"base\":\"int\",\"lower-bound\":2,\"upper-bound\":5},\"initial-value\":2},{\"name\":\"y\",\"type\":{\"kind\":\"bounded\",\"base\":\"int\",\"lower-bound\":\"L\",\"upper-bound\":5},\"initial-value\":\"L\"},{\"name\":\"b\",\"type\":\"bool\",\"initial-value\":false}",
+                b"{\"name\":\"zz_l_0\",\"type\":\"bool\",\"transient\":true,\"initial-value\":false,\"comment\":\"label:x\"}",
+            ],
+        ),
     ];
-    for part in parts {
-        assert!(rt; has(text.as_slice(), part));
+    for (text, parts) in rows {
+        let right = is_translated(rt.alloc(), text, parts);
+        assert!(rt; matches!(right, Ok(true)));
     }
-    Ok(())
+}
+
+#[test]
+fn files_are_written_canonically(rt: HostRuntime) {
+    let rows: [(&[u8], &[u8]); 14] = [
+        (LOCK, LOCK_WRITTEN),
+        (LOCK_WRITTEN, LOCK_WRITTEN),
+        (b"mdp", b"mdp\n"),
+        (b"const a=1;mdp", b"mdp\n\nconst int a = 1;\n"),
+        (
+            b"mdp const bool b; const double p=0.10;",
+            b"mdp\n\nconst bool b;\nconst double p = 0.1;\n",
+        ),
+        (
+            b"mdp const double p=5000.0+1.0*1e-300-.5;",
+            b"mdp\n\nconst double p = (5e3 + (1.0 * 1e-300)) - 0.5;\n",
+        ),
+        (
+            b"mdp const int a=b-c-d;",
+            b"mdp\n\nconst int a = (b - c) - d;\n",
+        ),
+        (
+            b"mdp const int a=min(1,2,3)*-mod(-1,floor(x+1));",
+            b"mdp\n\nconst int a = min(min(1, 2), 3) * (-mod(-1, floor(x + 1)));\n",
+        ),
+        (
+            b"mdp formula f=!a&b=>c<=>d?1:2;",
+            b"mdp\n\nformula f = (((!a) & b) => (c <=> d)) ? 1 : 2;\n",
+        ),
+        (b"mdp global g:bool;", b"mdp\n\nglobal g : bool;\n"),
+        (b"mdp module M endmodule", b"mdp\n\nmodule M\nendmodule\n"),
+        (
+            b"mdp module M []true->true;endmodule",
+            b"mdp\n\nmodule M\n  [] true -> true;\nendmodule\n",
+        ),
+        (
+            b"mdp rewards [] x=0:1; [a]true:2;1=1:3;endrewards",
+            b"mdp\n\nrewards\n  [] x = 0 : 1;\n  [a] true : 2;\n  1 = 1 : 3;\nendrewards\n",
+        ),
+        (
+            b"mdp module M b:bool init floor=1;endmodule",
+            b"mdp\n\nmodule M\n  b : bool init floor = 1;\nendmodule\n",
+        ),
+    ];
+    for (text, wanted) in rows {
+        let right = is_written(rt.alloc(), text, wanted);
+        assert!(rt; matches!(right, Ok(true)));
+    }
 }

@@ -2,15 +2,57 @@
 use bridge_io::{MemoryShelf, MemorySink};
 use model_command::run;
 use std::alloc::{AllocError, Global};
-use std::test::Fail;
 
 const MODEL: &[u8] =
     b"mdp\nmodule M\n  x : [0..2] init 0;\n  [] x=0 -> (x'=1);\n  [] x=1 -> (x'=2);\nendmodule\n";
 
-// The bytes of its translation.
-const LENGTH: usize = 689;
+const TRANSLATION: &[u8] =
+    b"{\"jani-version\":1,\"name\":\"model\",\"type\":\"mdp\",\"features\":[\"derived-operators\",\"state-exit-rewards\"],\"actions\":[],\"constants\":[],\"variables\":[{\"name\":\"x\",\"type\":{\"kind\":\"bounded\",\"base\":\"int\",\"lower-bound\":0,\"upper-bound\":2},\"initial-value\":0}],\"properties\":[],\"automata\":[{\"name\":\"M\",\"locations\":[{\"name\":\"loc\"}],\"initial-locations\":[\"loc\"],\"edges\":[{\"location\":\"loc\",\"guard\":{\"exp\":{\"op\":\"=\",\"left\":\"x\",\"right\":0}},\"destinations\":[{\"location\":\"loc\",\"assignments\":[{\"ref\":\"x\",\"value\":1}]}]},{\"location\":\"loc\",\"guard\":{\"exp\":{\"op\":\"=\",\"left\":\"x\",\"right\":1}},\"destinations\":[{\"location\":\"loc\",\"assignments\":[{\"ref\":\"x\",\"value\":2}]}]}]}],\"system\":{\"elements\":[{\"automaton\":\"M\"}],\"syncs\":[]}}\n";
 
-const ROOM: usize = 2_000;
+// The shelf, the output and the errors of a run.
+#[derive(Drop)]
+struct Devices {
+    shelf: MemoryShelf,
+    out: MemorySink,
+    err: MemorySink,
+}
+
+// The calls at which devices fail; none fails at call 0.
+#[derive(Clone, Copy)]
+struct Failing {
+    read: u64,
+    write: u64,
+    tell: u64,
+}
+
+const NEVER: Failing = Failing {
+    read: 0,
+    write: 0,
+    tell: 0,
+};
+
+// The errors are taken three bytes a call.
+fn failing_devices(alloc: Global, file: &[u8], failing: Failing) -> Result<Devices, AllocError> {
+    Ok(Devices {
+        shelf: shelf_with(alloc, file, failing.read)?,
+        out: sink_with(alloc, 100, failing.write)?,
+        err: sink_with(alloc, 3, failing.tell)?,
+    })
+}
+
+// A shelf with a file, under the name f.
+fn shelf_with(alloc: Global, file: &[u8], read: u64) -> Result<MemoryShelf, AllocError> {
+    let mut shelf = MemoryShelf::new(alloc);
+    shelf.put("f", file)?;
+    shelf.fail_call(read)?;
+    Ok(shelf)
+}
+
+fn sink_with(alloc: Global, most: usize, call: u64) -> Result<MemorySink, AllocError> {
+    let mut sink = MemorySink::new(alloc, most.max(1), 2_000)?;
+    sink.fail_call(call)?;
+    Ok(sink)
+}
 
 fn words(alloc: Global, texts: &[&str]) -> Result<Vec<String>, AllocError> {
     let mut words = Vec::new(alloc);
@@ -20,147 +62,96 @@ fn words(alloc: Global, texts: &[&str]) -> Result<Vec<String>, AllocError> {
     Ok(words)
 }
 
-// A shelf with a file, under the name f.
-fn shelf_with(alloc: Global, file: &[u8]) -> Result<MemoryShelf, AllocError> {
-    let mut shelf = MemoryShelf::new(alloc);
-    shelf.put("f", file)?;
-    Ok(shelf)
+// The status, how many bytes of the translation were written, and what was told.
+#[derive(Clone, Copy)]
+struct End {
+    status: u8,
+    written: usize,
+    told: &'static [u8],
 }
 
-// What a run writes for the model. Its bytes are compared with the expected ones by the program's stored run.
-fn whole_text(alloc: Global) -> Result<MemorySink, AllocError> {
+fn is_end(status: u8, devices: &Devices, end: End) -> bool {
+    let front = end.written.min(TRANSLATION.len());
+    status == end.status
+        && devices.out.taken() == &TRANSLATION[..front]
+        && devices.err.taken() == end.told
+}
+
+// Whether a run of `to-jani f` over a file ends so.
+fn ends(alloc: Global, file: &[u8], failing: Failing, end: End) -> Result<bool, AllocError> {
+    let mut devices = failing_devices(alloc, file, failing)?;
     let words = words(alloc, &["to-jani", "f"])?;
-    let mut shelf = shelf_with(alloc, MODEL)?;
-    let mut out = MemorySink::new(alloc, 100, ROOM)?;
-    let mut err = MemorySink::new(alloc, 100, ROOM)?;
-    let _ = run(alloc, &words, &mut shelf, &mut out, &mut err);
-    Ok(out)
+    let status = run(
+        alloc,
+        &words,
+        &mut devices.shelf,
+        &mut devices.out,
+        &mut devices.err,
+    );
+    Ok(is_end(status, &devices, end))
 }
 
 #[test]
-fn a_model_is_translated(rt: HostRuntime) -> Result<(), Fail> {
-    let alloc = rt.alloc();
-    let words = words(alloc, &["to-jani", "f"])?;
-    let mut shelf = shelf_with(alloc, MODEL)?;
-    let mut out = MemorySink::new(alloc, 100, ROOM)?;
-    let mut err = MemorySink::new(alloc, 100, ROOM)?;
-    assert_eq!(rt; run(alloc, &words, &mut shelf, &mut out, &mut err), 0);
-    assert_eq!(rt; out.taken().len(), LENGTH);
-    assert!(rt; out.taken().starts_with(b"{\"jani-version\":1,"));
-    assert!(rt; err.taken().is_empty());
-    Ok(())
-}
-
-#[test]
-fn each_read_may_fail(rt: HostRuntime) -> Result<(), Fail> {
-    let alloc = rt.alloc();
-    let words = words(alloc, &["to-jani", "f"])?;
-    let mut file = Vec::with_capacity(alloc, 20_000)?;
+fn each_read_may_fail(rt: HostRuntime) -> Result<(), AllocError> {
+    let mut file = Vec::new(rt.alloc());
     file.resize(10_000, b' ')?;
     file.extend_from_slice(MODEL)?;
-    let mut statuses = Vec::new(alloc);
-    for call in 1..6 {
-        let mut shelf = shelf_with(alloc, &file)?;
-        shelf.fail_call(call)?;
-        let mut out = MemorySink::new(alloc, 100, ROOM)?;
-        let mut err = MemorySink::new(alloc, 100, ROOM)?;
-        let status = run(alloc, &words, &mut shelf, &mut out, &mut err);
-        statuses.push(status)?;
-        assert_eq!(rt; out.taken().len(), if status == 0 { LENGTH } else { 0 });
-        let said: &[u8] = if status == 0 {
-            b""
-        } else {
-            b"bridge: read fault f\n"
-        };
-        assert_eq!(rt; err.taken(), said);
-    }
     // Three pieces of 4,096 bytes, and a call that gives none.
-    assert_eq!(rt; statuses.as_slice(), [4u8, 4, 4, 4, 0].as_slice());
+    for read in 1..6u64 {
+        let end = End {
+            status: if read < 5 { 4 } else { 0 },
+            written: if read < 5 { 0 } else { TRANSLATION.len() },
+            told: if read < 5 {
+                b"bridge: read fault f\n"
+            } else {
+                b""
+            },
+        };
+        let right = ends(rt.alloc(), &file, Failing { read, ..NEVER }, end);
+        assert!(rt; matches!(right, Ok(true)), "{read}");
+    }
     Ok(())
 }
 
 #[test]
-fn each_write_may_fail(rt: HostRuntime) -> Result<(), Fail> {
-    let alloc = rt.alloc();
-    let words = words(alloc, &["to-jani", "f"])?;
-    let whole = whole_text(alloc)?;
+fn each_write_may_fail(rt: HostRuntime) {
     let mut written = 0usize;
-    for call in 1..9 {
-        let mut shelf = shelf_with(alloc, MODEL)?;
-        let mut out = MemorySink::new(alloc, 100, ROOM)?;
-        out.fail_call(call)?;
-        let mut err = MemorySink::new(alloc, 100, ROOM)?;
-        let status = run(alloc, &words, &mut shelf, &mut out, &mut err);
-        let front = written.min(whole.taken().len());
-        assert_eq!(rt; out.taken(), whole.taken().split_at(front).0);
-        assert_eq!(rt; status, if front == LENGTH { 0 } else { 5 });
-        let said: &[u8] = if status == 0 {
-            b""
-        } else {
-            b"bridge: write fault\n"
+    for write in 1..9u64 {
+        let whole = written >= TRANSLATION.len();
+        let end = End {
+            status: if whole { 0 } else { 5 },
+            written,
+            told: if whole { b"" } else { b"bridge: write fault\n" },
         };
-        assert_eq!(rt; err.taken(), said);
+        let right = ends(rt.alloc(), MODEL, Failing { write, ..NEVER }, end);
+        assert!(rt; matches!(right, Ok(true)), "{write}");
         written = written.saturating_add(100);
     }
-    Ok(())
 }
 
 #[test]
-fn both_sinks_may_fail(rt: HostRuntime) -> Result<(), Fail> {
-    let alloc = rt.alloc();
-    let words = words(alloc, &["to-jani", "f"])?;
-    let mut shelf = shelf_with(alloc, MODEL)?;
-    let mut out = MemorySink::new(alloc, 100, ROOM)?;
-    out.fail_call(1)?;
-    let mut err = MemorySink::new(alloc, 100, ROOM)?;
-    err.fail_call(1)?;
-    assert_eq!(rt; run(alloc, &words, &mut shelf, &mut out, &mut err), 5);
-    assert_eq!(rt; out.taken(), b"".as_slice());
-    assert_eq!(rt; err.taken(), b"".as_slice());
-    Ok(())
-}
-
-#[test]
-fn a_refusal_may_be_cut_short(rt: HostRuntime) -> Result<(), Fail> {
-    let alloc = rt.alloc();
-    let words = words(alloc, &["to-jani", "f"])?;
-    for (most, call, said) in [(100usize, 1u64, b"".as_slice()), (3, 2, b"f:1".as_slice())] {
-        let mut shelf = shelf_with(alloc, b"mdp")?;
-        let mut out = MemorySink::new(alloc, 100, ROOM)?;
-        let mut err = MemorySink::new(alloc, most.max(1), ROOM)?;
-        err.fail_call(call)?;
-        assert_eq!(rt; run(alloc, &words, &mut shelf, &mut out, &mut err), 5);
-        assert_eq!(rt; out.taken(), b"".as_slice());
-        assert_eq!(rt; err.taken(), said);
-    }
-    Ok(())
-}
-
-#[test]
-fn each_other_end_is_told(rt: HostRuntime) -> Result<(), Fail> {
-    let alloc = rt.alloc();
-    let rows: [(&[&str], u8, &[u8]); 6] = [
-        (&[], 3, b"bridge: word 1\n"),
-        (&["to-jani"], 3, b"bridge: word 2\n"),
-        (&["to-json", "f"], 3, b"bridge: word 1\n"),
-        (&["to-jani", "f", "g"], 3, b"bridge: word 3\n"),
-        (&["to-jani", "g"], 4, b"bridge: read fault g\n"),
-        (&["to-jani", "f"], 2, b"f:1:1: reason 42 NotYet\n"),
+fn what_is_told_may_be_cut_short(rt: HostRuntime) {
+    let rows: [(&[u8], u64, u64, &'static [u8]); 3] = [
+        (MODEL, 1, 1, b""),
+        (b"mdp", 0, 1, b""),
+        (b"mdp", 0, 2, b"f:1"),
     ];
-    for (texts, status, said) in rows {
-        let words = words(alloc, texts)?;
-        let mut shelf = shelf_with(alloc, b"mdp")?;
-        let mut out = MemorySink::new(alloc, 100, ROOM)?;
-        let mut err = MemorySink::new(alloc, 100, ROOM)?;
-        assert_eq!(rt; run(alloc, &words, &mut shelf, &mut out, &mut err), status);
-        assert_eq!(rt; out.taken(), b"".as_slice());
-        assert_eq!(rt; err.taken(), said);
+    for (file, write, tell, told) in rows {
+        let end = End {
+            status: 5,
+            written: 0,
+            told,
+        };
+        let right = ends(
+            rt.alloc(),
+            file,
+            Failing {
+                write,
+                tell,
+                ..NEVER
+            },
+            end,
+        );
+        assert!(rt; matches!(right, Ok(true)), "{tell}");
     }
-    let mut shelf = shelf_with(alloc, b"mdp")?;
-    let mut out = MemorySink::new(alloc, 100, ROOM)?;
-    let mut err = MemorySink::new(alloc, 100, ROOM)?;
-    err.fail_call(1)?;
-    assert_eq!(rt; run(alloc, &[], &mut shelf, &mut out, &mut err), 5);
-    assert_eq!(rt; err.taken(), b"".as_slice());
-    Ok(())
 }

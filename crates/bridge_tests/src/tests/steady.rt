@@ -4,7 +4,6 @@ ghost use Rattle.bridge_io.specs.MemoryShelf.{IsSteady};
 
 use bridge_io::{MemoryShelf, Shelf, ShelfFault};
 use std::alloc::{AllocError, Global};
-use std::test::Fail;
 
 fn with_file(alloc: Global) -> Result<MemoryShelf, AllocError>
     ensures this { IfOk result (λ shelf. IsSteady shelf (codes "f")) }
@@ -37,19 +36,19 @@ fn after_its_failing_call(alloc: Global) -> Result<MemoryShelf, AllocError>
     }
 }
 
-#[test]
-fn a_shelf_is_steady_once_no_failing_call_is_to_come(rt: HostRuntime) -> Result<(), Fail> {
+fn reads(shelf: Result<MemoryShelf, AllocError>) -> Option<bool> {
     let mut piece = [0u8; 1];
-    assert!(rt; with_file(rt.alloc())?.read_next("f", &mut piece).is_ok());
-    assert!(rt;
-        before_its_failing_call(rt.alloc())?
-            .read_next("f", &mut piece)
-            .is_err()
-    );
-    assert!(rt;
-        after_its_failing_call(rt.alloc())?
-            .read_next("f", &mut piece)
-            .is_ok()
-    );
-    Ok(())
+    match shelf {
+        Ok(mut shelf) => Some(shelf.read_next("f", &mut piece).is_ok()),
+        Err(_) => None,
+    }
+}
+
+#[test]
+fn a_shelf_is_steady_once_no_failing_call_is_to_come(rt: HostRuntime) {
+    let alloc = rt.alloc();
+    let steady = reads(with_file(alloc)) == Some(true);
+    let before = reads(before_its_failing_call(alloc)) == Some(false);
+    let after = reads(after_its_failing_call(alloc)) == Some(true);
+    assert!(rt; steady && before && after);
 }

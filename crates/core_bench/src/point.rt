@@ -1,0 +1,96 @@
+// Names, bodies and a change of operators for the tests.
+
+ghost use Rattle.std.specs.Prelude.{◌≡◌};
+ghost use Rattle.core_bench.specs.Point.{number_at, turned};
+
+use crate::toy::Toy;
+use bridge_io::Text;
+use frac_core::Frac;
+use op_trees::{Bodies, Expr, Names, OpMap, Shape, Ty, Value};
+use std::alloc::{AllocError, Global};
+
+/// All names are ints, and `x` alone has a value.
+#[derive(Clone, Copy)]
+pub struct Point {
+    pub x: i64,
+}
+
+impl Names for Point {
+    ghost use Rattle.core_bench.specs.Point.{point_types, point_values};
+    ghost use Rattle.core_bench.specs.PointLaws.{point_typed};
+
+    ghost values = { λ p. point_values p.x };
+
+    ghost types = { λ p. point_types };
+
+    ghost typed = { λ p x. point_typed p.x x };
+
+    fn value(&self, name: &str) -> Option<Value> {
+        if name == "x" { number(self.x) } else { None }
+    }
+
+    fn ty(&self, _name: &str) -> Option<Ty> {
+        Some(Ty::Int)
+    }
+}
+
+fn number(x: i64) -> Option<Value>
+    ensures { result ≡ number_at x }
+{
+    match Frac::new(x, 1) {
+        Ok(q) => Some(Value::Number(q)),
+        Err(_) => None,
+    }
+}
+
+/// The name `y` has a body.
+#[derive(Drop)]
+pub struct Bodied {
+    pub body: Expr<Toy>,
+}
+
+impl Bodies<Toy> for Bodied {
+    ghost use Rattle.core_bench.specs.Point.{body_of};
+    ghost use Rattle.op_trees.specs.Tree.{tree};
+
+    ghost bodies = { λ b. body_of (tree b.body) };
+
+    fn body(&self, name: &str) -> Option<&Expr<Toy>> {
+        if name == "y" { Some(&self.body) } else { None }
+    }
+}
+
+/// Every name becomes `y`, and greater becomes equal.
+#[derive(Clone, Copy)]
+pub struct Turned;
+
+impl OpMap<Toy, Toy> for Turned {
+    ghost use Rattle.std.specs.Prelude.{◌≡◌, IfOk};
+    ghost use Rattle.core_bench.specs.Point.{turned_node};
+    ghost use Rattle.op_trees.specs.Rebuilt.{shape};
+    ghost use Rattle.op_trees.specs.Tree.{tree};
+
+    ghost rebuilt = { λ m. turned_node };
+
+    fn rebuild(&self, alloc: Global, node: Shape<Toy, Toy>) -> Result<Expr<Toy>, AllocError>
+        ensures { IfOk result (λ r. tree r ≡ turned_node (shape node)) }
+    {
+        match node {
+            Shape::Truth(at, b) => Ok(Expr::Truth(at, b)),
+            Shape::Number(at, d) => Ok(Expr::Number(at, d)),
+            Shape::Name(at, _) => Ok(Expr::Name(at, Text::copy_of(alloc, "y")?)),
+            Shape::One(at, o, a) => Ok(Expr::One(at, turn(o), a)),
+            Shape::Two(at, o, a, b) => Ok(Expr::Two(at, turn(o), a, b)),
+            Shape::Three(at, o, a, b, c) => Ok(Expr::Three(at, turn(o), a, b, c)),
+        }
+    }
+}
+
+fn turn(o: Toy) -> Toy
+    ensures { result ≡ turned o }
+{
+    match o {
+        Toy::Greater => Toy::Equal,
+        o => o,
+    }
+}

@@ -1,4 +1,0 @@
-pub mod Toy
-pub mod ToyLaws
-pub mod Point
-pub mod PointLaws

@@ -1,3 +1,0 @@
-mod fractions;
-mod tokens;
-mod trees;

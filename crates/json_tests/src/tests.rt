@@ -1,3 +1,0 @@
-mod places;
-mod refusals;
-mod texts;
