@@ -93,7 +93,6 @@ fn a_reason_has_its_number_and_its_name(rt: HostRuntime) {
         (Reason::RepeatedAutomaton, "RepeatedAutomaton"),
         (Reason::PropertyLeftOut, "PropertyLeftOut"),
         (Reason::RowSyntax, "RowSyntax"),
-        (Reason::NotYet, "NotYet"),
     ];
     let mut number = 0u8;
     for (reason, name) in rows {
