@@ -183,7 +183,7 @@ module _ (old : prism.File) where
   homes-bare f = map-map (λ a. at_home) bare_name f.elements
 
   -- files that are the same but for their places
-  moved : (f g : jani.File) → bare_file f ≡ bare_file g → MeansTheSame old f → MeansTheSame old g
+  pub moved : (f g : jani.File) → bare_file f ≡ bare_file g → MeansTheSame old f → MeansTheSame old g
   moved f g e h =
       let names = sym (names-bare f) ∙ ap (λ x. map (λ d. d.name.name) x.constants) e ∙ names-bare g in
       let count = sym (length-map f.elements bare_name) ∙ ap (λ x. length x.elements) e ∙ length-map g.elements bare_name in
