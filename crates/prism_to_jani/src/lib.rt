@@ -1,18 +1,9 @@
-//! The translation of PRISM files, their formulas and copies written out, to JANI files, as a function of the trees of both.
-//! It stands in `specs/`, with laws, and `translate` computes it.
+//! PRISM files translated to JANI files that mean the same: the call, and what it promises. What a file is translated to is
+//! defined in jani_translation; that it has no fault and means the same are the laws of the crates beside it.
 #![tactic(auto)]
 
-mod asking;
-mod automata;
-mod composition;
-mod gather;
 mod laws;
-mod naming;
-mod new_names;
-mod parts;
-mod rewards;
-mod syncs;
-mod translation;
+mod translating;
 
-pub use laws::{new_names_law, one_for_one_law, seen_law, state_law, vectors_law};
-pub use translation::translate;
+pub use laws::translated_law;
+pub use translating::to_jani;

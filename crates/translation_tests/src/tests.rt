@@ -5,7 +5,7 @@ use prism_check::{CheckedPrism, check_prism};
 use prism_clean::flatten;
 use prism_parse::parse;
 use prism_print::{print, printable_law};
-use prism_to_jani::translate;
+use jani_translation::translate;
 use std::alloc::{AllocError, Global};
 use std::test::Fail;
 

@@ -1,0 +1,34 @@
+pub mod Each
+pub mod OneForOne
+pub mod Vectors
+pub mod Fresh
+pub mod SameSeen
+pub mod SameColumns
+pub mod Differ
+pub mod Apart
+pub mod Elements
+pub mod Written
+pub mod StateNames
+pub mod States
+pub mod Edges
+pub mod Sums
+pub mod Gathering
+pub mod Filed
+pub mod Statements
+pub mod Joined
+pub mod Monitored
+pub mod Numbered
+pub mod Places
+pub mod Gathering2
+pub mod RewardSums
+pub mod Marks
+pub mod Choices
+pub mod Assigned
+pub mod Monitor
+pub mod Watched
+pub mod WatchedSilently
+mod Sources
+mod Targets
+mod Worked
+mod StateWorked
+mod WatchedWorked

@@ -1,0 +1,200 @@
+-- The scenes of a file and of the translated file: constants, columns and instance faults.
+use Rattle.std.specs.Prelude.{◌≡◌, ℕ, ◌+◌, List, [], ◌∷◌, ◌++◌, map, length, drop, Bool, true, false, not, ◌&&◌, cond, Option, Some, None, unwrap_or, IfSome}
+use Rattle.std.specs.List.{All, find, filter, flat_map, zip, list_all}
+use Rattle.std.proofs.Common.{refl, sym, ap, ap₂, ◌∙◌, append-nil}
+use Rattle.std.proofs.lemmas.List.{map-append}
+use Rattle.std.proofs.lemmas.List.Elements.{All-nil, All-cons, All-append, All-head, All-tail}
+use Rattle.bridge_io.specs.declared.reason.Named.{Named}
+use Rattle.op_trees.specs.Seen.{Seen, known}
+use Rattle.process_core.specs.Product.{map-flat_map}
+use Rattle.process_core.specs.Ready.{Name}
+use Rattle.prism_tree.specs.Syntax as prism
+use Rattle.prism_tree.specs.Syntax.{Module, plain, copied}
+use Rattle.prism_names.specs.Names.{unchanged, part_of}
+use Rattle.prism_flat.specs.Instance.{Valuation, Domain, Between, Column, numbered, only_if, constant_faults, column_faults}
+use Rattle.prism_flat.specs.Kept.{is_plain}
+use Rattle.prism_flat.specs.Scene as prism_scene
+use Rattle.jani_tree.specs.Syntax.{Automaton, Var, Write, File}
+use Rattle.jani_meaning.specs.Elements.{is_called, automaton_called, nothing_called, elements, Owned, owned_by, is_lasting, lasting}
+use Rattle.jani_meaning.specs.Scene as jani_scene
+use Rattle.jani_meaning.specs.Scene.{location_column}
+use Rattle.jani_meaning.proofs.Columns.{locations_have_no_fault}
+use Rattle.name_table.specs.declared.entry.Entry.{Entry}
+use Rattle.jani_translation.specs.Asks.{contents, bodies, variables, entries, NewNames, new_names}
+use Rattle.jani_translation.specs.Parts.{constant, variable, kind_of, start_of}
+use Rattle.jani_translation.specs.Automata.{module_automata, monitor_edges, automaton, zz_monitor, earns_silently, has_monitor, location_values}
+use Rattle.jani_translation.specs.Translated.{translated}
+use Rattle.jani_translation.specs.SeenLaws.{IsSound, IsSoundUnder, GivesAlike, renamed_column, SameConstants, ConstantsSeenAlike, ColumnsSeenAlike, FaultsAlike}
+use Rattle.jani_translation.proofs.Fresh.{Takes, takes_from}
+use Rattle.jani_translation.proofs.SameSeen.{image_seen, constant_alike, zip-take, constants_agree, variables_agree, constant_same, names_alike, names_plain}
+use Rattle.jani_translation.proofs.OneForOne.{lasting_are}
+
+-- ---- constants, in order
+constants_alike : (new : Name → Name) (v w : Valuation) (old env : Name → Seen) (cs : List prism.Const) (es : List Entry) → ((x : Name) → env (new x) ≡ old x) →
+    Takes new (map (λ c. c.name.name) cs) es → All (λ c. c.value ≡ None → w (new c.name.name) ≡ v c.name.name) cs → All (λ c. IfSome c.value (IsSound old)) cs →
+    map (λ c. jani_scene.constant_seen (w c.name.name) env c.value) (map (λ p. constant new p.0 p.1) (zip cs es)) ≡ map (λ c. prism_scene.constant_seen (v c.name.name) old c.value) cs
+constants_alike new v w old env [] es n t a s = refl
+constants_alike new v w old env (c ∷ cs) [] n t a s = absurd t
+constants_alike new v w old env (c ∷ cs) (e ∷ es) n t a s =
+    ap₂ (λ x r. x ∷ r)
+    (constant_alike new old env (w e.name) (v c.name.name) c.value n
+    (λ k. ap w t.0 ∙ All-head (λ c. c.value ≡ None → w (new c.name.name) ≡ v c.name.name) c cs a k) (All-head (λ c. IfSome c.value (IsSound old)) c cs s))
+    (constants_alike new v w old env cs es n t.1 (All-tail (λ c. c.value ≡ None → w (new c.name.name) ≡ v c.name.name) c cs a) (All-tail (λ c. IfSome c.value (IsSound old)) c cs s))
+
+pub constants_seen_alike : (file : prism.File) → ConstantsSeenAlike file
+constants_seen_alike file v w sound alike =
+    let new = (new_names file).value in
+    let old : Name → Seen = λ x. known (prism_scene.constant file v x) in
+    let env = jani_scene.constant_names (translated file) w in
+    ap (λ ps. map (λ c. jani_scene.constant_seen (w c.name.name) env c.value) (map (λ p. constant new p.0 p.1) ps)) (zip-take file.constants (entries file))
+    ∙ constants_alike new v w old env file.constants (entries file) (names_alike file v w sound alike)
+    (takes_from new (map (λ c. c.name.name) file.constants) (entries file) (constants_agree file v w sound alike)) alike
+    (λ k d lt. sound.constants k d lt (length file.constants))
+    ∙ ap (λ names. map (λ c. prism_scene.constant_seen (v c.name.name) names c.value) file.constants) (sym (names_plain file v w sound alike))
+
+pub same_constants : (file : prism.File) → SameConstants file
+same_constants file v w sound alike x = constant_same file v w sound alike x
+
+-- ---- columns
+same_column : (n m : Name) (d e : Domain) (f g : Seen) → n ≡ m → d ≡ e → f ≡ g →
+    ◌≡◌ {A = Column} (record { name = n; domain = d; first = f }) (record { name = m; domain = e; first = g })
+same_column n m d e f g p q r = cc
+
+module _ (new : Name → Name) (old env : Name → Seen) (n : (x : Name) → env (new x) ≡ old x) where
+  domain_alike : (r : Option prism.Range) → IfSome r (λ r. IsSound old r.low × IsSound old r.high) → jani_scene.domain_of env (kind_of new r) ≡ prism_scene.domain_of old r
+  domain_alike None s = refl
+  domain_alike (Some r) s = ap₂ (λ l h. Between l h) (image_seen new r.low old env n s.0) (image_seen new r.high old env n s.1)
+
+  first_alike : (o : Option prism.Expression) (r : Option prism.Range) → IfSome r (λ r. IsSound old r.low × IsSound old r.high) → IfSome o (IsSound old) →
+      jani_scene.start_of env (Some (start_of new o r)) ≡ prism_scene.first_of old o r
+  unfolding jani_scene.see
+  first_alike (Some e) r s t = image_seen new e old env n t
+  first_alike None (Some r) s t = image_seen new r.low old env n s.0
+  first_alike None None s t = refl
+
+  columns_alike : (vs : List prism.Var) (es : List Entry) → Takes new (map (λ x. x.name.name) vs) es →
+      All (λ x. IfSome x.range (λ r. IsSound old r.low × IsSound old r.high) × IfSome x.start (IsSound old)) vs →
+      map (jani_scene.column env) (map (λ p. variable new p.0 p.1) (zip vs es)) ≡ map (renamed_column new) (map (prism_scene.column unchanged old) vs)
+  columns_alike [] es t s = refl
+  columns_alike (x ∷ vs) [] t s = absurd t
+  columns_alike (x ∷ vs) (e ∷ es) t s =
+      let here = All-head (λ x. IfSome x.range (λ r. IsSound old r.low × IsSound old r.high) × IfSome x.start (IsSound old)) x vs s in
+      let rest = All-tail (λ x. IfSome x.range (λ r. IsSound old r.low × IsSound old r.high) × IfSome x.start (IsSound old)) x vs s in
+      ap₂ (λ c r. c ∷ r) (same_column _ _ _ _ _ _ t.0 (domain_alike x.range here.0) (first_alike x.start x.range here.0 here.1)) (columns_alike vs es t.1 rest)
+
+-- ---- the columns of a written out file
+and_left : (a b : Bool) → (a && b) ≡ true → a ≡ true
+and_left true b h = refl
+and_left false b h = absurd cc
+
+and_right : (a b : Bool) → (a && b) ≡ true → b ≡ true
+and_right true b h = h
+and_right false b h = absurd cc
+
+module _ (file : prism.File) (v : Valuation) where
+  module_columns : (m : Module) → is_plain m ≡ true →
+      prism_scene.part_columns file v (part_of file m) ≡ map (prism_scene.column unchanged (prism_scene.constant_names file v unchanged)) (contents m).vars
+  module_columns (plain m) h = refl
+  module_columns (copied m) h = absurd cc
+
+  all_columns : (ms : List Module) → list_all is_plain ms ≡ true →
+      flat_map (prism_scene.part_columns file v) (map (part_of file) ms)
+      ≡ flat_map (λ m. map (prism_scene.column unchanged (prism_scene.constant_names file v unchanged)) m.vars) (map contents ms)
+  all_columns [] h = refl
+  all_columns (m ∷ ms) h =
+      ap₂ (λ x y. x ++ y) (module_columns m (and_left (is_plain m) (list_all is_plain ms) h)) (all_columns ms (and_right (is_plain m) (list_all is_plain ms) h))
+
+  written_columns : list_all is_plain file.modules ≡ true →
+      prism_scene.columns_of file v ≡ map (prism_scene.column unchanged (prism_scene.constant_names file v unchanged)) (variables file)
+  written_columns h =
+      let col = prism_scene.column unchanged (prism_scene.constant_names file v unchanged) in
+      ap (λ r. map col file.globals ++ r) (all_columns file.modules h ∙ sym (map-flat_map col (λ m. m.vars) (bodies file)))
+      ∙ sym (map-append col file.globals (flat_map (λ m. m.vars) (bodies file)))
+
+-- ---- no automaton has variables of its own
+found_own : (n : Named) (as_ : List Automaton) → All (λ a. a.variables ≡ []) as_ → (unwrap_or (find (λ a. is_called n.name a.name) as_) (nothing_called n)).variables ≡ []
+found_own n [] h = refl
+found_own n (a ∷ as_) h =
+    picked (is_called n.name a.name) (All-head (λ a. a.variables ≡ []) a as_ h) (found_own n as_ (All-tail (λ a. a.variables ≡ []) a as_ h))
+  where
+    picked : (b : Bool) → a.variables ≡ [] → (unwrap_or (find (λ a. is_called n.name a.name) as_) (nothing_called n)).variables ≡ [] →
+        (unwrap_or (cond b (Some a) (find (λ a. is_called n.name a.name) as_)) (nothing_called n)).variables ≡ []
+    picked true p q = p
+    picked false p q = q
+
+no_owned : (i : ℕ) (as_ : List Automaton) → All (λ a. a.variables ≡ []) as_ → numbered (λ k a. owned_by (Some k) a.variables) i as_ ≡ []
+no_owned i [] h = refl
+no_owned i (a ∷ as_) h =
+    ap₂ (λ x y. x ++ y) (ap (owned_by (Some i)) (All-head (λ a. a.variables ≡ []) a as_ h)) (no_owned (i + 1) as_ (All-tail (λ a. a.variables ≡ []) a as_ h))
+
+module_owns : (names : NewNames) (silently : Bool) (ws : List Write) (ms : List prism.Body) (es : List Entry) → All (λ a. a.variables ≡ []) (module_automata names silently ws ms es)
+module_owns names silently ws [] es = All-nil (λ a. a.variables ≡ [])
+module_owns names silently ws (m ∷ ms) [] = All-nil (λ a. a.variables ≡ [])
+module_owns names silently ws (m ∷ ms) (e ∷ es) = All-cons (λ a. a.variables ≡ []) _ _ refl (module_owns names silently [] ms es)
+
+monitor_owns : (b : Bool) (a : Automaton) → a.variables ≡ [] → All (λ a. a.variables ≡ []) (only_if b a)
+monitor_owns true a h = All-cons (λ a. a.variables ≡ []) a [] h (All-nil (λ a. a.variables ≡ []))
+monitor_owns false a h = All-nil (λ a. a.variables ≡ [])
+
+automata_own : (file : prism.File) → All (λ a. a.variables ≡ []) (translated file).automata
+automata_own file =
+    let names = new_names file in
+    All-append (λ a. a.variables ≡ []) _ _ (module_owns names (earns_silently file) (location_values names file) (bodies file) names.modules)
+    (monitor_owns (has_monitor file) (automaton names zz_monitor [] (monitor_edges names file)) refl)
+
+elements_own : (file : File) (ns : List Named) → All (λ a. a.variables ≡ []) file.automata → All (λ a. a.variables ≡ []) (map (automaton_called file) ns)
+elements_own file [] h = All-nil (λ a. a.variables ≡ [])
+elements_own file (n ∷ ns) h = All-cons (λ a. a.variables ≡ []) _ _ (found_own n file.automata h) (elements_own file ns h)
+
+-- ---- the variables that are not transient
+kept_alike : (b : Bool) (f : Var → Column) (x : Var) (os : List Owned) (xs : List Var) → map (λ o. f o.var) os ≡ map f xs →
+    map (λ o. f o.var) (cond b (record { owner = None; var = x } ∷ os) os) ≡ map f (cond b (x ∷ xs) xs)
+kept_alike true f x os xs h = ap (λ r. f x ∷ r) h
+kept_alike false f x os xs h = h
+
+owned_lasting : (f : Var → Column) (vs : List Var) → map (λ o. f o.var) (filter is_lasting (owned_by None vs)) ≡ map f (filter (λ x. not x.transient) vs)
+owned_lasting f [] = refl
+owned_lasting f (x ∷ vs) = kept_alike (not x.transient) f x _ _ (owned_lasting f vs)
+
+lasting_alike : (file : prism.File) (f : Var → Column) →
+    map (λ o. f o.var) (lasting (translated file)) ≡ map f (map (λ p. variable (new_names file).value p.0 p.1) (zip (variables file) (new_names file).variables))
+lasting_alike file f =
+    let g = translated file in
+    ap (λ r. map (λ o. f o.var) (filter is_lasting (owned_by None g.variables ++ r)))
+    (no_owned 0 (elements g) (elements_own g g.elements (automata_own file)))
+    ∙ ap (λ r. map (λ o. f o.var) (filter is_lasting r)) (append-nil (owned_by None g.variables))
+    ∙ owned_lasting f g.variables
+    ∙ ap (map f) (lasting_are file)
+
+-- the columns of the variables
+variables_seen : (file : prism.File) (v w : Valuation) → IsSoundUnder file v → GivesAlike file v w →
+    map (λ o. jani_scene.column (jani_scene.constant_names (translated file) w) o.var) (lasting (translated file))
+    ≡ map (renamed_column (new_names file).value) (prism_scene.columns_of file v)
+variables_seen file v w sound alike =
+    let new = (new_names file).value in
+    let old : Name → Seen = λ x. known (prism_scene.constant file v x) in
+    let env = jani_scene.constant_names (translated file) w in
+    let es = drop (length file.constants) (entries file) in
+    lasting_alike file (jani_scene.column env)
+    ∙ ap (λ ps. map (jani_scene.column env) (map (λ p. variable new p.0 p.1) ps)) (zip-take (variables file) es)
+    ∙ columns_alike new old env (names_alike file v w sound alike) (variables file) es
+    (takes_from new (map (λ x. x.name.name) (variables file)) es (variables_agree file v w sound alike)) sound.variables
+    ∙ ap (map (renamed_column new))
+    (ap (λ names. map (prism_scene.column unchanged names) (variables file)) (sym (names_plain file v w sound alike))
+    ∙ sym (written_columns file v sound.written.modules))
+
+pub columns_seen_alike : (file : prism.File) → ColumnsSeenAlike file
+columns_seen_alike file v w sound alike =
+    ap (λ r. map location_column (elements (translated file)) ++ r) (variables_seen file v w sound alike)
+
+-- ---- faults do not tell the names of columns
+faults_renamed : (new : Name → Name) (i : ℕ) (cs : List Column) → numbered column_faults i (map (renamed_column new) cs) ≡ numbered column_faults i cs
+faults_renamed new i [] = refl
+faults_renamed new i (c ∷ cs) = ap (λ r. column_faults i c ++ r) (faults_renamed new (i + 1) cs)
+
+pub faults_alike : (file : prism.File) → FaultsAlike file
+faults_alike file v w sound alike =
+    let n = length (translated file).elements in
+    locations_have_no_fault (translated file) w
+    ∙ ap₂ (λ cs vs. numbered constant_faults 0 cs ++ numbered column_faults n vs) (constants_seen_alike file v w sound alike) (variables_seen file v w sound alike)
+    ∙ ap (λ r. numbered constant_faults 0 (prism_scene.scene file v).constants ++ r) (faults_renamed (new_names file).value n (prism_scene.columns_of file v))

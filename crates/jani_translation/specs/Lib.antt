@@ -1,0 +1,11 @@
+pub mod Asks
+pub mod Automata
+pub mod Code
+pub mod Laws
+pub mod NameLaws
+pub mod Parts
+pub mod SeenLaws
+pub mod StateLaws
+pub mod Translated
+pub mod Filed
+pub mod Statements

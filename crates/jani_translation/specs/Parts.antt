@@ -1,0 +1,94 @@
+-- The constants, variables, labels and reward structures of a PRISM file as those of a JANI file (this project's own rule;
+-- the members are those of the jani-model specification, version 1: "Models", "Constants", "Variables", "Types"). What is
+-- translated keeps the offsets of the source; what is made has the offset 0.
+use Rattle.std.specs.Prelude.{ℕ, List, [], ◌++◌, codes, true, false, Option, Some, None, if◌then◌else◌, unwrap_or}
+use Rattle.std.specs.Option.{option_map}
+use Rattle.bridge_io.specs.declared.reason.Named.{Named}
+use Rattle.op_trees.specs.Tree.{Truth, Number}
+use Rattle.process_core.specs.Ready.{Name}
+use Rattle.prism_tree.specs.Syntax as prism
+use Rattle.jani_tree.specs.Syntax.{Expression, Const, VarKind, boolean, number, bounded, Var}
+use Rattle.name_table.specs.declared.entry.Entry.{Entry}
+use Rattle.prism_images.specs.Image.{nought_literal, image}
+use Rattle.jani_translation.specs.Asks.{called}
+
+-- ---- names
+-- a name that is made
+abbrev pub made : Name → Named
+made x = record { name = x; at = 0 }
+
+-- another name at the place of an old one
+abbrev pub instead : Named → Name → Named
+instead n x = record { name = x; at = n.at }
+
+-- the name of a reward structure, at the place of the old one, if it had one
+abbrev pub instead_if : Option Named → Name → Named
+instead_if None x = made x
+instead_if (Some n) x = instead n x
+
+-- The comment of a made name is what it names and its old name; a structure may have had none. A name that was kept has no
+-- comment.
+abbrev pub note : List ℕ → Option Name → Entry → Option (List ℕ)
+note what old e = if e.kept then None else Some (what ++ unwrap_or old [])
+
+-- ---- expressions that are made
+abbrev pub nought : Expression
+nought = Number 0 nought_literal
+
+abbrev pub falsehood : Expression
+falsehood = Truth 0 false
+
+module _ (new : Name → Name) where
+  -- ---- constants keep their types
+  abbrev pub constant : prism.Const → Entry → Const
+  constant c e = record {
+    name = instead c.name e.name;
+    ty = c.ty;
+    value = option_map (image new) c.value;
+    note = note (codes "constant:") (Some c.name.name) e;
+  }
+
+  -- ---- variables
+  -- a variable with a range is bounded, any other is boolean
+  abbrev pub kind_of : Option prism.Range → VarKind
+  kind_of None = boolean
+  kind_of (Some r) = bounded (image new r.low) (image new r.high)
+
+  -- the first value: that of `init`, else the low bound, else false
+  abbrev pub start_of : Option prism.Expression → Option prism.Range → Expression
+  start_of (Some e) r = image new e
+  start_of None (Some r) = image new r.low
+  start_of None None = falsehood
+
+  abbrev pub variable : prism.Var → Entry → Var
+  variable x e = record {
+    name = instead x.name e.name;
+    kind = kind_of x.range;
+    kind_at = 0;
+    transient = false;
+    start = Some (start_of x.start x.range);
+    note = note (codes "variable:") (Some x.name.name) e;
+  }
+
+-- ---- labels and reward structures
+-- a label is a boolean transient variable, first false
+abbrev pub label : prism.Label → Entry → Var
+label l e = record {
+  name = instead l.name e.name;
+  kind = boolean;
+  kind_at = 0;
+  transient = true;
+  start = Some falsehood;
+  note = note (codes "label:") (Some l.name.name) e;
+}
+
+-- a reward structure is a real transient variable, first 0
+abbrev pub structure : prism.Rewards → Entry → Var
+structure r e = record {
+  name = instead_if r.name e.name;
+  kind = number;
+  kind_at = 0;
+  transient = true;
+  start = Some nought;
+  note = note (codes "reward:") (called r.name) e;
+}

@@ -1,0 +1,18 @@
+//! The translation of PRISM files, their formulas and copies written out, to JANI files, as a function of the trees of both.
+//! It stands in `specs/`, with laws, and `translate` computes it.
+#![tactic(auto)]
+
+mod asking;
+mod automata;
+mod composition;
+mod gather;
+mod laws;
+mod naming;
+mod new_names;
+mod parts;
+mod rewards;
+mod syncs;
+mod translation;
+
+pub use laws::{new_names_law, one_for_one_law, seen_law, state_law, vectors_law};
+pub use translation::translate;

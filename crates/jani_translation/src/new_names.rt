@@ -1,0 +1,125 @@
+// New names for old ones.
+
+ghost use Rattle.std.specs.Prelude.{◌≡◌, is_some, min, List, ℕ, None, Some, ◌++◌, map, IfOk, OnOk, bytes_eq, if◌then◌else◌};
+ghost use Rattle.prism_tree.specs.Syntax.{const_of, var_of};
+ghost use Rattle.jani_translation.specs.Asks.{new_name};
+ghost use Rattle.jani_translation.specs.Code.{new_in, name_in};
+
+use bridge_io::Text;
+use indexmap::IndexMap;
+use name_table::Entry;
+use prism_images::NewNames;
+use prism_tree::{PrismConst, PrismVar};
+use std::alloc::{AllocError, Global};
+
+/// The entries of a file by their classes, and the new names of its constants and variables, and of its actions.
+#[derive(Drop)]
+pub(crate) struct Names<'a> {
+    pub(crate) constants: &'a [Entry],
+    pub(crate) variables: &'a [Entry],
+    pub(crate) labels: &'a [Entry],
+    pub(crate) rewards: &'a [Entry],
+    pub(crate) modules: &'a [Entry],
+    pub(crate) value: NameMap<'a>,
+    pub(crate) action: NameMap<'a>,
+}
+
+/// New names for old ones; any other name becomes the empty one.
+#[derive(Drop)]
+pub(crate) struct NameMap<'a> {
+    new_names: IndexMap<&'a str, &'a str>,
+}
+
+impl<'a> NewNames for NameMap<'a> {
+    ghost use Rattle.jani_translation.specs.Code.{name_in};
+
+    ghost new = { name_in };
+
+    fn new_name<'b>(&'b self, old: &'b str) -> &'b str {
+        match self.new_names.get(old) {
+            Some(new) => *new,
+            None => "",
+        }
+    }
+}
+
+impl<'a> NameMap<'a> {
+    /// No name.
+    pub(crate) fn new(alloc: Global) -> NameMap<'a>
+        ensures { (x : List ℕ) → new_in result x ≡ None }
+    {
+        NameMap {
+            new_names: IndexMap::new(alloc),
+        }
+    }
+
+    /// Adds a new name for an old one, which it may have had before.
+    pub(crate) fn insert(&mut self, old: &'a str, new: &'a str) -> Result<(), AllocError>
+        ensures { OnOk result
+            ((x : List ℕ) → new_in self.new x ≡ (if bytes_eq old.now x then Some new.now else new_in self.old x)) }
+    {
+        match self.new_names.insert(old, new) {
+            Ok(_) => Ok(()),
+            Err(_) => Err(AllocError),
+        }
+    }
+
+    /// Whether a name has a new one.
+    pub(crate) fn has(&self, old: &str) -> bool
+        ensures { result ≡ is_some (new_in self.now old.now) }
+    {
+        self.new_names.get(old).is_some()
+    }
+
+    /// Each old name becomes that of the entry at its place; where several are the same, that of the first.
+    pub(crate) fn of(
+        alloc: Global,
+        olds: &[&'a Text],
+        news: &'a [Entry],
+    ) -> Result<NameMap<'a>, AllocError>
+        ensures { IfOk result (λ r. (x : List ℕ) → name_in r x ≡ new_name (map (λ y. y.now) olds.now) news.now x) }
+    {
+        let mut all = NameMap::new(alloc);
+        let mut left = shorter(olds.len(), news.len());
+        while left > 0 {
+            left -= 1;
+            let old: &'a str = olds[left].as_str();
+            all.insert(old, news[left].name.as_str())?;
+        }
+        Ok(all)
+    }
+}
+
+/// The lesser of two lengths.
+pub(crate) fn shorter(a: usize, b: usize) -> usize
+    ensures { result ≡ min a b }
+{
+    if a < b { a } else { b }
+}
+
+/// The names of the constants, then those of the variables.
+pub(crate) fn value_names<'a>(
+    alloc: Global,
+    constants: &'a [PrismConst],
+    vars: &[&'a PrismVar],
+) -> Result<Vec<&'a Text>, AllocError>
+    ensures { IfOk result (λ xs. map (λ x. x.now) xs.items ≡
+        map (λ c. c.name.name) (map const_of constants.now) ++ map (λ x. x.name.name) (map (λ x. var_of x.now) vars.now)) }
+{
+    let mut all = constant_names(alloc, constants)?;
+    for x in vars {
+        all.push(&x.name.name)?;
+    }
+    Ok(all)
+}
+
+/// The names of the constants.
+fn constant_names(alloc: Global, constants: &[PrismConst]) -> Result<Vec<&Text>, AllocError>
+    ensures { IfOk result (λ xs. map (λ x. x.now) xs.items ≡ map (λ c. c.name.name) (map const_of constants.now)) }
+{
+    let mut all = Vec::new(alloc);
+    for c in constants {
+        all.push(&c.name.name)?;
+    }
+    Ok(all)
+}

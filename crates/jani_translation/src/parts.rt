@@ -1,0 +1,322 @@
+// Constants, variables, labels and reward structures.
+
+ghost use Rattle.std.specs.Prelude.{◌≡◌, ◌++◌, Some, map, IfOk, OnOk};
+ghost use Rattle.std.specs.List.{zip};
+ghost use Rattle.std.specs.Option.{option_map};
+ghost use Rattle.op_trees.specs.Tree.{tree};
+ghost use Rattle.prism_tree.specs.Syntax as prism;
+ghost use Rattle.jani_tree.specs.Syntax as jani;
+ghost use Rattle.prism_images.specs.Image.{image};
+ghost use Rattle.jani_translation.specs.Parts.{made, instead, instead_if, note, nought, falsehood, constant, kind_of, start_of, variable, label, structure};
+ghost use Rattle.jani_translation.specs.Code.{name_in};
+
+use crate::new_names::{NameMap, Names, shorter};
+use bridge_io::{List, Named, Text};
+use frac_core::Decimal;
+use jani_tree::{JaniConst, JaniKind, JaniVar, Je};
+use name_table::Entry;
+use op_trees::Expr;
+use prism_images::image;
+use prism_tree::{Pe, PrismConst, PrismLabel, PrismRange, PrismRewards, PrismVar};
+use std::alloc::{AllocError, Global};
+
+// ---- names
+
+/// A name that is made.
+pub(crate) fn made(alloc: Global, name: &str) -> Result<Named, AllocError>
+    ensures { IfOk result (λ r. r ≡ made name.now) }
+{
+    Ok(Named {
+        name: Text::copy_of(alloc, name)?,
+        at: 0,
+    })
+}
+
+/// Another name at the place of an old one.
+pub(crate) fn instead(alloc: Global, old: &Named, name: &str) -> Result<Named, AllocError>
+    ensures { IfOk result (λ r. r ≡ instead old.now name.now) }
+{
+    Ok(Named {
+        name: Text::copy_of(alloc, name)?,
+        at: old.at,
+    })
+}
+
+/// The name of a reward structure, at the place of the old one, if it had one.
+pub(crate) fn instead_if(
+    alloc: Global,
+    old: &Option<Named>,
+    name: &str,
+) -> Result<Named, AllocError>
+    ensures { IfOk result (λ r. r ≡ instead_if old.now name.now) }
+{
+    match old {
+        None => {
+            let new = made(alloc, name)?;
+            Ok(new)
+        }
+        Some(n) => {
+            let new = instead(alloc, n, name)?;
+            Ok(new)
+        }
+    }
+}
+
+/// The comment of a made name, of what it names and its old name; a name that was kept has none.
+fn note(alloc: Global, what: &str, old: &Text, e: &Entry) -> Result<Option<Text>, AllocError>
+    ensures { IfOk result (λ r. r ≡ note what.now (Some old.now) e.now) }
+{
+    if e.kept {
+        return Ok(None);
+    }
+    let mut text = String::from_str(alloc, what)?;
+    text.push_str(old.as_str())?;
+    Ok(Some(Text::from_string(text)?))
+}
+
+/// The comment of a reward structure, which may have had no name.
+fn note_if(
+    alloc: Global,
+    what: &str,
+    old: &Option<Named>,
+    e: &Entry,
+) -> Result<Option<Text>, AllocError>
+    ensures { IfOk result (λ r. r ≡ note what.now (option_map (λ n. n.name) old.now) e.now) }
+{
+    if e.kept {
+        return Ok(None);
+    }
+    match old {
+        None => Ok(Some(Text::copy_of(alloc, what)?)),
+        Some(n) => {
+            let all = note(alloc, what, &n.name, e)?;
+            Ok(all)
+        }
+    }
+}
+
+// ---- expressions
+
+/// The number 0.
+pub(crate) fn nought() -> Je
+    ensures { tree result ≡ nought }
+{
+    Expr::Number(
+        0,
+        Decimal {
+            real: false,
+            negative: false,
+            exponent: 0,
+            digits: 0,
+        },
+    )
+}
+
+/// The truth value false.
+fn falsehood() -> Je
+    ensures { tree result ≡ falsehood }
+{
+    Expr::Truth(0, false)
+}
+
+/// The image of an expression, where there is one.
+pub(crate) fn image_if(
+    alloc: Global,
+    e: &Option<Pe>,
+    names: &NameMap,
+) -> Result<Option<Je>, AllocError>
+    ensures { IfOk result (λ r. option_map tree r ≡ option_map (image (name_in names.now)) (option_map tree e.now)) }
+{
+    match e {
+        None => Ok(None),
+        Some(e) => Ok(Some(image(alloc, e, names)?)),
+    }
+}
+
+// ---- constants and variables
+
+/// A constant keeps its type.
+fn constant(
+    alloc: Global,
+    c: &PrismConst,
+    e: &Entry,
+    names: &NameMap,
+) -> Result<JaniConst, AllocError>
+    ensures { IfOk result (λ r. jani.const_of r ≡ constant (name_in names.now) (prism.const_of c.now) e.now) }
+{
+    Ok(JaniConst {
+        name: instead(alloc, &c.name, e.name.as_str())?,
+        ty: c.ty,
+        value: image_if(alloc, &c.value, names)?,
+        note: note(alloc, "constant:", &c.name.name, e)?,
+    })
+}
+
+/// A variable with a range is bounded, any other is boolean.
+fn kind_of(
+    alloc: Global,
+    range: &Option<PrismRange>,
+    names: &NameMap,
+) -> Result<JaniKind, AllocError>
+    ensures { IfOk result (λ r. jani.kind_of r ≡ kind_of (name_in names.now) (option_map prism.range_of range.now)) }
+{
+    match range {
+        None => Ok(JaniKind::Bool),
+        Some(r) => {
+            let low = image(alloc, &r.low, names)?;
+            let high = image(alloc, &r.high, names)?;
+            Ok(JaniKind::Bounded(low, high))
+        }
+    }
+}
+
+/// The first value: that of `init`, else the low bound, else false.
+fn start_of(alloc: Global, x: &PrismVar, names: &NameMap) -> Result<Je, AllocError>
+    ensures { IfOk result (λ r. tree r ≡ start_of (name_in names.now) (option_map tree x.now.start) (option_map prism.range_of x.now.range)) }
+{
+    match (&x.start, &x.range) {
+        (Some(e), _) => {
+            let new = image(alloc, e, names)?;
+            Ok(new)
+        }
+        (None, Some(r)) => {
+            let new = image(alloc, &r.low, names)?;
+            Ok(new)
+        }
+        (None, None) => Ok(falsehood()),
+    }
+}
+
+/// A variable.
+fn variable(alloc: Global, x: &PrismVar, e: &Entry, names: &NameMap) -> Result<JaniVar, AllocError>
+    ensures { IfOk result (λ r. jani.var_of r ≡ variable (name_in names.now) (prism.var_of x.now) e.now) }
+{
+    Ok(JaniVar {
+        name: instead(alloc, &x.name, e.name.as_str())?,
+        kind: kind_of(alloc, &x.range, names)?,
+        kind_at: 0,
+        transient: false,
+        start: Some(start_of(alloc, x, names)?),
+        note: note(alloc, "variable:", &x.name.name, e)?,
+    })
+}
+
+/// The constants.
+pub(crate) fn constants(
+    alloc: Global,
+    constants: &[PrismConst],
+    entries: &[Entry],
+    names: &NameMap,
+) -> Result<List<JaniConst>, AllocError>
+    ensures { IfOk result (λ all. map jani.const_of all ≡
+        map (λ p. constant (name_in names.now) p.0 p.1) (zip (map prism.const_of constants.now) entries.now)) }
+{
+    let mut all = List::new(alloc);
+    let count = shorter(constants.len(), entries.len());
+    for i in 0..count {
+        all.push(constant(alloc, &constants[i], &entries[i], names)?)?;
+    }
+    Ok(all)
+}
+
+/// The global variables: those of the file, then its labels, then its reward structures.
+pub(crate) fn global_variables(
+    alloc: Global,
+    vars: &[&PrismVar],
+    labels: &[PrismLabel],
+    rewards: &[PrismRewards],
+    names: &Names,
+) -> Result<List<JaniVar>, AllocError>
+    ensures { IfOk result (λ all. map jani.var_of all ≡
+        map (λ p. variable (name_in names.now.value) p.0 p.1) (zip (map (λ x. prism.var_of x.now) vars.now) names.now.variables.now)
+        ++ (map (λ p. label p.0 p.1) (zip (map prism.label_of labels.now) names.now.labels.now)
+        ++ map (λ p. structure p.0 p.1) (zip (map prism.rewards_of rewards.now) names.now.rewards.now))) }
+{
+    let mut all = List::new(alloc);
+    add_variables(alloc, &mut all, vars, names.variables, &names.value)?;
+    add_labels(alloc, &mut all, labels, names.labels)?;
+    add_structures(alloc, &mut all, rewards, names.rewards)?;
+    Ok(all)
+}
+
+/// Adds variables.
+fn add_variables(
+    alloc: Global,
+    all: &mut List<JaniVar>,
+    vars: &[&PrismVar],
+    entries: &[Entry],
+    names: &NameMap,
+) -> Result<(), AllocError>
+    ensures { OnOk result (map jani.var_of all.new ≡ map jani.var_of all.old ++
+        map (λ p. variable (name_in names.now) p.0 p.1) (zip (map (λ x. prism.var_of x.now) vars.now) entries.now)) }
+{
+    let count = shorter(vars.len(), entries.len());
+    for i in 0..count {
+        all.push(variable(alloc, vars[i], &entries[i], names)?)?;
+    }
+    Ok(())
+}
+
+// ---- labels and reward structures
+
+/// A label is a boolean transient variable, first false.
+fn label(alloc: Global, l: &PrismLabel, e: &Entry) -> Result<JaniVar, AllocError>
+    ensures { IfOk result (λ r. jani.var_of r ≡ label (prism.label_of l.now) e.now) }
+{
+    Ok(JaniVar {
+        name: instead(alloc, &l.name, e.name.as_str())?,
+        kind: JaniKind::Bool,
+        kind_at: 0,
+        transient: true,
+        start: Some(falsehood()),
+        note: note(alloc, "label:", &l.name.name, e)?,
+    })
+}
+
+/// A reward structure is a real transient variable, first 0.
+fn structure(alloc: Global, r: &PrismRewards, e: &Entry) -> Result<JaniVar, AllocError>
+    ensures { IfOk result (λ x. jani.var_of x ≡ structure (prism.rewards_of r.now) e.now) }
+{
+    Ok(JaniVar {
+        name: instead_if(alloc, &r.name, e.name.as_str())?,
+        kind: JaniKind::Real,
+        kind_at: 0,
+        transient: true,
+        start: Some(nought()),
+        note: note_if(alloc, "reward:", &r.name, e)?,
+    })
+}
+
+/// Adds labels.
+fn add_labels(
+    alloc: Global,
+    all: &mut List<JaniVar>,
+    labels: &[PrismLabel],
+    entries: &[Entry],
+) -> Result<(), AllocError>
+    ensures { OnOk result (map jani.var_of all.new ≡ map jani.var_of all.old ++
+        map (λ p. label p.0 p.1) (zip (map prism.label_of labels.now) entries.now)) }
+{
+    let count = shorter(labels.len(), entries.len());
+    for i in 0..count {
+        all.push(label(alloc, &labels[i], &entries[i])?)?;
+    }
+    Ok(())
+}
+
+/// Adds reward structures.
+fn add_structures(
+    alloc: Global,
+    all: &mut List<JaniVar>,
+    rewards: &[PrismRewards],
+    entries: &[Entry],
+) -> Result<(), AllocError>
+    ensures { OnOk result (map jani.var_of all.new ≡ map jani.var_of all.old ++
+        map (λ p. structure p.0 p.1) (zip (map prism.rewards_of rewards.now) entries.now)) }
+{
+    let count = shorter(rewards.len(), entries.len());
+    for i in 0..count {
+        all.push(structure(alloc, &rewards[i], &entries[i])?)?;
+    }
+    Ok(())
+}

@@ -1,0 +1,110 @@
+-- Expressions that have types are sound where the values of names agree with their types, and their values agree with them too.
+use Rattle.std.specs.Prelude.{◌≡◌, List, [], ◌∷◌, Bool, true, false, cond, Option, Some, None, IsTrue, is_some, IfSome}
+use Rattle.std.specs.List.{All, find}
+use Rattle.std.proofs.Common.{refl, sym, ap, subst}
+use Rattle.std.proofs.lemmas.List.Elements.{All-nil, All-cons, All-head, All-tail}
+use Rattle.op_trees.specs.declared.tree.Ty.{Ty}
+use Rattle.op_trees.specs.declared.tree.Ty.TheVariants as T
+use Rattle.op_trees.specs.declared.tree.Value.{Value}
+use Rattle.op_trees.specs.declared.tree.Value.TheVariants as V
+use Rattle.op_trees.specs.Tree.{Truth, Number, Name as At, One, Two, Three, AllNumbers}
+use Rattle.op_trees.specs.Types.{AgreesWith, has_type, type_in}
+use Rattle.op_trees.specs.TypeLaws.{value_agrees}
+use Rattle.op_trees.specs.Meaning.{value_of}
+use Rattle.op_trees.specs.Seen.{known}
+use Rattle.op_trees.specs.SeenLaws.{names_all, seen_is}
+use Rattle.frac_core.specs.Decimal.{is_normal}
+use Rattle.process_core.specs.Ready.{Name}
+use Rattle.prism_tree.specs.Operators.{prism_meaning}
+use Rattle.prism_tree.specs.OperatorLaws.{prism_lawful}
+use Rattle.prism_tree.specs.Syntax as prism
+use Rattle.prism_names.specs.Names.{see}
+use Rattle.prism_print.specs.Printable.{Each, IfAny, IsPrintableExpression}
+use Rattle.prism_check.specs.Demands.{wanted_by}
+use Rattle.prism_check.specs.TypeFaults as source
+use Rattle.prism_check.specs.TypeFaults.{types}
+use Rattle.prism_clean.specs.Flattened.{IsFlat}
+use Rattle.prism_images.specs.Laws.{IsNoNumberOf}
+use Rattle.prism_images.proofs.Typed.{compares_truths, has_operands, agreeing}
+use Rattle.jani_translation.specs.SeenLaws.{IsSound}
+use Rattle.jani_translation_types.proofs.Expressions.{HasType, IsFixed}
+
+-- ---- facts of each member of a list
+pub all_then : {A : Type 0} (P Q : A → Type 0) → ((x : A) → P x → Q x) → (xs : List A) → Each P xs → All Q xs
+all_then P Q h [] p = All-nil Q
+all_then P Q h (x ∷ xs) p = All-cons Q x xs (h x p.0) (all_then P Q h xs p.1)
+
+pub each_all : {A : Type 0} (P : A → Type 0) (xs : List A) → All P xs → Each P xs
+each_all P [] a = tt
+each_all P (x ∷ xs) a = (All-head P x xs a, each_all P xs (All-tail P x xs a))
+
+-- one that is found passes the test, and has what all have
+pub found : {A : Type 0} (P : A → Type 0) (test : A → Bool) (xs : List A) → Each P xs → IfAny (λ a. P a × (test a ≡ true)) (find test xs)
+found P test [] p = tt
+found {A = A} P test (x ∷ xs) p = by_test (test x) refl (found P test xs p.1)
+  where
+    by_test : (b : Bool) → test x ≡ b → IfAny (λ a. P a × (test a ≡ true)) (find test xs) → IfAny (λ a. P a × (test a ≡ true)) (cond b (Some x) (find test xs))
+    by_test true e r = (p.0, e)
+    by_test false e r = r
+
+-- ---- values and types
+pub undefined : (t : Option Ty) → AgreesWith t None
+undefined t = record { agrees = λ a x h k. cc }
+
+pub some_agrees : (a : Ty) (x : Value) → IsTrue (has_type a x) → AgreesWith (Some a) (Some x)
+some_agrees a x h =
+    record {
+      agrees = λ b y p q. let e : a ≡ b = cc in let f : x ≡ y = cc in
+          subst (λ t. IsTrue (has_type t y)) e (subst (λ v. IsTrue (has_type a v)) f h);
+    }
+
+wider_value : (w t : Ty) (x : Value) → source.is_wanted (wanted_by w) t ≡ true → IsTrue (has_type t x) → IsTrue (has_type w x)
+wider_value T.Bool T.Bool x k h = h
+wider_value T.Int T.Int x k h = h
+wider_value T.Real T.Real x k h = h
+wider_value T.Real T.Int (V.Number q) k h = refl
+wider_value T.Real T.Int (V.Truth b) k h = h
+wider_value T.Bool T.Int x k h = absurd cc
+wider_value T.Bool T.Real x k h = absurd cc
+wider_value T.Int T.Bool x k h = absurd cc
+wider_value T.Int T.Real x k h = absurd cc
+wider_value T.Real T.Bool x k h = absurd cc
+
+wider : (w t : Ty) (v : Option Value) → source.is_wanted (wanted_by w) t ≡ true → AgreesWith (Some t) v → AgreesWith (Some w) v
+wider w t None k a = undefined (Some w)
+wider w t (Some x) k a = some_agrees w x (wider_value w t x k (a.agrees t x refl refl))
+
+literals : (e : prism.Expression) → IsPrintableExpression e → AllNumbers (λ d. IsTrue (is_normal d)) e
+literals (Truth at b) p = tt
+literals (Number at d) p = p.0
+literals (At at x) p = tt
+literals (One at o a) p = literals a p.1
+literals (Two at o a b) p = (literals a p.1, literals b p.2)
+literals (Three at o a b c) p = (literals a p.1, literals b p.2, literals c p.3)
+
+module _ (file : prism.File) (flat : IsFlat file) (env : Name → Option Value) where
+  -- each name has a value of its type, or none
+  abbrev pub AreTyped : Type 0
+  AreTyped = (x : Name) → AgreesWith (types file x) (env x)
+
+  -- no `<=>` of an expression stands between two numbers, and nodes have their operands
+  pub sound : AreTyped → (w : Ty) (e : prism.Expression) → HasType file flat w e → IsSound (λ x. known (env x)) e
+  sound a w e h =
+      let some : IsTrue (is_some (type_in prism_meaning (types file) e)) = subst (λ o. IsTrue (is_some o)) (sym h.is) refl in (
+        has_operands (types file) (λ x. known (env x)) e some,
+        compares_truths (types file) (λ x. known (env x)) e
+            (names_all (λ x. IsNoNumberOf (types file x) (env x)) (λ x. agreeing (types file x) (env x) (a x)) e) some,
+      )
+
+  pub sound_some : AreTyped → (w : Ty) (o : Option prism.Expression) → IfAny (IsFixed file flat w) o → IfSome o (IsSound (λ x. known (env x)))
+  sound_some a w None h = tt
+  sound_some a w (Some e) h = sound a w e h.0
+
+  -- its value has the type that is wanted
+  pub value_typed : AreTyped → (w : Ty) (e : prism.Expression) → IsPrintableExpression e → HasType file flat w e → AgreesWith (Some w) (see e (λ x. known (env x))).value
+  unfolding see
+  value_typed a w e p h =
+      subst (AgreesWith (Some w)) (sym (ap (λ s. s.value) (seen_is prism_meaning env e)))
+      (wider w h.ty (value_of prism_meaning e env) h.wanted
+      (subst (λ t. AgreesWith t (value_of prism_meaning e env)) h.is
+      (value_agrees prism_meaning prism_lawful (types file) env e (literals e p) (names_all (λ x. AgreesWith (types file x) (env x)) a e))))

@@ -1,0 +1,95 @@
+-- The new names of a file: of each entry, of the names that are known and of the actions.
+use Rattle.std.specs.Prelude.{◌≡◌, ℕ, zero, suc, ◌<◌, ◌≤◌, ◌^◌, List, [], ◌∷◌, length, take, drop, Bool, true, false, ◌||◌, Option, Some, IfSome, slice_get, bytes_eq, if◌then◌else◌}
+use Rattle.std.specs.List.{All, filter, list_any, zip}
+use Rattle.std.proofs.Common.{refl, ap, subst, arith, length-append, length-drop}
+use Rattle.std.proofs.lemmas.Fmt.{length-decimal-le}
+use Rattle.std.proofs.lemmas.List.{length-take-le}
+use Rattle.std.proofs.lemmas.List.Elements.{All-head, All-tail}
+use Rattle.std.proofs.lemmas.List.Sums.{count_by-le-length}
+use Rattle.std.proofs.lemmas.Option.{slice_get_within}
+use Rattle.process_core.specs.Ready.{Name}
+use Rattle.prism_tree.specs.Syntax as prism
+use Rattle.prism_print.specs.Printable.{Each}
+use Rattle.jani_tree.specs.Form.{HasItems}
+use Rattle.name_table.specs.declared.class.NameClass.{NameClass}
+use Rattle.name_table.specs.declared.class.NameClass.TheVariants.{Constant, Variable, Location, Module, Action, Label, Reward, Property}
+use Rattle.name_table.specs.declared.class.Target.TheVariants.{Jani}
+use Rattle.name_table.specs.declared.entry.Entry.{Entry}
+use Rattle.name_table.specs.Rule.{same_class, prefix, digits, made_name}
+use Rattle.name_table.specs.Entries.{count_of}
+use Rattle.name_table.proofs.Digits.{digits_decimal}
+use Rattle.name_table.proofs.EntryLemmas.{Comes, was_kept, was_made, placed, one_each}
+use Rattle.jani_translation.specs.Asks.{asks, entries, some_from, new_name, value_names, new_names, actions, actions_at}
+use Rattle.jani_translation.proofs.Each.{n_entries}
+use Rattle.jani_translation.proofs.Fresh.{no_empty, enough}
+
+-- ---- lists
+pub each_at : {A : Type 0} (P : A → Type 0) (xs : List A) → ((i : ℕ) (x : A) → slice_get xs i ≡ Some x → P x) → Each P xs
+each_at P [] h = tt
+each_at P (x ∷ xs) h = (h 0 x refl, each_at P xs (λ i y e. h (suc i) y e))
+
+pub each_take : {A : Type 0} (P : A → Type 0) (n : ℕ) (xs : List A) → Each P xs → Each P (take n xs)
+each_take P zero xs h = tt
+each_take P (suc n) [] h = tt
+each_take P (suc n) (x ∷ xs) h = (h.0, each_take P n xs h.1)
+
+pub each_drop : {A : Type 0} (P : A → Type 0) (n : ℕ) (xs : List A) → Each P xs → Each P (drop n xs)
+each_drop P zero xs h = h
+each_drop P (suc n) [] h = tt
+each_drop P (suc n) (x ∷ xs) h = each_drop P n xs h.1
+
+pub each_zip : {A B : Type 0} (P : A → Type 0) (Q : B → Type 0) (xs : List A) (ys : List B) → Each P xs → Each Q ys → Each (λ p. P p.0 × Q p.1) (zip xs ys)
+each_zip P Q [] ys h k = tt
+each_zip P Q (x ∷ xs) [] h k = tt
+each_zip P Q (x ∷ xs) (y ∷ ys) h k = ((h.0, k.0), each_zip P Q xs ys h.1 k.1)
+
+pub each_filter : {A : Type 0} (P : A → Type 0) (p : A → Bool) (xs : List A) → Each P xs → Each P (filter p xs)
+each_filter P p [] h = tt
+each_filter {A = A} P p (x ∷ xs) h = by_test (p x) (each_filter P p xs h.1)
+  where
+    by_test : (b : Bool) → Each P (filter p xs) → Each P (if b then x ∷ filter p xs else filter p xs)
+    by_test true r = (h.0, r)
+    by_test false r = r
+
+all_at : {A : Type 0} (P : A → Type 0) (xs : List A) (i : ℕ) (x : A) → All P xs → slice_get xs i ≡ Some x → P x
+all_at P [] i x h e = absurd cc
+all_at P (y ∷ xs) zero x h e = let q : y ≡ x = cc in subst P q (All-head P y xs h)
+all_at P (y ∷ xs) (suc i) x h e = all_at P xs i x (All-tail P y xs h) e
+
+-- ---- names that are made
+some_items : (x : Name) → (x ≡ [] → ⊥) → HasItems x
+some_items [] h = absurd (h refl)
+some_items (b ∷ x) h = tt
+
+-- ---- the names of a file
+module _ (file : prism.File) where
+  pub entry_name : (i : ℕ) (e : Entry) → slice_get (entries file) i ≡ Some e → HasItems e.name
+  entry_name i e h = some_items e.name (no_empty file i e h)
+
+  pub entry_names : Each (λ e. HasItems e.name) (entries file)
+  entry_names = each_at (λ e. HasItems e.name) (entries file) entry_name
+
+  pub names_from : (at n : ℕ) → Each (λ e. HasItems e.name) (some_from at n (entries file))
+  names_from at n = each_take (λ e. HasItems e.name) n (drop at (entries file)) (each_drop (λ e. HasItems e.name) at (entries file) entry_names)
+
+-- the new name of an old one is that of an entry
+pub new_has : (P : Name → Type 0) (ys : List Name) (es : List Entry) (x : Name) → length ys ≤ length es → list_any (λ y. bytes_eq y x) ys ≡ true →
+    Each (λ e. P e.name) es → P (new_name ys es x)
+new_has P [] es x l k h = absurd cc
+new_has P (y ∷ ys) [] x l k h = absurd (omega arith)
+new_has P (y ∷ ys) (e ∷ es) x l k h = by_test (bytes_eq y x) k (λ q. new_has P ys es x (omega arith) q h.1)
+  where
+    by_test : (b : Bool) → (b || list_any (λ u. bytes_eq u x) ys) ≡ true → (list_any (λ u. bytes_eq u x) ys ≡ true → P (new_name ys es x)) → P (if b then e.name else new_name ys es x)
+    by_test true q r = h.0
+    by_test false q r = r q
+
+module _ (file : prism.File) where
+  pub known_name : (x : Name) → list_any (λ y. bytes_eq y x) (value_names file) ≡ true → HasItems ((new_names file).value x)
+  known_name x k = new_has HasItems (value_names file) (entries file) x (enough file) k (entry_names file)
+
+  pub action_name : (x : Name) → list_any (λ y. bytes_eq y x) (actions file) ≡ true → HasItems ((new_names file).action x)
+  action_name x k =
+      let n = n_entries file in
+      let d = length-drop (actions_at file (entries file)) (entries file) in
+      new_has HasItems (actions file) (drop (actions_at file (entries file)) (entries file)) x (omega arith) k
+      (each_drop (λ e. HasItems e.name) (actions_at file (entries file)) (entries file) (entry_names file))

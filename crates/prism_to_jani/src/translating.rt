@@ -1,0 +1,33 @@
+// A judged PRISM file translated.
+
+ghost use Rattle.std.specs.Prelude.{◌≡◌, IfOk};
+ghost use Rattle.prism_names.specs.Flat.{flat};
+ghost use Rattle.jani_tree.specs.Syntax.{file_of};
+ghost use Rattle.jani_translation.specs.Translated.{translated};
+ghost use Rattle.prism_to_jani.specs.Promise.{IsTranslated};
+
+use jani_check::CheckedJani;
+use jani_translation::translate;
+use jani_tree::JaniFile;
+use prism_check::CheckedPrism;
+use prism_clean::flatten;
+use std::alloc::{AllocError, Global};
+
+/// The JANI file that a PRISM file without fault is translated to. It has no fault, it has the shape that
+/// [docs/TRANSLATION.md](../../../docs/TRANSLATION.md) tells, and it denotes the same process as the file, under every
+/// valuation. `Err` is want of memory; nothing else is refused.
+pub fn to_jani(alloc: Global, checked: &CheckedPrism) -> Result<CheckedJani, AllocError>
+    ensures { IfOk result (λ j. IsTranslated checked.now.file (file_of j)) }
+{
+    let file = image_of(alloc, checked)?;
+    let judged = CheckedJani::without_fault(alloc, file)?;
+    Ok(judged)
+}
+
+/// The translation of the file, its formulas and copies of modules written out, before anything is known of it.
+fn image_of(alloc: Global, checked: &CheckedPrism) -> Result<JaniFile, AllocError>
+    ensures { IfOk result (λ j. file_of j ≡ translated (flat checked.now.file)) }
+{
+    let flat = flatten(alloc, checked)?;
+    translate(alloc, flat.file())
+}

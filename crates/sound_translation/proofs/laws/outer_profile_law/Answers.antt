@@ -1,5 +1,0 @@
-use Rattle.sound_translation.proofs.Reading.{starts_fit, values_given_once, outer_reads_fit}
-use Rattle.sound_translation.proofs.laws.outer_profile_law.Goals as goal
-
-pub returns : goal.returns
-returns c = record { starts = starts_fit; given = values_given_once; reads = outer_reads_fit }
