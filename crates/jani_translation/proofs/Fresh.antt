@@ -24,7 +24,7 @@ same_bytes xs = (bytes_eq-Decides xs xs).1 refl
 pub equal_bytes : (xs ys : Name) → bytes_eq xs ys ≡ true → xs ≡ ys
 equal_bytes xs ys = (bytes_eq-Decides xs ys).0
 
-bytes_turned : (x y : Name) → bytes_eq x y ≡ bytes_eq y x
+pub bytes_turned : (x y : Name) → bytes_eq x y ≡ bytes_eq y x
 bytes_turned x y =
     let p = bytes_eq-Decides x y in
     let q = bytes_eq-Decides y x in

@@ -20,6 +20,7 @@ pub mod Monitored
 pub mod Numbered
 pub mod Places
 pub mod Gathering2
+pub mod Listed
 pub mod RewardSums
 pub mod Marks
 pub mod Choices

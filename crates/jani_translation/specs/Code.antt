@@ -1,19 +1,29 @@
 -- What the code's values stand for.
-use Rattle.std.specs.Prelude.{List, [], ◌∷◌, Bool, Option, Some, None, bytes_eq, unwrap_or, if◌then◌else◌}
+use Rattle.std.specs.Prelude.{◌≡◌, ℕ, List, [], ◌∷◌, map, Bool, Option, Some, None, is_some, bytes_eq, unwrap_or, if◌then◌else◌}
+use Rattle.std.specs.Borrow.{Bor}
+use Rattle.std.specs.List.{flat_map}
 use Rattle.std.specs.Option.{option_map}
-use Rattle.indexmap.specs.IndexMap.{get_by}
+use Rattle.indexmap.specs.IndexMap.{IndexMap, get_by}
+use Rattle.bridge_io.specs.declared.reason.Named.{Named}
 use Rattle.process_core.specs.Ready.{Name}
 use Rattle.prism_tree.specs.declared.syntax.PrismModule.{PrismModule}
 use Rattle.prism_tree.specs.declared.syntax.ItemOn.{ItemOn}
-use Rattle.prism_tree.specs.Syntax.{Body, module_of}
+use Rattle.prism_tree.specs.Syntax.{Body, Item, File, item_of, module_of}
+use Rattle.jani_tree.specs.Syntax.{Write, Destination, Edge}
 use Rattle.name_table.specs.declared.entry.Entry.{Entry}
 use Rattle.name_table.specs.Entries.{Ask, Table, entries_after}
 use Rattle.jani_translation.specs.declared.new_names.NameMap.{NameMap}
 use Rattle.jani_translation.specs.declared.new_names.Names.{Names}
+use Rattle.jani_translation.specs.declared.partners.Partners.{Partners}
 use Rattle.jani_translation.specs.declared.rewards.Wanted.{Wanted}
 use Rattle.jani_translation.specs.declared.rewards.Wanted.TheVariants as W
-use Rattle.jani_translation.specs.Asks.{NewNames, contents}
-use Rattle.jani_translation.specs.Automata.{for_states, for_silent, for_action}
+use Rattle.jani_translation.specs.declared.shares.Items.{Items}
+use Rattle.jani_translation.specs.declared.shares.Share.{Share}
+use Rattle.jani_translation.specs.declared.shares.Shares.{Shares}
+use Rattle.jani_translation.specs.Asks.{NewNames, bodies, contents}
+use Rattle.jani_translation.specs.Parts.{instead_if}
+use Rattle.jani_translation.specs.Automata.{loc, for_states, for_silent, for_action, has_items, sum_to, rewards_of}
+use Rattle.jani_translation.specs.Translated.{has_command}
 
 -- the contents of a module
 abbrev pub body_in : PrismModule → Body
@@ -47,7 +57,37 @@ names_in n = record {
 abbrev pub wanted_by : Wanted → ItemOn → Bool
 wanted_by W.States = for_states
 wanted_by W.Silent = for_silent
-wanted_by (W.Action a) = for_action a.now
+
+-- the list under a name
+abbrev pub list_under : {X S : Type 0} → IndexMap (Bor (List ℕ)) (List X) S → Name → List X
+list_under t x = unwrap_or (get_by (λ k. bytes_eq x k.now) t) []
+
+-- the items for an action
+abbrev pub items_under : Items → Name → List Item
+items_under t x = map (λ i. item_of i.now) (list_under t.by_action x)
+
+-- what gives a structure the sum of its share in an action, and all structures theirs
+abbrev pub share_writes : NewNames → Share → List Write
+share_writes n s = sum_to n (instead_if s.structure.now.name s.named.now.name) (map (λ i. item_of i.now) s.items)
+
+abbrev pub shared_writes : NewNames → Shares → Name → List Write
+shared_writes n t x = flat_map (share_writes n) (list_under t.by_action x)
+
+-- these are the actions of each module's commands, and those that items are for
+pub record ArePartners (p : Partners) (file : File) : Type 0 where
+  pub modules : (x : Name) → map (λ t. is_some (new_in t x)) p.modules.items ≡ map (has_command x) (bodies file)
+  pub items : (x : Name) → is_some (new_in p.items x) ≡ has_items (for_action x) file
+
+-- these are the shares of the file's structures
+abbrev pub AreShares : NewNames → Shares → File → Type 0
+AreShares n t file = (x : Name) → shared_writes n t x ≡ rewards_of n (for_action x) file.rewards
+
+-- an edge of the monitor that writes these
+abbrev pub gain_destinations : List Write → List Destination
+gain_destinations ws = record { location = loc; weight = None; writes = ws } ∷ []
+
+abbrev pub gain_edge : Named → List Write → Edge
+gain_edge a ws = record { location = loc; action = Some a; guard = None; destinations = gain_destinations ws; at = 0 }
 
 -- a table that was asked for more
 abbrev pub told : Table → List Ask → Table

@@ -9,12 +9,15 @@ ghost use Rattle.jani_tree.specs.Syntax as jani;
 ghost use Rattle.jani_translation.specs.Asks.{actions, bodies, NewNames as NamesOf};
 ghost use Rattle.jani_translation.specs.Parts.{made};
 ghost use Rattle.jani_translation.specs.Automata.{loc, zz_silent, zz_monitor, has_items, for_silent, for_action, has_silent, is_some_name, earning_actions, earns_silently, has_monitor, label_value, location_values, write, destination, edge_action, edge, automaton, module_automaton, module_automata, monitor_edge, monitor_edges, monitor, automata};
-ghost use Rattle.jani_translation.specs.Code.{body_in, wanted_by, names_in};
+ghost use Rattle.jani_translation.specs.Code.{body_in, names_in, AreShares, gain_destinations, gain_edge};
 
 use crate::gather::{commands_of, keep_if, name_of};
 use crate::new_names::{Names, shorter};
+use crate::partners::item_actions;
 use crate::parts::{image_if, instead, made};
 use crate::rewards::{Wanted, add_rewards, has_items};
+use crate::shares::Shares;
+use crate::syncs::new_action;
 use bridge_io::{List, Named, Text};
 use jani_tree::{JaniAutomaton, JaniDestination, JaniEdge, JaniLocation, JaniWrite};
 use name_table::Entry;
@@ -66,14 +69,6 @@ fn is_some_silent(commands: &[PrismCommand]) -> bool
     commands.iter().any(|c| c.action.is_none())
 }
 
-/// Whether some structure has items for the action.
-pub(crate) fn has_items_for(a: &Text, file: &PrismFile) -> bool
-    ensures { result ≡ has_items (for_action a.now) (file_of file.now) }
-{
-    let wanted = Wanted::Action(a);
-    has_items(&wanted, file.rewards.as_slice())
-}
-
 /// The actions that have items.
 fn earning_actions<'a>(
     alloc: Global,
@@ -83,9 +78,10 @@ fn earning_actions<'a>(
     requires { map (λ x. x.now) acts.now ≡ actions (file_of file.now) }
     ensures { IfOk result (λ r. map (λ x. x.now) r.items ≡ earning_actions (file_of file.now)) }
 {
+    let items = item_actions(alloc, file.rewards.as_slice())?;
     let mut all = Vec::new(alloc);
     for a in acts {
-        keep_if(&mut all, has_items_for(a, file), *a)?;
+        keep_if(&mut all, items.has(a.as_str()), *a)?;
     }
     Ok(all)
 }
@@ -382,26 +378,31 @@ fn module_automata(
 
 // ---- the monitor
 
-/// An edge of the monitor, without guard and probability: each structure gets its sum for the action.
-fn monitor_edge(
+/// The one destination of an edge of the monitor, without probability.
+fn gain_destinations(
     alloc: Global,
-    file: &PrismFile,
-    action: Named,
-    wanted: &Wanted,
-    names: &Names,
-) -> Result<JaniEdge, AllocError>
-    ensures { IfOk result (λ r. jani.edge_of r ≡ monitor_edge (names_in names.now) (file_of file.now) action (wanted_by wanted.now)) }
+    writes: List<JaniWrite>,
+) -> Result<List<JaniDestination>, AllocError>
+    ensures { IfOk result (λ r. map jani.destination_of r ≡ gain_destinations (map jani.write_of writes)) }
 {
-    let mut writes = List::new(alloc);
-    add_rewards(alloc, &mut writes, wanted, file.rewards.as_slice(), names)?;
-    let mut destinations = List::new(alloc);
-    destinations.push(JaniDestination {
-        location: loc(alloc)?,
+    let location = loc(alloc)?;
+    let mut all = List::new(alloc);
+    all.push(JaniDestination {
+        location,
         weight: None,
         writes,
     })?;
+    Ok(all)
+}
+
+/// An edge of the monitor, without guard.
+fn gain_edge(alloc: Global, action: Named, writes: List<JaniWrite>) -> Result<JaniEdge, AllocError>
+    ensures { IfOk result (λ r. jani.edge_of r ≡ gain_edge action (map jani.write_of writes)) }
+{
+    let destinations = gain_destinations(alloc, writes)?;
+    let location = loc(alloc)?;
     Ok(JaniEdge {
-        location: loc(alloc)?,
+        location,
         action: Some(action),
         guard: None,
         destinations,
@@ -409,19 +410,38 @@ fn monitor_edge(
     })
 }
 
-/// The edge of the monitor for an action.
+/// The edge of the monitor for commands without action: each structure gets its sum.
+fn silent_edge(alloc: Global, file: &PrismFile, names: &Names) -> Result<JaniEdge, AllocError>
+    ensures { IfOk result (λ r. jani.edge_of r ≡ monitor_edge (names_in names.now) (file_of file.now) zz_silent for_silent) }
+{
+    let mut writes = List::new(alloc);
+    add_rewards(
+        alloc,
+        &mut writes,
+        &Wanted::Silent,
+        file.rewards.as_slice(),
+        names,
+    )?;
+    let action = zz_silent(alloc)?;
+    let all = gain_edge(alloc, action, writes)?;
+    Ok(all)
+}
+
+/// The edge of the monitor for an action: each structure gets its sum.
 fn action_edge(
     alloc: Global,
     file: &PrismFile,
+    shares: &Shares,
     a: &Text,
     names: &Names,
 ) -> Result<JaniEdge, AllocError>
+    requires { AreShares (names_in names.now) shares.now (file_of file.now) }
     ensures { IfOk result (λ r. jani.edge_of r ≡
         monitor_edge (names_in names.now) (file_of file.now) (made ((names_in names.now).action a.now)) (for_action a.now)) }
 {
-    let name = made(alloc, names.action.new_name(a.as_str()))?;
-    let wanted = Wanted::Action(a);
-    let all = monitor_edge(alloc, file, name, &wanted, names)?;
+    let writes = shares.sums(alloc, a.as_str(), names)?;
+    let action = new_action(alloc, a, names)?;
+    let all = gain_edge(alloc, action, writes)?;
     Ok(all)
 }
 
@@ -435,9 +455,10 @@ fn action_edges(
     ensures { IfOk result (λ all. map jani.edge_of all ≡
         map (λ a. monitor_edge (names_in names.now) (file_of file.now) (made ((names_in names.now).action a)) (for_action a)) (map (λ x. x.now) earning.now)) }
 {
+    let shares = Shares::of(alloc, file.rewards.as_slice(), names.rewards)?;
     let mut all = List::new(alloc);
     for a in earning {
-        all.push(action_edge(alloc, file, a, names)?)?;
+        all.push(action_edge(alloc, file, &shares, a, names)?)?;
     }
     Ok(all)
 }
@@ -471,8 +492,7 @@ fn add_silent_edge(
         map jani.edge_of all.old ++ only_if wanted (monitor_edge (names_in names.now) (file_of file.now) zz_silent for_silent)) }
 {
     if wanted {
-        let silent = zz_silent(alloc)?;
-        all.push(monitor_edge(alloc, file, silent, &Wanted::Silent, names)?)?;
+        all.push(silent_edge(alloc, file, names)?)?;
     }
     Ok(())
 }

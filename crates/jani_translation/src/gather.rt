@@ -112,7 +112,7 @@ pub(crate) fn keep_if<'a, T>(all: &mut Vec<&'a T>, wanted: bool, x: &'a T) -> Re
 }
 
 /// Adds a name to those that were seen.
-fn note_name<'a>(seen: &mut NameMap<'a>, name: &'a str) -> Result<(), AllocError>
+pub(crate) fn note_name<'a>(seen: &mut NameMap<'a>, name: &'a str) -> Result<(), AllocError>
     ensures { OnOk result ((x : List ℕ) → is_some (new_in seen.new x) ≡ (if bytes_eq name.now x then true else is_some (new_in seen.old x))) }
 {
     seen.insert(name, name)?;

@@ -7,10 +7,13 @@ mod automata;
 mod composition;
 mod gather;
 mod laws;
+mod lists;
 mod naming;
 mod new_names;
+mod partners;
 mod parts;
 mod rewards;
+mod shares;
 mod syncs;
 mod translation;
 

@@ -13,7 +13,7 @@ ghost use Rattle.jani_translation.specs.Code.{wanted_by, names_in};
 use crate::gather::keep_if;
 use crate::new_names::{Names, shorter};
 use crate::parts::{instead_if, nought};
-use bridge_io::{List, Text};
+use bridge_io::List;
 use jani_table::JaniOp;
 use jani_tree::{JaniWrite, Je};
 use name_table::Entry;
@@ -22,15 +22,14 @@ use prism_images::image;
 use prism_tree::{ItemOn, PrismItem, PrismRewards};
 use std::alloc::{AllocError, Global};
 
-/// A kind of items: for states, for commands without action, for an action.
+/// A kind of items: for states, for commands without action.
 #[derive(Drop)]
-pub(crate) enum Wanted<'a> {
+pub(crate) enum Wanted {
     States,
     Silent,
-    Action(&'a Text),
 }
 
-impl<'a> Wanted<'a> {
+impl Wanted {
     /// Whether an item is of the kind.
     fn is(&self, on: &ItemOn) -> bool
         ensures { result ≡ wanted_by self.now on.now }
@@ -38,7 +37,6 @@ impl<'a> Wanted<'a> {
         match (self, on) {
             (Wanted::States, ItemOn::InState) => true,
             (Wanted::Silent, ItemOn::Silent) => true,
-            (Wanted::Action(x), ItemOn::Action(a)) => a.name.as_str() == x.as_str(),
             _ => false,
         }
     }
@@ -129,7 +127,7 @@ fn add_reward(
 }
 
 /// What gives a structure the sum of some items, of which there are some.
-fn sum_to(
+pub(crate) fn sum_to(
     alloc: Global,
     r: &PrismRewards,
     e: &Entry,

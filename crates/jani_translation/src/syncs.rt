@@ -1,54 +1,27 @@
 // The actions and the synchronisation vectors of a file.
 
-ghost use Rattle.std.specs.Prelude.{◌≡◌, ◌++◌, ◌∷◌, [], map, nat_eq, Some, IfOk, OnOk};
-ghost use Rattle.std.specs.List.{list_any};
-ghost use Rattle.process_core.specs.Ready.{same_label};
-ghost use Rattle.prism_tree.specs.Syntax as prism;
+ghost use Rattle.std.specs.Prelude.{◌≡◌, ◌++◌, ◌∷◌, [], map, nat_eq, is_some, IfOk, OnOk};
 ghost use Rattle.prism_tree.specs.Syntax.{file_of};
 ghost use Rattle.prism_flat.specs.Instance.{numbered, only_if};
 ghost use Rattle.jani_tree.specs.Syntax as jani;
-ghost use Rattle.jani_translation.specs.Asks.{actions, action_of};
+ghost use Rattle.jani_translation.specs.Asks.{actions};
 ghost use Rattle.jani_translation.specs.Parts.{made};
-ghost use Rattle.jani_translation.specs.Automata.{zz_silent, has_items, for_action, has_silent, has_monitor};
-ghost use Rattle.jani_translation.specs.Translated.{has_command, part_if, silent_vector, silent_vectors, jani_actions, action_vector, vectors};
-ghost use Rattle.jani_translation.specs.Code.{body_in, names_in};
+ghost use Rattle.jani_translation.specs.Automata.{zz_silent, has_silent, has_monitor};
+ghost use Rattle.jani_translation.specs.Translated.{part_if, silent_vector, silent_vectors, jani_actions, action_vector, vectors};
+ghost use Rattle.jani_translation.specs.Code.{body_in, names_in, new_in, ArePartners};
 
-use crate::automata::{earns_silently, has_items_for, has_monitor, has_silent, zz_silent};
-use crate::gather::commands_of;
-use crate::new_names::Names;
+use crate::automata::{earns_silently, has_monitor, has_silent, zz_silent};
+use crate::new_names::{NameMap, Names};
+use crate::partners::Partners;
 use crate::parts::made;
 use bridge_io::{List, Named, Text};
 use jani_tree::JaniVector;
 use prism_images::NewNames;
-use prism_tree::{PrismCommand, PrismFile, PrismModule};
+use prism_tree::{PrismFile, PrismModule};
 use std::alloc::{AllocError, Global};
 
-/// Whether some command of the module has the action.
-fn has_command(a: &Text, m: &PrismModule) -> bool
-    ensures { result ≡ has_command a.now (body_in m.now) }
-{
-    is_some_called(a, commands_of(m))
-}
-
-/// Whether one of the commands has the action.
-fn is_some_called(a: &Text, commands: &[PrismCommand]) -> bool
-    ensures { result ≡ list_any (λ c. same_label (Some a.now) (action_of c)) (map prism.command_of commands.now) }
-{
-    commands.iter().any(|c| is_called(a, c))
-}
-
-/// Whether a command has the action.
-fn is_called(a: &Text, c: &PrismCommand) -> bool
-    ensures { result ≡ same_label (Some a.now) (action_of (prism.command_of c.now)) }
-{
-    match &c.action {
-        Some(n) => a.as_str() == n.name.as_str(),
-        None => false,
-    }
-}
-
 /// The new name of an action.
-fn new_action(alloc: Global, a: &Text, names: &Names) -> Result<Named, AllocError>
+pub(crate) fn new_action(alloc: Global, a: &Text, names: &Names) -> Result<Named, AllocError>
     ensures { IfOk result (λ r. r ≡ made ((names_in names.now).action a.now)) }
 {
     let name = made(alloc, names.action.new_name(a.as_str()))?;
@@ -169,18 +142,18 @@ fn new_actions(alloc: Global, acts: &[&Text], names: &Names) -> Result<List<Name
     Ok(all)
 }
 
-/// The parts of the modules in an action.
+/// The parts of the modules in an action, where these are the actions of their commands.
 fn module_parts(
     alloc: Global,
-    modules: &[PrismModule],
+    modules: &[NameMap],
     a: &Text,
     names: &Names,
 ) -> Result<List<Option<Named>>, AllocError>
-    ensures { IfOk result (λ r. r ≡ map (λ m. part_if (has_command a.now m) (made ((names_in names.now).action a.now))) (map body_in modules.now)) }
+    ensures { IfOk result (λ r. r ≡ map (λ t. part_if (is_some (new_in t a.now)) (made ((names_in names.now).action a.now))) modules.now) }
 {
     let mut parts = List::new(alloc);
     for m in modules {
-        parts.push(part_if(alloc, has_command(a, m), a, names)?)?;
+        parts.push(part_if(alloc, m.has(a.as_str()), a, names)?)?;
     }
     Ok(parts)
 }
@@ -189,36 +162,56 @@ fn module_parts(
 fn add_monitor_part(
     alloc: Global,
     parts: &mut List<Option<Named>>,
-    file: &PrismFile,
+    items: &NameMap,
     watched: bool,
     a: &Text,
     names: &Names,
 ) -> Result<(), AllocError>
     ensures { OnOk result
-        (parts.new ≡ parts.old ++ only_if watched (part_if (has_items (for_action a.now) (file_of file.now)) (made ((names_in names.now).action a.now)))) }
+        (parts.new ≡ parts.old ++ only_if watched (part_if (is_some (new_in items.now a.now)) (made ((names_in names.now).action a.now)))) }
 {
     if watched {
-        parts.push(part_if(alloc, has_items_for(a, file), a, names)?)?;
+        parts.push(part_if(alloc, items.has(a.as_str()), a, names)?)?;
     }
     Ok(())
 }
 
-/// Each module that has the action takes part, and the monitor, if it has an edge for it; the action is the label.
+/// Each module that has the action takes part, and the monitor, if it has an edge for it.
+fn action_parts(
+    alloc: Global,
+    file: &PrismFile,
+    watched: bool,
+    partners: &Partners,
+    a: &Text,
+    names: &Names,
+) -> Result<List<Option<Named>>, AllocError>
+    requires watched { watched ≡ has_monitor (file_of file.now) }
+    requires partners { ArePartners partners.now (file_of file.now) }
+    ensures { IfOk result (λ r. r ≡ (action_vector (names_in names.now) (file_of file.now) a.now).parts) }
+{
+    let mut parts = module_parts(alloc, partners.modules.as_slice(), a, names)?;
+    add_monitor_part(alloc, &mut parts, &partners.items, watched, a, names)?;
+    Ok(parts)
+}
+
+/// The vector of an action, which is its label.
 fn action_vector(
     alloc: Global,
     file: &PrismFile,
     watched: bool,
+    partners: &Partners,
     a: &Text,
     names: &Names,
 ) -> Result<JaniVector, AllocError>
-    requires { watched ≡ has_monitor (file_of file.now) }
+    requires watched { watched ≡ has_monitor (file_of file.now) }
+    requires partners { ArePartners partners.now (file_of file.now) }
     ensures { IfOk result (λ r. jani.vector_of r ≡ action_vector (names_in names.now) (file_of file.now) a.now) }
 {
-    let mut parts = module_parts(alloc, file.modules.as_slice(), a, names)?;
-    add_monitor_part(alloc, &mut parts, file, watched, a, names)?;
+    let parts = action_parts(alloc, file, watched, partners, a, names)?;
+    let label = new_action(alloc, a, names)?;
     Ok(JaniVector {
         parts,
-        result: Some(new_action(alloc, a, names)?),
+        result: Some(label),
         at: 0,
     })
 }
@@ -234,9 +227,10 @@ fn action_vectors(
     requires { watched ≡ has_monitor (file_of file.now) }
     ensures { IfOk result (λ all. map jani.vector_of all ≡ map (action_vector (names_in names.now) (file_of file.now)) (map (λ x. x.now) acts.now)) }
 {
+    let partners = Partners::of(alloc, file)?;
     let mut all = List::new(alloc);
     for a in acts {
-        all.push(action_vector(alloc, file, watched, a, names)?)?;
+        all.push(action_vector(alloc, file, watched, &partners, a, names)?)?;
     }
     Ok(all)
 }

@@ -1,0 +1,99 @@
+// Who takes part in actions: modules whose commands have them, and the monitor, where items are for them.
+
+ghost use Rattle.std.specs.Prelude.{◌≡◌, is_some, Some, ◌||◌, List, ℕ, map, IfOk, OnOk};
+ghost use Rattle.std.specs.List.{list_any};
+ghost use Rattle.process_core.specs.Ready.{same_label};
+ghost use Rattle.prism_tree.specs.Syntax as prism;
+ghost use Rattle.prism_tree.specs.Syntax.{file_of};
+ghost use Rattle.jani_translation.specs.Asks.{action_of};
+ghost use Rattle.jani_translation.specs.Automata.{for_action};
+ghost use Rattle.jani_translation.specs.Translated.{has_command};
+ghost use Rattle.jani_translation.specs.Code.{body_in, new_in, ArePartners};
+
+use crate::gather::{commands_of, note_name};
+use crate::new_names::NameMap;
+use prism_tree::{ItemOn, PrismCommand, PrismFile, PrismItem, PrismModule, PrismRewards};
+use std::alloc::{AllocError, Global};
+
+/// The actions of each module's commands, and those that items are for.
+#[derive(Drop)]
+pub(crate) struct Partners<'a> {
+    pub(crate) modules: Vec<NameMap<'a>>,
+    pub(crate) items: NameMap<'a>,
+}
+
+impl<'a> Partners<'a> {
+    /// Those of a file.
+    pub(crate) fn of(alloc: Global, file: &'a PrismFile) -> Result<Partners<'a>, AllocError>
+        ensures { IfOk result (λ p. ArePartners p (file_of file.now)) }
+    {
+        let modules = module_actions(alloc, file.modules.as_slice())?;
+        let items = item_actions(alloc, file.rewards.as_slice())?;
+        Ok(Partners { modules, items })
+    }
+}
+
+/// The actions of each module's commands.
+fn module_actions(alloc: Global, modules: &[PrismModule]) -> Result<Vec<NameMap>, AllocError>
+    ensures { IfOk result (λ ts. (x : List ℕ) → map (λ t. is_some (new_in t x)) ts.items ≡ map (has_command x) (map body_in modules.now)) }
+{
+    let mut all = Vec::new(alloc);
+    for m in modules {
+        all.push(command_actions(alloc, commands_of(m))?)?;
+    }
+    Ok(all)
+}
+
+/// The actions of commands.
+fn command_actions(alloc: Global, commands: &[PrismCommand]) -> Result<NameMap, AllocError>
+    ensures { IfOk result (λ t. (x : List ℕ) → is_some (new_in t x) ≡ list_any (λ c. same_label (Some x) (action_of c)) (map prism.command_of commands.now)) }
+{
+    let mut seen = NameMap::new(alloc);
+    for c in commands {
+        note_action(&mut seen, c)?;
+    }
+    Ok(seen)
+}
+
+/// Adds the action of a command, if it has one.
+fn note_action<'a>(seen: &mut NameMap<'a>, c: &'a PrismCommand) -> Result<(), AllocError>
+    ensures { OnOk result ((x : List ℕ) → is_some (new_in seen.new x)
+        ≡ (is_some (new_in seen.old x) || same_label (Some x) (action_of (prism.command_of c.now)))) }
+{
+    match &c.action {
+        Some(a) => note_name(seen, a.name.as_str()),
+        None => Ok(()),
+    }
+}
+
+/// The actions that items are for.
+pub(crate) fn item_actions(alloc: Global, rewards: &[PrismRewards]) -> Result<NameMap, AllocError>
+    ensures { IfOk result (λ t. (x : List ℕ) → is_some (new_in t x) ≡ list_any (λ r. list_any (λ i. for_action x i.on) r.items) (map prism.rewards_of rewards.now)) }
+{
+    let mut seen = NameMap::new(alloc);
+    for r in rewards {
+        note_items(&mut seen, r.items.as_slice())?;
+    }
+    Ok(seen)
+}
+
+/// Adds the actions that these items are for.
+fn note_items<'a>(seen: &mut NameMap<'a>, items: &'a [PrismItem]) -> Result<(), AllocError>
+    ensures { OnOk result ((x : List ℕ) → is_some (new_in seen.new x)
+        ≡ (is_some (new_in seen.old x) || list_any (λ i. for_action x i.on) (map prism.item_of items.now))) }
+{
+    for i in items {
+        note_item(seen, &i.on)?;
+    }
+    Ok(())
+}
+
+/// Adds the action that an item is for, if it is for one.
+fn note_item<'a>(seen: &mut NameMap<'a>, on: &'a ItemOn) -> Result<(), AllocError>
+    ensures { OnOk result ((x : List ℕ) → is_some (new_in seen.new x) ≡ (is_some (new_in seen.old x) || for_action x on.now)) }
+{
+    match on {
+        ItemOn::Action(a) => note_name(seen, a.name.as_str()),
+        _ => Ok(()),
+    }
+}
