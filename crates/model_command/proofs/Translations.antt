@@ -11,7 +11,7 @@ use Rattle.jani_tree.specs.Syntax as jani
 use Rattle.jani_tree.specs.Canonical.{FileForm, file_node}
 use Rattle.jani_tree.specs.Back.{TextSpells}
 use Rattle.jani_tree.specs.Text.{node_text, jani_text, TextOfNode}
-use Rattle.jani_translation.specs.Promise.{IsTranslated, PlacesAside}
+use Rattle.prism_to_jani.specs.Promise.{IsTranslated, PlacesAside}
 use Rattle.model_command.specs.PrismFile.{IsFaultless}
 use Rattle.model_command.specs.Translation.{IsText, IsWritten, Translates}
 

@@ -5,7 +5,7 @@ use Rattle.jani_tree.specs.Syntax as jani
 use Rattle.jani_tree.specs.Places.{bare_file}
 use Rattle.jani_tree.specs.Text.{jani_text}
 use Rattle.jani_tree.specs.Back.{SpellsFile, SpellsAside, SpellsOnly}
-use Rattle.jani_translation.specs.Promise.{IsTranslated}
+use Rattle.prism_to_jani.specs.Promise.{IsTranslated}
 use Rattle.model_command.specs.PrismFile.{IsFaultless}
 
 -- The text is the canonical one of the tree and a line feed; it spells the tree, places aside, and no other.

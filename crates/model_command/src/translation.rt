@@ -11,7 +11,7 @@ use decimal_json::{line_feed_law, write_json};
 use jani_check::{CheckedJani, writable_law};
 use jani_tree::{to_json, written_law};
 use prism_check::CheckedPrism;
-use jani_translation::{to_jani, translated_law};
+use prism_to_jani::{to_jani, translated_law};
 use std::alloc::{AllocError, Global};
 
 /// The text of the JANI file that the PRISM file of these bytes is translated to, or the least fault of the bytes.
