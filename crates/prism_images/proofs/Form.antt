@@ -10,7 +10,7 @@ use Rattle.prism_tree.specs.Syntax.{Expression}
 use Rattle.jani_table.specs.declared.operator.JaniOp.{JaniOp}
 use Rattle.jani_table.specs.Operators as JaniTable
 use Rattle.jani_tree.specs.Canonical.{HasOperands}
-use Rattle.jani_tree.specs.Form.{ExprForm, IsName, IsNormal}
+use Rattle.jani_tree.specs.Form.{ExprForm, HasItems, IsNormal}
 use Rattle.prism_images.specs.Image.{image, image_one, jani_op}
 use Rattle.prism_images.specs.Laws.{HasItsOperands, IsLiteral, names_in}
 use Rattle.prism_images.proofs.Values.{IsNotMinus}
@@ -57,12 +57,12 @@ literals_kept new (Two at o a b) h = (literals_kept new a h.0, literals_kept new
 literals_kept new (Three at o a b c) h = (literals_kept new a h.0, literals_kept new b h.1, literals_kept new c h.2)
 
 -- ---- the form of trees that are read
-one_form : (at : ℕ) (o : PrismOp) (a : Tree JaniOp) → PrismTable.arity o ≡ 1 → ExprForm a → ExprForm (image_one at o a)
+one_form : (at : ℕ) (o : PrismOp) (a : Tree JaniOp) → PrismTable.arity o ≡ 1 → ExprForm HasItems a → ExprForm HasItems (image_one at o a)
 one_form at P.Neg a h k = (refl, refl, k)
 one_form at o a h k = (arity_alike o tt ∙ h, k)
 
 pub form_kept : (new : List ℕ → List ℕ) (e : Expression) → HasItsOperands e → AllNumbers IsNormal e →
-    AllNames (λ x. IsName (new x)) e → ExprForm (image new e)
+    AllNames (λ x. HasItems (new x)) e → ExprForm HasItems (image new e)
 form_kept new (Truth at b) h d n = tt
 form_kept new (Number at d) h k n = k
 form_kept new (Name at x) h d n = n

@@ -15,7 +15,7 @@ use Rattle.prism_tree.specs.Operators.{prism_meaning, arity}
 use Rattle.prism_tree.specs.Syntax.{Expression}
 use Rattle.jani_table.specs.Operators.{jani_meaning}
 use Rattle.jani_tree.specs.Canonical.{HasOperands}
-use Rattle.jani_tree.specs.Form.{ExprForm, IsName, IsNormal}
+use Rattle.jani_tree.specs.Form.{ExprForm, HasItems, IsNormal}
 use Rattle.prism_images.specs.Image.{image}
 
 -- ---- what is asked of an expression
@@ -113,7 +113,7 @@ ImageHasLiterals =
 -- so the image has the form of an expression that is read from a JANI file, where its names have
 abbrev pub ImageHasForm : Type 0
 ImageHasForm = (new : List ℕ → List ℕ) (e : Expression) →
-    HasItsOperands e → AllNumbers IsNormal e → AllNames (λ x. IsName (new x)) e → ExprForm (image new e)
+    HasItsOperands e → AllNumbers IsNormal e → AllNames (λ x. HasItems (new x)) e → ExprForm HasItems (image new e)
 
 -- ---- names
 
