@@ -4,7 +4,7 @@
     bench/check_prism.py [--program crates/bridge/out/bridge] [--runs 3]
 
 For each file: the processor seconds of the best run, the growth against the size before, the greatest memory over the file's
-size, and the seconds of reading alone, which `to-jani` does before it says that the file isn't small. What is to be reached:
+size, and the seconds of reading alone, of the same file with a name that is unknown at its end. What is to be reached:
 growth at most 2.2 for each doubling, memory at most 20 times the file, at most three times the seconds of reading.
 """
 
@@ -46,8 +46,10 @@ def main():
                 text = make(int(size))
                 with open("f", "w") as f:
                     f.write(text)
+                with open("unknown", "w") as f:
+                    f.write(text + 'label "none" = no_such_name;\n')
                 seconds, memory = min(timed([program, "check", "prism", "f"]) for _ in range(runs))
-                reading, _ = min(timed([program, "to-jani", "f"], 2) for _ in range(runs))
+                reading, _ = min(timed([program, "check", "prism", "unknown"], 2) for _ in range(runs))
                 print("%-10s %7.2f %9.4f %7s %6.1fx %9.4f %6.1f" % (
                     make.__name__, len(text) / MEGA, seconds, growth(seconds, before), memory / len(text), reading, seconds / reading), flush=True)
                 before = seconds

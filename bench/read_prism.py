@@ -1,5 +1,5 @@
 #!/usr/bin/env python3
-"""Times how `bridge to-jani` reads PRISM files of 1 to 16 MB that it refuses by reason 42 once they are read, beside CPython's
+"""Times how `bridge check prism` reads PRISM files of 1 to 16 MB that it refuses for a name once they are read, beside CPython's
 ast.parse of a Python file and json.load of a JSON file of the same length.
 
     bench/read_prism.py [--program crates/bridge/out/bridge] [--runs 3]
@@ -33,6 +33,10 @@ KINDS = {
 }
 
 
+# A name that is declared nowhere: the file is refused once it is read and its names are looked up.
+UNKNOWN = 'label "none" = no_such_name;\n'
+
+
 def file_of(size, front, back, line):
     """A file of about so many bytes: lines between a front and a back."""
     lines = [front]
@@ -54,11 +58,11 @@ def main():
         print("%s\n    MB   seconds    MB/s  growth  memory  ast.parse  json.load" % kind)
         before = None
         for size in (1, 2, 4, 8, 16):
-            text = file_of(size * MEGA, front, back, line)
+            text = file_of(size * MEGA, front, back + UNKNOWN, line)
             open("f", "w").write(text)
             open("f.py", "w").write(file_of(len(text), "", "", lambda i: "f%d = (x + %d) * 2 / 3 - mod(x, %d) if x > %d else floor(%d.5)\n" % (i, i, i % 9 + 1, i % 10, i)))
             open("f.json", "w").write(file_of(len(text) - 8, "[", "0]", lambda i: '{"ref":"x%d","value":{"op":"+","left":"y","right":%d}},' % (i % 10, i)))
-            seconds, memory = min(timed([program, "to-jani", "f"], 2) for _ in range(runs))
+            seconds, memory = min(timed([program, "check", "prism", "f"], 2) for _ in range(runs))
             print("%6.1f  %8.3f  %6.1f  %6s  %5.1fx  %9.3f  %9.3f" % (
                 len(text) / MEGA, seconds, len(text) / MEGA / seconds, growth(seconds, before),
                 memory / len(text), python(PARSE, "f.py"), python(LOAD, "f.json")), flush=True)
@@ -66,7 +70,7 @@ def main():
     print("refused\n    MB   seconds  memory")
     for name, text in (("(", "mdp const int a = " + "(" * (16 * MEGA)), ("x+x", "mdp const int a = x" + "+x" * (8 * MEGA))):
         open("f", "w").write(text)
-        seconds, memory = min(timed([program, "to-jani", "f"], 2) for _ in range(runs))
+        seconds, memory = min(timed([program, "check", "prism", "f"], 2) for _ in range(runs))
         print("%6.1f  %8.3f  %5.1fx  %s" % (len(text) / MEGA, seconds, memory / len(text), name))
 
 
