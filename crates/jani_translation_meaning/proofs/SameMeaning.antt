@@ -169,8 +169,8 @@ module _ (old : prism.File) where
   from_flat h =
       let s = flat_means_the_same (flat old) h in
       let P : Model Valuation Fault Name Fraction Mark Values → Type 0 =
-          λ p. SameProcess p (jani_process.model (translated (flat old))) (Correspond old (translated (flat old))) (placed (length (translated (flat old)).elements)) (label_in old)
-          (λ s. homes (translated (flat old)) ++ s) in
+      λ p. SameProcess p (jani_process.model (translated (flat old))) (Correspond old (translated (flat old))) (placed (length (translated (flat old)).elements)) (label_in old)
+      (λ s. homes (translated (flat old)) ++ s) in
       subst P (model-flat old) (record {
         faults = λ v w c. s.faults v w (written_out v w old old.constants (map (λ d. d.name.name) (translated (flat old)).constants) c);
         process = λ v w c. s.process v w (written_out v w old old.constants (map (λ d. d.name.name) (translated (flat old)).constants) c);

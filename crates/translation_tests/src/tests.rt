@@ -1,11 +1,11 @@
 use bridge_io::{List, Refused};
 use decimal_json::{read_json, write_json};
+use jani_translation::translate;
 use jani_tree::{JaniFile, from_json, to_json};
 use prism_check::{CheckedPrism, check_prism};
 use prism_clean::flatten;
 use prism_parse::parse;
 use prism_print::{print, printable_law};
-use jani_translation::translate;
 use std::alloc::{AllocError, Global};
 use std::test::Fail;
 
