@@ -1,25 +1,14 @@
 -- The new names of a file: of each entry, of the names that are known and of the actions.
-use Rattle.std.specs.Prelude.{◌≡◌, ℕ, zero, suc, ◌<◌, ◌≤◌, ◌^◌, List, [], ◌∷◌, length, take, drop, Bool, true, false, ◌||◌, Option, Some, IfSome, slice_get, bytes_eq, if◌then◌else◌}
+use Rattle.std.specs.Prelude.{◌≡◌, ℕ, zero, suc, ◌≤◌, List, [], ◌∷◌, length, take, drop, Bool, true, false, ◌||◌, Some, slice_get, bytes_eq, if◌then◌else◌}
 use Rattle.std.specs.List.{All, filter, list_any, zip}
-use Rattle.std.proofs.Common.{refl, ap, subst, arith, length-append, length-drop}
-use Rattle.std.proofs.lemmas.Fmt.{length-decimal-le}
-use Rattle.std.proofs.lemmas.List.{length-take-le}
+use Rattle.std.proofs.Common.{refl, subst, arith, length-drop}
 use Rattle.std.proofs.lemmas.List.Elements.{All-head, All-tail}
-use Rattle.std.proofs.lemmas.List.Sums.{count_by-le-length}
-use Rattle.std.proofs.lemmas.Option.{slice_get_within}
 use Rattle.process_core.specs.Ready.{Name}
 use Rattle.prism_tree.specs.Syntax as prism
 use Rattle.prism_print.specs.Printable.{Each}
 use Rattle.jani_tree.specs.Form.{HasItems}
-use Rattle.name_table.specs.declared.class.NameClass.{NameClass}
-use Rattle.name_table.specs.declared.class.NameClass.TheVariants.{Constant, Variable, Location, Module, Action, Label, Reward, Property}
-use Rattle.name_table.specs.declared.class.Target.TheVariants.{Jani}
 use Rattle.name_table.specs.declared.entry.Entry.{Entry}
-use Rattle.name_table.specs.Rule.{same_class, prefix, digits, made_name}
-use Rattle.name_table.specs.Entries.{count_of}
-use Rattle.name_table.proofs.Digits.{digits_decimal}
-use Rattle.name_table.proofs.EntryLemmas.{Comes, was_kept, was_made, placed, one_each}
-use Rattle.jani_translation.specs.Asks.{asks, entries, some_from, new_name, value_names, new_names, actions, actions_at}
+use Rattle.jani_translation.specs.Asks.{entries, some_from, new_name, value_names, new_names, actions, actions_at}
 use Rattle.jani_translation.proofs.Each.{n_entries}
 use Rattle.jani_translation.proofs.Fresh.{no_empty, enough}
 

@@ -2,7 +2,7 @@
 use Rattle.std.specs.Prelude.{ℕ, ◌+◌, List, [], ◌∷◌, ◌++◌, map, length, Bool, true, false, Option, Some, None, nat_eq, if◌then◌else◌}
 use Rattle.std.specs.List.{flat_map, filter, zip}
 use Rattle.std.specs.Option.{option_map}
-use Rattle.std.proofs.Common.{refl, arith}
+use Rattle.std.proofs.Common.{refl}
 use Rattle.bridge_io.specs.declared.reason.Named.{Named}
 use Rattle.op_trees.specs.Tree.{Truth, Number, Name as At, One, Two, Three, AllNumbers}
 use Rattle.op_trees.specs.SeenLaws.{names_then}

@@ -2,7 +2,7 @@
 -- no fault, is written out and has short names.
 use Rattle.std.specs.Prelude.{◌≡◌, pos, [], ◌∷◌, codes, false, Some, None}
 use Rattle.std.proofs.Common.{refl, arith}
-use Rattle.std.proofs.lemmas.List.Elements.{All-nil, All-from_recursion}
+use Rattle.std.proofs.lemmas.List.Elements.{All-nil}
 use Rattle.bridge_io.specs.declared.reason.Named.{Named}
 use Rattle.op_trees.specs.declared.tree.Ty.TheVariants as T
 use Rattle.op_trees.specs.Tree.{Number, Name as At, Two}
@@ -17,7 +17,6 @@ use Rattle.prism_check.specs.Faults.{faults}
 use Rattle.prism_clean.specs.Flattened.{IsFlat}
 use Rattle.jani_tree.specs.Form.{FileRead}
 use Rattle.jani_check.specs.NameFaults.{name_faults}
-use Rattle.jani_translation.specs.Asks.{asks}
 use Rattle.jani_translation.specs.Translated.{translated}
 use Rattle.jani_translation_names.proofs.Form.{translated_has_form}
 use Rattle.jani_translation_names.proofs.Composition.{no_name_faults}
