@@ -1,17 +1,12 @@
 -- What is promised of a translation holds.
-use Rattle.std.specs.Prelude.{◌≡◌, List, []}
-use Rattle.std.proofs.Common.{refl, sym, ap₂, subst, ◌∙◌}
-use Rattle.bridge_io.specs.declared.reason.Fault.{Fault}
+use Rattle.std.specs.Prelude.{◌≡◌, []}
+use Rattle.std.proofs.Common.{refl, sym, ap₂, ◌∙◌}
 use Rattle.prism_tree.specs.Syntax as prism
 use Rattle.prism_names.specs.Flat.{flat}
 use Rattle.prism_flat.specs.FlatLaws.{is_written_out}
 use Rattle.prism_check.specs.Checked.{Checked, IsChecked}
 use Rattle.prism_check.proofs.CleanFile.{flat_is_checked}
 use Rattle.prism_clean.specs.Flattened.{IsFlat}
-use Rattle.jani_tree.specs.Syntax as jani
-use Rattle.jani_check.specs.NameFaults.{name_faults}
-use Rattle.jani_check.specs.TypeFaults.{type_faults}
-use Rattle.jani_check.specs.ProfileFaults.{profile_faults}
 use Rattle.jani_check.specs.Faults.{or_else, faults}
 use Rattle.jani_check.specs.Faults as judged
 use Rattle.jani_check.proofs.Profiled.{places_aside, checked_is_writable}

@@ -19,12 +19,20 @@ use std::alloc::{AllocError, Global};
 pub fn to_jani(alloc: Global, checked: &CheckedPrism) -> Result<CheckedJani, AllocError>
     ensures { IfOk result (λ j. IsTranslated checked.now.file (file_of j)) }
 {
+    promised(checked);
     let file = image_of(alloc, checked)?;
     let judged = CheckedJani::without_fault(alloc, file)?;
     Ok(judged)
 }
 
-/// The translation of the file, its formulas and copies of modules written out, before anything is known of it.
+/// What is promised holds of the translation of a judged file: a function that does nothing, whose contract says so.
+fn promised(checked: &CheckedPrism)
+    ensures { IsTranslated checked.now.file (translated (flat checked.now.file)) }
+{
+    checked.file();
+}
+
+/// The translation of the file, its formulas and copies of modules written out, before it is known to be of the profile.
 fn image_of(alloc: Global, checked: &CheckedPrism) -> Result<JaniFile, AllocError>
     ensures { IfOk result (λ j. file_of j ≡ translated (flat checked.now.file)) }
 {

@@ -1,0 +1,12 @@
+use Rattle.std.specs.Prelude.{IfOk}
+use Rattle.std.proofs.Common.{◌≡◌, ◌∙◌, subst}
+use Rattle.prism_tree.specs.Syntax as prism
+use Rattle.jani_tree.specs.Syntax.{file_of}
+use Rattle.jani_translation.specs.Translated.{translated}
+use Rattle.jani_translation.specs.Statements.{IsTranslation}
+use Rattle.prism_to_jani.proofs.translating.image_of.Goals as goal
+
+pub returns : goal.returns
+unfolding IsTranslation
+returns c =
+    subst (λ (f : prism.File). IfOk c.translate.result (λ j. file_of j ≡ translated f)) (c.file.ensures.tree ∙ c.in_ok-flat.ensures.tree) c.translate.ensures
