@@ -1,6 +1,6 @@
 -- What is written for a PRISM file.
-use Rattle.std.specs.Prelude.{◌≡◌, ℕ, List, [], ◌∷◌, ◌++◌, Result, Ok, Err, IfOk, true}
-use Rattle.std.proofs.Common.{refl, sym, ap, ◌∙◌}
+use Rattle.std.specs.Prelude.{◌≡◌, ℕ, List, [], ◌∷◌, ◌++◌}
+use Rattle.std.proofs.Common.{sym, ap, ◌∙◌}
 use Rattle.decimal_json.specs.declared.tree.Json.{Json}
 use Rattle.decimal_json.specs.Laws.{LineFeedBehind}
 use Rattle.decimal_json.specs.Proper.{SpellsValue}
@@ -10,7 +10,7 @@ use Rattle.prism_tree.specs.Syntax as prism
 use Rattle.jani_tree.specs.Syntax as jani
 use Rattle.jani_tree.specs.Canonical.{FileForm, file_node}
 use Rattle.jani_tree.specs.Back.{TextSpells}
-use Rattle.jani_tree.specs.Text.{node_text, jani_text, TextOfNode}
+use Rattle.jani_tree.specs.Text.{node_text, TextOfNode}
 use Rattle.prism_to_jani.specs.Promise.{IsTranslated, PlacesAside}
 use Rattle.model_command.specs.PrismFile.{IsFaultless}
 use Rattle.model_command.specs.Translation.{IsText, IsWritten, Translates}
