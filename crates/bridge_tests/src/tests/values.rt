@@ -99,7 +99,7 @@ fn a_reason_has_its_number_and_its_name(rt: HostRuntime) {
         number = number.saturating_add(1);
         assert!(rt;
             reason.number() == number && reason.name() == name,
-            "{name}"
+            "reason {number}"
         );
     }
 }
