@@ -10,7 +10,7 @@ use Rattle.name_table.specs.declared.entry.Entry.{Entry}
 use Rattle.name_table.specs.Rule.{space}
 use Rattle.name_table.specs.Entries.{Ask}
 use Rattle.name_table.proofs.EntryLemmas.{placed, kept_is_old, no_two_alike}
-use Rattle.jani_translation.specs.Asks.{variables, module_asks, action_asks, asks, entries, modules_at}
+use Rattle.name_table.specs.Asks.{variables, module_asks, action_asks, asks, entries, modules_at}
 use Rattle.jani_translation.proofs.Fresh.{Agrees, same_bytes, equal_bytes, other_bytes}
 
 -- ---- members of cut lists

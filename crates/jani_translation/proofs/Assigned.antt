@@ -24,7 +24,7 @@ use Rattle.jani_meaning.specs.Scene as jani_scene
 use Rattle.jani_meaning.specs.Moment as jani_moment
 use Rattle.jani_meaning.specs.Process.{no_reward}
 use Rattle.name_table.specs.declared.entry.Entry.{Entry}
-use Rattle.jani_translation.specs.Asks.{variables, entries, rewards_at, new_names}
+use Rattle.name_table.specs.Asks.{variables, entries, rewards_at, new_names}
 use Rattle.jani_translation.specs.Parts.{instead_if, variable, structure}
 use Rattle.jani_translation.specs.Automata.{item_value, sum_behind, sum_to, reward_of, rewards_of}
 use Rattle.jani_translation.specs.Translated.{translated}

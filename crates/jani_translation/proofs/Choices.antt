@@ -31,7 +31,7 @@ use Rattle.jani_meaning.specs.Moment as jani_moment
 use Rattle.jani_meaning.specs.Moment.{location_write}
 use Rattle.jani_meaning.specs.Process.{no_reward}
 use Rattle.name_table.specs.declared.entry.Entry.{Entry}
-use Rattle.jani_translation.specs.Asks.{bodies, actions, action_of, new_names}
+use Rattle.name_table.specs.Asks.{bodies, actions, action_of, new_names}
 use Rattle.jani_translation.specs.Parts.{structure}
 use Rattle.jani_translation.specs.Automata.{has_items, for_action, for_silent, has_silent, earning_actions, is_some_name, earns_silently, has_monitor, location_values, module_automata, monitor}
 use Rattle.jani_translation.specs.Translated.{translated}

@@ -15,7 +15,7 @@ use Rattle.name_table.specs.declared.entry.Entry.{Entry}
 use Rattle.name_table.specs.Rule.{space, begins_zz, made_name}
 use Rattle.name_table.specs.Entries.{Ask, count_of}
 use Rattle.name_table.proofs.EntryLemmas.{Comes, was_kept, was_made, placed, kept_is_old, no_two_alike}
-use Rattle.jani_translation.specs.Asks.{ask, actions, variables, constant_asks, variable_asks, label_asks, reward_asks, module_asks, action_asks, asks, entries, actions_at, new_name, value_names, new_names, bodies}
+use Rattle.name_table.specs.Asks.{ask, actions, variables, constant_asks, variable_asks, label_asks, reward_asks, module_asks, action_asks, asks, entries, actions_at, new_name, value_names, new_names, bodies}
 use Rattle.jani_translation.specs.Parts.{constant}
 use Rattle.jani_translation.specs.Automata.{zz_silent}
 use Rattle.jani_translation.specs.NameLaws.{ValuesDiffer, ConstantNames, ActionsDiffer, ActionsAreNotSilent}

@@ -7,7 +7,7 @@ use Rattle.prism_tree.specs.Syntax as prism
 use Rattle.name_table.specs.declared.class.Target.TheVariants.{Jani}
 use Rattle.name_table.specs.declared.entry.Entry.{Entry}
 use Rattle.name_table.proofs.EntryLemmas.{one_each}
-use Rattle.jani_translation.specs.Asks.{contents, bodies, variables, actions, constant_asks, variable_asks, label_asks, reward_asks, module_asks, action_asks, asks, entries, some_from, new_names, labels_at, rewards_at, modules_at}
+use Rattle.name_table.specs.Asks.{contents, bodies, variables, actions, constant_asks, variable_asks, label_asks, reward_asks, module_asks, action_asks, asks, entries, some_from, new_names, labels_at, rewards_at, modules_at}
 
 -- what is seen of each pair alone on the left side
 pub map-zip : {X Y Z W : Type 0} (h : Z → W) (g : X → Y → Z) (f : X → W) → ((x : X) (y : Y) → h (g x y) ≡ f x) →

@@ -24,7 +24,7 @@ use Rattle.jani_meaning.specs.Scene.{location_column}
 use Rattle.jani_meaning.specs.Moment as jani_moment
 use Rattle.name_table.specs.declared.entry.Entry.{Entry}
 use Rattle.prism_images.specs.Image.{image}
-use Rattle.jani_translation.specs.Asks.{bodies, variables, entries, rewards_at, NewNames, new_names}
+use Rattle.name_table.specs.Asks.{bodies, variables, entries, rewards_at, NewNames, new_names}
 use Rattle.jani_translation.specs.Parts.{variable, label, structure}
 use Rattle.jani_translation.specs.Automata.{loc, earns_silently, has_monitor, edge, edge_action, destination, write, module_automaton, module_automata, monitor, automaton, zz_monitor, monitor_edges, location_values, earning_actions, is_some_name}
 use Rattle.jani_translation.specs.Translated.{translated}

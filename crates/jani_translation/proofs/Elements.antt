@@ -15,7 +15,7 @@ use Rattle.name_table.specs.declared.entry.Entry.{Entry}
 use Rattle.name_table.specs.Rule.{space, begins_zz, made_name}
 use Rattle.name_table.specs.Entries.{Ask, count_of}
 use Rattle.name_table.proofs.EntryLemmas.{Comes, was_kept, was_made, placed, kept_is_old, no_two_alike}
-use Rattle.jani_translation.specs.Asks.{ask, bodies, variables, constant_asks, variable_asks, label_asks, reward_asks, module_asks, action_asks, asks, entries, modules_at, NewNames, new_names}
+use Rattle.name_table.specs.Asks.{ask, bodies, variables, constant_asks, variable_asks, label_asks, reward_asks, module_asks, action_asks, asks, entries, modules_at, NewNames, new_names}
 use Rattle.jani_translation.specs.Automata.{zz_monitor, automaton, module_automaton, module_automata, monitor, monitor_edges, earns_silently, has_monitor, location_values}
 use Rattle.jani_translation.specs.Translated.{translated}
 use Rattle.jani_translation.proofs.Each.{n_bodies}

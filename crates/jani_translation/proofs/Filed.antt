@@ -5,7 +5,7 @@ use Rattle.std.proofs.Common.{◌∙◌, ap}
 use Rattle.bridge_io.specs.declared.reason.Named.{Named}
 use Rattle.jani_tree.specs.Syntax.{Const, Var, Automaton, Vector, File}
 use Rattle.prism_tree.specs.Syntax as prism
-use Rattle.jani_translation.specs.Asks.{NewNames, variables}
+use Rattle.name_table.specs.Asks.{NewNames, variables}
 use Rattle.jani_translation.specs.Parts.{constant, variable, label, structure}
 use Rattle.jani_translation.specs.Automata.{automata}
 use Rattle.jani_translation.specs.Translated.{jani_actions, vectors, global_variables, translated_by}

@@ -14,7 +14,7 @@ use Rattle.name_table.specs.declared.entry.Entry.{Entry}
 use Rattle.name_table.specs.Rule.{space, is_valid, made_name}
 use Rattle.name_table.specs.Entries.{Ask, count_of}
 use Rattle.name_table.proofs.EntryLemmas.{Comes, was_kept, was_made, placed, kept_is_old, no_two_alike}
-use Rattle.jani_translation.specs.Asks.{ask, variables, label_asks, reward_asks, module_asks, action_asks, asks, entries, new_name, value_names, new_names}
+use Rattle.name_table.specs.Asks.{ask, variables, label_asks, reward_asks, module_asks, action_asks, asks, entries, new_name, value_names, new_names}
 use Rattle.jani_translation.proofs.Each.{n_entries}
 
 -- ---- bytes

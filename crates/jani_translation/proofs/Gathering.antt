@@ -1,29 +1,20 @@
 -- Lists that loops gather, one member more.
-use Rattle.std.proofs.Common.{◌≡◌, ℕ, ◌+◌, ◌<◌, ◌≤◌, min, List, [], ◌∷◌, ◌++◌, map, length, get_or, take, drop, refl, sym, ap, ap₂, ◌∙◌, append-nil, append_assoc, take_all, arith}
-use Rattle.std.specs.Prelude.{nat_le, Bool, true, false, ◌||◌, not, cond, if◌then◌else◌, Option, Some, unwrap_or, bytes_eq}
-use Rattle.std.specs.List.{flat_map, filter, list_any, zip}
+use Rattle.std.proofs.Common.{◌≡◌, ℕ, ◌+◌, ◌<◌, ◌≤◌, min, List, [], ◌∷◌, ◌++◌, map, length, get_or, take, drop, refl, sym, ap, ap₂, ◌∙◌, append-nil, append_assoc, arith}
+use Rattle.std.specs.Prelude.{nat_le, Bool, true, false, ◌||◌, if◌then◌else◌, Option, Some, unwrap_or, bytes_eq}
+use Rattle.std.specs.List.{flat_map, list_any, zip}
 use Rattle.std.specs.Option.{option_map}
-use Rattle.std.proofs.lemmas.List.{take_more, drop_more, drop_all, map-append}
+use Rattle.std.proofs.lemmas.List.{drop_more, drop_all, map-append}
 use Rattle.std.proofs.lemmas.List.Concat.{flat_map-append}
-use Rattle.process_core.specs.Ready.{Name, firsts}
+use Rattle.process_core.specs.Ready.{Name}
 use Rattle.prism_flat.specs.Instance.{numbered}
-use Rattle.name_table.specs.declared.class.NameClass.{NameClass}
 use Rattle.name_table.specs.declared.entry.Entry.{Entry}
-use Rattle.name_table.specs.Entries.{Ask, Table, with_next}
-use Rattle.name_table.proofs.EntryLemmas.{after_append}
-use Rattle.jani_translation.specs.Asks.{new_name}
-use Rattle.jani_translation.specs.Code.{told, found}
-
--- the end of a loop
-pub whole : {A X : Type 0} (F : List A → X) (xs : List A) (i : ℕ) → length xs ≤ i → F (take i xs) ≡ F xs
-whole F xs i h = ap F (take_all i xs h)
+use Rattle.name_table.specs.Asks.{new_name}
+use Rattle.name_table.proofs.Gathering.{taken}
+use Rattle.jani_translation.specs.Code.{found}
 
 -- one more of what is left
 pub left : {A : Type 0} (xs : List A) (i : ℕ) (x : A) → i < length xs → x ≡ get_or xs i x → drop i xs ≡ x ∷ drop (i + 1) xs
 left xs i x h e = drop_more xs i x h ∙ ap (λ z. z ∷ drop (i + 1) xs) (sym e)
-
-pub taken : {A : Type 0} (xs : List A) (i : ℕ) (x : A) → i < length xs → x ≡ get_or xs i x → take (i + 1) xs ≡ take i xs ++ x ∷ []
-taken xs i x h e = take_more xs i x h ∙ ap (λ z. take i xs ++ z ∷ []) (sym e)
 
 -- one member more, whose part is added at the end of what was there before
 pub flat_after : {A B Y : Type 0} (view : Y → B) (f : A → List B) (before : List B) (xs : List A) (i : ℕ) (x : A) (old new added : List Y) → i < length xs → x ≡ get_or xs i x →
@@ -72,22 +63,6 @@ paired_all F no_left no_right total got xs es n i m h so_far = sym (append-nil g
     rest true b = ap (λ l. F l (drop i es)) (drop_all i xs (grind arith)) ∙ no_left _
     rest false b = ap (F (drop i xs)) (drop_all i es (grind arith)) ∙ no_right _
 
--- ---- asks
-pub told_more : {A B : Type 0} (f : B → Ask) (source : A → B) (xs : List A) (i : ℕ) (x : A) (start old new : Table) (c : NameClass) (o : Option Name) →
-    i < length xs → x ≡ get_or xs i x → old ≡ told start (map f (map source (take i xs))) → new ≡ with_next old c o → f (source x) ≡ (c, o) →
-    new ≡ told start (map f (map source (take (i + 1) xs)))
-told_more f source xs i x start old new c o h e so_far next asked =
-    next
-    ∙ ap (λ t. with_next t c o) so_far
-    ∙ ap (λ (l : List _). record { target = start.target; entries = l }) (sym (after_append start.target start.entries (map f (map source (take i xs))) ((c, o) ∷ [])))
-    ∙ ap (told start)
-    (ap (λ a. map f (map source (take i xs)) ++ a ∷ []) (sym asked)
-    ∙ sym (map-append f (map source (take i xs)) (source x ∷ []))
-    ∙ ap (map f) (sym (map-append source (take i xs) (x ∷ [])) ∙ ap (map source) (sym (taken xs i x h e))))
-
-pub told_twice : (t : Table) (xs ys : List Ask) → told (told t xs) ys ≡ told t (xs ++ ys)
-told_twice t xs ys = ap (λ (l : List _). record { target = t.target; entries = l }) (sym (after_append t.target t.entries xs ys))
-
 -- ---- names that are found
 pub found_is : (ys : List Name) (es : List Entry) (x : Name) → unwrap_or (found ys es x) [] ≡ new_name ys es x
 found_is [] es x = refl
@@ -97,29 +72,6 @@ found_is (y ∷ ys) (e ∷ es) x = by_test (bytes_eq y x) (found_is ys es x)
     by_test : (b : Bool) → unwrap_or (found ys es x) [] ≡ new_name ys es x → unwrap_or (if b then Some e.name else found ys es x) [] ≡ (if b then e.name else new_name ys es x)
     by_test true h = refl
     by_test false h = h
-
--- ---- each once
-pub filter_two : {A : Type 0} (p : A → Bool) (us vs : List A) → filter p (us ++ vs) ≡ filter p us ++ filter p vs
-filter_two p [] vs = refl
-filter_two {A = A} p (u ∷ us) vs = go (p u) (filter_two p us vs)
-  where
-    go : (b : Bool) → filter p (us ++ vs) ≡ filter p us ++ filter p vs → cond b (u ∷ filter p (us ++ vs)) (filter p (us ++ vs)) ≡ cond b (u ∷ filter p us) (filter p us) ++ filter p vs
-    go true h = ap (λ (l : List A). u ∷ l) h
-    go false h = h
-
-one_kept : {A : Type 0} (b c : Bool) (p : A → Bool) (x : A) → p x ≡ not b → filter p (if c then [] else x ∷ []) ≡ (if b || c then [] else x ∷ [])
-one_kept true true p x h = refl
-one_kept false true p x h = refl
-one_kept true false p x h = rw h refl
-one_kept false false p x h = rw h refl
-
-pub firsts_more : {A : Type 0} (same : A → A → Bool) (xs : List A) (x : A) → firsts same (xs ++ x ∷ []) ≡ firsts same xs ++ (if list_any (λ y. same y x) xs then [] else x ∷ [])
-firsts_more same [] x = refl
-firsts_more {A = A} same (y ∷ ys) x =
-    ap (λ (l : List A). y ∷ filter (λ z. not (same y z)) l) (firsts_more same ys x)
-    ∙ ap (λ (l : List A). y ∷ l)
-    (filter_two (λ z. not (same y z)) (firsts same ys) (if list_any (λ z. same z x) ys then [] else x ∷ [])
-    ∙ ap (λ (l : List A). filter (λ z. not (same y z)) (firsts same ys) ++ l) (one_kept (same y x) (list_any (λ z. same z x) ys) (λ z. not (same y z)) x refl))
 
 -- what is done to an inserted value and to those from before
 pub through_if : {A B : Type 0} (f : A → B) (b : Bool) (v : A) (o : Option A) → option_map f (if b then Some v else o) ≡ (if b then Some (f v) else option_map f o)

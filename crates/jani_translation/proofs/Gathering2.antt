@@ -1,14 +1,15 @@
 -- Lists that loops gather, one member more.
 use Rattle.std.proofs.Common.{◌≡◌, ℕ, ◌+◌, ◌<◌, min, List, [], ◌∷◌, ◌++◌, map, length, get_or, take, drop, refl, sym, ap, ap₂, ◌∙◌, append_assoc, arith}
-use Rattle.std.specs.Prelude.{nat_le, is_some, Bool, true, false, ◌||◌, not, if◌then◌else◌, Option, Some, None, bytes_eq}
-use Rattle.std.specs.List.{flat_map, filter, list_any, zip}
+use Rattle.std.specs.Prelude.{nat_le, Bool, true, false, if◌then◌else◌, Some, None, bytes_eq}
+use Rattle.std.specs.List.{flat_map, filter, zip}
 use Rattle.std.specs.Borrow.{Bor}
 use Rattle.std.proofs.lemmas.List.{drop_all, map-append}
-use Rattle.process_core.specs.Ready.{Name, firsts}
+use Rattle.process_core.specs.Ready.{Name}
 use Rattle.prism_flat.specs.Instance.{only_if}
 use Rattle.name_table.specs.declared.entry.Entry.{Entry}
+use Rattle.name_table.proofs.Gathering.{taken, filter_two}
 use Rattle.jani_translation.specs.Code.{found}
-use Rattle.jani_translation.proofs.Gathering.{left, taken, filter_two, firsts_more}
+use Rattle.jani_translation.proofs.Gathering.{left}
 
 -- the same where each pair gives a list
 pub paired_flat : {A B Z : Type 0} (F : List A → List B → List Z) (f : A → B → List Z) →
@@ -54,50 +55,6 @@ kept_step {B = B} view p s xs i x y w old new h e so_far here test pushed =
     one : (b : Bool) → map view (only_if b y) ≡ only_if b (view y)
     one true = refl
     one false = refl
-
--- one more of those that are each once
-pub once_more : {A B : Type 0} (same : B → B → Bool) (s : A → B) (xs : List A) (i : ℕ) (x : A) (w : Bool) (old new : List A) → i < length xs → x ≡ get_or xs i x →
-    map s old ≡ firsts same (map s (take i xs)) → w ≡ list_any (λ y. same y (s x)) (map s (take i xs)) → new ≡ old ++ only_if (not w) x →
-    map s new ≡ firsts same (map s (take (i + 1) xs))
-once_more {B = B} same s xs i x w old new h e so_far test pushed =
-    ap (map s) pushed
-    ∙ map-append s old (only_if (not w) x)
-    ∙ ap₂ (λ (l m : List B). l ++ m) so_far (one w ∙ ap (λ (b : Bool). if b then [] else s x ∷ []) test)
-    ∙ sym (ap (λ l. firsts same (map s l)) (taken xs i x h e) ∙ ap (firsts same) (map-append s (take i xs) (x ∷ [])) ∙ firsts_more same (map s (take i xs)) (s x))
-  where
-    one : (b : Bool) → map s (only_if (not b) x) ≡ (if b then [] else s x ∷ [])
-    one true = refl
-    one false = refl
-
-any_two : {A : Type 0} (p : A → Bool) (us vs : List A) → list_any p (us ++ vs) ≡ (list_any p us || list_any p vs)
-any_two p [] vs = refl
-any_two p (u ∷ us) vs = go (p u) (any_two p us vs)
-  where
-    go : (b : Bool) → list_any p (us ++ vs) ≡ (list_any p us || list_any p vs) → (b || list_any p (us ++ vs)) ≡ ((b || list_any p us) || list_any p vs)
-    go true h = refl
-    go false h = h
-
--- a name is seen where it was before, or is the one that came
-pub seen_more : {A : Type 0} (s : A → Name) (xs : List A) (i : ℕ) (x : A) (z : Name) (new old : Bool) → i < length xs → x ≡ get_or xs i x →
-    old ≡ list_any (λ y. bytes_eq y z) (map s (take i xs)) → new ≡ (if bytes_eq (s x) z then true else old) → new ≡ list_any (λ y. bytes_eq y z) (map s (take (i + 1) xs))
-seen_more s xs i x z new old h e so_far next =
-    next
-    ∙ ap (λ o. if bytes_eq (s x) z then true else o) so_far
-    ∙ last (map s (take i xs)) (s x)
-    ∙ ap (list_any (λ y. bytes_eq y z)) (sym (map-append s (take i xs) (x ∷ [])) ∙ ap (map s) (sym (taken xs i x h e)))
-  where
-    last : (us : List Name) (u : Name) → (if bytes_eq u z then true else list_any (λ y. bytes_eq y z) us) ≡ list_any (λ y. bytes_eq y z) (us ++ u ∷ [])
-    last us u = two (bytes_eq u z) (list_any (λ y. bytes_eq y z) us) ∙ sym (any_two (λ y. bytes_eq y z) us (u ∷ []))
-      where
-        two : (b c : Bool) → (if b then true else c) ≡ (c || (b || false))
-        two true true = refl
-        two true false = refl
-        two false true = refl
-        two false false = refl
-
-pub some_if : {A : Type 0} (b : Bool) (v : A) (o : Option A) → is_some (if b then Some v else o) ≡ (if b then true else is_some o)
-some_if true v o = refl
-some_if false v o = refl
 
 pub found_step : (olds : List (Bor Name)) (news : List Entry) (i j : ℕ) (y : Bor Name) (e : Entry) (x : Name) → i ≡ j + 1 → j < length olds → j < length news → y ≡ get_or olds j y → e ≡ get_or news j e →
     (if bytes_eq y.now x then Some e.name else found (map (λ z. z.now) (drop i olds)) (drop i news) x) ≡ found (map (λ z. z.now) (drop j olds)) (drop j news) x

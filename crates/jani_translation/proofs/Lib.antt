@@ -15,7 +15,6 @@ pub mod Sums
 pub mod Gathering
 pub mod Filed
 pub mod Statements
-pub mod Joined
 pub mod Monitored
 pub mod Numbered
 pub mod Places

@@ -8,7 +8,7 @@ use Rattle.std.proofs.lemmas.List.Concat.{flat_map-append}
 use Rattle.process_core.specs.Ready.{Name}
 use Rattle.process_core.specs.Product.{map-map}
 use Rattle.prism_flat.specs.Instance.{only_if}
-use Rattle.jani_translation.proofs.Gathering.{taken}
+use Rattle.name_table.proofs.Gathering.{taken}
 use Rattle.jani_translation.proofs.Fresh.{bytes_turned}
 
 -- ---- a list under a name

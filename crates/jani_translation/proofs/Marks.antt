@@ -22,7 +22,7 @@ use Rattle.jani_meaning.specs.Elements.{is_called, owned_by, is_label, labels, i
 use Rattle.jani_meaning.specs.Scene as jani_scene
 use Rattle.jani_meaning.specs.Moment as jani_moment
 use Rattle.name_table.specs.declared.entry.Entry.{Entry}
-use Rattle.jani_translation.specs.Asks.{bodies, variables, entries, labels_at, rewards_at, NewNames, new_names}
+use Rattle.name_table.specs.Asks.{bodies, variables, entries, labels_at, rewards_at, NewNames, new_names}
 use Rattle.jani_translation.specs.Parts.{instead_if, variable, label, structure}
 use Rattle.jani_translation.specs.Automata.{loc, for_states, earns_silently, has_monitor, label_value, sum_to, reward_of, rewards_of, location_values, module_automaton, module_automata, monitor, automaton, zz_monitor, monitor_edges}
 use Rattle.jani_translation.specs.Translated.{translated}

@@ -18,7 +18,7 @@ use Rattle.prism_flat.specs.Instance.{Valuation, only_if}
 use Rattle.jani_tree.specs.Syntax.{Automaton, Edge, File}
 use Rattle.jani_meaning.specs.Moment as jani_moment
 use Rattle.jani_meaning.specs.Moment.{location_write}
-use Rattle.jani_translation.specs.Asks.{variables, actions, new_names}
+use Rattle.name_table.specs.Asks.{variables, actions, new_names}
 use Rattle.jani_translation.specs.Parts.{made}
 use Rattle.jani_translation.specs.Automata.{loc, zz_silent, zz_monitor, has_items, for_action, for_silent, earning_actions, earns_silently, rewards_of, automaton, monitor_edge, monitor_edges}
 use Rattle.jani_translation.specs.Translated.{translated}

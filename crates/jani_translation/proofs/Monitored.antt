@@ -5,7 +5,7 @@ use Rattle.std.proofs.lemmas.List.{map-append}
 use Rattle.prism_flat.specs.Instance.{only_if}
 use Rattle.prism_tree.specs.Syntax.{Body}
 use Rattle.jani_tree.specs.Syntax.{Write}
-use Rattle.jani_translation.specs.Asks.{NewNames}
+use Rattle.name_table.specs.Asks.{NewNames}
 use Rattle.jani_translation.specs.Automata.{module_automata}
 
 -- it was added

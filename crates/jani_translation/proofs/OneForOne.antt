@@ -9,7 +9,7 @@ use Rattle.prism_flat.specs.Instance.{only_if}
 use Rattle.jani_tree.specs.Syntax.{Automaton, Write}
 use Rattle.name_table.specs.declared.entry.Entry.{Entry}
 use Rattle.prism_images.specs.Image.{image}
-use Rattle.jani_translation.specs.Asks.{bodies, variables, NewNames, new_names}
+use Rattle.name_table.specs.Asks.{bodies, variables, NewNames, new_names}
 use Rattle.jani_translation.specs.Parts.{constant, variable, label, structure, kind_of, start_of}
 use Rattle.jani_translation.specs.Automata.{earns_silently, has_monitor, edge, module_automata, monitor, location_values}
 use Rattle.jani_translation.specs.Laws.{OneAutomatonEach, OneElementEach, ModulesComeFirst, OneEdgeEach, ConstantTypes, ConstantValues, VariableKinds, VariableStarts, OneTransientEach}

@@ -3,7 +3,7 @@ use Rattle.std.proofs.Common.{◌≡◌, ℕ, ◌+◌, List, length, take, drop,
 use Rattle.process_core.specs.Ready.{Name}
 use Rattle.prism_tree.specs.Syntax.{File}
 use Rattle.name_table.specs.declared.entry.Entry.{Entry}
-use Rattle.jani_translation.specs.Asks.{variables, actions, new_name, value_names, NewNames, some_from, labels_at, rewards_at, modules_at, actions_at, names_by}
+use Rattle.name_table.specs.Asks.{variables, actions, new_name, value_names, NewNames, some_from, labels_at, rewards_at, modules_at, actions_at, names_by}
 
 pub dropped : (es r : List Entry) (m n : ℕ) → r ≡ drop m es → m ≡ n → r ≡ drop n es
 dropped es r m n h e = h ∙ ap (λ (k : ℕ). drop k es) e

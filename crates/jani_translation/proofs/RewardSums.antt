@@ -3,7 +3,7 @@ use Rattle.std.proofs.Common.{◌≡◌, ℕ, ◌+◌, ◌<◌, ◌≤◌, List,
 use Rattle.std.proofs.lemmas.List.{drop_all}
 use Rattle.prism_tree.specs.Syntax.{Item}
 use Rattle.jani_tree.specs.Syntax.{Expression}
-use Rattle.jani_translation.specs.Asks.{NewNames}
+use Rattle.name_table.specs.Asks.{NewNames}
 use Rattle.jani_translation.specs.Automata.{sum_behind, item_value}
 use Rattle.op_trees.specs.Tree.{Two}
 use Rattle.jani_table.specs.declared.operator.JaniOp.TheVariants.{Add}

@@ -20,7 +20,7 @@ use Rattle.jani_meaning.specs.Scene as jani_scene
 use Rattle.jani_meaning.specs.Scene.{location_column}
 use Rattle.jani_meaning.proofs.Columns.{locations_have_no_fault}
 use Rattle.name_table.specs.declared.entry.Entry.{Entry}
-use Rattle.jani_translation.specs.Asks.{contents, bodies, variables, entries, NewNames, new_names}
+use Rattle.name_table.specs.Asks.{contents, bodies, variables, entries, NewNames, new_names}
 use Rattle.jani_translation.specs.Parts.{constant, variable, kind_of, start_of}
 use Rattle.jani_translation.specs.Automata.{module_automata, monitor_edges, automaton, zz_monitor, earns_silently, has_monitor, location_values}
 use Rattle.jani_translation.specs.Translated.{translated}

@@ -24,7 +24,7 @@ use Rattle.jani_meaning.specs.Scene.{location_column}
 use Rattle.name_table.specs.declared.entry.Entry.{Entry}
 use Rattle.prism_images.specs.Image.{image}
 use Rattle.prism_images.proofs.Values.{seen_alike}
-use Rattle.jani_translation.specs.Asks.{variables, value_names, entries, new_names}
+use Rattle.name_table.specs.Asks.{variables, value_names, entries, new_names}
 use Rattle.jani_translation.specs.Parts.{constant}
 use Rattle.jani_translation.specs.Translated.{translated}
 use Rattle.jani_translation.specs.SeenLaws.{IsSound, SoundConstant, IsSoundUnder, GivenAlike, GivesAlike}

@@ -16,7 +16,7 @@ use Rattle.jani_meaning.specs.Elements.{is_called, elements, owned_by, is_lastin
 use Rattle.jani_meaning.specs.Scene as jani_scene
 use Rattle.jani_meaning.specs.Moment as jani_moment
 use Rattle.name_table.specs.declared.entry.Entry.{Entry}
-use Rattle.jani_translation.specs.Asks.{variables, entries, NewNames, new_names}
+use Rattle.name_table.specs.Asks.{variables, entries, NewNames, new_names}
 use Rattle.jani_translation.specs.Parts.{variable}
 use Rattle.jani_translation.specs.Translated.{translated}
 use Rattle.jani_translation.specs.StateLaws.{at_home, state_of, NamesSeenAlike}

@@ -16,7 +16,7 @@ use Rattle.prism_names.specs.Names.{see, reading}
 use Rattle.prism_flat.specs.Instance.{Valuation}
 use Rattle.prism_flat.specs.Moment.{item_at}
 use Rattle.jani_meaning.specs.Scene as jani_scene
-use Rattle.jani_translation.specs.Asks.{new_names}
+use Rattle.name_table.specs.Asks.{new_names}
 use Rattle.jani_translation.specs.Automata.{for_states, item_value, sum_behind}
 use Rattle.jani_translation.specs.SeenLaws.{SoundVariable, IsSoundUnder, GivesAlike}
 use Rattle.jani_translation.specs.StateLaws.{IsSoundHere, SoundWrite, SoundBranch, SoundCommand, SoundItem, CommandsAreSound, MarksAreSound}

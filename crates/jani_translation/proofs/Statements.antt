@@ -9,7 +9,7 @@ use Rattle.prism_tree.specs.Syntax as prism
 use Rattle.jani_tree.specs.Syntax.{File}
 use Rattle.name_table.specs.declared.entry.Entry.{Entry}
 use Rattle.jani_translation.specs.declared.new_names.Names.{Names}
-use Rattle.jani_translation.specs.Asks.{variables, actions, entries, names_by}
+use Rattle.name_table.specs.Asks.{variables, actions, entries, names_by}
 use Rattle.jani_translation.specs.Translated.{translated_by}
 use Rattle.jani_translation.specs.Code.{names_in}
 use Rattle.jani_translation.specs.Statements.{AreVariables, AreActions, AreEntries, AreNames, IsTranslation}

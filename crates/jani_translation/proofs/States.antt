@@ -16,7 +16,7 @@ use Rattle.prism_flat.specs.Scene as prism_scene
 use Rattle.jani_tree.specs.Syntax.{Automaton}
 use Rattle.jani_meaning.specs.Scene as jani_scene
 use Rattle.jani_meaning.specs.Scene.{counted, location_column}
-use Rattle.jani_translation.specs.Asks.{NewNames, new_names}
+use Rattle.name_table.specs.Asks.{NewNames, new_names}
 use Rattle.jani_translation.specs.Translated.{translated}
 use Rattle.jani_translation.specs.SeenLaws.{IsSoundUnder, GivesAlike, renamed_column}
 use Rattle.jani_translation.specs.StateLaws.{at_home, state_of, StatesAlike, InitialAlike, StatesAreThese, StatesDiffer}

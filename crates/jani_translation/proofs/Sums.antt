@@ -28,7 +28,7 @@ use Rattle.jani_tree.specs.Syntax.{Expression}
 use Rattle.jani_meaning.specs.Scene as jani_scene
 use Rattle.prism_images.specs.Image.{nought_literal}
 use Rattle.prism_images.specs.Laws.{IsNoNumber}
-use Rattle.jani_translation.specs.Asks.{NewNames}
+use Rattle.name_table.specs.Asks.{NewNames}
 use Rattle.jani_translation.specs.Automata.{for_states, item_value, sum_behind}
 use Rattle.jani_translation.specs.SeenLaws.{IsSound}
 use Rattle.jani_translation.proofs.SameSeen.{image_seen}

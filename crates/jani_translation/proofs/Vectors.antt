@@ -13,7 +13,7 @@ use Rattle.prism_flat.specs.Instance.{Valuation, only_if}
 use Rattle.prism_flat.specs.Kept.{is_plain}
 use Rattle.prism_flat.specs.Moment.{part_at, moment}
 use Rattle.jani_meaning.specs.Moment as jani
-use Rattle.jani_translation.specs.Asks.{contents, bodies, actions, action_of, new_names}
+use Rattle.name_table.specs.Asks.{contents, bodies, actions, action_of, new_names}
 use Rattle.jani_translation.specs.Parts.{made}
 use Rattle.jani_translation.specs.Automata.{earning_actions, is_some_name, earns_silently, has_monitor, has_items, for_action}
 use Rattle.jani_translation.specs.Translated.{has_command, part_if, silent_vectors, action_vector}

@@ -20,7 +20,7 @@ use Rattle.prism_flat.specs.Instance.{Valuation, numbered, only_if}
 use Rattle.prism_flat.specs.Scene as prism_scene
 use Rattle.prism_flat.specs.Moment as prism_moment
 use Rattle.jani_meaning.specs.Moment as jani_moment
-use Rattle.jani_translation.specs.Asks.{bodies, variables, actions, new_names}
+use Rattle.name_table.specs.Asks.{bodies, variables, actions, new_names}
 use Rattle.jani_translation.specs.Parts.{made}
 use Rattle.jani_translation.specs.Automata.{zz_silent, zz_monitor, for_states, has_items, for_action, for_silent, earning_actions, is_some_name, earns_silently, has_monitor, rewards_of, location_values, automaton, module_automata, monitor, monitor_edges}
 use Rattle.jani_translation.specs.Translated.{translated}

@@ -26,7 +26,7 @@ use Rattle.prism_flat.specs.Moment.{part_at}
 use Rattle.prism_flat.specs.Process as prism_process
 use Rattle.jani_meaning.specs.Moment as jani_moment
 use Rattle.jani_meaning.specs.Process as jani_process
-use Rattle.jani_translation.specs.Asks.{bodies, variables, actions, new_names}
+use Rattle.name_table.specs.Asks.{bodies, variables, actions, new_names}
 use Rattle.jani_translation.specs.Automata.{zz_silent, zz_monitor, for_silent, has_silent, is_some_name, earning_actions, earns_silently, has_monitor, rewards_of, automaton, monitor_edges}
 use Rattle.jani_translation.specs.Translated.{part_if, silent_vector, silent_vectors, translated}
 use Rattle.jani_translation.specs.Laws.{watched_vector}

@@ -13,7 +13,7 @@ use Rattle.prism_names.specs.Names.{unchanged, formula_body, Part, part_of, read
 use Rattle.prism_flat.specs.Instance.{Valuation}
 use Rattle.prism_flat.specs.Kept.{is_plain}
 use Rattle.prism_flat.specs.Scene as prism_scene
-use Rattle.jani_translation.specs.Asks.{contents, bodies, variables}
+use Rattle.name_table.specs.Asks.{contents, bodies, variables}
 
 -- without formulas a name is seen as it is given
 pub given_reading : (file : prism.File) (given : Name → Seen) → file.formulas ≡ [] → reading file given ≡ given

@@ -16,7 +16,7 @@ use Rattle.jani_table.specs.declared.operator.JaniOp.TheVariants.{Add, Ite}
 use Rattle.jani_tree.specs.Syntax.{Expression, Write, Destination, Edge, Automaton}
 use Rattle.name_table.specs.declared.entry.Entry.{Entry}
 use Rattle.prism_images.specs.Image.{image}
-use Rattle.jani_translation.specs.Asks.{bodies, actions, NewNames}
+use Rattle.name_table.specs.Asks.{bodies, actions, NewNames}
 use Rattle.jani_translation.specs.Parts.{made, instead, instead_if, nought}
 
 -- ---- names of their own

@@ -1,17 +1,16 @@
 -- What the code's values stand for.
-use Rattle.std.specs.Prelude.{◌≡◌, ℕ, List, [], ◌∷◌, map, Bool, Option, Some, None, is_some, bytes_eq, unwrap_or, if◌then◌else◌}
+use Rattle.std.specs.Prelude.{◌≡◌, ℕ, List, [], ◌∷◌, map, Bool, Option, Some, None, bytes_eq, unwrap_or, if◌then◌else◌}
 use Rattle.std.specs.Borrow.{Bor}
 use Rattle.std.specs.List.{flat_map}
 use Rattle.std.specs.Option.{option_map}
 use Rattle.indexmap.specs.IndexMap.{IndexMap, get_by}
 use Rattle.bridge_io.specs.declared.reason.Named.{Named}
 use Rattle.process_core.specs.Ready.{Name}
-use Rattle.prism_tree.specs.declared.syntax.PrismModule.{PrismModule}
 use Rattle.prism_tree.specs.declared.syntax.ItemOn.{ItemOn}
-use Rattle.prism_tree.specs.Syntax.{Body, Item, File, item_of, module_of}
+use Rattle.prism_tree.specs.Syntax.{Item, File, item_of}
 use Rattle.jani_tree.specs.Syntax.{Write, Destination, Edge}
 use Rattle.name_table.specs.declared.entry.Entry.{Entry}
-use Rattle.name_table.specs.Entries.{Ask, Table, entries_after}
+use Rattle.name_table.specs.Gathered.{is_in}
 use Rattle.jani_translation.specs.declared.new_names.NameMap.{NameMap}
 use Rattle.jani_translation.specs.declared.new_names.Names.{Names}
 use Rattle.jani_translation.specs.declared.partners.Partners.{Partners}
@@ -20,14 +19,10 @@ use Rattle.jani_translation.specs.declared.rewards.Wanted.TheVariants as W
 use Rattle.jani_translation.specs.declared.shares.Items.{Items}
 use Rattle.jani_translation.specs.declared.shares.Share.{Share}
 use Rattle.jani_translation.specs.declared.shares.Shares.{Shares}
-use Rattle.jani_translation.specs.Asks.{NewNames, bodies, contents}
+use Rattle.name_table.specs.Asks.{NewNames, bodies}
 use Rattle.jani_translation.specs.Parts.{instead_if}
 use Rattle.jani_translation.specs.Automata.{loc, for_states, for_silent, for_action, has_items, sum_to, rewards_of}
 use Rattle.jani_translation.specs.Translated.{has_command}
-
--- the contents of a module
-abbrev pub body_in : PrismModule → Body
-body_in m = contents (module_of m)
 
 -- the new name of the first old one that is this one
 abbrev pub found : List Name → List Entry → Name → Option Name
@@ -75,8 +70,8 @@ shared_writes n t x = flat_map (share_writes n) (list_under t.by_action x)
 
 -- these are the actions of each module's commands, and those that items are for
 pub record ArePartners (p : Partners) (file : File) : Type 0 where
-  pub modules : (x : Name) → map (λ t. is_some (new_in t x)) p.modules.items ≡ map (has_command x) (bodies file)
-  pub items : (x : Name) → is_some (new_in p.items x) ≡ has_items (for_action x) file
+  pub modules : (x : Name) → map (λ t. is_in t x) p.modules.items ≡ map (has_command x) (bodies file)
+  pub items : (x : Name) → is_in p.items x ≡ has_items (for_action x) file
 
 -- these are the shares of the file's structures
 abbrev pub AreShares : NewNames → Shares → File → Type 0
@@ -88,7 +83,3 @@ gain_destinations ws = record { location = loc; weight = None; writes = ws } ∷
 
 abbrev pub gain_edge : Named → List Write → Edge
 gain_edge a ws = record { location = loc; action = Some a; guard = None; destinations = gain_destinations ws; at = 0 }
-
--- a table that was asked for more
-abbrev pub told : Table → List Ask → Table
-told t asks = record { target = t.target; entries = entries_after t.target t.entries asks }

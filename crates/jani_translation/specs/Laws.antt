@@ -9,7 +9,7 @@ use Rattle.prism_flat.specs.Kept.{IsWrittenOut}
 use Rattle.prism_flat.specs.Moment.{moment}
 use Rattle.jani_meaning.specs.Moment as jani
 use Rattle.prism_images.specs.Image.{image}
-use Rattle.jani_translation.specs.Asks.{bodies, variables, new_names}
+use Rattle.name_table.specs.Asks.{bodies, variables, new_names}
 use Rattle.jani_translation.specs.Parts.{kind_of, start_of}
 use Rattle.jani_translation.specs.Automata.{has_items, for_action, earns_silently, has_monitor, edge}
 use Rattle.jani_translation.specs.Translated.{silent_vectors, translated}

@@ -1,4 +1,3 @@
-pub mod Asks
 pub mod Automata
 pub mod Code
 pub mod Laws

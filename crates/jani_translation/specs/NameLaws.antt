@@ -3,7 +3,7 @@ use Rattle.std.specs.Prelude.{◌≡◌, ◌≢◌, map, bytes_eq, Contains}
 use Rattle.std.specs.List.{IsDistinct}
 use Rattle.process_core.specs.Ready.{Name}
 use Rattle.prism_tree.specs.Syntax as prism
-use Rattle.jani_translation.specs.Asks.{actions, value_names, new_names}
+use Rattle.name_table.specs.Asks.{actions, value_names, new_names}
 use Rattle.jani_translation.specs.Automata.{zz_silent}
 use Rattle.jani_translation.specs.Translated.{translated}
 

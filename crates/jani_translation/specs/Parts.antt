@@ -10,7 +10,7 @@ use Rattle.prism_tree.specs.Syntax as prism
 use Rattle.jani_tree.specs.Syntax.{Expression, Const, VarKind, boolean, number, bounded, Var}
 use Rattle.name_table.specs.declared.entry.Entry.{Entry}
 use Rattle.prism_images.specs.Image.{nought_literal, image}
-use Rattle.jani_translation.specs.Asks.{called}
+use Rattle.name_table.specs.Asks.{called}
 
 -- ---- names
 -- a name that is made

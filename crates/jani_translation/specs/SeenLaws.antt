@@ -12,7 +12,7 @@ use Rattle.jani_meaning.specs.Elements.{elements}
 use Rattle.jani_meaning.specs.Scene as jani_scene
 use Rattle.jani_meaning.specs.Process as jani
 use Rattle.prism_images.specs.Laws.{HasItsOperands, ComparesTruths}
-use Rattle.jani_translation.specs.Asks.{variables, value_names, new_names}
+use Rattle.name_table.specs.Asks.{variables, value_names, new_names}
 use Rattle.jani_translation.specs.Translated.{translated}
 
 -- ---- what is asked of a file and a valuation

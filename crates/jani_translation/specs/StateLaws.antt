@@ -17,7 +17,7 @@ use Rattle.jani_meaning.specs.Moment as jani_moment
 use Rattle.jani_meaning.specs.Moment.{location_write}
 use Rattle.jani_meaning.specs.Process as jani_process
 use Rattle.prism_images.specs.Laws.{IsNoNumber}
-use Rattle.jani_translation.specs.Asks.{bodies, variables, new_names}
+use Rattle.name_table.specs.Asks.{bodies, variables, new_names}
 use Rattle.jani_translation.specs.Automata.{for_states, zz_silent, earns_silently, has_monitor, monitor}
 use Rattle.jani_translation.specs.Translated.{translated}
 use Rattle.jani_translation.specs.SeenLaws.{IsSound, IsSoundUnder, GivesAlike}

@@ -8,7 +8,7 @@ use Rattle.prism_tree.specs.Syntax as prism
 use Rattle.jani_tree.specs.Syntax.{File}
 use Rattle.name_table.specs.declared.entry.Entry.{Entry}
 use Rattle.jani_translation.specs.declared.new_names.Names.{Names}
-use Rattle.jani_translation.specs.Asks.{variables, actions, entries, new_names}
+use Rattle.name_table.specs.Asks.{variables, actions, entries, new_names}
 use Rattle.jani_translation.specs.Translated.{translated}
 use Rattle.jani_translation.specs.Code.{names_in}
 

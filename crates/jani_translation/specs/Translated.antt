@@ -10,7 +10,7 @@ use Rattle.prism_tree.specs.Syntax.{Body}
 use Rattle.prism_flat.specs.Instance.{numbered, only_if}
 use Rattle.jani_table.specs.Node.{array, no_nodes}
 use Rattle.jani_tree.specs.Syntax.{Var, Vector, File}
-use Rattle.jani_translation.specs.Asks.{bodies, variables, actions, action_of, NewNames, new_names}
+use Rattle.name_table.specs.Asks.{bodies, variables, actions, action_of, NewNames, new_names}
 use Rattle.jani_translation.specs.Parts.{made, constant, variable, label, structure}
 use Rattle.jani_translation.specs.Automata.{zz_silent, has_items, for_action, has_silent, earns_silently, has_monitor, automata}
 

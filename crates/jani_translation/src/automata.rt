@@ -6,12 +6,12 @@ ghost use Rattle.prism_flat.specs.Instance.{only_if};
 ghost use Rattle.prism_tree.specs.Syntax as prism;
 ghost use Rattle.prism_tree.specs.Syntax.{file_of};
 ghost use Rattle.jani_tree.specs.Syntax as jani;
-ghost use Rattle.jani_translation.specs.Asks.{actions, bodies, NewNames as NamesOf};
+ghost use Rattle.name_table.specs.Asks.{actions, bodies, NewNames as NamesOf};
+ghost use Rattle.name_table.specs.Gathered.{body_in};
 ghost use Rattle.jani_translation.specs.Parts.{made};
 ghost use Rattle.jani_translation.specs.Automata.{loc, zz_silent, zz_monitor, has_items, for_silent, for_action, has_silent, is_some_name, earning_actions, earns_silently, has_monitor, label_value, location_values, write, destination, edge_action, edge, automaton, module_automaton, module_automata, monitor_edge, monitor_edges, monitor, automata};
-ghost use Rattle.jani_translation.specs.Code.{body_in, names_in, AreShares, gain_destinations, gain_edge};
+ghost use Rattle.jani_translation.specs.Code.{names_in, AreShares, gain_destinations, gain_edge};
 
-use crate::gather::{commands_of, keep_if, name_of};
 use crate::new_names::{Names, shorter};
 use crate::partners::item_actions;
 use crate::parts::{image_if, instead, made};
@@ -20,7 +20,7 @@ use crate::shares::Shares;
 use crate::syncs::new_action;
 use bridge_io::{List, Named, Text};
 use jani_tree::{JaniAutomaton, JaniDestination, JaniEdge, JaniLocation, JaniWrite};
-use name_table::Entry;
+use name_table::{Entry, commands_of, keep_if, name_of};
 use prism_images::{NewNames, image};
 use prism_tree::{
     PrismBranch, PrismCommand, PrismFile, PrismLabel, PrismModule, PrismRewards, PrismWrite,

@@ -2,10 +2,8 @@
 //! It stands in `specs/`, with laws, and `translate` computes it.
 #![tactic(auto)]
 
-mod asking;
 mod automata;
 mod composition;
-mod gather;
 mod laws;
 mod lists;
 mod naming;

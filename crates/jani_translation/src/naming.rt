@@ -2,7 +2,7 @@
 
 ghost use Rattle.std.specs.Prelude.{◌≡◌, drop, take, map, IfOk};
 ghost use Rattle.prism_tree.specs.Syntax.{file_of, var_of};
-ghost use Rattle.jani_translation.specs.Asks.{variables, actions, names_by};
+ghost use Rattle.name_table.specs.Asks.{variables, actions, names_by};
 ghost use Rattle.jani_translation.specs.Code.{names_in};
 
 use crate::new_names::{NameMap, Names, value_names};

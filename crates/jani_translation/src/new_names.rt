@@ -1,8 +1,8 @@
 // New names for old ones.
 
-ghost use Rattle.std.specs.Prelude.{◌≡◌, is_some, min, List, ℕ, None, Some, ◌++◌, map, IfOk, OnOk, bytes_eq, if◌then◌else◌};
+ghost use Rattle.std.specs.Prelude.{◌≡◌, min, List, ℕ, None, Some, ◌++◌, map, IfOk, OnOk, bytes_eq, if◌then◌else◌};
 ghost use Rattle.prism_tree.specs.Syntax.{const_of, var_of};
-ghost use Rattle.jani_translation.specs.Asks.{new_name};
+ghost use Rattle.name_table.specs.Asks.{new_name};
 ghost use Rattle.jani_translation.specs.Code.{new_in, name_in};
 
 use bridge_io::Text;
@@ -62,13 +62,6 @@ impl<'a> NameMap<'a> {
             Ok(_) => Ok(()),
             Err(_) => Err(AllocError),
         }
-    }
-
-    /// Whether a name has a new one.
-    pub(crate) fn has(&self, old: &str) -> bool
-        ensures { result ≡ is_some (new_in self.now old.now) }
-    {
-        self.new_names.get(old).is_some()
     }
 
     /// Each old name becomes that of the entry at its place; where several are the same, that of the first.

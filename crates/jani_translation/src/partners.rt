@@ -1,25 +1,25 @@
 // Who takes part in actions: modules whose commands have them, and the monitor, where items are for them.
 
-ghost use Rattle.std.specs.Prelude.{◌≡◌, is_some, Some, ◌||◌, List, ℕ, map, IfOk, OnOk};
+ghost use Rattle.std.specs.Prelude.{◌≡◌, Some, ◌||◌, List, ℕ, map, IfOk, OnOk};
 ghost use Rattle.std.specs.List.{list_any};
 ghost use Rattle.process_core.specs.Ready.{same_label};
 ghost use Rattle.prism_tree.specs.Syntax as prism;
 ghost use Rattle.prism_tree.specs.Syntax.{file_of};
-ghost use Rattle.jani_translation.specs.Asks.{action_of};
+ghost use Rattle.name_table.specs.Asks.{action_of};
+ghost use Rattle.name_table.specs.Gathered.{body_in, is_in};
 ghost use Rattle.jani_translation.specs.Automata.{for_action};
 ghost use Rattle.jani_translation.specs.Translated.{has_command};
-ghost use Rattle.jani_translation.specs.Code.{body_in, new_in, ArePartners};
+ghost use Rattle.jani_translation.specs.Code.{ArePartners};
 
-use crate::gather::{commands_of, note_name};
-use crate::new_names::NameMap;
+use name_table::{NameSet, commands_of};
 use prism_tree::{ItemOn, PrismCommand, PrismFile, PrismItem, PrismModule, PrismRewards};
 use std::alloc::{AllocError, Global};
 
 /// The actions of each module's commands, and those that items are for.
 #[derive(Drop)]
 pub(crate) struct Partners<'a> {
-    pub(crate) modules: Vec<NameMap<'a>>,
-    pub(crate) items: NameMap<'a>,
+    pub(crate) modules: Vec<NameSet<'a>>,
+    pub(crate) items: NameSet<'a>,
 }
 
 impl<'a> Partners<'a> {
@@ -34,8 +34,8 @@ impl<'a> Partners<'a> {
 }
 
 /// The actions of each module's commands.
-fn module_actions(alloc: Global, modules: &[PrismModule]) -> Result<Vec<NameMap>, AllocError>
-    ensures { IfOk result (λ ts. (x : List ℕ) → map (λ t. is_some (new_in t x)) ts.items ≡ map (has_command x) (map body_in modules.now)) }
+fn module_actions(alloc: Global, modules: &[PrismModule]) -> Result<Vec<NameSet>, AllocError>
+    ensures { IfOk result (λ ts. (x : List ℕ) → map (λ t. is_in t x) ts.items ≡ map (has_command x) (map body_in modules.now)) }
 {
     let mut all = Vec::new(alloc);
     for m in modules {
@@ -45,10 +45,10 @@ fn module_actions(alloc: Global, modules: &[PrismModule]) -> Result<Vec<NameMap>
 }
 
 /// The actions of commands.
-fn command_actions(alloc: Global, commands: &[PrismCommand]) -> Result<NameMap, AllocError>
-    ensures { IfOk result (λ t. (x : List ℕ) → is_some (new_in t x) ≡ list_any (λ c. same_label (Some x) (action_of c)) (map prism.command_of commands.now)) }
+fn command_actions(alloc: Global, commands: &[PrismCommand]) -> Result<NameSet, AllocError>
+    ensures { IfOk result (λ t. (x : List ℕ) → is_in t x ≡ list_any (λ c. same_label (Some x) (action_of c)) (map prism.command_of commands.now)) }
 {
-    let mut seen = NameMap::new(alloc);
+    let mut seen = NameSet::new(alloc);
     for c in commands {
         note_action(&mut seen, c)?;
     }
@@ -56,21 +56,21 @@ fn command_actions(alloc: Global, commands: &[PrismCommand]) -> Result<NameMap, 
 }
 
 /// Adds the action of a command, if it has one.
-fn note_action<'a>(seen: &mut NameMap<'a>, c: &'a PrismCommand) -> Result<(), AllocError>
-    ensures { OnOk result ((x : List ℕ) → is_some (new_in seen.new x)
-        ≡ (is_some (new_in seen.old x) || same_label (Some x) (action_of (prism.command_of c.now)))) }
+fn note_action<'a>(seen: &mut NameSet<'a>, c: &'a PrismCommand) -> Result<(), AllocError>
+    ensures { OnOk result ((x : List ℕ) → is_in seen.new x
+        ≡ (is_in seen.old x || same_label (Some x) (action_of (prism.command_of c.now)))) }
 {
     match &c.action {
-        Some(a) => note_name(seen, a.name.as_str()),
+        Some(a) => seen.add(a.name.as_str()),
         None => Ok(()),
     }
 }
 
 /// The actions that items are for.
-pub(crate) fn item_actions(alloc: Global, rewards: &[PrismRewards]) -> Result<NameMap, AllocError>
-    ensures { IfOk result (λ t. (x : List ℕ) → is_some (new_in t x) ≡ list_any (λ r. list_any (λ i. for_action x i.on) r.items) (map prism.rewards_of rewards.now)) }
+pub(crate) fn item_actions(alloc: Global, rewards: &[PrismRewards]) -> Result<NameSet, AllocError>
+    ensures { IfOk result (λ t. (x : List ℕ) → is_in t x ≡ list_any (λ r. list_any (λ i. for_action x i.on) r.items) (map prism.rewards_of rewards.now)) }
 {
-    let mut seen = NameMap::new(alloc);
+    let mut seen = NameSet::new(alloc);
     for r in rewards {
         note_items(&mut seen, r.items.as_slice())?;
     }
@@ -78,9 +78,9 @@ pub(crate) fn item_actions(alloc: Global, rewards: &[PrismRewards]) -> Result<Na
 }
 
 /// Adds the actions that these items are for.
-fn note_items<'a>(seen: &mut NameMap<'a>, items: &'a [PrismItem]) -> Result<(), AllocError>
-    ensures { OnOk result ((x : List ℕ) → is_some (new_in seen.new x)
-        ≡ (is_some (new_in seen.old x) || list_any (λ i. for_action x i.on) (map prism.item_of items.now))) }
+fn note_items<'a>(seen: &mut NameSet<'a>, items: &'a [PrismItem]) -> Result<(), AllocError>
+    ensures { OnOk result ((x : List ℕ) → is_in seen.new x
+        ≡ (is_in seen.old x || list_any (λ i. for_action x i.on) (map prism.item_of items.now))) }
 {
     for i in items {
         note_item(seen, &i.on)?;
@@ -89,11 +89,11 @@ fn note_items<'a>(seen: &mut NameMap<'a>, items: &'a [PrismItem]) -> Result<(), 
 }
 
 /// Adds the action that an item is for, if it is for one.
-fn note_item<'a>(seen: &mut NameMap<'a>, on: &'a ItemOn) -> Result<(), AllocError>
-    ensures { OnOk result ((x : List ℕ) → is_some (new_in seen.new x) ≡ (is_some (new_in seen.old x) || for_action x on.now)) }
+fn note_item<'a>(seen: &mut NameSet<'a>, on: &'a ItemOn) -> Result<(), AllocError>
+    ensures { OnOk result ((x : List ℕ) → is_in seen.new x ≡ (is_in seen.old x || for_action x on.now)) }
 {
     match on {
-        ItemOn::Action(a) => note_name(seen, a.name.as_str()),
+        ItemOn::Action(a) => seen.add(a.name.as_str()),
         _ => Ok(()),
     }
 }

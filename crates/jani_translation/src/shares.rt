@@ -5,7 +5,7 @@ ghost use Rattle.std.specs.List.{filter, flat_map, zip};
 ghost use Rattle.prism_tree.specs.Syntax as prism;
 ghost use Rattle.prism_flat.specs.Instance.{only_if};
 ghost use Rattle.jani_tree.specs.Syntax as jani;
-ghost use Rattle.jani_translation.specs.Asks.{NewNames as NamesOf};
+ghost use Rattle.name_table.specs.Asks.{NewNames as NamesOf};
 ghost use Rattle.jani_translation.specs.Parts.{instead_if};
 ghost use Rattle.jani_translation.specs.Automata.{for_action, sum_to, reward_of};
 ghost use Rattle.jani_translation.specs.Code.{names_in, items_under, share_writes, shared_writes};

@@ -1,21 +1,23 @@
 // The actions and the synchronisation vectors of a file.
 
-ghost use Rattle.std.specs.Prelude.{◌≡◌, ◌++◌, ◌∷◌, [], map, nat_eq, is_some, IfOk, OnOk};
+ghost use Rattle.std.specs.Prelude.{◌≡◌, ◌++◌, ◌∷◌, [], map, nat_eq, IfOk, OnOk};
 ghost use Rattle.prism_tree.specs.Syntax.{file_of};
 ghost use Rattle.prism_flat.specs.Instance.{numbered, only_if};
 ghost use Rattle.jani_tree.specs.Syntax as jani;
-ghost use Rattle.jani_translation.specs.Asks.{actions};
+ghost use Rattle.name_table.specs.Asks.{actions};
+ghost use Rattle.name_table.specs.Gathered.{body_in, is_in};
 ghost use Rattle.jani_translation.specs.Parts.{made};
 ghost use Rattle.jani_translation.specs.Automata.{zz_silent, has_silent, has_monitor};
 ghost use Rattle.jani_translation.specs.Translated.{part_if, silent_vector, silent_vectors, jani_actions, action_vector, vectors};
-ghost use Rattle.jani_translation.specs.Code.{body_in, names_in, new_in, ArePartners};
+ghost use Rattle.jani_translation.specs.Code.{names_in, ArePartners};
 
 use crate::automata::{earns_silently, has_monitor, has_silent, zz_silent};
-use crate::new_names::{NameMap, Names};
+use crate::new_names::Names;
 use crate::partners::Partners;
 use crate::parts::made;
 use bridge_io::{List, Named, Text};
 use jani_tree::JaniVector;
+use name_table::NameSet;
 use prism_images::NewNames;
 use prism_tree::{PrismFile, PrismModule};
 use std::alloc::{AllocError, Global};
@@ -145,11 +147,11 @@ fn new_actions(alloc: Global, acts: &[&Text], names: &Names) -> Result<List<Name
 /// The parts of the modules in an action, where these are the actions of their commands.
 fn module_parts(
     alloc: Global,
-    modules: &[NameMap],
+    modules: &[NameSet],
     a: &Text,
     names: &Names,
 ) -> Result<List<Option<Named>>, AllocError>
-    ensures { IfOk result (λ r. r ≡ map (λ t. part_if (is_some (new_in t a.now)) (made ((names_in names.now).action a.now))) modules.now) }
+    ensures { IfOk result (λ r. r ≡ map (λ t. part_if (is_in t a.now) (made ((names_in names.now).action a.now))) modules.now) }
 {
     let mut parts = List::new(alloc);
     for m in modules {
@@ -162,13 +164,13 @@ fn module_parts(
 fn add_monitor_part(
     alloc: Global,
     parts: &mut List<Option<Named>>,
-    items: &NameMap,
+    items: &NameSet,
     watched: bool,
     a: &Text,
     names: &Names,
 ) -> Result<(), AllocError>
     ensures { OnOk result
-        (parts.new ≡ parts.old ++ only_if watched (part_if (is_some (new_in items.now a.now)) (made ((names_in names.now).action a.now)))) }
+        (parts.new ≡ parts.old ++ only_if watched (part_if (is_in items.now a.now) (made ((names_in names.now).action a.now)))) }
 {
     if watched {
         parts.push(part_if(alloc, items.has(a.as_str()), a, names)?)?;

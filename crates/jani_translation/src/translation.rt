@@ -4,16 +4,14 @@ ghost use Rattle.std.specs.Prelude.{◌≡◌, map, IfOk};
 ghost use Rattle.prism_tree.specs.Syntax as prism;
 ghost use Rattle.prism_tree.specs.Syntax.{var_of};
 ghost use Rattle.jani_tree.specs.Syntax as jani;
-ghost use Rattle.jani_translation.specs.Asks.{variables, actions};
+ghost use Rattle.name_table.specs.Asks.{variables, actions};
 ghost use Rattle.jani_translation.specs.Translated.{translated_by};
 ghost use Rattle.jani_translation.specs.Code.{names_in};
 ghost use Rattle.jani_translation.specs.Filed.{filed};
 ghost use Rattle.jani_translation.specs.Statements.{AreVariables, AreActions, AreEntries, AreNames, IsTranslation};
 
-use crate::asking::jani_names;
 use crate::automata::automata;
 use crate::composition::elements;
-use crate::gather::{actions, variables};
 use crate::naming::names;
 use crate::new_names::Names;
 use crate::parts::{constants, global_variables};
@@ -21,7 +19,7 @@ use crate::syncs::{jani_actions, vectors};
 use bridge_io::{List, Named, Text};
 use decimal_json::Json;
 use jani_tree::{JaniAutomaton, JaniConst, JaniFile, JaniVar, JaniVector};
-use name_table::{Entry, NameTable};
+use name_table::{Entry, NameTable, actions, flat_names, variables};
 use prism_tree::{PrismFile, PrismVar};
 use std::alloc::{AllocError, Global};
 
@@ -63,7 +61,7 @@ fn file_table(
     requires acts { AreActions acts.now.items file.now }
     ensures { IfOk result (λ t. AreEntries t.entries file.now) }
 {
-    let table = jani_names(alloc, file, vars.as_slice(), acts.as_slice())?;
+    let table = flat_names(alloc, file, vars.as_slice(), acts.as_slice())?;
     Ok(table)
 }
 

@@ -19,7 +19,7 @@ use Rattle.prism_check.specs.TypeFaults as source
 use Rattle.prism_check.specs.TypeFaults.{types, declared_types}
 use Rattle.prism_check.proofs.Each.{each_with}
 use Rattle.prism_clean.specs.Flattened.{IsFlat}
-use Rattle.jani_translation.specs.Asks.{variables}
+use Rattle.name_table.specs.Asks.{variables}
 use Rattle.jani_translation.specs.SeenLaws.{SoundRange, SoundVariable, SoundConstant, IsSoundUnder}
 use Rattle.jani_translation.proofs.Fresh.{equal_bytes}
 use Rattle.jani_translation.proofs.Written.{given_reading}

@@ -27,7 +27,7 @@ use Rattle.jani_tree.specs.Syntax as jani
 use Rattle.jani_tree.specs.Places.{bare_name, bare_const, bare_file}
 use Rattle.jani_meaning.proofs.Bare.{places_mean_nothing}
 use Rattle.jani_meaning.specs.Process as jani_process
-use Rattle.jani_translation.specs.Asks.{new_names}
+use Rattle.name_table.specs.Asks.{new_names}
 use Rattle.jani_translation.specs.Translated.{translated}
 use Rattle.jani_translation.specs.SeenLaws.{GivesAlike}
 use Rattle.jani_translation.specs.StateLaws.{at_home, state_of}

@@ -10,7 +10,7 @@ use Rattle.process_core.proofs.Targets.{any_firsts}
 use Rattle.prism_tree.specs.Syntax.{Command, Body, File}
 use Rattle.prism_print.specs.Printable.{Each, IfAny}
 use Rattle.prism_check.proofs.Each.{each_then}
-use Rattle.jani_translation.specs.Asks.{bodies, actions, action_of, called}
+use Rattle.name_table.specs.Asks.{bodies, actions, action_of, called}
 use Rattle.jani_translation.proofs.Fresh.{same_bytes}
 
 abbrev pub IsAction : File → Name → Type 0

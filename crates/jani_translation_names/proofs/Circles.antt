@@ -23,7 +23,7 @@ use Rattle.jani_check.specs.NameFaults.{names_of as names_in, uses, uses_of, lea
 use Rattle.name_table.specs.declared.entry.Entry.{Entry}
 use Rattle.prism_images.specs.Image.{image}
 use Rattle.prism_clean.specs.Flattened.{IsFlat}
-use Rattle.jani_translation.specs.Asks.{variables, value_names, entries, new_names}
+use Rattle.name_table.specs.Asks.{variables, value_names, entries, new_names}
 use Rattle.jani_translation.specs.Parts.{constant}
 use Rattle.jani_translation.proofs.Fresh.{other_bytes, equal_bytes, values_agree, agrees_front, Takes, takes_from}
 use Rattle.jani_translation.proofs.Differ.{values_differ}

@@ -27,7 +27,7 @@ use Rattle.name_table.specs.declared.entry.Entry.{Entry}
 use Rattle.name_table.specs.Rule.{space, begins_zz, made_name}
 use Rattle.name_table.specs.Entries.{Ask, count_of, keeps, kept_entry, made_entry, next, entries_after}
 use Rattle.name_table.proofs.EntryLemmas.{Comes, was_kept, was_made, placed, kept_is_old, no_two_alike}
-use Rattle.jani_translation.specs.Asks.{ask, called, bodies, variables, actions, constant_asks, variable_asks, label_asks, reward_asks, module_asks, action_asks, asks, entries, some_from, NewNames, new_names, labels_at, modules_at}
+use Rattle.name_table.specs.Asks.{ask, called, bodies, variables, actions, constant_asks, variable_asks, label_asks, reward_asks, module_asks, action_asks, asks, entries, some_from, NewNames, new_names, labels_at, modules_at}
 use Rattle.jani_translation.specs.Parts.{made, constant, variable, label, structure, instead_if}
 use Rattle.jani_translation.specs.Automata.{zz_silent, zz_monitor, earns_silently, has_monitor, automaton, module_automata, monitor, monitor_edges, location_values}
 use Rattle.jani_translation.specs.Translated.{translated}

@@ -8,7 +8,7 @@ use Rattle.prism_tree.specs.Syntax as prism
 use Rattle.prism_print.specs.Printable.{Each}
 use Rattle.jani_tree.specs.Form.{HasItems}
 use Rattle.name_table.specs.declared.entry.Entry.{Entry}
-use Rattle.jani_translation.specs.Asks.{entries, some_from, new_name, value_names, new_names, actions, actions_at}
+use Rattle.name_table.specs.Asks.{entries, some_from, new_name, value_names, new_names, actions, actions_at}
 use Rattle.jani_translation.proofs.Each.{n_entries}
 use Rattle.jani_translation.proofs.Fresh.{no_empty, enough}
 

@@ -23,7 +23,7 @@ use Rattle.prism_check.specs.Faults.{or_else}
 use Rattle.prism_check.proofs.Each.{each_then, each_with, map_each, each_join, each_parts, each_of, empty_parts, empty_each, no_fault}
 use Rattle.prism_check.proofs.NamesIn.{listed_names}
 use Rattle.prism_clean.specs.Flattened.{IsFlat}
-use Rattle.jani_translation.specs.Asks.{contents, bodies, variables, value_names}
+use Rattle.name_table.specs.Asks.{contents, bodies, variables, value_names}
 
 -- ---- what is known
 -- some constant or variable has the name

@@ -27,7 +27,7 @@ use Rattle.prism_check.specs.Faults.{or_else}
 use Rattle.prism_check.proofs.Each.{each_with, empty_parts, empty_each, no_fault}
 use Rattle.prism_check.proofs.TypeOrder.{types_of_plain}
 use Rattle.prism_clean.specs.Flattened.{IsFlat}
-use Rattle.jani_translation.specs.Asks.{contents, bodies, variables, value_names}
+use Rattle.name_table.specs.Asks.{contents, bodies, variables, value_names}
 
 -- ---- no fault of any kind
 neither : (fs others : List Fault) → or_else fs others ≡ [] → (fs ≡ []) × (others ≡ [])

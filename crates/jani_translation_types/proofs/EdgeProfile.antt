@@ -26,7 +26,7 @@ use Rattle.jani_check.specs.ProfileFaults.{reads, read_fault, demand_profile, va
 use Rattle.jani_check.specs.NameFaults.{names_of}
 use Rattle.name_table.specs.declared.entry.Entry.{Entry}
 use Rattle.prism_images.specs.Image.{image}
-use Rattle.jani_translation.specs.Asks.{bodies, variables, new_names}
+use Rattle.name_table.specs.Asks.{bodies, variables, new_names}
 use Rattle.jani_translation.specs.Parts.{made, instead_if}
 use Rattle.jani_translation.specs.Automata.{zz_silent, zz_monitor, for_states, for_action, for_silent, earning_actions, earns_silently, has_monitor, item_value, sum_behind, sum_to, reward_of, rewards_of, write, destination, edge, automaton, label_value, location_values, module_automata, monitor_edge, monitor_edges, monitor}
 use Rattle.jani_translation.specs.Translated.{translated}

@@ -35,7 +35,7 @@ use Rattle.jani_check.specs.Demands.{wanted_by, fixed}
 use Rattle.jani_check.specs.TypeFaults.{some_name, is_variable, has_variable, is_wanted, is_unwanted, type_faults_of, demand_faults}
 use Rattle.prism_images.specs.Image.{image, image_one}
 use Rattle.prism_images.proofs.Types.{typed_alike}
-use Rattle.jani_translation.specs.Asks.{variables, new_names}
+use Rattle.name_table.specs.Asks.{variables, new_names}
 use Rattle.jani_translation.specs.Translated.{translated}
 use Rattle.jani_translation_types.proofs.Clean.{no_formula, types_declared, variable_types, declared_type, value_names_are}
 use Rattle.jani_translation_types.proofs.Alike as names

@@ -18,7 +18,7 @@ use Rattle.jani_check.specs.Demands.{fixed, if_some, wanted_by, const_demands, b
 use Rattle.jani_check.specs.TypeFaults.{var_faults, demand_faults}
 use Rattle.name_table.specs.declared.entry.Entry.{Entry}
 use Rattle.prism_images.specs.Image.{image}
-use Rattle.jani_translation.specs.Asks.{variables, new_names}
+use Rattle.name_table.specs.Asks.{variables, new_names}
 use Rattle.jani_translation.specs.Parts.{constant, variable, kind_of, start_of, label, structure}
 use Rattle.jani_translation.specs.Translated.{translated}
 use Rattle.jani_translation_types.specs.TypeLaws.{KindsFit, OuterTypesFit}

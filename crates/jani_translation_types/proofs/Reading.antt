@@ -24,7 +24,7 @@ use Rattle.jani_check.specs.ProfileFaults.{reads, read_fault, demand_profile, st
 use Rattle.jani_check.specs.NameFaults.{is_among, names_of}
 use Rattle.name_table.specs.declared.entry.Entry.{Entry}
 use Rattle.prism_images.specs.Image.{image, image_one}
-use Rattle.jani_translation.specs.Asks.{bodies, variables, new_names}
+use Rattle.name_table.specs.Asks.{bodies, variables, new_names}
 use Rattle.jani_translation.specs.Parts.{constant, variable, kind_of, start_of, label, structure}
 use Rattle.jani_translation.specs.Automata.{zz_monitor, earns_silently, has_monitor, automaton, location_values, module_automata, monitor_edges, monitor}
 use Rattle.jani_translation.specs.Translated.{translated}

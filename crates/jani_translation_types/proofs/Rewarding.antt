@@ -20,7 +20,7 @@ use Rattle.jani_check.specs.Things.{var_thing, global_thing, types_by, is_consta
 use Rattle.jani_check.specs.Demands.{assigned, given, wanted_by}
 use Rattle.jani_check.specs.TypeFaults.{is_wanted, type_faults_of, wanted_at, demand_faults}
 use Rattle.name_table.specs.declared.entry.Entry.{Entry}
-use Rattle.jani_translation.specs.Asks.{new_names}
+use Rattle.name_table.specs.Asks.{new_names}
 use Rattle.jani_translation.specs.Parts.{made, label, instead_if}
 use Rattle.jani_translation.specs.Automata.{item_value, sum_behind, sum_to, reward_of, rewards_of, label_value}
 use Rattle.jani_translation.specs.Translated.{translated}

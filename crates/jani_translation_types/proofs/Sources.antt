@@ -15,7 +15,7 @@ use Rattle.prism_check.specs.TypeFaults.{types, type_faults_of, has_variable, de
 use Rattle.prism_check.specs.Least.{fault_if}
 use Rattle.prism_check.proofs.Each.{each_join, each_with, each_of, each_then, each_parts, empty_parts, empty_each, no_fault}
 use Rattle.prism_clean.specs.Flattened.{IsFlat}
-use Rattle.jani_translation.specs.Asks.{contents, bodies, variables}
+use Rattle.name_table.specs.Asks.{contents, bodies, variables}
 use Rattle.jani_translation_types.proofs.Clean.{no_name_fault, no_type_fault}
 use Rattle.jani_translation_types.proofs.Expressions.{HasType, has_type, known_names, IsFixed}
 

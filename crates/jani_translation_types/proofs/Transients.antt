@@ -16,7 +16,7 @@ use Rattle.name_table.specs.declared.entry.Entry.{Entry}
 use Rattle.name_table.specs.Rule.{space}
 use Rattle.name_table.specs.Entries.{Ask}
 use Rattle.name_table.proofs.EntryLemmas.{placed, kept_is_old, no_two_alike}
-use Rattle.jani_translation.specs.Asks.{ask, called, variables, module_asks, action_asks, reward_asks, label_asks, variable_asks, asks, entries, new_names, labels_at, rewards_at, modules_at}
+use Rattle.name_table.specs.Asks.{ask, called, variables, module_asks, action_asks, reward_asks, label_asks, variable_asks, asks, entries, new_names, labels_at, rewards_at, modules_at}
 use Rattle.jani_translation.specs.Parts.{constant, variable, label, structure}
 use Rattle.jani_translation.specs.Translated.{translated}
 use Rattle.jani_translation.proofs.Fresh.{same_bytes, other_bytes}

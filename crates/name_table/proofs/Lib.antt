@@ -4,3 +4,5 @@ pub mod MadeNames
 pub mod EntryLemmas
 pub mod TableLemmas
 pub mod Valid
+pub mod Gathering
+pub mod Joined

@@ -2,9 +2,9 @@ use Rattle.std.proofs.Common.{◌∙◌, ap, sym, map}
 use Rattle.std.specs.List.{list_any}
 use Rattle.process_core.specs.Product.{map-map}
 use Rattle.prism_tree.specs.Syntax.{module_of}
-use Rattle.jani_translation.specs.Asks.{contents}
+use Rattle.name_table.specs.Asks.{contents}
+use Rattle.name_table.specs.Gathered.{body_in}
 use Rattle.jani_translation.specs.Automata.{has_silent}
-use Rattle.jani_translation.specs.Code.{body_in}
 use Rattle.jani_translation.proofs.automata.has_silent_modules.Goals as goal
 
 pub returns : goal.returns

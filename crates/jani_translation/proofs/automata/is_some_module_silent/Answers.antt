@@ -3,8 +3,8 @@ use Rattle.std.specs.List.{list_any}
 use Rattle.std.proofs.lemmas.Iterator.{YieldsList-from_slice}
 use Rattle.std.proofs.lemmas.Iterator.Search.{any_from_yields_List}
 use Rattle.prism_tree.specs.declared.syntax.PrismModule.{PrismModule}
+use Rattle.name_table.specs.Gathered.{body_in}
 use Rattle.jani_translation.specs.Automata.{has_silent}
-use Rattle.jani_translation.specs.Code.{body_in}
 use Rattle.jani_translation.proofs.Gathering.{any_map}
 use Rattle.jani_translation.proofs.automata.is_some_module_silent.Goals as goal
 

@@ -3,7 +3,7 @@ use Rattle.std.specs.Borrow.{Bor}
 use Rattle.std.proofs.lemmas.List.{length-map}
 use Rattle.process_core.specs.Ready.{Name}
 use Rattle.prism_tree.specs.Syntax.{File, Const, Var, file_of, const_of, var_of, label_of, rewards_of, module_of}
-use Rattle.jani_translation.specs.Asks.{variables, new_name}
+use Rattle.name_table.specs.Asks.{variables, new_name}
 use Rattle.jani_translation.specs.Code.{name_in}
 use Rattle.jani_translation.proofs.Places.{dropped, first, names_are}
 use Rattle.jani_translation.proofs.naming.names.Goals as goal

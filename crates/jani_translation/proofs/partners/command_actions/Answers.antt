@@ -1,7 +1,7 @@
 use Rattle.std.specs.Prelude.{Some, false}
 use Rattle.process_core.specs.Ready.{same_label}
 use Rattle.prism_tree.specs.Syntax.{Command, command_of}
-use Rattle.jani_translation.specs.Asks.{action_of}
+use Rattle.name_table.specs.Asks.{action_of}
 use Rattle.jani_translation.proofs.Listed.{any_more}
 use Rattle.jani_translation.proofs.partners.command_actions.Goals as goal
 

@@ -2,9 +2,9 @@ use Rattle.std.proofs.Common.{◌≡◌, ◌++◌, map, drop}
 use Rattle.prism_flat.specs.Instance.{numbered, only_if}
 use Rattle.prism_tree.specs.Syntax.{file_of}
 use Rattle.jani_tree.specs.Syntax as jani
+use Rattle.name_table.specs.Gathered.{body_in}
 use Rattle.jani_translation.specs.Automata.{has_silent}
 use Rattle.jani_translation.specs.Translated.{silent_vector, silent_vectors}
-use Rattle.jani_translation.specs.Code.{body_in}
 use Rattle.jani_translation.proofs.syncs.add_silent_vectors.Given as goal
 
 abbrev pub invariant-loop-i : goal.invariant-loop-i

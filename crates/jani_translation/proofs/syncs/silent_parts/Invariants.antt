@@ -1,9 +1,9 @@
 use Rattle.std.proofs.Common.{◌≡◌, ◌++◌, ◌∷◌, [], map, drop}
 use Rattle.std.specs.Prelude.{nat_eq}
 use Rattle.prism_flat.specs.Instance.{numbered}
+use Rattle.name_table.specs.Gathered.{body_in}
 use Rattle.jani_translation.specs.Automata.{zz_silent}
 use Rattle.jani_translation.specs.Translated.{part_if}
-use Rattle.jani_translation.specs.Code.{body_in}
 use Rattle.jani_translation.proofs.syncs.silent_parts.Given as goal
 
 abbrev pub invariant-loop-k : goal.invariant-loop-k

@@ -4,10 +4,10 @@ use Rattle.bridge_io.specs.declared.reason.Named.{Named}
 use Rattle.process_core.specs.Product.{map-map}
 use Rattle.prism_flat.specs.Instance.{numbered}
 use Rattle.prism_tree.specs.Syntax.{module_of}
-use Rattle.jani_translation.specs.Asks.{contents}
+use Rattle.name_table.specs.Asks.{contents}
+use Rattle.name_table.specs.Gathered.{body_in}
 use Rattle.jani_translation.specs.Automata.{zz_silent}
 use Rattle.jani_translation.specs.Translated.{part_if}
-use Rattle.jani_translation.specs.Code.{body_in}
 use Rattle.jani_translation.proofs.syncs.silent_vector.Goals as goal
 
 pub returns : goal.returns

@@ -1,12 +1,12 @@
 use Rattle.jani_translation.proofs.Statements.{variables_are, actions_are, are_entries}
 use Rattle.jani_translation.proofs.translation.file_table.Goals as goal
 
-pub jani_names-requires-clause-vars : goal.jani_names-requires-clause-vars
-jani_names-requires-clause-vars c =
+pub flat_names-requires-clause-vars : goal.flat_names-requires-clause-vars
+flat_names-requires-clause-vars c =
     variables_are c.as_slice.result.now c.args.vars.now.items c.args.file.now c.as_slice.ensures.value c.requires.vars
 
-pub jani_names-requires-clause-acts : goal.jani_names-requires-clause-acts
-jani_names-requires-clause-acts c =
+pub flat_names-requires-clause-acts : goal.flat_names-requires-clause-acts
+flat_names-requires-clause-acts c =
     actions_are c.as_slice-2.result.now c.args.acts.now.items c.args.file.now c.as_slice-2.ensures.value c.requires.acts
 
 pub returns : goal.returns

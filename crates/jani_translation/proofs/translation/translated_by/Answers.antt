@@ -2,7 +2,7 @@ use Rattle.std.specs.Prelude.{map}
 use Rattle.std.proofs.Common.{◌∙◌, ap}
 use Rattle.prism_tree.specs.Syntax as prism
 use Rattle.jani_tree.specs.Syntax as jani
-use Rattle.jani_translation.specs.Asks.{NewNames, variables}
+use Rattle.name_table.specs.Asks.{NewNames, variables}
 use Rattle.jani_translation.specs.Code.{names_in}
 use Rattle.jani_translation.proofs.Filed.{constants_by, same_variables, of_parts}
 use Rattle.jani_translation.proofs.translation.translated_by.Goals as goal

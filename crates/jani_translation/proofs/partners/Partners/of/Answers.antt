@@ -5,10 +5,10 @@ use Rattle.process_core.specs.Product.{map-map}
 use Rattle.prism_tree.specs.declared.syntax.PrismModule.{PrismModule}
 use Rattle.prism_tree.specs.declared.syntax.PrismRewards.{PrismRewards}
 use Rattle.prism_tree.specs.Syntax.{Item, Rewards, module_of, rewards_of}
-use Rattle.jani_translation.specs.Asks.{contents}
+use Rattle.name_table.specs.Asks.{contents}
+use Rattle.name_table.specs.Gathered.{body_in}
 use Rattle.jani_translation.specs.Automata.{for_action}
 use Rattle.jani_translation.specs.Translated.{has_command}
-use Rattle.jani_translation.specs.Code.{body_in}
 use Rattle.jani_translation.proofs.partners.Partners.of.Goals as goal
 
 pub returns : goal.returns

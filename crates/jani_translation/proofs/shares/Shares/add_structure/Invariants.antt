@@ -2,7 +2,7 @@ use Rattle.std.proofs.Common.{◌≡◌, ◌++◌, [], ℕ, List, map, take}
 use Rattle.std.specs.Prelude.{if◌then◌else◌}
 use Rattle.std.specs.List.{filter, list_any}
 use Rattle.prism_tree.specs.Syntax.{item_of}
-use Rattle.jani_translation.specs.Asks.{NewNames}
+use Rattle.name_table.specs.Asks.{NewNames}
 use Rattle.jani_translation.specs.Parts.{instead_if}
 use Rattle.jani_translation.specs.Automata.{for_action, sum_to}
 use Rattle.jani_translation.specs.Code.{items_under, shared_writes}

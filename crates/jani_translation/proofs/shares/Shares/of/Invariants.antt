@@ -1,7 +1,7 @@
 use Rattle.std.proofs.Common.{◌≡◌, ◌++◌, ℕ, List, map, drop}
 use Rattle.std.specs.List.{zip, flat_map}
 use Rattle.prism_tree.specs.Syntax.{rewards_of}
-use Rattle.jani_translation.specs.Asks.{NewNames}
+use Rattle.name_table.specs.Asks.{NewNames}
 use Rattle.jani_translation.specs.Automata.{for_action, reward_of}
 use Rattle.jani_translation.specs.Code.{shared_writes}
 use Rattle.jani_translation.proofs.shares.Shares.of.Given as goal
