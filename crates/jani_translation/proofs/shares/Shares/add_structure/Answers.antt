@@ -3,7 +3,6 @@ use Rattle.std.specs.List.{filter, list_any}
 use Rattle.std.proofs.Common.{◌∙◌, ap, refl, take_all}
 use Rattle.prism_tree.specs.declared.syntax.PrismItem.{PrismItem}
 use Rattle.prism_tree.specs.Syntax.{Item, item_of}
-use Rattle.name_table.specs.Asks.{NewNames}
 use Rattle.jani_translation.specs.Parts.{instead_if}
 use Rattle.jani_translation.specs.Automata.{for_action, sum_to}
 use Rattle.jani_translation.specs.Code.{shared_writes, items_under}
