@@ -1,8 +1,6 @@
 -- What is the same as the canonical value of a tree, places aside, is read back as the tree.
 use Rattle.std.proofs.Common.{◌≡◌, ℕ, List, [], sym, ap, subst, ◌∙◌}
 use Rattle.decimal_json.specs.declared.tree.Json.{Json}
-use Rattle.decimal_json.specs.Lang.{Mark}
-use Rattle.decimal_json.specs.Faults.{IsJson}
 use Rattle.decimal_json.specs.Proper.{SameValue}
 use Rattle.decimal_json.proofs.Single.{one_value}
 use Rattle.jani_table.specs.declared.table.Form.TheVariants as F
@@ -10,13 +8,15 @@ use Rattle.jani_table.specs.Node.{node}
 use Rattle.jani_table.specs.Faults.{faults}
 use Rattle.jani_tree.specs.Syntax.{File}
 use Rattle.jani_tree.specs.Jani.{IsFile}
-use Rattle.jani_tree.specs.Canonical.{FileForm, file_node}
+use Rattle.jani_tree.specs.Canonical.{file_node}
 use Rattle.jani_tree.specs.Form.{FileShort, HasItems, IsShortName}
 use Rattle.jani_tree.specs.Places.{bare_node, bare_file}
-use Rattle.jani_tree.specs.Back.{IsWritable, OnlyLong, IsClean, ReadsBack, SpellsFile, SpellsOnly, TextSpells}
+use Rattle.jani_tree.specs.Back.{IsWritable, OnlyLong, IsClean, ReadsBack, SpellsFile, TextSpells}
 use Rattle.jani_tree.proofs.Again.{file_again}
 use Rattle.jani_tree.proofs.Sound.{IsNone, no_fault, short_name, only_long, any_name, file_good}
 use Rattle.jani_tree.proofs.Filled.{Good}
+use Rattle.jani_tree.specs.Text.{KeptNode, SpellsNode, jani_text}
+use Rattle.jani_tree.proofs.Made.{spelled_node}
 use Rattle.jani_tree.proofs.Normal.{normal_again}
 use Rattle.jani_tree.proofs.Bare.{file_bare, one_tree}
 use Rattle.jani_tree.proofs.Same.{node_same}
@@ -42,6 +42,12 @@ pub clean_value : (f : File) (x : Json) → node x ≡ file_node f → IsWritabl
 clean_value f x e h =
     let g : Good OnlyLong F.Model (node x) = subst (Good OnlyLong F.Model) (sym e) (file_good OnlyLong only_long HasItems any_name f h.read h.types h.once) in
     record { shape = g.clean; normal = normal_again x g.normal; once = g.once }
+
+-- its canonical text is spelled by a value of its data
+pub spelled_file : (f : File) (bytes : List ℕ) → IsWritable f → bytes ≡ jani_text f → KeptNode (file_node f) → SpellsNode bytes (file_node f)
+spelled_file f bytes h e k =
+    let g : Good OnlyLong F.Model (file_node f) = file_good OnlyLong only_long HasItems any_name f h.read h.types h.once in
+    spelled_node (file_node f) bytes e (k.proper g.normal)
 
 -- ---- texts
 pub text_spells : TextSpells

@@ -18,3 +18,6 @@ pub mod Wider
 pub mod Text
 pub mod Mapped
 pub mod BareForm
+pub mod Pieces
+pub mod Made
+pub mod Kept

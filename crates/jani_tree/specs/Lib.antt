@@ -6,3 +6,4 @@ pub mod Places
 pub mod Form
 pub mod Back
 pub mod Text
+pub mod Pieces

@@ -1,10 +1,13 @@
 -- The canonical text of a JANI file, as a function of its tree: that of its canonical value, in which no offset stands.
 use Rattle.std.specs.Prelude.{◌≡◌, ℕ, true, false, List, [], ◌∷◌, ◌++◌, codes}
+use Rattle.std.specs.Str.{is_utf8}
 use Rattle.decimal_json.specs.declared.tree.Json.{Json}
+use Rattle.decimal_json.specs.Proper.{is_kept, SpellsValue}
 use Rattle.decimal_json.specs.Text.{number_text, quoted, with_commas, text_of}
 use Rattle.jani_table.specs.Node.{Node, null, truth, number, text, array, object, Nodes, no_nodes, more_nodes, Fields, no_fields, field, node}
 use Rattle.jani_tree.specs.Syntax.{File}
 use Rattle.jani_tree.specs.Canonical.{file_node}
+use Rattle.jani_tree.specs.Form.{NormalNode}
 
 abbrev mutual
   pub node_text : Node → List ℕ
@@ -30,3 +33,29 @@ jani_text f = node_text (file_node f)
 -- the text of a value is that of its data
 abbrev pub TextOfNode : Type 0
 TextOfNode = (x : Json) → text_of x ≡ node_text (node x)
+
+-- ---- what can be kept: each number in normal form and within the bounds of its type, each string and each key in UTF-8
+abbrev mutual
+  pub ProperNode : Node → Type 0
+  ProperNode (null at) = Unit {0}
+  ProperNode (truth at b) = Unit {0}
+  ProperNode (number at d) = is_kept d ≡ true
+  ProperNode (text at s) = is_utf8 s ≡ true
+  ProperNode (array at vs) = ProperNodes vs
+  ProperNode (object at ms close) = ProperFields ms
+
+  pub ProperNodes : Nodes → Type 0
+  ProperNodes no_nodes = Unit {0}
+  ProperNodes (more_nodes v vs) = ProperNode v × ProperNodes vs
+
+  pub ProperFields : Fields → Type 0
+  ProperFields no_fields = Unit {0}
+  ProperFields (field n v rest) = (is_utf8 n.name ≡ true) × ProperNode v × ProperFields rest
+
+-- it can be kept where each of its literals is in normal form
+pub record KeptNode (v : Node) : Type 0 where
+  pub proper : NormalNode v → ProperNode v
+
+-- the bytes spell a JSON value of this data, places aside
+abbrev pub SpellsNode : List ℕ → Node → Type 0
+SpellsNode bytes v = (x : Json) × (node x ≡ v) × SpellsValue bytes x

@@ -1,5 +1,5 @@
 //! The abstract syntax of JANI files (jani-model specification, version 1): the tree that a JSON value spells, or the least
-//! fault of the value's shape; and the canonical value of a tree.
+//! fault of the value's shape; and the canonical value of a tree, and its canonical text.
 #![tactic(auto)]
 
 mod build;
@@ -7,12 +7,14 @@ mod copy;
 mod laws;
 mod objects;
 mod read;
+mod spell;
 mod syntax;
 mod write;
 
 pub use jani_table::JaniOp;
 pub use laws::{places_law, reads_back_law, written_law};
 pub use read::from_json;
+pub use spell::write_jani;
 pub use syntax::{
     JaniAutomaton, JaniConst, JaniDestination, JaniEdge, JaniFile, JaniKind, JaniLocation, JaniVar,
     JaniVector, JaniWrite, Je,

@@ -7,9 +7,9 @@ ghost use Rattle.model_command.specs.Translation.{IsText, IsWritten};
 
 use crate::reading::read_prism;
 use bridge_io::{List, Refused};
-use decimal_json::{line_feed_law, write_json};
+use decimal_json::line_feed_law;
 use jani_check::{CheckedJani, writable_law};
-use jani_tree::{to_json, written_law};
+use jani_tree::{write_jani, written_law};
 use prism_check::CheckedPrism;
 use prism_to_jani::{to_jani, translated_law};
 use std::alloc::{AllocError, Global};
@@ -43,8 +43,7 @@ fn text_of(alloc: Global, model: &CheckedJani) -> Result<List<u8>, AllocError>
     writable_law();
     written_law();
     line_feed_law();
-    let value = to_json(alloc, model.file())?;
-    let mut text = write_json(alloc, &value)?;
+    let mut text = write_jani(alloc, model.file())?;
     text.push(b'\n')?;
     Ok(text)
 }

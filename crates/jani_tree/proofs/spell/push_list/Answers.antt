@@ -1,0 +1,19 @@
+use Rattle.std.specs.Prelude.{codes}
+use Rattle.jani_tree.proofs.Pieces.{ends, list_some}
+use Rattle.std.proofs.Common.{subst, sym, ◌∙◌}
+use Rattle.jani_tree.specs.Canonical.{OfAll}
+use Rattle.jani_tree.specs.Text.{KeptNode}
+use Rattle.jani_tree.proofs.Kept.{written, kept_seen}
+use Rattle.jani_tree.proofs.spell.push_list.Goals as goal
+
+pub returns-in_ok-push_more-in-Some-clause-text : goal.returns-in_ok-push_more-in-Some-clause-text
+returns-in_ok-push_more-in-Some-clause-text g c =
+    ends c.extend_from_slice-in-Some-2.result _ c.push_more.new.out.items (codes "]") c.extend_from_slice-in-Some-2.ensures.items
+    (λ h. list_some g.T.Shown.shown g.T.Shown.seen c.args.trees.now c.as_slice.result.now c.in-Some.more.now c.in-Some.x.now c.args.lead.now c.args.out.now.items _ _ _ _ _
+    c.as_slice.ensures c.in-Some.ensures.cases.0 c.in_ok-extend_from_slice.ensures.items c.in_ok-extend_from_slice-in-Some.ensures.items c.in_ok-push-in-Some.ensures.text c.in_ok-push_more-in-Some.ensures.text h)
+
+pub returns-in_ok-push_more-in-Some-clause-kept : goal.returns-in_ok-push_more-in-Some-clause-kept
+returns-in_ok-push_more-in-Some-clause-kept g c =
+    written c.extend_from_slice-in-Some-2.result
+    (kept_seen g.T.Shown.shown g.T.Shown.seen 0 c.args.trees.now
+    (subst (OfAll (λ x. KeptNode (g.T.Shown.shown (g.T.Shown.seen x)))) (sym c.in-Some.ensures.cases.0 ∙ c.as_slice.ensures) (c.in_ok-push-in-Some.ensures.kept, c.in_ok-push_more-in-Some.ensures.kept)))
