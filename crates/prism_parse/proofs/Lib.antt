@@ -7,3 +7,4 @@ mod Whole
 mod Fitting
 mod Grows
 mod Single
+mod Trees

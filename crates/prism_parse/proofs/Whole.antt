@@ -8,7 +8,7 @@ use Rattle.bridge_io.specs.declared.reason.Refused.TheVariants.{Memory, At}
 use Rattle.prism_lex.specs.Tokens.{Lexeme, Tokens, TokenFaults}
 use Rattle.prism_lex.specs.Laws.{OneList, OneFaults, AllBehind}
 use Rattle.prism_tree.specs.Syntax.{File}
-use Rattle.prism_tree.specs.Faults.{file, file_within, IsGrammarFault, SyntaxFaults, of_tokens, of_grammar, none}
+use Rattle.prism_tree.specs.Faults.{file_within, IsGrammarFault, Spells, SyntaxFaults, of_tokens, of_grammar, none}
 use Rattle.prism_exprs.specs.declared.tokens.Cause.{Cause}
 use Rattle.prism_exprs.specs.declared.tokens.Found.{Found}
 use Rattle.prism_exprs.specs.declared.tokens.Literal.{Literal}
@@ -19,6 +19,7 @@ use Rattle.prism_parse.specs.Lexed.{IsLexed, IsTokenRefusal}
 use Rattle.prism_parse.specs.Parsed.{IsSpelled, IsLeastFault, UpToAll, Refuses}
 use Rattle.prism_parse.proofs.Fitting.{grammar_fits}
 use Rattle.prism_parse.proofs.Stopped.{limited, stopped_limited}
+use Rattle.prism_parse.proofs.Trees.{one_tree}
 
 -- Bytes without a fault have tokens that are sound as a whole.
 clean_whole : OneList → (bytes : List ℕ) (ts : List Lexeme) → Tokens bytes ts → SyntaxFaults bytes [] → (x : File) × file_within (length bytes) ts ts x
@@ -54,13 +55,11 @@ module _ (one : OneList) (bytes : List ℕ) (literals : List Literal) (found : L
   pub tree_spelled : (x : File) → ((s : Scope) → IsWhole (file_in (length bytes) s) ts x) → IsSpelled bytes x
   tree_spelled x whole =
       let within : file_within (length bytes) ts ts x = (whole (limited ts)).spells in
-      let plainly : file (length bytes) ts x = (whole plain).spells in
+      let spells : Spells bytes x = record { tokens = ts; are_tokens = lexed.tokens; spelled = (whole plain).spells } in
       record {
         clean = none ts x lexed.faultless lexed.tokens within;
-        spells = record { tokens = ts; are_tokens = lexed.tokens; spelled = plainly };
-        only = λ y spelled.
-            let F : List Lexeme → Type 0 = λ us. file (length bytes) us y in
-            (whole plain).only y (subst F (one bytes spelled.tokens ts spelled.are_tokens lexed.tokens) spelled.spelled);
+        spells = spells;
+        only = λ y other. one_tree one bytes y x other spells;
       }
 
   -- The tokens are not sound as a whole.

@@ -7,4 +7,4 @@ mod lexing;
 mod reasons;
 
 pub use files::parse;
-pub use laws::one_syntax;
+pub use laws::{one_syntax, one_tree};
