@@ -1,6 +1,6 @@
 -- Where a token is the longest at its place, and no gap before it is longer.
-use Rattle.std.proofs.Common.{◌≡◌, ℕ, suc, ◌≤◌, ◌<◌, Bool, true, false, cond, List, [], ◌∷◌, ◌++◌, length, Option, Some, None, refl, sym, ap, subst, ◌∙◌, arith, nat_lt}
-use Rattle.std.specs.Prelude.{◌||◌, ◌&&◌, ◌==◌, not, codes}
+use Rattle.std.proofs.Common.{◌≡◌, ℕ, suc, ◌≤◌, ◌<◌, Bool, true, false, cond, List, [], ◌∷◌, ◌++◌, length, Option, Some, None, refl, sym, ap, subst, ◌∙◌, arith, nat_lt, append_assoc, length-append}
+use Rattle.std.specs.Prelude.{◌≢◌, ◌||◌, ◌&&◌, ◌==◌, not, codes}
 use Rattle.std.specs.List.{list_all}
 use Rattle.std.proofs.lemmas.Bool.Decides.{nat_tests}
 use Rattle.std.proofs.Math.Seq.{take-append_seam}
@@ -17,8 +17,8 @@ use Rattle.prism_lex.specs.Gaps.{is_separator, IsGap}
 use Rattle.prism_lex.specs.Gaps as gaps
 use Rattle.prism_lex.specs.Symbols.{front_symbol}
 use Rattle.prism_lex.specs.Tokens.{IsKind, IsToken, IsLongest}
-use Rattle.prism_lex.proofs.Longest.{longest_dead}
 use Rattle.prism_lex.proofs.GapLemmas.{gap_pieces}
+use Rattle.prism_lex.proofs.Longest.{longest_dead}
 use Rattle.prism_lex.proofs.Shapes.{dead}
 use Rattle.prism_lex.proofs.FrontLemmas.{begins_scanned, begins_symbol}
 use Rattle.prism_lex.proofs.LongestSymbol.{IsBest, best_at, symbol_alone}
@@ -70,49 +70,109 @@ both_true : (a b : Bool) → (a && b) ≡ true → (a ≡ true) × (b ≡ true)
 both_true true b h = (refl, h)
 both_true false b h = absurd cc
 
--- a separator in front of more pieces
-separators : (g : List ℕ) → list_all is_separator g ≡ true → (ps : List gaps.Piece) × gaps.AllPieces ps × (g ≡ gaps.pieces_text ps)
-separators [] h = ([], tt, refl)
-separators (b ∷ g) h =
+-- a gap that no comment at its end is cut off from: separators, and comments with their line feeds
+abbrev pub Closes : List ℕ → Type 0
+Closes g = (ps : List gaps.Piece) × gaps.AllPieces ps × (g ≡ gaps.pieces_text ps)
+
+pieces_both : (ps qs : List gaps.Piece) → gaps.AllPieces ps → gaps.AllPieces qs → gaps.AllPieces (ps ++ qs)
+pieces_both [] qs h k = k
+pieces_both (p ∷ ps) qs h k = (h.0, pieces_both ps qs h.1 k)
+
+text_both : (ps qs : List gaps.Piece) → gaps.pieces_text (ps ++ qs) ≡ gaps.pieces_text ps ++ gaps.pieces_text qs
+text_both [] qs = refl
+text_both (gaps.separator b ∷ ps) qs = ap (λ (u : List ℕ). b ∷ u) (text_both ps qs)
+text_both (gaps.comment t ∷ ps) qs =
+    ap (λ (u : List ℕ). 47 ∷ 47 ∷ (t ++ 10 ∷ u)) (text_both ps qs)
+    ∙ ap (λ (u : List ℕ). 47 ∷ 47 ∷ u) (sym (append_assoc t (10 ∷ gaps.pieces_text ps) (gaps.pieces_text qs)))
+
+pub closes_both : (g h : List ℕ) → Closes g → Closes h → Closes (g ++ h)
+closes_both g h e f =
+    (e.0 ++ f.0, pieces_both e.0 f.0 e.1 f.1, ap (λ (u : List ℕ). u ++ h) e.2 ∙ ap (λ (u : List ℕ). gaps.pieces_text e.0 ++ u) f.2 ∙ sym (text_both e.0 f.0))
+
+pub separators_close : (g : List ℕ) → list_all is_separator g ≡ true → Closes g
+separators_close [] h = ([], tt, refl)
+separators_close (b ∷ g) h =
     let p = both_true (is_separator b) (list_all is_separator g) h in
-    let r = separators g p.1 in
+    let r = separators_close g p.1 in
     (gaps.separator b ∷ r.0, (p.0, r.1), ap (λ (u : List ℕ). b ∷ u) r.2)
 
-pub gap_is : (g : List ℕ) → list_all is_separator g ≡ true → IsGap g
-gap_is g h = let r = separators g h in (gap_pieces g).1 (r.0, None, r.1, tt, r.2 ∙ sym (append-nil (gaps.pieces_text r.0)))
+pub comment_closes : (t : List ℕ) → gaps.has_no_lf t ≡ true → Closes (47 ∷ 47 ∷ (t ++ 10 ∷ []))
+comment_closes t h = (gaps.comment t ∷ [], (h, tt), refl)
+
+pub gap_is : (g : List ℕ) → Closes g → IsGap g
+gap_is g h = (gap_pieces g).1 (h.0, None, h.1, tt, h.2 ∙ sym (append-nil (gaps.pieces_text h.0)))
 
 -- a byte of a separator, or of a comment
 solid_byte : (b : ℕ) (bs : List ℕ) → is_solid (b ∷ bs) ≡ true → is_separator b ≡ false
 solid_byte b bs h = (none_of (is_separator b) (b == 47 && begins_slash bs) h).0
 
-no_comment : (t bs : List ℕ) → bs ≡ 47 ∷ 47 ∷ t → is_solid bs ≡ true → ⊥
+no_comment : {A : Type 0} (t bs : List ℕ) → bs ≡ 47 ∷ 47 ∷ t → is_solid bs ≡ true → A
 no_comment t bs e h = let F : List ℕ → Type 0 = λ u. is_solid u ≡ true in let k = subst F e h in absurd cc
 
--- No gap is longer than the separators before solid bytes.
-short : (g bs z : List ℕ) (ps : List gaps.Piece) (last : Option (List ℕ)) → list_all is_separator g ≡ true → is_solid bs ≡ true → gaps.AllPieces ps → g ++ bs ≡ (gaps.pieces_text ps ++ gaps.cut_text last) ++ z
-    → length (gaps.pieces_text ps ++ gaps.cut_text last) ≤ length g
-short g bs z [] None h s a e = omega arith
-short [] bs z [] (Some t) h s a e = absurd (no_comment (t ++ z) bs e s)
-short (b ∷ g) bs z [] (Some t) h s a e = let i : b ≡ 47 = cc in let F : ℕ → Type 0 = λ u. is_separator u ≡ true in let k = subst F i (both_true (is_separator b) (list_all is_separator g) h).0 in absurd cc
-short [] bs z (gaps.separator c ∷ ps) last h s a e =
-    let F : List ℕ → Type 0 = λ u. is_solid u ≡ true in
-    let k = solid_byte c ((gaps.pieces_text ps ++ gaps.cut_text last) ++ z) (subst F e s) in
-    let j = a.0 in
-    absurd cc
-short (b ∷ g) bs z (gaps.separator c ∷ ps) last h s a e =
-    let t : g ++ bs ≡ (gaps.pieces_text ps ++ gaps.cut_text last) ++ z = cc in
-    let r = short g bs z ps last (both_true (is_separator b) (list_all is_separator g) h).1 s a.1 t in
-    omega arith
-short [] bs z (gaps.comment t ∷ ps) last h s a e = absurd (no_comment (((t ++ 10 ∷ gaps.pieces_text ps) ++ gaps.cut_text last) ++ z) bs e s)
-short (b ∷ g) bs z (gaps.comment t ∷ ps) last h s a e = let i : b ≡ 47 = cc in let F : ℕ → Type 0 = λ u. is_separator u ≡ true in let k = subst F i (both_true (is_separator b) (list_all is_separator g) h).0 in absurd cc
+slash_separates : {A : Type 0} (b : ℕ) → b ≡ 47 → is_separator b ≡ true → A
+slash_separates b e h = let F : ℕ → Type 0 = λ u. is_separator u ≡ true in let k = subst F e h in absurd cc
 
-pub gap_longest : (g bs : List ℕ) → list_all is_separator g ≡ true → is_solid bs ≡ true → IsLongest IsGap g bs
+-- ---- lines
+line_of : (b : ℕ) (t : List ℕ) → gaps.has_no_lf (b ∷ t) ≡ true → (b ≢ 10) × (gaps.has_no_lf t ≡ true)
+line_of b t h = let p = both_true (not (b == 10)) (gaps.has_no_lf t) h in ((λ e. let F : ℕ → Type 0 = λ u. not (u == 10) ≡ true in let k = subst F e p.0 in absurd cc), p.1)
+
+-- bytes without a line feed end before it
+ends_before : (t u a z : List ℕ) → gaps.has_no_lf t ≡ true → u ++ 10 ∷ a ≡ t ++ z → length t ≤ length u
+ends_before [] u a z h e = omega arith
+ends_before (b ∷ t) [] a z h e = let k : b ≡ 10 = cc in absurd ((line_of b t h).0 k)
+ends_before (b ∷ t) (c ∷ u) a z h e = let k : u ++ 10 ∷ a ≡ t ++ z = cc in let r = ends_before t u a z (line_of b t h).1 k in omega arith
+
+-- the first line feed is at one place
+same_rest : (u t a b : List ℕ) → gaps.has_no_lf u ≡ true → gaps.has_no_lf t ≡ true → u ++ 10 ∷ a ≡ t ++ 10 ∷ b → (length u ≡ length t) × (a ≡ b)
+same_rest [] [] a b h k e = (refl, (let i : a ≡ b = cc in i))
+same_rest [] (c ∷ t) a b h k e = let i : c ≡ 10 = cc in absurd ((line_of c t k).0 i)
+same_rest (c ∷ u) [] a b h k e = let i : c ≡ 10 = cc in absurd ((line_of c u h).0 i)
+same_rest (c ∷ u) (d ∷ t) a b h k e =
+    let i : u ++ 10 ∷ a ≡ t ++ 10 ∷ b = cc in let r = same_rest u t a b (line_of c u h).1 (line_of d t k).1 i in (ap suc r.0, r.1)
+
+-- No gap is longer than such a one before solid bytes.
+short : (ps : List gaps.Piece) (bs z : List ℕ) (qs : List gaps.Piece) (last : Option (List ℕ)) → gaps.AllPieces ps → is_solid bs ≡ true → gaps.AllPieces qs → gaps.IsCut last
+    → gaps.pieces_text ps ++ bs ≡ (gaps.pieces_text qs ++ gaps.cut_text last) ++ z → length (gaps.pieces_text qs ++ gaps.cut_text last) ≤ length (gaps.pieces_text ps)
+short ps bs z [] None h s k l e = omega arith
+short [] bs z [] (Some t) h s k l e = no_comment (t ++ z) bs e s
+short (gaps.separator b ∷ ps) bs z [] (Some t) h s k l e = slash_separates b (let i : b ≡ 47 = cc in i) h.0
+short (gaps.comment u ∷ ps) bs z [] (Some t) h s k l e =
+    let i : (u ++ 10 ∷ gaps.pieces_text ps) ++ bs ≡ t ++ z = cc in
+    let r = ends_before t u (gaps.pieces_text ps ++ bs) z l (sym (append_assoc u (10 ∷ gaps.pieces_text ps) bs) ∙ i) in
+    let n = length-append u (10 ∷ gaps.pieces_text ps) in
+    omega arith
+short [] bs z (gaps.separator c ∷ qs) last h s k l e =
+    let F : List ℕ → Type 0 = λ u. is_solid u ≡ true in
+    let i = solid_byte c ((gaps.pieces_text qs ++ gaps.cut_text last) ++ z) (subst F e s) in
+    let j = k.0 in
+    absurd cc
+short (gaps.separator b ∷ ps) bs z (gaps.separator c ∷ qs) last h s k l e =
+    let i : gaps.pieces_text ps ++ bs ≡ (gaps.pieces_text qs ++ gaps.cut_text last) ++ z = cc in
+    let r = short ps bs z qs last h.1 s k.1 l i in
+    omega arith
+short (gaps.comment u ∷ ps) bs z (gaps.separator c ∷ qs) last h s k l e = slash_separates c (let i : c ≡ 47 = cc in i) k.0
+short [] bs z (gaps.comment t ∷ qs) last h s k l e = no_comment (((t ++ 10 ∷ gaps.pieces_text qs) ++ gaps.cut_text last) ++ z) bs e s
+short (gaps.separator b ∷ ps) bs z (gaps.comment t ∷ qs) last h s k l e = slash_separates b (let i : b ≡ 47 = cc in i) h.0
+short (gaps.comment u ∷ ps) bs z (gaps.comment t ∷ qs) last h s k l e =
+    let i : (u ++ 10 ∷ gaps.pieces_text ps) ++ bs ≡ ((t ++ 10 ∷ gaps.pieces_text qs) ++ gaps.cut_text last) ++ z = cc in
+    let rest : ((t ++ 10 ∷ gaps.pieces_text qs) ++ gaps.cut_text last) ++ z ≡ t ++ 10 ∷ ((gaps.pieces_text qs ++ gaps.cut_text last) ++ z) =
+    ap (λ (v : List ℕ). v ++ z) (append_assoc t (10 ∷ gaps.pieces_text qs) (gaps.cut_text last)) ∙ append_assoc t (10 ∷ (gaps.pieces_text qs ++ gaps.cut_text last)) z in
+    let r = same_rest u t (gaps.pieces_text ps ++ bs) ((gaps.pieces_text qs ++ gaps.cut_text last) ++ z) h.0 k.0 (sym (append_assoc u (10 ∷ gaps.pieces_text ps) bs) ∙ i ∙ rest) in
+    let more = short ps bs z qs last h.1 s k.1 l r.1 in
+    let same = r.0 in
+    let a = length-append u (10 ∷ gaps.pieces_text ps) in
+    let b = ap length (append_assoc t (10 ∷ gaps.pieces_text qs) (gaps.cut_text last)) ∙ length-append t (10 ∷ (gaps.pieces_text qs ++ gaps.cut_text last)) in
+    omega arith
+
+pub gap_longest : (g bs : List ℕ) → Closes g → is_solid bs ≡ true → IsLongest IsGap g bs
 gap_longest g bs h s = record {
   is = gap_is g h;
   longest = λ v z e i.
       let p = (gap_pieces v).0 i in
-      let F : List ℕ → Type 0 = λ u. length u ≤ length g in
-      subst F (sym p.4) (short g bs z p.0 p.1 h s p.2 (e ∙ ap (λ (u : List ℕ). u ++ z) p.4));
+      let r = short h.0 bs z p.0 p.1 h.1 s p.2 p.3 (ap (λ (u : List ℕ). u ++ bs) (sym h.2) ∙ e ∙ ap (λ (u : List ℕ). u ++ z) p.4) in
+      let a = ap length p.4 in
+      let b = ap length h.2 in
+      omega arith;
 }
 
 -- ---- names, numbers and words

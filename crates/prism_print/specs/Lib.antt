@@ -4,3 +4,4 @@ pub mod Parts
 pub mod Printable
 pub mod Same
 pub mod Laws
+pub mod Comments

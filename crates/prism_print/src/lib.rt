@@ -12,4 +12,4 @@ mod numbers;
 mod parts;
 
 pub use file::print;
-pub use laws::printable_law;
+pub use laws::{commented_law, printable_law};
