@@ -1,0 +1,29 @@
+// Laws of files that are the same but for places: functions that do nothing, whose contracts are the laws.
+
+ghost use Rattle.prism_places.specs.PlacesLaws.{CheckedAlike, CleanAlike, CommandsAlike, FaultsAlike, NamesFaultAlike, PlacesBoundNothing, PlacesKeepForm, PlacesKeepWrittenOut, PlacesMeanNothing, PlacesStayAside, SizesFaultAlike, TypesFaultAlike};
+
+/// Files that are the same but for the places that their trees keep mean the same, and the same passes a bound.
+pub fn meaning_law()
+    ensures process { PlacesMeanNothing }
+    ensures meaning { PlacesBoundNothing }
+{}
+
+/// Texts spell both or neither of such files, and both or neither have no formula and no copy of a module. Written out they
+/// are the same but for places too.
+pub fn form_law()
+    ensures form { PlacesKeepForm }
+    ensures plain { PlacesKeepWrittenOut }
+    ensures flat { PlacesStayAside }
+{}
+
+/// Such files have faults of names, of size and of types or none alike, and as many commands: where one may be judged to
+/// have none, with an order of its formulas, so may the other.
+pub fn places_law()
+    ensures names { NamesFaultAlike }
+    ensures sizes { SizesFaultAlike }
+    ensures types { TypesFaultAlike }
+    ensures faults { FaultsAlike }
+    ensures commands { CommandsAlike }
+    ensures clean { CleanAlike }
+    ensures checked { CheckedAlike }
+{}
