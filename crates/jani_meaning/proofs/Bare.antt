@@ -29,12 +29,12 @@ use Rattle.jani_meaning.specs.Process.{choices, marks, model}
 use Rattle.jani_meaning.specs.Laws.{PlacesMeanNothing}
 
 -- ---- lists that are numbered
-numbered_mapped : {A B C : Type 0} (f : A → B) (g : ℕ → B → List C) (k : ℕ → A → List C) → ((i : ℕ) (x : A) → g i (f x) ≡ k i x) → (i : ℕ) (xs : List A) →
+pub numbered_mapped : {A B C : Type 0} (f : A → B) (g : ℕ → B → List C) (k : ℕ → A → List C) → ((i : ℕ) (x : A) → g i (f x) ≡ k i x) → (i : ℕ) (xs : List A) →
     numbered g i (map f xs) ≡ numbered k i xs
 numbered_mapped f g k h i [] = refl
 numbered_mapped f g k h i (x ∷ xs) = ap₂ (λ a b. a ++ b) (h i x) (numbered_mapped f g k h (i + 1) xs)
 
-mapped_numbered : {A B C : Type 0} (f : B → C) (k : ℕ → A → List B) (i : ℕ) (xs : List A) → map f (numbered k i xs) ≡ numbered (λ i x. map f (k i x)) i xs
+pub mapped_numbered : {A B C : Type 0} (f : B → C) (k : ℕ → A → List B) (i : ℕ) (xs : List A) → map f (numbered k i xs) ≡ numbered (λ i x. map f (k i x)) i xs
 mapped_numbered f k i [] = refl
 mapped_numbered f k i (x ∷ xs) = map-append f (k i x) (numbered k (i + 1) xs) ∙ ap (λ r. map f (k i x) ++ r) (mapped_numbered f k (i + 1) xs)
 

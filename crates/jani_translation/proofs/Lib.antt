@@ -32,3 +32,4 @@ mod Targets
 mod Worked
 mod StateWorked
 mod WatchedWorked
+pub mod Bare

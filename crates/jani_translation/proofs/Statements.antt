@@ -6,6 +6,7 @@ use Rattle.process_core.specs.Ready.{Name}
 use Rattle.prism_tree.specs.declared.syntax.PrismFile.{PrismFile}
 use Rattle.prism_tree.specs.declared.syntax.PrismVar.{PrismVar}
 use Rattle.prism_tree.specs.Syntax as prism
+use Rattle.jani_tree.specs.Places.{bare_file}
 use Rattle.jani_tree.specs.Syntax.{File}
 use Rattle.name_table.specs.declared.entry.Entry.{Entry}
 use Rattle.jani_translation.specs.declared.new_names.Names.{Names}
@@ -48,4 +49,4 @@ are_names n es f a e = a ∙ ap (names_by (prism.file_of f)) e
 -- ---- the translation: that by the new names of the file
 pub is_translation : (r : File) (n : Names) (f : PrismFile) → r ≡ translated_by (names_in n) (prism.file_of f) → AreNames n f → IsTranslation r (prism.file_of f)
 unfolding AreNames IsTranslation
-is_translation r n f a e = a ∙ ap (λ k. translated_by k (prism.file_of f)) e
+is_translation r n f a e = ap bare_file (a ∙ ap (λ k. translated_by k (prism.file_of f)) e)

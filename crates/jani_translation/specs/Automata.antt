@@ -1,6 +1,6 @@
 -- The modules of a PRISM file as automata, and the monitor that earns the rewards of choices (this project's own rule; the
--- members are those of the jani-model specification, version 1: "Automata", "Edges", "Transient variables"). What is
--- translated keeps the offsets of the source; what is made has the offset 0.
+-- members are those of the jani-model specification, version 1: "Automata", "Edges", "Transient variables"). The
+-- places that the trees keep are of no account.
 use Rattle.std.specs.Prelude.{List, [], ◌∷◌, ◌++◌, map, codes, Bool, true, false, ◌&&◌, ◌||◌, Option, Some, None, is_none, if◌then◌else◌, bytes_eq}
 use Rattle.std.specs.List.{flat_map, filter, list_any, zip}
 use Rattle.std.specs.Option.{option_map}

@@ -1,6 +1,6 @@
 -- The constants, variables, labels and reward structures of a PRISM file as those of a JANI file (this project's own rule;
--- the members are those of the jani-model specification, version 1: "Models", "Constants", "Variables", "Types"). What is
--- translated keeps the offsets of the source; what is made has the offset 0.
+-- the members are those of the jani-model specification, version 1: "Models", "Constants", "Variables", "Types"). The
+-- places that the trees keep are of no account.
 use Rattle.std.specs.Prelude.{ℕ, List, [], ◌++◌, codes, true, false, Option, Some, None, if◌then◌else◌, unwrap_or}
 use Rattle.std.specs.Option.{option_map}
 use Rattle.bridge_io.specs.declared.reason.Named.{Named}

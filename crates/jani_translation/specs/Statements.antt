@@ -5,6 +5,7 @@ use Rattle.process_core.specs.Ready.{Name}
 use Rattle.prism_tree.specs.declared.syntax.PrismFile.{PrismFile}
 use Rattle.prism_tree.specs.declared.syntax.PrismVar.{PrismVar}
 use Rattle.prism_tree.specs.Syntax as prism
+use Rattle.jani_tree.specs.Places.{bare_file}
 use Rattle.jani_tree.specs.Syntax.{File}
 use Rattle.name_table.specs.declared.entry.Entry.{Entry}
 use Rattle.jani_translation.specs.declared.new_names.Names.{Names}
@@ -28,6 +29,6 @@ AreEntries es f = es ≡ entries (prism.file_of f)
 unfoldable pub AreNames : Names → PrismFile → Type 0
 AreNames n f = names_in n ≡ new_names (prism.file_of f)
 
--- this JANI file is what the PRISM file is translated to
+-- this JANI file is what the PRISM file is translated to, whatever the places
 unfoldable pub IsTranslation : File → prism.File → Type 0
-IsTranslation r f = r ≡ translated f
+IsTranslation r f = bare_file r ≡ bare_file (translated f)

@@ -1,6 +1,6 @@
 -- The JANI file that a PRISM file is translated to (this project's own rule; the members are those of the jani-model
--- specification, version 1: "Models", "Composition"). The file's formulas and copies of modules are written out. What is
--- translated keeps the offsets of the source; what is made has the offset 0.
+-- specification, version 1: "Models", "Composition"). The file's formulas and copies of modules are written out. The
+-- places that the trees keep are of no account.
 use Rattle.std.specs.Prelude.{ℕ, List, [], ◌∷◌, ◌++◌, map, Bool, Option, Some, None, if◌then◌else◌, nat_eq}
 use Rattle.std.specs.List.{list_any, zip}
 use Rattle.bridge_io.specs.declared.reason.Named.{Named}

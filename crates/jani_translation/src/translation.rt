@@ -23,7 +23,7 @@ use name_table::{Entry, NameTable, actions, flat_names, variables};
 use prism_tree::{PrismFile, PrismVar};
 use std::alloc::{AllocError, Global};
 
-/// The translation of a file whose formulas and copies are written out. `Err` is want of memory.
+/// The translation of a file whose formulas and copies are written out, whatever the places. `Err` is want of memory.
 pub fn translate(alloc: Global, file: &PrismFile) -> Result<JaniFile, AllocError>
     ensures { IfOk result (λ r. IsTranslation (jani.file_of r) (prism.file_of file.now)) }
 {

@@ -38,7 +38,8 @@ use Rattle.jani_translation.proofs.States.{states_alike, initial_alike, states_a
 use Rattle.jani_translation.proofs.Marks.{marks_alike}
 use Rattle.jani_translation.proofs.WatchedSilently.{choices_watched}
 use Rattle.jani_translation_meaning.specs.MeaningLaws.{GivesTyped}
-use Rattle.jani_translation_meaning.specs.SameMeaning.{GivenAlike, Correspond, placed, homes, label_in, MeansTheSame, TranslationMeansTheSame}
+use Rattle.name_table.specs.Correspond.{GivenAlike, Correspond}
+use Rattle.jani_translation_meaning.specs.SameMeaning.{placed, homes, label_in, MeansTheSame, TranslationMeansTheSame}
 use Rattle.jani_translation_meaning.proofs.Constants.{flat_is_sound}
 use Rattle.jani_translation_meaning.proofs.States.{commands_are_sound, marks_are_sound, items_are_sound}
 

@@ -1,34 +1,25 @@
 -- A file without faults and what it is translated to mean the same process: the statement, which is proved of functions of
 -- this crate.
-use Rattle.std.specs.Prelude.{◌≡◌, ℕ, ◌+◌, ◌++◌, map, length, Bool, true, false, Option, Some, None, if◌then◌else◌}
-use Rattle.std.specs.List.{AllZip}
+use Rattle.std.specs.Prelude.{◌≡◌, ℕ, ◌+◌, ◌++◌, map, length, Bool, true, false, Option, if◌then◌else◌}
 use Rattle.std.specs.Option.{option_map}
-use Rattle.op_trees.specs.Types.{AgreesWith}
 use Rattle.process_core.specs.Process.{SameProcess}
 use Rattle.process_core.specs.Ready.{Values, Name}
 use Rattle.process_core.specs.declared.data.FaultKind.{FaultKind}
 use Rattle.process_core.specs.declared.data.FaultKind.TheVariants.{ConstUndef, BoundUndef, EmptyRange, InitUndef, InitOutside}
 use Rattle.prism_tree.specs.Syntax as prism
 use Rattle.prism_names.specs.Flat.{flat}
-use Rattle.prism_flat.specs.Instance.{Valuation, Fault, fault_of}
+use Rattle.prism_flat.specs.Instance.{Fault, fault_of}
 use Rattle.prism_flat.specs.Process as prism_process
 use Rattle.prism_check.specs.Checked.{Checked, IsChecked}
 use Rattle.jani_tree.specs.Syntax as jani
 use Rattle.jani_tree.specs.Places.{bare_file}
 use Rattle.jani_meaning.specs.Process as jani_process
 use Rattle.name_table.specs.Asks.{new_names}
+use Rattle.name_table.specs.Correspond.{Correspond}
 use Rattle.jani_translation.specs.Translated.{translated}
 use Rattle.jani_translation.specs.StateLaws.{at_home}
 
--- ---- what corresponds
--- a constant without an expression is given the same value, of its type, as this name is
-abbrev pub GivenAlike : Valuation → Valuation → prism.Const → Name → Type 0
-GivenAlike v w c x = c.value ≡ None → AgreesWith (Some c.ty) (v c.name.name) × (w x ≡ v c.name.name)
-
--- constants correspond by their places
-abbrev pub Correspond : prism.File → jani.File → Valuation → Valuation → Type 0
-Correspond old new v w = AllZip (GivenAlike v w) old.constants (map (λ d. d.name.name) new.constants)
-
+-- ---- what corresponds: constants do by their places (`Correspond`)
 abbrev pub is_of_constant : FaultKind → Bool
 is_of_constant ConstUndef = true
 is_of_constant BoundUndef = false

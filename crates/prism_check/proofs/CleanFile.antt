@@ -310,7 +310,7 @@ flat_is_clean file places clean placed =
     }
 
 -- ---- faults of each kind
-no_either : (xs ys : List Fault) → or_else xs ys ≡ [] → (xs ≡ []) × (ys ≡ [])
+pub no_either : (xs ys : List Fault) → or_else xs ys ≡ [] → (xs ≡ []) × (ys ≡ [])
 no_either [] ys e = (refl, e)
 no_either (x ∷ xs) ys e = absurd cc
 

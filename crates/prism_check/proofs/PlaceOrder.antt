@@ -199,7 +199,7 @@ module _ (file : File) where
           inl (turned_stands before k x r.1 r.2 (h (first + k) l (ap (λ d. is_called x d.name) (is_formula_at k r.1) ∙ r.2)))
 
   module _ (once : doubled_names file ≡ []) where
-    first_of_name : (k : ℕ) → k < length file.formulas → formula_body file (formula_at k).name.name ≡ Some (formula_at k).body
+    pub first_of_name : (k : ℕ) → k < length file.formulas → formula_body file (formula_at k).name.name ≡ Some (formula_at k).body
     first_of_name k l =
         let constants = map (λ c. c.name) file.constants in
         let formulas = map (λ f. f.name) file.formulas in

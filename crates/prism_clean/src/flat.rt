@@ -3,6 +3,7 @@
 ghost use Rattle.std.specs.Prelude.{◌≡◌, IfOk};
 ghost use Rattle.prism_tree.specs.Syntax.{file_of};
 ghost use Rattle.prism_names.specs.Flat.{flat};
+ghost use Rattle.prism_print.specs.Same.{bare_file};
 ghost use Rattle.prism_flat.specs.Kept.{SameMeaning, SameThings};
 ghost use Rattle.prism_clean.specs.Flattened.{IsFlat};
 
@@ -40,9 +41,9 @@ impl FlatPrism {
     }
 }
 
-/// A judged file with its formulas and its copies of modules written out. `Err` is want of memory.
+/// A judged file with its formulas and its copies of modules written out, whatever the places. `Err` is want of memory.
 pub fn flatten(alloc: Global, checked: &CheckedPrism) -> Result<FlatPrism, AllocError>
-    ensures tree { IfOk result (λ f. f ≡ flat checked.now.file) }
+    ensures tree { IfOk result (λ f. bare_file f ≡ bare_file (flat checked.now.file)) }
     ensures meaning { IfOk result (λ f. SameMeaning checked.now.file f) }
     ensures things { IfOk result (λ f. SameThings checked.now.file f) }
 {

@@ -7,14 +7,14 @@ use Rattle.bridge_io.specs.declared.reason.Named.{Named}
 use Rattle.frac_core.specs.Fraction.{Fraction, whole, fraction, plus, times, over, difference, negated}
 use Rattle.frac_core.specs.Gcd.{gcd, gcd_within}
 use Rattle.frac_core.specs.Decimal.{decimal_value, ten_to}
-use Rattle.op_trees.specs.Tree.{Truth, Number, Name, One, Two, Three}
+use Rattle.op_trees.specs.Tree.{Truth, Number, Name, One, Two}
 use Rattle.op_trees.specs.declared.tree.Ty.{Ty}
 use Rattle.op_trees.specs.declared.tree.Ty.TheVariants as T
 use Rattle.op_trees.specs.declared.tree.Value.{Value}
 use Rattle.op_trees.specs.declared.tree.Value.TheVariants as V
-use Rattle.process_core.specs.Process.{Branch, Outcome, Good, Bad, Choice}
+use Rattle.process_core.specs.Process.{Branch, Outcome, Good, Bad}
 use Rattle.process_core.specs.Ready.{Values}
-use Rattle.process_core.specs.Bounds.{Excess, IsWide, IsTooMany}
+use Rattle.process_core.specs.Bounds.{Excess, IsWide}
 use Rattle.process_core.specs.declared.data.FaultKind.{FaultKind}
 use Rattle.process_core.specs.declared.data.FaultKind.TheVariants.{ConstUndef, BoundUndef, EmptyRange, InitUndef, InitOutside}
 use Rattle.process_core.specs.declared.data.Mark.{Mark}

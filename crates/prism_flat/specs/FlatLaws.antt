@@ -26,13 +26,48 @@ use Rattle.prism_flat.specs.Process.{choices, marks, has_wide_mark, excess, mode
 use Rattle.prism_flat.specs.Kept.{SameMeaning, SameThings, IsWrittenOut, is_plain, variables, actions}
 
 -- the first member that passes a test, after a map that the test doesn't see
-found_after : {A B : Type 0} (p : B → Bool) (q : A → Bool) (f : A → B) → ((x : A) → p (f x) ≡ q x) → (xs : List A) → find p (map f xs) ≡ option_map f (find q xs)
+pub found_after : {A B : Type 0} (p : B → Bool) (q : A → Bool) (f : A → B) → ((x : A) → p (f x) ≡ q x) → (xs : List A) → find p (map f xs) ≡ option_map f (find q xs)
 found_after p q f h [] = refl
 found_after p q f h (x ∷ xs) = ap (λ b. if b then Some (f x) else find p (map f xs)) (h x) ∙ by_test (q x) (found_after p q f h xs)
   where
     by_test : (b : Bool) → find p (map f xs) ≡ option_map f (find q xs) → (if b then Some (f x) else find p (map f xs)) ≡ option_map f (if b then Some x else find q xs)
     by_test true e = refl
     by_test false e = e
+
+pub is_some-mapped : {A B : Type 0} (f : A → B) (o : Option A) → is_some (option_map f o) ≡ is_some o
+is_some-mapped f None = refl
+is_some-mapped f (Some x) = refl
+
+-- ---- files that are the same under every valuation and at every state
+same_model : (a b : Valuation → List Fault) (c d e f : Valuation → Values → Bool) (g h : Valuation → Values → List Mark)
+    (i j : Valuation → Values → List (Choice Name Fraction Values)) → a ≡ b → c ≡ d → e ≡ f → g ≡ h → i ≡ j →
+    ◌≡◌ {A = Model Valuation Fault Name Fraction Mark Values} (record { faults = a; is_state = c; is_initial = e; marks = g; choices = i })
+    (record { faults = b; is_state = d; is_initial = f; marks = h; choices = j })
+same_model a b c d e f g h i j p q r s t = cc
+
+module _ (old new : File) (scenes : (v : Valuation) → scene new v ≡ scene old v) (moments : (v : Valuation) (s : Values) → moment new v s ≡ moment old v s) where
+  -- both describe one process
+  pub model_alike : model new ≡ model old
+  model_alike =
+      same_model _ _ _ _ _ _ _ _ _ _
+      (fun_ext (λ v. ap instance_faults (scenes v)))
+      (fun_ext (λ v. fun_ext (λ s. ap (λ k. is_state k.columns s) (scenes v))))
+      (fun_ext (λ v. fun_ext (λ s. ap (λ k. is_initial k.columns s) (scenes v))))
+      (fun_ext (λ v. fun_ext (λ s. ap marks (moments v s))))
+      (fun_ext (λ v. fun_ext (λ s. ap (λ k. choices k s) (moments v s))))
+
+  pub meaning_alike : SameMeaning old new
+  meaning_alike = record {
+    faults = λ v. ap instance_faults (scenes v);
+    wide_instance = λ v. ap is_wide_instance (scenes v);
+    columns = λ v. ap (λ k. map (λ c. c.name) k.columns) (scenes v);
+    states = λ v s. ap (λ k. is_state k.columns s) (scenes v);
+    initial = λ v s. ap (λ k. is_initial k.columns s) (scenes v);
+    choices = λ v s. ap (λ k. choices k s) (moments v s);
+    marks = λ v s. ap marks (moments v s);
+    wide_marks = λ v s. ap has_wide_mark (moments v s);
+    excess = λ v s. ap excess (moments v s);
+  }
 
 action-flat : (file : File) (rename : Name → Name) (c : Command) → action_of unchanged (flat_command file rename c) ≡ action_of rename c
 action-flat file rename c = of_action c.action
@@ -178,40 +213,14 @@ module _ (file : File) where
         ∙ map_agree _ _ (λ r. map-map (item_at names) (flat_item file) r.items ∙ map_agree _ _ (item-flat names) r.items) file.rewards))
         ∙ ap₂ (λ ds k. moment_from ds (value_in ds s k)) (columns-flat v) (constant-flat v)
 
-  same_model : (a b : Valuation → List Fault) (c d e f : Valuation → Values → Bool) (g h : Valuation → Values → List Mark)
-      (i j : Valuation → Values → List (Choice Name Fraction Values)) → a ≡ b → c ≡ d → e ≡ f → g ≡ h → i ≡ j →
-      ◌≡◌ {A = Model Valuation Fault Name Fraction Mark Values} (record { faults = a; is_state = c; is_initial = e; marks = g; choices = i })
-      (record { faults = b; is_state = d; is_initial = f; marks = h; choices = j })
-  same_model a b c d e f g h i j p q r s t = cc
-
   -- so both describe one process
   pub model-flat : model (flat file) ≡ model file
-  model-flat =
-      same_model _ _ _ _ _ _ _ _ _ _
-      (fun_ext (λ v. ap instance_faults (scene-flat v)))
-      (fun_ext (λ v. fun_ext (λ s. ap (λ k. is_state k.columns s) (scene-flat v))))
-      (fun_ext (λ v. fun_ext (λ s. ap (λ k. is_initial k.columns s) (scene-flat v))))
-      (fun_ext (λ v. fun_ext (λ s. ap marks (moment-flat v s))))
-      (fun_ext (λ v. fun_ext (λ s. ap (λ k. choices k s) (moment-flat v s))))
+  model-flat = model_alike file (flat file) scene-flat moment-flat
 
   pub same_meaning : SameMeaning file (flat file)
-  same_meaning = record {
-    faults = λ v. ap instance_faults (scene-flat v);
-    wide_instance = λ v. ap is_wide_instance (scene-flat v);
-    columns = λ v. ap (λ k. map (λ c. c.name) k.columns) (scene-flat v);
-    states = λ v s. ap (λ k. is_state k.columns s) (scene-flat v);
-    initial = λ v s. ap (λ k. is_initial k.columns s) (scene-flat v);
-    choices = λ v s. ap (λ k. choices k s) (moment-flat v s);
-    marks = λ v s. ap marks (moment-flat v s);
-    wide_marks = λ v s. ap has_wide_mark (moment-flat v s);
-    excess = λ v s. ap excess (moment-flat v s);
-  }
+  same_meaning = meaning_alike file (flat file) scene-flat moment-flat
 
   -- ---- what is declared
-  is_some-mapped : {A B : Type 0} (f : A → B) (o : Option A) → is_some (option_map f o) ≡ is_some o
-  is_some-mapped f None = refl
-  is_some-mapped f (Some x) = refl
-
   variables-flat : variables (flat file) ≡ variables file
   variables-flat =
       ap₂ (λ a b. a ++ b) (map-map (λ x. x.name.name) (flat_var file unchanged) file.globals)

@@ -3,3 +3,4 @@ pub mod Typed
 pub mod Types
 pub mod Form
 pub mod Examples
+pub mod Bare

@@ -1,7 +1,7 @@
 -- The image of a PRISM expression under new names, a JANI expression with the same values. This is the project's own rule:
 -- minus with one operand takes it from 0, `<=>` is `=`, every other operator is JANI's of the same meaning, truth values
--- and literals stay, and a name becomes its new name. Each node keeps its offset, and the 0 has that of its minus. JANI's
--- operators are those of the jani-model specification, version 1, "Expressions".
+-- and literals stay, and a name becomes its new name. The places that trees keep are of no account. JANI's operators are
+-- those of the jani-model specification, version 1, "Expressions".
 use Rattle.std.specs.Prelude.{ℕ, List, pos, false}
 use Rattle.frac_core.specs.declared.decimal.Decimal.{Decimal}
 use Rattle.op_trees.specs.Tree.{Tree, Truth, Number, Name, One, Two, Three}

@@ -2,6 +2,7 @@
 
 ghost use Rattle.std.specs.Prelude.{◌≡◌, IfOk};
 ghost use Rattle.prism_names.specs.Flat.{flat};
+ghost use Rattle.jani_tree.specs.Places.{bare_file};
 ghost use Rattle.jani_tree.specs.Syntax.{file_of};
 ghost use Rattle.jani_translation.specs.Translated.{translated};
 ghost use Rattle.prism_to_jani.specs.Promise.{IsTranslated};
@@ -32,9 +33,10 @@ fn promised(checked: &CheckedPrism)
     checked.file();
 }
 
-/// The translation of the file, its formulas and copies of modules written out, before it is known to be of the profile.
+/// The translation of the file, its formulas and copies of modules written out, whatever the places, before it is known to be
+/// of the profile.
 fn image_of(alloc: Global, checked: &CheckedPrism) -> Result<JaniFile, AllocError>
-    ensures { IfOk result (λ j. file_of j ≡ translated (flat checked.now.file)) }
+    ensures { IfOk result (λ j. bare_file (file_of j) ≡ bare_file (translated (flat checked.now.file))) }
 {
     let flat = flatten(alloc, checked)?;
     translate(alloc, flat.file())
