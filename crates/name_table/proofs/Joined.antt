@@ -1,6 +1,6 @@
 -- Asks, one list after another.
 use Rattle.std.proofs.Common.{◌≡◌, List, refl, ◌++◌, ap, ap₂, ◌∙◌, append_assoc}
-use Rattle.name_table.specs.declared.class.Target.TheVariants.{Jani}
+use Rattle.name_table.specs.declared.class.Target.{Target}
 use Rattle.name_table.specs.Entries.{Ask, Table, no_entries, entries_of}
 use Rattle.name_table.specs.Gathered.{told}
 use Rattle.name_table.proofs.Gathering.{told_twice}
@@ -23,6 +23,16 @@ three_pairs t0 t1 t2 t3 a b c d e f h k m =
     (append_assoc c d (e ++ f))
     ∙ ap (told t0) (append_assoc a b (c ++ (d ++ (e ++ f))))
 
+-- six lists
+pub six : (t0 t1 t2 t3 t4 t5 t6 : Table) (a b c d e f : List Ask) → t1 ≡ told t0 a → t2 ≡ told t1 b → t3 ≡ told t2 c → t4 ≡ told t3 d → t5 ≡ told t4 e → t6 ≡ told t5 f →
+    t6 ≡ told t0 (a ++ (b ++ (c ++ (d ++ (e ++ f)))))
+six t0 t1 t2 t3 t4 t5 t6 a b c d e f ha hb hc hd he hf =
+    let from4 : t6 ≡ told t4 (e ++ f) = joined t4 t5 t6 e f e f he hf refl refl in
+    let from3 : t6 ≡ told t3 (d ++ (e ++ f)) = joined t3 t4 t6 d (e ++ f) d (e ++ f) hd from4 refl refl in
+    let from2 : t6 ≡ told t2 (c ++ (d ++ (e ++ f))) = joined t2 t3 t6 c (d ++ (e ++ f)) c (d ++ (e ++ f)) hc from3 refl refl in
+    let from1 : t6 ≡ told t1 (b ++ (c ++ (d ++ (e ++ f)))) = joined t1 t2 t6 b (c ++ (d ++ (e ++ f))) b (c ++ (d ++ (e ++ f))) hb from2 refl refl in
+    joined t0 t1 t6 a (b ++ (c ++ (d ++ (e ++ f)))) a (b ++ (c ++ (d ++ (e ++ f)))) ha from1 refl refl
+
 -- a table that had no entries
-pub from_none : (t0 t : Table) (xs : List Ask) → t0 ≡ no_entries Jani → t ≡ told t0 xs → t.entries ≡ entries_of Jani xs
-from_none t0 t xs e h = ap (λ (u : Table). u.entries) (h ∙ ap (λ (u : Table). told u xs) e)
+pub from_none : (k : Target) (t0 t : Table) (xs : List Ask) → t0 ≡ no_entries k → t ≡ told t0 xs → t.entries ≡ entries_of k xs
+from_none k t0 t xs e h = ap (λ (u : Table). u.entries) (h ∙ ap (λ (u : Table). told u xs) e)

@@ -6,3 +6,5 @@ pub mod TableLemmas
 pub mod Valid
 pub mod Gathering
 pub mod Joined
+pub mod JaniGathering
+pub mod Bare

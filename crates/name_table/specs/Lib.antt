@@ -3,4 +3,7 @@ pub mod Entries
 pub mod State
 pub mod Laws
 pub mod Asks
+pub mod PrismAsks
+pub mod Correspond
 pub mod Gathered
+pub mod JaniParts

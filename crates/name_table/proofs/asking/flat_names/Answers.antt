@@ -1,7 +1,8 @@
 use Rattle.prism_tree.specs.Syntax.{file_of}
+use Rattle.name_table.specs.declared.class.Target.TheVariants.{Jani}
 use Rattle.name_table.specs.Asks.{asks}
 use Rattle.name_table.proofs.Joined.{from_none}
 use Rattle.name_table.proofs.asking.flat_names.Goals as goal
 
 pub returns : goal.returns
-returns c = from_none c.new-table.result c.ask_all.new.table (asks (file_of c.args.file.now)) c.new-table.ensures c.in_ok-ask_all.ensures
+returns c = from_none Jani c.new-table.result c.ask_all.new.table (asks (file_of c.args.file.now)) c.new-table.ensures c.in_ok-ask_all.ensures

@@ -1,0 +1,13 @@
+use Rattle.std.specs.Prelude.{◌≡◌, ℕ, List, map, drop}
+use Rattle.std.specs.List.{find}
+use Rattle.std.specs.Option.{option_map}
+use Rattle.jani_tree.specs.Syntax.{automaton_of}
+use Rattle.jani_check.specs.Things.{or_else}
+use Rattle.jani_meaning.specs.Elements.{is_called}
+use Rattle.name_table.specs.JaniParts.{under}
+use Rattle.name_table.proofs.jani_parts.by_name.Given as goal
+
+abbrev pub invariant-loop-a : goal.invariant-loop-a
+invariant-loop-a l = (x : List ℕ) →
+    or_else (option_map (λ a. automaton_of a.now) (under l.all x)) (find (λ a. is_called x a.name) (map automaton_of (drop l.a-index l.automata)))
+    ≡ find (λ a. is_called x a.name) (map automaton_of l.automata)

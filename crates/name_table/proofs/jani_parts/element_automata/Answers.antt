@@ -1,0 +1,33 @@
+use Rattle.std.proofs.Common.{◌≡◌, ◌∙◌, sym, ap, subst, List, map, length, is_some, true}
+use Rattle.std.specs.Prelude.{IfOk, unwrap_or, slice_index_or, ◌<◌}
+use Rattle.std.specs.Borrow.{Bor}
+use Rattle.std.specs.List.{find}
+use Rattle.bridge_io.specs.declared.reason.Named.{Named}
+use Rattle.jani_tree.specs.declared.syntax.JaniAutomaton.{JaniAutomaton}
+use Rattle.jani_tree.specs.Syntax.{Automaton, automaton_of, file_of}
+use Rattle.jani_meaning.specs.Elements.{is_called, nothing_called, automaton_called}
+use Rattle.name_table.specs.JaniParts.{under, element_under}
+use Rattle.name_table.proofs.JaniGathering.{element_there, some_of, map_same}
+use Rattle.name_table.proofs.jani_parts.element_automata.Goals as goal
+
+pub elements_in-requires : goal.elements_in-requires
+elements_in-requires c = λ k d h.
+    let file = file_of c.args.file.now in
+    let t = c.in_ok-automata.automata in
+    let same : c.as_slice-2.result.now ≡ file.elements = c.as_slice-2.ensures in
+    let F : List Named → Type 0 = λ ns. k < length ns → is_some (under t (slice_index_or ns k d).name) ≡ true in
+    let there : F file.elements = λ l.
+    let x = (slice_index_or file.elements k d).name in
+    sym (some_of (λ (a : Bor JaniAutomaton). automaton_of a.now) (under t x))
+    ∙ ap is_some (c.in_ok-automata.ensures x ∙ ap (λ (list : List JaniAutomaton). find (λ (a : Automaton). is_called x a.name) (map automaton_of list)) c.as_slice.ensures)
+    ∙ element_there file c.requires k d l in
+    subst F (sym same) there h
+
+pub returns : goal.returns
+returns c =
+    let file = file_of c.args.file.now in
+    let each : (n : Named) → element_under c.in_ok-automata.automata n ≡ automaton_called file n = λ n.
+    ap (λ o. unwrap_or o (nothing_called n))
+    (c.in_ok-automata.ensures n.name ∙ ap (λ (list : List JaniAutomaton). find (λ (a : Automaton). is_called n.name a.name) (map automaton_of list)) c.as_slice.ensures) in
+    let G : List Automaton → Type 0 = λ l. IfOk c.elements_in.result (λ xs. map (λ a. automaton_of a.now) xs.items ≡ l) in
+    subst G (ap (map (element_under c.in_ok-automata.automata)) c.as_slice-2.ensures ∙ map_same (element_under c.in_ok-automata.automata) (automaton_called file) each file.elements) c.elements_in.ensures

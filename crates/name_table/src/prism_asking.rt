@@ -1,0 +1,134 @@
+// The table of a translation to PRISM: the names of a JANI file, asked for one after another.
+
+ghost use Rattle.std.specs.Prelude.{◌≡◌, ◌++◌, map, IfOk, OnOk};
+ghost use Rattle.jani_tree.specs.Syntax.{automaton_of, const_of, file_of};
+ghost use Rattle.jani_meaning.specs.Elements.{elements, lasting, labels, structures};
+ghost use Rattle.name_table.specs.declared.class.Target.TheVariants.{Prism};
+ghost use Rattle.name_table.specs.Gathered.{told};
+ghost use Rattle.name_table.specs.JaniParts.{owned_of};
+ghost use Rattle.name_table.specs.PrismAsks.{ask_for, asks, entries, constant_ask, location_ask, module_ask};
+
+use crate::class::{NameClass, Target};
+use crate::jani_parts::{OwnedVar, element_automata, labels, lasting, structures};
+use crate::table::NameTable;
+use bridge_io::Named;
+use jani_check::CheckedJani;
+use jani_tree::{JaniAutomaton, JaniConst, JaniFile};
+use std::alloc::{AllocError, Global};
+
+/// The table of the entries of a translation to PRISM, by this project's own rule: the names of constants, of variables that
+/// are not transient in the order of columns, of a location variable for each element, of elements, of labels and of reward
+/// structures. `Err` is want of memory, alone.
+pub fn prism_names(alloc: Global, checked: &CheckedJani) -> Result<NameTable, AllocError>
+    ensures { IfOk result (λ t. (t.target ≡ Prism) × (t.entries ≡ entries (file_of checked.now))) }
+{
+    let file = checked.file();
+    let automata = element_automata(alloc, file)?;
+    table_by(alloc, file, automata.as_slice())
+}
+
+/// The table of a file, where these are the automata of its elements.
+fn table_by(
+    alloc: Global,
+    file: &JaniFile,
+    automata: &[&JaniAutomaton],
+) -> Result<NameTable, AllocError>
+    requires { map (λ a. automaton_of a.now) automata.now ≡ elements (file_of file.now) }
+    ensures { IfOk result (λ t. (t.target ≡ Prism) × (t.entries ≡ entries (file_of file.now))) }
+{
+    let values = lasting(alloc, file, automata)?;
+    let marks = labels(alloc, file, automata)?;
+    let rewards = structures(alloc, file, automata)?;
+    parts_names(
+        alloc,
+        file,
+        values.as_slice(),
+        marks.as_slice(),
+        rewards.as_slice(),
+    )
+}
+
+/// The table of `prism_names` for a file of which these are the variables that are not transient, the labels and the reward
+/// structures. `Err` is want of memory, alone.
+pub fn parts_names(
+    alloc: Global,
+    file: &JaniFile,
+    values: &[OwnedVar],
+    marks: &[OwnedVar],
+    rewards: &[OwnedVar],
+) -> Result<NameTable, AllocError>
+    requires values { map owned_of values.now ≡ lasting (file_of file.now) }
+    requires marks { map owned_of marks.now ≡ labels (file_of file.now) }
+    requires rewards { map owned_of rewards.now ≡ structures (file_of file.now) }
+    ensures { IfOk result (λ t. (t.target ≡ Prism) × (t.entries ≡ entries (file_of file.now))) }
+{
+    let mut table = NameTable::new(alloc, Target::Prism);
+    ask_parts(&mut table, file, values, marks, rewards)?;
+    Ok(table)
+}
+
+/// Asks for the names of all that the file declares.
+fn ask_parts(
+    table: &mut NameTable,
+    file: &JaniFile,
+    values: &[OwnedVar],
+    marks: &[OwnedVar],
+    rewards: &[OwnedVar],
+) -> Result<(), AllocError>
+    requires values { map owned_of values.now ≡ lasting (file_of file.now) }
+    requires marks { map owned_of marks.now ≡ labels (file_of file.now) }
+    requires rewards { map owned_of rewards.now ≡ structures (file_of file.now) }
+    ensures { OnOk result (table.new ≡ told table.old (asks (file_of file.now))) }
+{
+    ask_constants(table, file.constants.as_slice())?;
+    ask_variables(table, NameClass::Variable, values)?;
+    ask_locations(table, file.elements.as_slice())?;
+    ask_elements(table, file.elements.as_slice())?;
+    ask_variables(table, NameClass::Label, marks)?;
+    ask_variables(table, NameClass::Reward, rewards)?;
+    Ok(())
+}
+
+/// Asks for the names of constants.
+fn ask_constants(table: &mut NameTable, constants: &[JaniConst]) -> Result<(), AllocError>
+    ensures { OnOk result (table.new ≡ told table.old (map constant_ask (map const_of constants.now))) }
+{
+    for c in constants {
+        table.keep_or_make(NameClass::Constant, Some(c.name.name.as_str()))?;
+    }
+    Ok(())
+}
+
+/// Asks for the names of variables, labels or reward structures.
+fn ask_variables(
+    table: &mut NameTable,
+    class: NameClass,
+    vars: &[OwnedVar],
+) -> Result<(), AllocError>
+    ensures { OnOk result (table.new ≡ told table.old (map (ask_for class) (map owned_of vars.now))) }
+{
+    for x in vars {
+        table.keep_or_make(class, Some(x.var.name.name.as_str()))?;
+    }
+    Ok(())
+}
+
+/// Asks for a location variable for each element.
+fn ask_locations(table: &mut NameTable, elements: &[Named]) -> Result<(), AllocError>
+    ensures { OnOk result (table.new ≡ told table.old (map location_ask elements.now)) }
+{
+    for _e in elements {
+        table.keep_or_make(NameClass::Location, None)?;
+    }
+    Ok(())
+}
+
+/// Asks for the names of elements.
+fn ask_elements(table: &mut NameTable, elements: &[Named]) -> Result<(), AllocError>
+    ensures { OnOk result (table.new ≡ told table.old (map module_ask elements.now)) }
+{
+    for e in elements {
+        table.keep_or_make(NameClass::Module, Some(e.name.as_str()))?;
+    }
+    Ok(())
+}
