@@ -1,0 +1,4 @@
+pub mod Products
+pub mod Rewards
+pub mod Columns
+pub mod Laws
