@@ -1,0 +1,13 @@
+pub mod Lists
+pub mod Distinct
+pub mod Scopes
+pub mod Clean
+pub mod Expressions
+pub mod Elements
+pub mod Known
+pub mod SameTrees
+pub mod Rewards
+pub mod Pays
+pub mod Writers
+pub mod Marks
+pub mod SameMeaning

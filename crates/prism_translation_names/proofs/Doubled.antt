@@ -1,0 +1,163 @@
+-- No two names of a translated file that have to differ are the same.
+use Rattle.std.specs.List.{flat_map, All}
+use Rattle.std.specs.Prelude.{◌≡◌, ℕ, suc, ◌+◌, List, [], ◌∷◌, ◌++◌, map, length, Bool, true, false, not, Some, slice_get, get_or, bytes_eq, unwrap_or, max, codes}
+use Rattle.std.proofs.Common.{refl, sym, ap, ap₂, subst, ◌∙◌, arith}
+use Rattle.std.specs.Option.{option_map}
+use Rattle.std.proofs.lemmas.Option.{slice_get-get_or}
+use Rattle.std.proofs.lemmas.List.{length-map}
+use Rattle.std.proofs.lemmas.List.Elements.{All-cons, All-map}
+use Rattle.bridge_io.specs.declared.reason.Named.{Named}
+use Rattle.bridge_io.specs.declared.reason.Reason.{Reason}
+use Rattle.bridge_io.specs.declared.reason.Reason.TheVariants.{TwiceNamed}
+use Rattle.process_core.specs.Product.{map-map}
+use Rattle.process_core.specs.Ready.{Name, if_some}
+use Rattle.prism_tree.specs.Syntax as prism
+use Rattle.prism_tree.specs.Syntax.{plain, copied}
+use Rattle.prism_names.specs.Names.{module_name}
+use Rattle.prism_flat.specs.Instance.{numbered}
+use Rattle.prism_print.specs.Printable.{Each}
+use Rattle.prism_check.specs.NameFaults.{clash, doubled_after, doubled, values, given_labels, doubled_pairs, doubled_names}
+use Rattle.prism_check.proofs.Each.{each_then, each_with, map_each, empty_join, each_empty, fault_none, either_none}
+use Rattle.jani_tree.specs.Syntax.{Automaton, File}
+use Rattle.jani_meaning.specs.Elements as jani
+use Rattle.jani_meaning.specs.Elements.{Owned, labels, structures}
+use Rattle.name_table.specs.declared.class.NameClass.{NameClass}
+use Rattle.name_table.specs.declared.class.NameClass.TheVariants.{Label}
+use Rattle.name_table.specs.declared.entry.Entry.{Entry}
+use Rattle.name_table.specs.Rule.{is_given_label, may_be_called}
+use Rattle.name_table.specs.PrismAsks.{NewNames, name_at}
+use Rattle.prism_translation.specs.Elements.{Element, elements}
+use Rattle.prism_translation.specs.Names.{new_names}
+use Rattle.prism_translation.specs.Modules.{module_of}
+use Rattle.prism_translation.specs.Marks.{label, structure}
+use Rattle.prism_translation.specs.Translated.{translated}
+use Rattle.prism_translation.proofs.Apart.{not_same}
+use Rattle.prism_translation_names.proofs.Lists.{each_of_all, each_any, at_each, no_both}
+use Rattle.prism_translation_names.proofs.Entries.{IsValidName}
+use Rattle.prism_translation_names.proofs.Segments.{modules_part, labels_part, rewards_part, labels_spelled, is_of_label}
+use Rattle.prism_translation_names.proofs.Values.{Differ, same_bytes, zip_named, values_differ}
+
+-- ---- names that stand once
+abbrev names_of : List Named → List Name
+names_of ns = map (λ n. n.name) ns
+
+not_doubled_after : (r : Reason) (earlier ns : List Named) → Each (λ n. Each (λ m. bytes_eq m.name n.name ≡ false) earlier) ns → Differ (names_of ns) → doubled_after r earlier ns ≡ []
+not_doubled_after r earlier [] h d = refl
+not_doubled_after r earlier (n ∷ ns) h d =
+    empty_join (flat_map (clash r n) earlier) (doubled_after r (n ∷ earlier) ns)
+    (each_empty (clash r n) earlier
+    (each_then (λ m. bytes_eq m.name n.name ≡ false) (λ m. clash r n m ≡ []) (λ m e. fault_none (bytes_eq m.name n.name) (max m.at n.at) r e) earlier h.0))
+    (not_doubled_after r (n ∷ earlier) ns
+    (each_with (λ m. bytes_eq n.name m.name ≡ false) (λ m. Each (λ k. bytes_eq k.name m.name ≡ false) earlier) (λ m. Each (λ k. bytes_eq k.name m.name ≡ false) (n ∷ earlier))
+    (λ m p q. (p, q)) ns (map_each (λ y. bytes_eq n.name y ≡ false) (λ m. m.name) ns (each_of_all (λ y. bytes_eq n.name y ≡ false) (names_of ns) d.0)) h.1) d.1)
+
+no_earlier : (ns : List Named) → Each (λ n. Each {A = Named} (λ m. bytes_eq m.name n.name ≡ false) []) ns
+no_earlier [] = tt
+no_earlier (n ∷ ns) = (tt, no_earlier ns)
+
+not_doubled : (r : Reason) (ns : List Named) → Differ (names_of ns) → doubled r ns ≡ []
+not_doubled r ns d = not_doubled_after r [] ns (no_earlier ns) d
+
+-- ---- names by their places
+-- the names of these entries are those from this place on
+abbrev Agree : (ℕ → Name) → ℕ → List Entry → Type 0
+Agree f k [] = Unit {0}
+Agree f k (e ∷ es) = (f k ≡ e.name) × Agree f (k + 1) es
+
+agree_from : (whole : List Entry) (k : ℕ) (es : List Entry) → ((i : ℕ) → slice_get whole (k + i) ≡ slice_get es i) → Agree (name_at whole) k es
+agree_from whole k [] h = tt
+agree_from whole k (e ∷ es) h = (
+  (let z : k + 0 ≡ k = omega arith in named (ap (slice_get whole) (sym z) ∙ h 0)),
+  agree_from whole (k + 1) es (λ i. let z : (k + 1) + i ≡ k + suc i = omega arith in ap (slice_get whole) z ∙ h (suc i)),
+)
+  where
+    named : slice_get whole k ≡ Some e → name_at whole k ≡ e.name
+    named g = ap (λ o. unwrap_or (option_map (λ (u : Entry). u.name) o) []) g
+
+agree : (es : List Entry) → Agree (name_at es) 0 es
+agree es = agree_from es 0 es (λ i. let z : 0 + i ≡ i = omega arith in ap (slice_get es) z)
+
+module _ (file : File) where
+  abbrev names : NewNames
+  names = new_names file
+
+  abbrev new : prism.File
+  new = translated file
+
+  modules_from : (f : ℕ → Name) (k : ℕ) (as_ : List Automaton) (es : List Entry) → length es ≡ length as_ → Agree f k es →
+      map (λ (el : Element). f el.number) (numbered (λ i a. record { number = i; automaton = a } ∷ []) k as_) ≡ map (λ e. e.name) es
+  modules_from f k [] [] l g = refl
+  modules_from f k [] (e ∷ es) l g = absurd (let no : ⊥ = omega arith in no)
+  modules_from f k (a ∷ as_) [] l g = absurd (let no : ⊥ = omega arith in no)
+  modules_from f k (a ∷ as_) (e ∷ es) l g = ap₂ (λ x xs. x ∷ xs) g.0 (modules_from f (k + 1) as_ es (omega arith) g.1)
+
+  modules_named : names_of (map module_name new.modules) ≡ map (λ e. e.name) names.modules
+  modules_named =
+      let l = (modules_part file).long in
+      let m = length-map file.elements (jani.automaton_called file) in
+      ap names_of (map-map module_name (λ el. plain (module_of file names el)) (elements file))
+      ∙ map-map (λ (n : Named). n.name) (λ el. module_name (plain (module_of file names el))) (elements file)
+      ∙ modules_from (name_at names.modules) 0 (jani.elements file) names.modules (omega arith) (agree names.modules)
+
+  rewards_from : (f : ℕ → Name) (k : ℕ) (os : List Owned) (es : List Entry) → length es ≡ length os → Agree f k es →
+      names_of (flat_map (λ (r : prism.Rewards). if_some r.name) (numbered (λ j o. structure file names j o (f j) ∷ []) k os)) ≡ map (λ e. e.name) es
+  rewards_from f k [] [] l g = refl
+  rewards_from f k [] (e ∷ es) l g = absurd (let no : ⊥ = omega arith in no)
+  rewards_from f k (o ∷ os) [] l g = absurd (let no : ⊥ = omega arith in no)
+  rewards_from f k (o ∷ os) (e ∷ es) l g = ap₂ (λ x xs. x ∷ xs) g.0 (rewards_from f (k + 1) os es (omega arith) g.1)
+
+  labels_named : names_of (map (λ (l : prism.Label). l.name) new.labels) ≡ map (λ e. e.name) names.labels
+  labels_named =
+      map-map (λ (n : Named). n.name) (λ (l : prism.Label). l.name) new.labels
+      ∙ zip_named (λ (l : prism.Label). l.name.name) (λ o e. label file names o e.name) (λ o e. refl) (labels file) names.labels (labels_part file).long
+
+  -- no label is one that every model has
+  not_true : (b : Bool) → not b ≡ true → b ≡ false
+  not_true true e = absurd cc
+  not_true false e = refl
+
+  label_free : (c : NameClass) (x : Name) → c ≡ Label → may_be_called c x ≡ true → is_given_label x ≡ false
+  label_free c x e h = not_true (is_given_label x) (ap (λ d. may_be_called d x) (sym e) ∙ h)
+
+  labels_free : All (λ e. is_given_label e.name ≡ false) names.labels
+  labels_free i d l =
+      let e = get_or names.labels i d in
+      let w = at_each IsValidName names.labels i e (labels_spelled file) (slice_get-get_or names.labels i d l) in
+      label_free e.class e.name (is_of_label e.class ((labels_part file).spaces i d l)) w.free
+
+  turned : (x y : Name) → bytes_eq x y ≡ false → bytes_eq y x ≡ false
+  turned x y h = not_same y x (λ e. no_both (bytes_eq x y) (ap (λ z. bytes_eq x z) e ∙ same_bytes x) h)
+
+  abbrev init : Name
+  init = codes "init"
+
+  abbrev deadlock : Name
+  deadlock = codes "deadlock"
+
+  labels_differ : Differ (names_of (given_labels ++ map (λ (l : prism.Label). l.name) new.labels))
+  labels_differ =
+      subst (λ xs. Differ (init ∷ deadlock ∷ xs)) (sym labels_named) (
+        All-cons (λ y. bytes_eq init y ≡ false) deadlock (map (λ (e : Entry). e.name) names.labels) refl
+            (All-map (λ y. bytes_eq init y ≡ false) (λ (e : Entry). e.name) names.labels
+            (λ i d l. let x = (get_or names.labels i d).name in turned x init (either_none (bytes_eq x init) (bytes_eq x deadlock) (labels_free i d l)).0)),
+        (
+          All-map (λ y. bytes_eq deadlock y ≡ false) (λ (e : Entry). e.name) names.labels
+              (λ i d l. let x = (get_or names.labels i d).name in turned x deadlock (either_none (bytes_eq x init) (bytes_eq x deadlock) (labels_free i d l)).1),
+          (labels_part file).distinct,
+        ),
+      )
+
+pub none_doubled : (file : File) → doubled_names (translated file) ≡ []
+none_doubled file =
+    let t = translated file in
+    let names = new_names file in
+    let ls = map (λ (l : prism.Label). l.name) t.labels in
+    let rs = flat_map (λ (r : prism.Rewards). if_some r.name) t.rewards in
+    empty_join (doubled TwiceNamed (values t)) _ (not_doubled TwiceNamed (values t) (values_differ file))
+    (empty_join (doubled TwiceNamed (map module_name t.modules)) _
+    (not_doubled TwiceNamed (map module_name t.modules) (subst Differ (sym (modules_named file)) (modules_part file).distinct))
+    (empty_join (doubled TwiceNamed (given_labels ++ ls)) _ (not_doubled TwiceNamed (given_labels ++ ls) (labels_differ file))
+    (empty_join (doubled TwiceNamed rs) (flat_map doubled_pairs t.modules)
+    (not_doubled TwiceNamed rs
+    (subst Differ (sym (rewards_from file (name_at names.rewards) 0 (structures file) names.rewards (rewards_part file).long (agree names.rewards))) (rewards_part file).distinct))
+    (each_empty doubled_pairs t.modules (each_any (λ m. doubled_pairs m ≡ []) (λ el. plain (module_of file names el)) (λ el. refl) (elements file))))))

@@ -1,0 +1,12 @@
+pub mod Lists
+pub mod Good
+pub mod Images
+pub mod Entries
+pub mod Known
+pub mod Segments
+pub mod Values
+pub mod Translated
+pub mod Doubled
+pub mod Circles
+pub mod NoFault
+pub mod Comments

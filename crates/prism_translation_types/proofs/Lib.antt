@@ -1,0 +1,12 @@
+pub mod Images
+pub mod Clean
+pub mod Scopes
+pub mod Sources
+pub mod Declared
+pub mod Expressions
+pub mod Members
+pub mod Outer
+pub mod Homes
+pub mod Commands
+pub mod Once
+pub mod Whole
