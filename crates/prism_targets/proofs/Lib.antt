@@ -1,0 +1,15 @@
+pub mod Numbered
+pub mod EdgeTables
+pub mod Members
+pub mod Serves
+pub mod Whole
+pub mod Blocked
+pub mod Listed
+pub mod Found
+pub mod RowNumbers
+pub mod Standing
+pub mod Counting
+pub mod Summing
+pub mod Splitting
+pub mod Crowded
+pub mod Soonest

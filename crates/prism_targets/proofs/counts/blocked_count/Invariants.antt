@@ -1,0 +1,10 @@
+use Rattle.std.specs.Prelude.{◌≡◌, map, take}
+use Rattle.std.specs.List.{filter, sum_by}
+use Rattle.op_trees.specs.Tree.{capped}
+use Rattle.prism_targets.specs.Tables.{split_count}
+use Rattle.prism_targets.specs.Counts.{blocks_split}
+use Rattle.prism_targets.specs.Code.{table_view, split_view}
+use Rattle.prism_targets.proofs.counts.blocked_count.Given as goal
+
+abbrev pub invariant-loop-split : goal.invariant-loop-split
+invariant-loop-split l = l.sum ≡ capped (sum_by split_count (filter (blocks_split l.number (table_view l.element)) (map split_view (take l.split-index l.splits))))

@@ -1,0 +1,15 @@
+use Rattle.std.specs.Prelude.{◌++◌, ◌∷◌, [], bytes_eq}
+use Rattle.std.proofs.Common.{refl, ◌∙◌, ap}
+use Rattle.std.proofs.lemmas.Map.Text.{hash_map_updates_str}
+use Rattle.indexmap.specs.IndexMap.{get_by}
+use Rattle.prism_targets.specs.Code.{list_under}
+use Rattle.prism_targets.proofs.Listed.{put_back}
+use Rattle.prism_targets.proofs.lists.add_under.Goals as goal
+
+pub returns-in-Ok : goal.returns-in-Ok
+returns-in-Ok g c = λ x.
+    put_back c.args.name.now x c.args.value (list_under c.args.lists.now) (list_under c.take_list-list.new.lists) _
+    (get_by (λ k. bytes_eq x k.now) c.take_list-list.new.lists) (get_by (λ k. bytes_eq x k.now) c.insert.new.self)
+    (c.in_ok-push.ensures.ok ∙ ap (λ l. l ++ c.args.value ∷ []) c.take_list-list.ensures.list)
+    (c.take_list-list.ensures.rest x) refl
+    (hash_map_updates_str c.args.name.now c.take_list-list.new.lists c.insert.new.self _ c.in-Ok.ensures.updates x)

@@ -1,0 +1,8 @@
+use Rattle.std.proofs.Common.{◌≡◌, map, take}
+use Rattle.std.specs.List.{flat_map}
+use Rattle.prism_targets.specs.Tables.{numbers_served}
+use Rattle.prism_targets.specs.Code.{ranked_view, row_view}
+use Rattle.prism_targets.proofs.served.served.Given as goal
+
+abbrev pub invariant-loop-row : goal.invariant-loop-row
+invariant-loop-row l = l.all.items ≡ flat_map (numbers_served l.element (ranked_view l.e)) (map (λ r. row_view r.now) (take l.row-index l.rows))

@@ -1,0 +1,5 @@
+pub mod Tables
+pub mod Counts
+pub mod Made
+pub mod Code
+pub mod Serving

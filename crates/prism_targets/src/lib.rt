@@ -1,0 +1,23 @@
+//! The targets of a JANI file, for each of which its translation to PRISM has an action: what they are made for, which edges
+//! serve them and which elements block them. The rule is this project's own.
+#![tactic(auto)]
+
+mod counts;
+mod edges;
+mod lists;
+mod making;
+mod parts;
+mod places;
+mod refused;
+mod rows;
+mod served;
+mod shared;
+mod splits;
+mod sums;
+mod targets;
+mod values;
+
+pub use making::serving;
+pub use refused::least_refused;
+pub use served::{EdgeServing, ElementServing, Serving};
+pub use targets::{Maker, Target};

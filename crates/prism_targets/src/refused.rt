@@ -1,0 +1,110 @@
+// Which files without a fault have no translation.
+
+ghost use Rattle.std.specs.Prelude.{◌≡◌, None, map, IfOk};
+ghost use Rattle.bridge_io.specs.declared.reason.Reason.TheVariants.{TooLarge};
+ghost use Rattle.jani_table.specs.Least.{soonest};
+ghost use Rattle.jani_check.specs.Least.{fault_if};
+ghost use Rattle.jani_tree.specs.Syntax.{automaton_of, file_of};
+ghost use Rattle.jani_meaning.specs.Elements.{elements, lasting as lasting_of, labels as labels_of, structures as structures_of};
+ghost use Rattle.name_table.specs.JaniParts.{owned_of};
+ghost use Rattle.prism_translation.specs.Elements as spec;
+ghost use Rattle.prism_translation.specs.Refused.{is_too_large, refused};
+ghost use Rattle.prism_targets.specs.Tables.{table_in};
+ghost use Rattle.prism_targets.specs.Counts.{crowded_from, has_many_commands, usable_among};
+ghost use Rattle.prism_targets.specs.Code.{table_view};
+
+use crate::counts::has_too_many;
+use crate::edges::{ElementEdges, element_edges};
+use crate::places::Places;
+use crate::shared::judge_shared;
+use crate::splits::all_splits;
+use crate::values::has_many_values;
+use bridge_io::{Fault, Reason};
+use jani_tree::{JaniAutomaton, JaniFile};
+use name_table::OwnedVar;
+use std::alloc::{AllocError, Global};
+
+/// The least of the faults that a file without fault has as one to be translated, where these are the automata of its elements
+/// and its variables: global variables that edges of several elements assign, one of them with an action or with rewards; else
+/// that the translation would be too large, which is counted and not tried. (The rule is this project's own.) `Err` is want of
+/// memory.
+pub fn least_refused(
+    alloc: Global,
+    file: &JaniFile,
+    automata: &[&JaniAutomaton],
+    lasting: &[OwnedVar],
+    labels: &[OwnedVar],
+    structures: &[OwnedVar],
+) -> Result<Option<Fault>, AllocError>
+    requires automata { map (λ a. automaton_of a.now) automata.now ≡ elements (file_of file.now) }
+    requires lasting { map owned_of lasting.now ≡ lasting_of (file_of file.now) }
+    requires labels { map owned_of labels.now ≡ labels_of (file_of file.now) }
+    requires structures { map owned_of structures.now ≡ structures_of (file_of file.now) }
+    ensures { IfOk result (λ best. best ≡ soonest None (refused (file_of file.now))) }
+{
+    let edges = element_edges(alloc, automata, structures)?;
+    let shared = judge_shared(alloc, edges.as_slice(), lasting)?;
+    if shared.is_some() {
+        return Ok(shared);
+    }
+    let large = is_too_large(alloc, file, automata, edges.as_slice(), labels)?;
+    Ok(too_large_if(large))
+}
+
+/// The fault of a translation that would be too large, if it would.
+fn too_large_if(large: bool) -> Option<Fault>
+    ensures { result ≡ soonest None (fault_if large 0 TooLarge) }
+{
+    if large {
+        Some(Fault {
+            reason: Reason::TooLarge,
+            at: 0,
+        })
+    } else {
+        None
+    }
+}
+
+/// Whether the translation would be too large, by the edges of the elements.
+fn is_too_large(
+    alloc: Global,
+    file: &JaniFile,
+    automata: &[&JaniAutomaton],
+    edges: &[ElementEdges],
+    labels: &[OwnedVar],
+) -> Result<bool, AllocError>
+    requires automata { map (λ a. automaton_of a.now) automata.now ≡ elements (file_of file.now) }
+    requires labels { map owned_of labels.now ≡ labels_of (file_of file.now) }
+    requires edges { map table_view edges.now ≡ map (table_in (file_of file.now)) (spec.elements (file_of file.now)) }
+    ensures { IfOk result (λ b. b ≡ is_too_large (file_of file.now)) }
+{
+    if has_large_modules(alloc, file, edges)? {
+        return Ok(true);
+    }
+    has_large_labels(alloc, automata, labels)
+}
+
+/// Whether the translation would have too many commands or nodes, by the edges of the elements.
+fn has_large_modules(
+    alloc: Global,
+    file: &JaniFile,
+    edges: &[ElementEdges],
+) -> Result<bool, AllocError>
+    requires { map table_view edges.now ≡ map (table_in (file_of file.now)) (spec.elements (file_of file.now)) }
+    ensures { IfOk result (λ b. b ≡ has_many_commands (file_of file.now)) }
+{
+    let splits = all_splits(alloc, edges, file.vectors.as_slice())?;
+    has_too_many(alloc, edges, splits.as_slice())
+}
+
+/// Whether the locations of one of these automata give one of these variables too many values.
+fn has_large_labels(
+    alloc: Global,
+    automata: &[&JaniAutomaton],
+    labels: &[OwnedVar],
+) -> Result<bool, AllocError>
+    ensures { IfOk result (λ b. b ≡ crowded_from (usable_among (map owned_of labels.now)) 0 (map (λ a. automaton_of a.now) automata.now)) }
+{
+    let places = Places::of(alloc, labels, automata.len())?;
+    has_many_values(alloc, automata, &places)
+}

@@ -1,0 +1,250 @@
+// What the edges of an element serve, and what it blocks.
+
+ghost use Rattle.std.specs.Prelude.{◌≡◌, ◌+◌, ◌++◌, List as ListOf, ℕ, map, if◌then◌else◌, IfOk, OnOk};
+ghost use Rattle.std.specs.List.{filter, flat_map};
+ghost use Rattle.op_trees.specs.Tree.{capped};
+ghost use Rattle.prism_flat.specs.Instance.{only_if};
+ghost use Rattle.prism_targets.specs.Tables.{Row, all_numbers, blocks, calls, edge_serves, element_serves, numbers_served};
+ghost use Rattle.prism_targets.specs.Code.{ranked_view, table_view, edge_served, element_served, list_under, row_view};
+
+use crate::edges::{ElementEdges, RankedEdge};
+use crate::lists::{add_under, list_under};
+use crate::parts::{is_another, part_of};
+use crate::rows::VectorRow;
+use crate::targets::Target;
+use bridge_io::List;
+use indexmap::IndexMap;
+use std::alloc::{AllocError, Global};
+
+/// The numbers of the targets that an edge serves, in order, and whether it serves the empty action.
+#[derive(Drop)]
+pub struct EdgeServing {
+    pub targets: Vec<usize>,
+    pub silent: bool,
+}
+
+/// What the edges of an element serve, and the numbers of the targets that it blocks, in order.
+#[derive(Drop)]
+pub struct ElementServing {
+    pub edges: Vec<EdgeServing>,
+    pub blocked: Vec<usize>,
+}
+
+/// The targets of a file, in order, and what its elements do with them.
+#[derive(Drop)]
+pub struct Serving<'a> {
+    pub targets: Vec<Target<'a>>,
+    pub elements: Vec<ElementServing>,
+}
+
+/// The vectors that name actions for an element, by these actions.
+#[derive(Drop)]
+struct Naming<'a, 'r, 't> {
+    by_action: IndexMap<&'a str, List<&'r VectorRow<'a, 't>>>,
+}
+
+impl<'a, 'r, 't> Naming<'a, 'r, 't> {
+    /// Those of these that name actions for the element of this number.
+    fn of(
+        alloc: Global,
+        rows: &'r [VectorRow<'a, 't>],
+        element: usize,
+    ) -> Result<Naming<'a, 'r, 't>, AllocError>
+        ensures { IfOk result (λ n. (x : ListOf ℕ) → map (λ r. row_view r.now) (list_under n.by_action x) ≡ filter (calls element x) (map row_view rows.now)) }
+    {
+        let mut all = Naming {
+            by_action: IndexMap::new(alloc),
+        };
+        for row in rows {
+            all.add(alloc, row, element)?;
+        }
+        Ok(all)
+    }
+
+    /// Adds a vector, if it names an action for the element.
+    fn add(
+        &mut self,
+        alloc: Global,
+        row: &'r VectorRow<'a, 't>,
+        element: usize,
+    ) -> Result<(), AllocError>
+        ensures { OnOk result ((x : ListOf ℕ) → map (λ r. row_view r.now) (list_under self.new.by_action x)
+            ≡ map (λ r. row_view r.now) (list_under self.old.by_action x) ++ only_if (calls element x (row_view row.now)) (row_view row.now)) }
+    {
+        match part_of(row.split.vector, element) {
+            Some(action) => add_under(alloc, &mut self.by_action, action.name.as_str(), row),
+            None => Ok(()),
+        }
+    }
+}
+
+/// Adds all numbers of a vector's targets.
+fn add_range(all: &mut Vec<usize>, row: &VectorRow) -> Result<(), AllocError>
+    ensures { OnOk result (all.new.items ≡ all.old.items ++ all_numbers (row_view row.now)) }
+{
+    for number in row.first..row.end {
+        all.push(number)?;
+    }
+    Ok(())
+}
+
+/// Adds the targets of a vector that an edge serves whose action the vector names.
+fn add_served(
+    all: &mut Vec<usize>,
+    element: usize,
+    e: &RankedEdge,
+    row: &VectorRow,
+) -> Result<(), AllocError>
+    ensures { OnOk result (all.new.items ≡ all.old.items ++ numbers_served element (ranked_view e.now) (row_view row.now)) }
+{
+    if is_another(element, row.split.writer) {
+        return add_range(all, row);
+    }
+    all.push(own_number(e, row))?;
+    Ok(())
+}
+
+/// The target of a vector that is made for an edge of its reward writer, or the plain one.
+fn own_number(e: &RankedEdge, row: &VectorRow) -> usize
+    ensures { result ≡ (if e.now.rewarding then capped (row.now.first + e.now.rank) else row.now.behind) }
+{
+    if e.rewarding {
+        row.first.saturating_add(e.rank)
+    } else {
+        row.behind
+    }
+}
+
+/// The targets of these vectors that an edge serves whose action they name.
+fn served(
+    alloc: Global,
+    element: usize,
+    e: &RankedEdge,
+    rows: &[&VectorRow],
+) -> Result<Vec<usize>, AllocError>
+    ensures { IfOk result (λ ns. ns.items ≡ flat_map (numbers_served element (ranked_view e.now)) (map (λ r. row_view r.now) rows.now)) }
+{
+    let mut all = Vec::new(alloc);
+    for row in rows {
+        add_served(&mut all, element, e, *row)?;
+    }
+    Ok(all)
+}
+
+/// The target that is made for a silent edge, if one is, where those of the silent edges of its element have the numbers from
+/// this one on.
+fn served_alone(alloc: Global, first: usize, e: &RankedEdge) -> Result<Vec<usize>, AllocError>
+    ensures { IfOk result (λ ns. ns.items ≡ only_if e.now.rewarding (capped (first + e.now.rank))) }
+{
+    let mut all = Vec::new(alloc);
+    if e.rewarding {
+        all.push(first.saturating_add(e.rank))?;
+    }
+    Ok(all)
+}
+
+/// What an edge serves, where these vectors name actions for its element.
+fn edge_serving(
+    alloc: Global,
+    naming: &Naming,
+    element: usize,
+    first: usize,
+    e: &RankedEdge,
+) -> Result<EdgeServing, AllocError>
+    ensures { IfOk result (λ s. (rows : ListOf Row) →
+        ((x : ListOf ℕ) → map (λ r. row_view r.now) (list_under naming.now.by_action x) ≡ filter (calls element x) rows) →
+        edge_served s ≡ edge_serves rows element first (ranked_view e.now)) }
+{
+    let targets = match &e.edge.action {
+        Some(a) => served(
+            alloc,
+            element,
+            e,
+            list_under(&naming.by_action, a.name.as_str()),
+        ),
+        None => served_alone(alloc, first, e),
+    };
+    Ok(EdgeServing {
+        targets: targets?,
+        silent: e.edge.action.is_none() && !e.rewarding,
+    })
+}
+
+/// What the edges of an element serve.
+fn edges_serving(
+    alloc: Global,
+    rows: &[VectorRow],
+    element: usize,
+    first: usize,
+    edges: &[RankedEdge],
+) -> Result<Vec<EdgeServing>, AllocError>
+    ensures { IfOk result
+        (λ es. map edge_served es.items ≡ map (edge_serves (map row_view rows.now) element first) (map ranked_view edges.now)) }
+{
+    let naming = Naming::of(alloc, rows, element)?;
+    edges_serving_by(alloc, &naming, element, first, edges)
+}
+
+/// The same where these vectors name actions for the element.
+fn edges_serving_by(
+    alloc: Global,
+    naming: &Naming,
+    element: usize,
+    first: usize,
+    edges: &[RankedEdge],
+) -> Result<Vec<EdgeServing>, AllocError>
+    ensures { IfOk result (λ es. (rows : ListOf Row) →
+        ((x : ListOf ℕ) → map (λ r. row_view r.now) (list_under naming.now.by_action x) ≡ filter (calls element x) rows) →
+        map edge_served es.items ≡ map (edge_serves rows element first) (map ranked_view edges.now)) }
+{
+    let mut all = Vec::new(alloc);
+    for e in edges {
+        all.push(edge_serving(alloc, naming, element, first, e)?)?;
+    }
+    Ok(all)
+}
+
+/// Whether a vector names an action for an element that no edge of it has.
+fn is_blocking(edges: &ElementEdges, element: usize, row: &VectorRow) -> bool
+    ensures { result ≡ blocks element (table_view edges.now) (row_view row.now) }
+{
+    let part = part_of(row.split.vector, element);
+    part.is_some() && !edges.has_edge(part)
+}
+
+/// The targets that an element blocks.
+fn blocked(
+    alloc: Global,
+    rows: &[VectorRow],
+    element: usize,
+    edges: &ElementEdges,
+) -> Result<Vec<usize>, AllocError>
+    ensures { IfOk result (λ ns. ns.items ≡ flat_map all_numbers (filter (blocks element (table_view edges.now)) (map row_view rows.now))) }
+{
+    let mut all = Vec::new(alloc);
+    for row in rows {
+        if is_blocking(edges, element, row) {
+            add_range(&mut all, row)?;
+        }
+    }
+    Ok(all)
+}
+
+/// What the edges of an element serve, and what it blocks, where the targets of its silent edges have the numbers from this one
+/// on.
+pub(crate) fn element_serving(
+    alloc: Global,
+    rows: &[VectorRow],
+    element: usize,
+    first: usize,
+    edges: &ElementEdges,
+) -> Result<ElementServing, AllocError>
+    ensures { IfOk result (λ s. element_served s ≡ element_serves (map row_view rows.now) element first (table_view edges.now)) }
+{
+    let serving = edges_serving(alloc, rows, element, first, edges.edges.as_slice())?;
+    let blocked = blocked(alloc, rows, element, edges)?;
+    Ok(ElementServing {
+        edges: serving,
+        blocked,
+    })
+}
