@@ -1,0 +1,37 @@
+-- The entries of a file by their classes, taken from what the classes before leave.
+use Rattle.std.proofs.Common.{◌≡◌, ℕ, ◌+◌, List, length, take, drop, ap, ◌∙◌, drop-drop}
+use Rattle.jani_tree.specs.Syntax.{File}
+use Rattle.jani_meaning.specs.Elements.{lasting, labels, structures}
+use Rattle.name_table.specs.declared.entry.Entry.{Entry}
+use Rattle.name_table.specs.Asks.{some_from}
+use Rattle.name_table.specs.PrismAsks.{NewNames, names_by, locations_at, modules_at, labels_at, rewards_at}
+
+abbrev pub made : List Entry → List Entry → List Entry → List Entry → List Entry → List Entry → List Entry → NewNames
+made cs vs ks ms ls rs us = record { constants = cs; variables = vs; locations = ks; modules = ms; labels = ls; rewards = rs; actions = us }
+
+further : (es xs ys : List Entry) (a n : ℕ) → xs ≡ drop a es → ys ≡ drop n xs → ys ≡ drop (a + n) es
+further es xs ys a n h k = k ∙ ap (λ (l : List Entry). drop n l) h ∙ drop-drop n a es
+
+part : (es xs r : List Entry) (a n : ℕ) → xs ≡ drop a es → r ≡ take n xs → r ≡ some_from a n es
+part es xs r a n h k = k ∙ ap (λ (l : List Entry). take n l) h
+
+-- what is dropped, and taken, by counts that are the lengths
+pub classes_are : (file : File) (es e1 e2 e3 e4 e5 e6 cs vs ks ms ls rs : List Entry) →
+    e1 ≡ drop (length file.constants) es → e2 ≡ drop (length (lasting file)) e1 → e3 ≡ drop (length file.elements) e2 → e4 ≡ drop (length file.elements) e3 →
+    e5 ≡ drop (length (labels file)) e4 → e6 ≡ drop (length (structures file)) e5 →
+    cs ≡ take (length file.constants) es → vs ≡ take (length (lasting file)) e1 → ks ≡ take (length file.elements) e2 → ms ≡ take (length file.elements) e3 →
+    ls ≡ take (length (labels file)) e4 → rs ≡ take (length (structures file)) e5 → made cs vs ks ms ls rs e6 ≡ names_by file es
+classes_are file es e1 e2 e3 e4 e5 e6 cs vs ks ms ls rs d1 k2 k3 k4 k5 k6 t1 t2 t3 t4 t5 t6 =
+    let d2 : e2 ≡ drop (locations_at file) es = further es e1 e2 (length file.constants) (length (lasting file)) d1 k2 in
+    let d3 : e3 ≡ drop (modules_at file) es = further es e2 e3 (locations_at file) (length file.elements) d2 k3 in
+    let d4 : e4 ≡ drop (labels_at file) es = further es e3 e4 (modules_at file) (length file.elements) d3 k4 in
+    let d5 : e5 ≡ drop (rewards_at file) es = further es e4 e5 (labels_at file) (length (labels file)) d4 k5 in
+    λ i. record {
+      constants = t1 i;
+      variables = part es e1 vs (length file.constants) (length (lasting file)) d1 t2 i;
+      locations = part es e2 ks (locations_at file) (length file.elements) d2 t3 i;
+      modules = part es e3 ms (modules_at file) (length file.elements) d3 t4 i;
+      labels = part es e4 ls (labels_at file) (length (labels file)) d4 t5 i;
+      rewards = part es e5 rs (rewards_at file) (length (structures file)) d5 t6 i;
+      actions = further es e5 e6 (rewards_at file) (length (structures file)) d5 k6 i;
+    }

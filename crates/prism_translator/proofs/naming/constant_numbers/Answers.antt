@@ -1,0 +1,18 @@
+use Rattle.std.proofs.Common.{◌∙◌, ap, sym, arith}
+use Rattle.std.specs.Prelude.{bytes_eq}
+use Rattle.std.specs.Option.{option_or}
+use Rattle.process_core.specs.Ready.{Name}
+use Rattle.jani_tree.specs.declared.syntax.JaniConst.{JaniConst}
+use Rattle.jani_tree.specs.Syntax.{const_of}
+use Rattle.jani_meaning.specs.Elements.{is_called}
+use Rattle.name_table.specs.JaniParts.{under}
+use Rattle.prism_translator.specs.Code.{only_then}
+use Rattle.prism_translator.proofs.Numbers.{position_more}
+use Rattle.prism_translator.proofs.naming.constant_numbers.Goals as goal
+
+pub loop-i-preserved : goal.loop-i-preserved
+loop-i-preserved c = λ x.
+    position_more (λ k. is_called x k.name) const_of c.args.constants.now c.loop-i.i c.index-constants-i.result _ _ (omega arith) c.index-constants-i.is
+    (c.loop-i.invariant x)
+    (c.in_ok-add.ensures x ∙ ap (λ (y : Name). option_or (under c.loop-i.all x) (only_then (bytes_eq y x) c.loop-i.i))
+    (c.as_str.ensures ∙ ap (λ (l : JaniConst). l.name.name) (sym c.index-constants-i.is)))

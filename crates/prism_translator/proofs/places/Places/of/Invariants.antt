@@ -1,0 +1,12 @@
+use Rattle.std.proofs.Common.{◌≡◌, ℕ, List, map, take}
+use Rattle.std.specs.List.{position}
+use Rattle.jani_meaning.specs.Elements.{is_own, is_global}
+use Rattle.name_table.specs.JaniParts.{under, owned_of}
+use Rattle.prism_translator.specs.Code.{own_in}
+use Rattle.prism_translator.proofs.places.Places.of.Given as goal
+
+abbrev pub invariant-loop-i : goal.invariant-loop-i
+invariant-loop-i l = record {
+  own : (k : ℕ) (x : List ℕ) → own_in l.all k x ≡ position (is_own k x) (map owned_of (take l.i l.vars));
+  global : (x : List ℕ) → under l.all.global x ≡ position (is_global x) (map owned_of (take l.i l.vars));
+}

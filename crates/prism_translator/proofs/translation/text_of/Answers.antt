@@ -1,0 +1,32 @@
+use Rattle.std.proofs.Common.{◌≡◌, ◌∙◌, ap, ap₂, sym, length, drop, List}
+use Rattle.prism_print.specs.Same.{bare_file}
+use Rattle.jani_tree.specs.Syntax.{File, file_of}
+use Rattle.name_table.specs.declared.entry.Entry.{Entry}
+use Rattle.name_table.specs.PrismAsks.{NewNames, names_by, actions_at}
+use Rattle.prism_translation.specs.Names.{new_names}
+use Rattle.prism_translation.specs.Targets.{targets}
+use Rattle.prism_translation.specs.Translated.{translated_by}
+use Rattle.prism_translation.specs.Lines.{lines_by}
+use Rattle.prism_translator.specs.Code.{names_in}
+use Rattle.prism_translator.proofs.LongActions.{actions_long}
+use Rattle.prism_translator.proofs.translation.text_of.Goals as goal
+
+pub text_by-requires-clause-actions : goal.text_by-requires-clause-actions
+text_by-requires-clause-actions c =
+    let f : File = file_of c.args.file.now in
+    record {
+      actions_long =
+          ap (λ (k : NewNames). length k.actions) c.in_ok-names.ensures.names
+          ∙ ap (λ (es : List Entry). length (drop (actions_at f) es)) c.requires.entries
+          ∙ actions_long f
+          ∙ ap (λ (g : File). length (targets g)) (sym c.in_ok-names.ensures.file);
+    }
+
+pub returns : goal.returns
+returns c =
+    let f : File = file_of c.args.file.now in
+    let named : names_in c.in_ok-names.names ≡ new_names f = c.in_ok-names.ensures.names ∙ ap (names_by f) c.requires.entries in
+    record {
+      file_is = ap bare_file (c.in_ok-text.ensures.text_is ∙ ap₂ (λ (k : NewNames) (g : File). translated_by k g) named c.in_ok-names.ensures.file);
+      lines_are = c.in_ok-text.ensures.told ∙ ap₂ (λ (k : NewNames) (g : File). lines_by k g) named c.in_ok-names.ensures.file;
+    }

@@ -1,0 +1,11 @@
+pub mod Asks
+pub mod Code
+pub mod Gains
+pub mod Gathered
+pub mod Given
+pub mod Homes
+pub mod LineParts
+pub mod Nodes
+pub mod Parts
+pub mod Translation
+pub mod Writers

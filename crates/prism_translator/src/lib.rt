@@ -1,0 +1,27 @@
+//! The translation of JANI files without faults to PRISM files. What it is stands in `prism_translation`; `translate` computes
+//! it.
+#![tactic(auto)]
+
+mod actions;
+mod commands;
+mod elements;
+mod file;
+mod gains;
+mod gathered;
+mod given;
+mod homes;
+mod image;
+mod labels;
+mod lines;
+mod lists;
+mod modules;
+mod names;
+mod naming;
+mod parts;
+mod places;
+mod rewards;
+mod served;
+mod translation;
+mod writers;
+
+pub use translation::{CheckedPrismText, translate};

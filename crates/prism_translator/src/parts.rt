@@ -1,0 +1,203 @@
+// Names and expressions that are made; constants and variables.
+
+ghost use Rattle.std.specs.Prelude.{◌≡◌, min, map, IfOk};
+ghost use Rattle.std.specs.List.{zip};
+ghost use Rattle.std.specs.Option.{option_map};
+ghost use Rattle.op_trees.specs.Tree.{tree};
+ghost use Rattle.prism_tree.specs.Syntax as prism;
+ghost use Rattle.jani_tree.specs.Syntax as jani;
+ghost use Rattle.name_table.specs.JaniParts.{owned_of};
+ghost use Rattle.name_table.specs.PrismAsks.{value_name};
+ghost use Rattle.prism_translation.specs.Image.{image};
+ghost use Rattle.prism_translation.specs.Parts.{made, instead, counted, constant, range_of, variable, scope_of, is_there};
+ghost use Rattle.prism_translation.specs.Modules.{truth, falsehood};
+ghost use Rattle.prism_translator.specs.Code.{file_in, names_in, IsReady, lasting_of};
+
+use crate::image::image;
+use crate::names::{Names, name_at};
+use bridge_io::{List, Named, Text};
+use frac_core::Decimal;
+use jani_tree::{JaniConst, JaniKind, Je};
+use name_table::{Entry, OwnedVar};
+use op_trees::Expr;
+use prism_tree::{Pe, PrismConst, PrismOp, PrismRange, PrismVar};
+use std::alloc::{AllocError, Global};
+
+// ---- names
+
+/// A name that is made.
+pub(crate) fn made(alloc: Global, name: &str) -> Result<Named, AllocError>
+    ensures { IfOk result (λ r. r ≡ made name.now) }
+{
+    Ok(Named {
+        name: Text::copy_of(alloc, name)?,
+        at: 0,
+    })
+}
+
+/// Another name at the place of an old one.
+pub(crate) fn instead(alloc: Global, old: &Named, name: &str) -> Result<Named, AllocError>
+    ensures { IfOk result (λ r. r ≡ instead old.now name.now) }
+{
+    Ok(Named {
+        name: Text::copy_of(alloc, name)?,
+        at: old.at,
+    })
+}
+
+// ---- expressions that are made
+
+/// The truth value true.
+pub(crate) fn truth() -> Pe
+    ensures { tree result ≡ truth }
+{
+    Expr::Truth(0, true)
+}
+
+/// The truth value false.
+pub(crate) fn falsehood() -> Pe
+    ensures { tree result ≡ falsehood }
+{
+    Expr::Truth(0, false)
+}
+
+/// A number that counts something.
+pub(crate) fn counted(n: usize) -> Pe
+    ensures { tree result ≡ counted n }
+{
+    Expr::Number(
+        0,
+        Decimal {
+            real: false,
+            negative: false,
+            exponent: 0,
+            digits: n as u128,
+        },
+    )
+}
+
+/// Whether the element with a number is at the location with a number.
+pub(crate) fn is_there(
+    alloc: Global,
+    names: &Names,
+    element: usize,
+    location: usize,
+) -> Result<Pe, AllocError>
+    ensures { IfOk result (λ r. tree r ≡ is_there (file_in names.now) (names_in names.now) element location) }
+{
+    let name = Text::copy_of(alloc, name_at(names.entries.locations, element))?;
+    let variable = Box::new(alloc, Expr::Name(0, name))?;
+    let number = Box::new(alloc, counted(location))?;
+    Ok(Expr::Two(0, PrismOp::Equal, variable, number))
+}
+
+/// The image of an expression of an element, where there is one.
+pub(crate) fn image_if(
+    alloc: Global,
+    names: &Names,
+    element: usize,
+    e: &Option<Je>,
+) -> Result<Option<Pe>, AllocError>
+    requires { IsReady names.now }
+    ensures { IfOk result (λ r. option_map tree r ≡
+        option_map (image (value_name (file_in names.now) (names_in names.now) element)) (option_map tree e.now)) }
+{
+    match e {
+        None => Ok(None),
+        Some(e) => Ok(Some(image(alloc, names, element, e)?)),
+    }
+}
+
+// ---- constants and variables
+
+/// A constant keeps its type.
+fn constant(
+    alloc: Global,
+    names: &Names,
+    c: &JaniConst,
+    e: &Entry,
+) -> Result<PrismConst, AllocError>
+    requires { IsReady names.now }
+    ensures { IfOk result (λ r. prism.const_of r ≡ constant (file_in names.now) (names_in names.now) (jani.const_of c.now) e.now.name) }
+{
+    Ok(PrismConst {
+        name: instead(alloc, &c.name, e.name.as_str())?,
+        ty: c.ty,
+        value: image_if(alloc, names, names.outside(), &c.value)?,
+    })
+}
+
+/// The constants.
+pub(crate) fn constants(alloc: Global, names: &Names) -> Result<List<PrismConst>, AllocError>
+    requires { IsReady names.now }
+    ensures { IfOk result (λ all. map prism.const_of all ≡
+        map (λ p. constant (file_in names.now) (names_in names.now) p.0 p.1.name) (zip (file_in names.now).constants (names_in names.now).constants)) }
+{
+    let constants = names.file.constants.as_slice();
+    let mut all = List::new(alloc);
+    let count = shorter(constants.len(), names.entries.constants.len());
+    for i in 0..count {
+        all.push(constant(alloc, names, &constants[i], &names.entries.constants[i])?)?;
+    }
+    Ok(all)
+}
+
+/// A bounded variable has a range.
+fn range_of(
+    alloc: Global,
+    names: &Names,
+    element: usize,
+    kind: &JaniKind,
+) -> Result<Option<PrismRange>, AllocError>
+    requires { IsReady names.now }
+    ensures { IfOk result (λ r. option_map prism.range_of r ≡
+        range_of (file_in names.now) (names_in names.now) (value_name (file_in names.now) (names_in names.now) element) (jani.kind_of kind.now)) }
+{
+    match kind {
+        JaniKind::Bounded(low, high) => {
+            let low = image(alloc, names, element, low)?;
+            let high = image(alloc, names, element, high)?;
+            Ok(Some(PrismRange { low, high }))
+        }
+        _ => Ok(None),
+    }
+}
+
+/// The element that a variable's expressions are read in.
+pub(crate) fn scope_of(names: &Names, var: &OwnedVar) -> usize
+    ensures { result ≡ scope_of (file_in names.now) (names_in names.now) (owned_of var.now) }
+{
+    match var.owner {
+        Some(k) => k,
+        None => names.outside(),
+    }
+}
+
+/// A variable that is not transient, with its number.
+#[derive(Clone, Copy)]
+pub(crate) struct LastingVar<'a> {
+    pub(crate) number: usize,
+    pub(crate) owned: OwnedVar<'a>,
+}
+
+/// A variable that is not transient.
+pub(crate) fn variable(alloc: Global, names: &Names, x: &LastingVar) -> Result<PrismVar, AllocError>
+    requires { IsReady names.now }
+    ensures { IfOk result (λ r. prism.var_of r ≡ variable (file_in names.now) (names_in names.now) (lasting_of x.now)) }
+{
+    let element = scope_of(names, &x.owned);
+    let new = name_at(names.entries.variables, x.number);
+    let var = x.owned.var;
+    Ok(PrismVar {
+        name: instead(alloc, &var.name, new)?,
+        range: range_of(alloc, names, element, &var.kind)?,
+        start: image_if(alloc, names, element, &var.start)?,
+    })
+}
+
+/// The lesser of two lengths.
+pub(crate) fn shorter(a: usize, b: usize) -> usize
+    ensures { result ≡ min a b }
+{
+    if a < b { a } else { b }
+}

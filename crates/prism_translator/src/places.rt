@@ -1,0 +1,96 @@
+// The numbers of variables, by the elements that they belong to and by their names.
+
+ghost use Rattle.std.specs.Prelude.{◌≡◌, ◌<◌, List, ℕ, Some, None, length, map, if◌then◌else◌, IfOk, OnOk};
+ghost use Rattle.std.specs.Option.{option_or};
+ghost use Rattle.jani_meaning.specs.Elements.{place_of, is_own, is_global};
+ghost use Rattle.name_table.specs.JaniParts.{under, owned_of};
+ghost use Rattle.prism_translator.specs.Code.{own_in, place_in, only_then, is_named_own};
+
+use name_table::{NameMap, OwnedVar};
+use std::alloc::{AllocError, Global};
+
+/// The numbers of variables in a list of them, those of global variables apart.
+#[derive(Drop)]
+pub(crate) struct Places<'a> {
+    own: Vec<NameMap<'a, usize>>,
+    global: NameMap<'a, usize>,
+}
+
+impl<'a> Places<'a> {
+    /// Those in this list; where two have one name and one owner, the first counts.
+    pub(crate) fn of(alloc: Global, vars: &[OwnedVar<'a>]) -> Result<Places<'a>, AllocError>
+        ensures { IfOk result (λ p. (k : ℕ) (x : List ℕ) → place_in p k x ≡ place_of (map owned_of vars.now) k x) }
+    {
+        let mut all = Places {
+            own: Vec::new(alloc),
+            global: NameMap::new(alloc),
+        };
+        for i in 0..vars.len() {
+            all.add(alloc, i, &vars[i])?;
+        }
+        Ok(all)
+    }
+
+    /// Adds the number of a variable, if none stands there.
+    fn add(&mut self, alloc: Global, number: usize, var: &OwnedVar<'a>) -> Result<(), AllocError>
+        ensures own { OnOk result ((k : ℕ) (x : List ℕ) →
+            own_in self.new k x ≡ option_or (own_in self.old k x) (only_then (is_own k x (owned_of var.now)) number)) }
+        ensures global { OnOk result ((x : List ℕ) →
+            under self.new.global x ≡ option_or (under self.old.global x) (only_then (is_global x (owned_of var.now)) number)) }
+    {
+        let name = var.var.name.name.as_str();
+        match var.owner {
+            None => self.global.add(name, number),
+            Some(k) => self.add_own(alloc, k, name, number),
+        }
+    }
+
+    /// Adds the number of a variable of an element, if none stands there.
+    fn add_own(
+        &mut self,
+        alloc: Global,
+        element: usize,
+        name: &'a str,
+        number: usize,
+    ) -> Result<(), AllocError>
+        ensures own { OnOk result ((k : ℕ) (x : List ℕ) →
+            own_in self.new k x ≡ option_or (own_in self.old k x) (only_then (is_named_own element name.now k x) number)) }
+        ensures global { OnOk result (self.new.global ≡ self.old.global) }
+    {
+        self.grow(alloc, element)?;
+        self.own[element].add(name, number)?;
+        Ok(())
+    }
+
+    /// Makes room for an element.
+    fn grow(&mut self, alloc: Global, element: usize) -> Result<(), AllocError>
+        ensures room { OnOk result (element < length self.new.own.items) }
+        ensures own { OnOk result ((k : ℕ) (x : List ℕ) → own_in self.new k x ≡ own_in self.old k x) }
+        ensures global { OnOk result (self.new.global ≡ self.old.global) }
+    {
+        'grow: while self.own.len() <= element {
+            self.own.push(NameMap::new(alloc))?;
+        }
+        Ok(())
+    }
+
+    /// The number of the variable that a name stands for in an element: its own one, else the global one.
+    pub(crate) fn place(&self, element: usize, name: &str) -> Option<usize>
+        ensures { result ≡ place_in self.now element name.now }
+    {
+        match self.own_place(element, name) {
+            Some(i) => Some(i),
+            None => self.global.get(name),
+        }
+    }
+
+    /// The number of an element's own variable.
+    fn own_place(&self, element: usize, name: &str) -> Option<usize>
+        ensures { result ≡ own_in self.now element name.now }
+    {
+        match self.own.get(element) {
+            Some(names) => names.get(name),
+            None => None,
+        }
+    }
+}
