@@ -1,0 +1,44 @@
+-- What is promised of a translation holds.
+use Rattle.std.specs.Prelude.{◌≡◌, List, [], ◌∷◌, Result, Ok, Err, IfOk, OnOk}
+use Rattle.std.proofs.Common.{refl, sym, ◌∙◌}
+use Rattle.bridge_io.specs.declared.reason.Fault.{Fault}
+use Rattle.bridge_io.specs.declared.reason.Refused.{Refused}
+use Rattle.prism_tree.specs.Syntax.{file_of}
+use Rattle.jani_tree.specs.Syntax.{File}
+use Rattle.jani_check.specs.Faults.{IsChecked, or_else}
+use Rattle.prism_places.specs.PlacesLaws.{PlacesMeanNothing, CleanAlike}
+use Rattle.prism_translation.specs.Lines.{lines}
+use Rattle.prism_translation.specs.Refused.{refused, shared_faults, size_faults}
+use Rattle.prism_translation.specs.Translated.{translated}
+use Rattle.prism_translation_names.specs.NameLaws.{TranslatedIsPrintable, NoNameFault}
+use Rattle.prism_translation_types.specs.TypeLaws.{NoTypeFault}
+use Rattle.prism_translation_meaning.specs.SameMeaning.{TranslationMeansTheSame, MeaningStays}
+use Rattle.prism_translator.specs.declared.translation.CheckedPrismText.{CheckedPrismText}
+use Rattle.prism_translator.specs.Translation.{IsTranslation}
+use Rattle.jani_to_prism.specs.Promise.{IsTranslated, PlacesAside}
+
+first_none : (fs gs : List Fault) → or_else fs gs ≡ [] → fs ≡ []
+first_none [] gs e = refl
+first_none (f ∷ fs) gs e = absurd cc
+
+pub is_translated : (file : File) → IsChecked file → refused file ≡ [] → TranslatedIsPrintable file → NoNameFault file → NoTypeFault file → TranslationMeansTheSame →
+    IsTranslated file (translated file)
+is_translated file h none printable names types means = record {
+  clean = record { printable = printable h; names = names h; types = types h (first_none (shared_faults file) (size_faults file) none) };
+  shape = refl;
+  same = means file h (translated file) refl;
+}
+
+pub aside : PlacesMeanNothing → CleanAlike → MeaningStays → PlacesAside
+aside models clean stays old f g e h = record { clean = clean f g e h.clean; shape = sym e ∙ h.shape; same = stays old f g e (models f g e) h.same }
+
+-- ---- what the call answers
+module _ (file : File) where
+  pub told : (r : Result CheckedPrismText Refused) → OnOk r (refused file ≡ []) → IfOk r (λ t. IsTranslation t file) → (refused file ≡ [] → IsTranslated file (translated file)) → PlacesAside →
+      IfOk r (λ t. (refused file ≡ []) × IsTranslated file (file_of t.file))
+  told (Ok t) none is h aside = (none, aside file (translated file) (file_of t.file) (sym is.file_is) (h none))
+  told (Err e) none is h aside = tt
+
+  pub told_lines : (r : Result CheckedPrismText Refused) → IfOk r (λ t. IsTranslation t file) → IfOk r (λ t. t.lines ≡ lines file)
+  told_lines (Ok t) is = is.lines_are
+  told_lines (Err e) is = tt
