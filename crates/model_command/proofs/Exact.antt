@@ -11,7 +11,7 @@ use Rattle.prism_tree.specs.Syntax.{File}
 use Rattle.prism_check.specs.Least.{IsLeast}
 use Rattle.prism_check.specs.Faults.{faults}
 use Rattle.model_command.specs.declared.words.Task.{Task}
-use Rattle.model_command.specs.declared.words.Task.TheVariants.{ToJani, CheckPrism, CheckJani}
+use Rattle.model_command.specs.declared.words.Task.TheVariants.{ToJani, ToPrism, CheckPrism, CheckJani}
 use Rattle.model_command.specs.Words.{IsRequest, HasForm, IsWrongAt}
 use Rattle.jani_table.specs.Least.{IsLeast as IsLeastOfJani}
 use Rattle.jani_table.specs.declared.table.Form.TheVariants as F
@@ -22,6 +22,8 @@ use Rattle.jani_tree.specs.Jani.{IsFile}
 use Rattle.jani_check.specs.Faults.{faults as jani_faults}
 use Rattle.model_command.specs.PrismFile.{IsFaultless, IsPrismFault, of_text, of_tree}
 use Rattle.model_command.specs.JaniFile.{IsFaultlessJani, IsJaniFault, of_json, of_shape, of_model}
+use Rattle.prism_translation.specs.Refused.{refused}
+use Rattle.model_command.specs.ToPrism.{IsTranslatable, IsRefusedBack, of_file, of_result}
 use Rattle.model_command.specs.Tasks.{IsFit, IsLeastFor}
 use Rattle.model_command.specs.Outcome.{status_of}
 use Rattle.model_command.specs.Run.{IsCause, IsWhole, IsRefusal}
@@ -36,12 +38,19 @@ wrong_not_form words k task name (inr wrong) form = wrong.2 (task, name, form)
 -- and ask for one thing
 pub same_request : (words : List (List ℕ)) (s t : Task) (a b : List ℕ) → IsRequest words s a → IsRequest words t b → (s ≡ t) × (a ≡ b)
 same_request words ToJani ToJani a b one two = (refl, let e = one.1 in let f = two.1 in cc)
+same_request words ToJani ToPrism a b one two = absurd (let e = one.1 in let f = two.1 in cc)
 same_request words ToJani CheckPrism a b one two = absurd (let e = one.1 in let f = two.1 in cc)
 same_request words ToJani CheckJani a b one two = absurd (let e = one.1 in let f = two.1 in cc)
+same_request words ToPrism ToJani a b one two = absurd (let e = one.1 in let f = two.1 in cc)
+same_request words ToPrism ToPrism a b one two = (refl, let e = one.1 in let f = two.1 in cc)
+same_request words ToPrism CheckPrism a b one two = absurd (let e = one.1 in let f = two.1 in cc)
+same_request words ToPrism CheckJani a b one two = absurd (let e = one.1 in let f = two.1 in cc)
 same_request words CheckPrism ToJani a b one two = absurd (let e = one.1 in let f = two.1 in cc)
+same_request words CheckPrism ToPrism a b one two = absurd (let e = one.1 in let f = two.1 in cc)
 same_request words CheckPrism CheckPrism a b one two = (refl, let e = one.1 in let f = two.1 in cc)
 same_request words CheckPrism CheckJani a b one two = absurd (let e = one.1 in let f = two.1 in cc)
 same_request words CheckJani ToJani a b one two = absurd (let e = one.1 in let f = two.1 in cc)
+same_request words CheckJani ToPrism a b one two = absurd (let e = one.1 in let f = two.1 in cc)
 same_request words CheckJani CheckPrism a b one two = absurd (let e = one.1 in let f = two.1 in cc)
 same_request words CheckJani CheckJani a b one two = (refl, let e = one.1 in let f = two.1 in cc)
 
@@ -88,6 +97,12 @@ not_faultless_jani bytes f tree (of_model value other read least) ok =
     let trees : tree ≡ other = read.only tree (subst (λ v. IsFile (node v) tree) same ok.read.spells) in
     no_least_of_jani _ f (subst (λ t. jani_faults t ≡ []) trees ok.sound) least
 
+-- bytes spell one JANI tree without fault
+one_tree_of : (bytes : List ℕ) (tree other : JaniFile) → IsFaultlessJani bytes tree → IsFaultlessJani bytes other → tree ≡ other
+one_tree_of bytes tree other ok read =
+    let same : ok.value ≡ read.value = read.read.whole.only ok.value ok.read.whole.tokens ok.read.whole.spells in
+    read.read.only tree (subst (λ v. IsFile (node v) tree) same ok.read.spells)
+
 -- nor has a PRISM file
 not_faultless : (bytes : List ℕ) (f : Fault) (tree : File) → IsPrismFault bytes f → IsFaultless bytes tree → ⊥
 not_faultless bytes f other (of_text least) ok = least.faulty ok.read.clean
@@ -95,9 +110,16 @@ not_faultless bytes f other (of_tree tree read least) ok =
     let same : other ≡ tree = read.only other ok.read.spells in
     no_least tree f (subst (λ t. faults t ≡ []) same ok.sound) least
 
+-- nor has a JANI file that can be translated
+not_translatable : (bytes : List ℕ) (f : Fault) (tree : JaniFile) → IsRefusedBack bytes f → IsTranslatable bytes tree → ⊥
+not_translatable bytes f tree (of_file fault) ok = not_faultless_jani bytes f tree fault ok.faultless
+not_translatable bytes f tree (of_result other read least) ok =
+    no_least_of_jani _ f (subst (λ t. refused t ≡ []) (one_tree_of bytes tree other ok.faultless read) ok.accepted) least
+
 -- bytes that have a fault are not fit for the task
 pub least_not_fit : (task : Task) (bytes : List ℕ) (f : Fault) → IsLeastFor task bytes f → IsFit task bytes → ⊥
 least_not_fit ToJani bytes f fault (tree, ok) = not_faultless bytes f tree fault ok
+least_not_fit ToPrism bytes f fault (tree, ok) = not_translatable bytes f tree fault ok
 least_not_fit CheckPrism bytes f fault (tree, ok) = not_faultless bytes f tree fault ok
 least_not_fit CheckJani bytes f fault (tree, ok) = not_faultless_jani bytes f tree fault ok
 

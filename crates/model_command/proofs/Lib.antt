@@ -6,3 +6,4 @@ pub mod PrismFiles
 pub mod Told
 pub mod Wrong
 pub mod Translations
+pub mod ToPrism

@@ -15,7 +15,7 @@ use Rattle.bridge_io.specs.declared.reason.Reason.TheVariants.{TooLong}
 use Rattle.bridge_io.specs.declared.reason.Fault.{Fault}
 use Rattle.bridge_io.specs.declared.place.Place.{Place}
 use Rattle.model_command.specs.declared.words.Task.{Task}
-use Rattle.model_command.specs.declared.words.Task.TheVariants.{ToJani, CheckPrism, CheckJani}
+use Rattle.model_command.specs.declared.words.Task.TheVariants.{ToJani, ToPrism, CheckPrism, CheckJani}
 use Rattle.model_command.specs.Words.{IsRequest}
 use Rattle.model_command.specs.Tasks.{Makes, IsFit, IsLeastFor}
 use Rattle.model_command.specs.Outcome.{status_of, text_of, line_of, place_in, refusal_line}
@@ -33,6 +33,7 @@ appended xs (Some ys) more h = ap Some h
 -- what a task is done for is fit for it
 makes_fit : (task : Task) (bytes text : List ℕ) → Makes task bytes text → IsFit task bytes
 makes_fit ToJani bytes text (tree, model, all) = (tree, all.faultless)
+makes_fit ToPrism bytes text (tree, model, all) = (tree, all.translatable)
 makes_fit CheckPrism bytes text (tree, all) = (tree, all.faultless)
 makes_fit CheckJani bytes text (tree, all) = (tree, all.faultless)
 

@@ -6,4 +6,5 @@ pub mod PrismFile
 pub mod Run
 pub mod Tasks
 pub mod Translation
+pub mod ToPrism
 pub mod Words

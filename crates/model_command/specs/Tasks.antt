@@ -4,27 +4,31 @@ use Rattle.bridge_io.specs.declared.reason.Fault.{Fault}
 use Rattle.bridge_io.specs.declared.reason.Refused.{Refused}
 use Rattle.bridge_io.specs.declared.reason.Refused.TheVariants as R
 use Rattle.model_command.specs.declared.words.Task.{Task}
-use Rattle.model_command.specs.declared.words.Task.TheVariants.{ToJani, CheckPrism, CheckJani}
+use Rattle.model_command.specs.declared.words.Task.TheVariants.{ToJani, ToPrism, CheckPrism, CheckJani}
 use Rattle.model_command.specs.PrismFile.{HasNoFault, IsPrismFault}
 use Rattle.model_command.specs.JaniFile.{HasNoJaniFault, IsJaniFault}
 use Rattle.model_command.specs.Checking.{Checks, ChecksJani}
 use Rattle.model_command.specs.Translation.{Translates}
+use Rattle.model_command.specs.ToPrism.{HasTranslation, TranslatesBack, IsRefusedBack}
 
 -- the text is what the task makes of the bytes
 abbrev pub Makes : Task → List ℕ → List ℕ → Type 0
 Makes ToJani bytes text = Translates bytes text
+Makes ToPrism bytes text = TranslatesBack bytes text
 Makes CheckPrism bytes text = Checks bytes text
 Makes CheckJani bytes text = ChecksJani bytes text
 
 -- the bytes that it is done for, up to their length
 abbrev pub IsFit : Task → List ℕ → Type 0
 IsFit ToJani bytes = HasNoFault bytes
+IsFit ToPrism bytes = HasTranslation bytes
 IsFit CheckPrism bytes = HasNoFault bytes
 IsFit CheckJani bytes = HasNoJaniFault bytes
 
 -- the least fault of all others
 abbrev pub IsLeastFor : Task → List ℕ → Fault → Type 0
 IsLeastFor ToJani bytes f = IsPrismFault bytes f
+IsLeastFor ToPrism bytes f = IsRefusedBack bytes f
 IsLeastFor CheckPrism bytes f = IsPrismFault bytes f
 IsLeastFor CheckJani bytes f = IsJaniFault bytes f
 

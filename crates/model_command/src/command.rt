@@ -10,6 +10,7 @@ ghost use Rattle.model_command.specs.Headline.{IsHeadline};
 
 use crate::checking::{count_jani, count_prism};
 use crate::outcome::Outcome;
+use crate::to_prism::translate_back;
 use crate::translation::translate;
 use crate::words::{Task, request_in};
 use bridge_io::{
@@ -28,13 +29,14 @@ const WRITE_FAULT: u8 = 5;
 /// | words | what is written to `out` with status 0 |
 /// |---|---|
 /// | `to-jani FILE` | the JANI text of the translated PRISM model, and LF |
+/// | `to-prism FILE` | the comment lines and the PRISM text of the translated JANI model |
 /// | `check prism FILE` | `ok prism modules M commands C` and LF, C being the number of commands after copies of modules are written out |
 /// | `check jani FILE` | `ok jani elements E edges G` and LF, G being the number of edges of the automata that take part |
 ///
 /// | status | when | on `out` | on `err`, each line with its LF |
 /// |---|---|---|---|
 /// | 0 | the file has no fault, and was translated or checked | the text | nothing |
-/// | 2 | the file is longer than 16,777,216 bytes; or a PRISM file has a fault of its tokens, its grammar, its names, its size or its types; or a JANI file has a fault of its JSON, its shape, its names, its types or the profile | nothing | `FILE:LINE:COLUMN: reason NO Name` |
+/// | 2 | the file is longer than 16,777,216 bytes; or a PRISM file has a fault of its tokens, its grammar, its names, its size or its types; or a JANI file has a fault of its JSON, its shape, its names, its types or the profile; or a JANI file to be translated has none and its translation would write a variable where PRISM forbids it, or be too large | nothing | `FILE:LINE:COLUMN: reason NO Name` |
 /// | 3 | the words are of no form | nothing | `bridge: word K`, K being the first word with which no form goes on |
 /// | 4 | a read failed | nothing | `bridge: read fault FILE` |
 /// | 5 | a write failed | a front of the text | a front of `bridge: write fault`, or of the line, where `err` failed |
@@ -75,7 +77,7 @@ pub fn run<H: Shelf, K: Sink, E: Sink>(
 
     // Where the shelf and the sinks tell their bytes, and no read, no write and no memory failed, the status is 0
     // exactly where the file is fit for the task, that is, has no fault, and is within the limits, and what the task makes of it
-    // was written: the text of a JANI file that means the same process under every valuation, or the line that counts; any
+    // was written: the text of a file of the other language that means the same process under every valuation, or the line that counts; any
     // other file is refused at its least fault.
     ensures headline { (left : Lefts) (task : Task) (name bytes was said : List ℕ) → H.left shelf.old ≡ Some left → left name ≡ Some bytes
         → K.taken out.old ≡ Some was → E.taken err.old ≡ Some said → IsRequest (texts words.now) task name
@@ -138,6 +140,7 @@ fn perform(alloc: Global, task: Task, bytes: &[u8]) -> Result<List<u8>, Refused>
 {
     match task {
         Task::ToJani => translate(alloc, bytes),
+        Task::ToPrism => translate_back(alloc, bytes),
         Task::CheckPrism => count_prism(alloc, bytes),
         Task::CheckJani => count_jani(alloc, bytes),
     }

@@ -7,6 +7,8 @@ ghost use Rattle.model_command.specs.Words.{texts, IsFileWord, HasFileWord, IsRe
 pub enum Task {
     /// `to-jani FILE`: the PRISM file is translated to JANI.
     ToJani,
+    /// `to-prism FILE`: the JANI file is translated to PRISM.
+    ToPrism,
     /// `check prism FILE`: the PRISM file is judged, and what it consists of is counted.
     CheckPrism,
     /// `check jani FILE`: the JANI file is judged, and what takes part is counted.
@@ -32,6 +34,13 @@ pub(crate) fn request_in(words: &[String]) -> Result<Request<'_>, usize>
         "to-jani" => match file_in(rest) {
             Ok(name) => Ok(Request {
                 task: Task::ToJani,
+                name,
+            }),
+            Err(k) => Err(k + 1),
+        },
+        "to-prism" => match file_in(rest) {
+            Ok(name) => Ok(Request {
+                task: Task::ToPrism,
                 name,
             }),
             Err(k) => Err(k + 1),

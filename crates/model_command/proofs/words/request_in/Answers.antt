@@ -1,7 +1,7 @@
 use Rattle.std.proofs.Common.{rules, ◌≡◌, ◌≢◌, refl}
 use Rattle.std.specs.Prelude.{string_bytes, codes}
 use Rattle.model_command.specs.Words.{HasForm}
-use Rattle.model_command.proofs.Wrong.{no_verb, other_verb, behind_to_jani, wrong_next, read_none, read_first}
+use Rattle.model_command.proofs.Wrong.{no_verb, other_verb, behind_to_jani, behind_to_prism, wrong_next, read_none, read_first}
 use Rattle.model_command.proofs.words.request_in.Goals as goal
 
 pub returns-in_default : goal.returns-in_default
@@ -12,6 +12,11 @@ returns-in-Err c =
     let eq : string_bytes c.verb-item.result ≡ codes "to-jani" = search rules in
     read_first HasForm _ _ c.verb-item.result _ c.in-len1-up.len_at_least c.verb-item.is eq (behind_to_jani _ _ c.in-Err.ensures)
 
+pub returns-in-Err-file_in : goal.returns-in-Err-file_in
+returns-in-Err-file_in c =
+    let eq : string_bytes c.verb-item.result ≡ codes "to-prism" = search rules in
+    read_first HasForm _ _ c.verb-item.result _ c.in-len1-up.len_at_least c.verb-item.is eq (behind_to_prism _ _ c.in-Err-file_in.ensures)
+
 pub returns-in-Err-check_in : goal.returns-in-Err-check_in
 returns-in-Err-check_in c =
     let eq : string_bytes c.verb-item.result ≡ codes "check" = search rules in
@@ -20,5 +25,6 @@ returns-in-Err-check_in c =
 pub returns-in_default-as_str : goal.returns-in_default-as_str
 returns-in_default-as_str c =
     let not_to_jani : string_bytes c.verb-item.result ≢ codes "to-jani" = search rules in
+    let not_to_prism : string_bytes c.verb-item.result ≢ codes "to-prism" = search rules in
     let not_check : string_bytes c.verb-item.result ≢ codes "check" = search rules in
-    read_first HasForm 1 _ c.verb-item.result _ c.in-len1-up.len_at_least c.verb-item.is refl (other_verb _ _ not_to_jani not_check)
+    read_first HasForm 1 _ c.verb-item.result _ c.in-len1-up.len_at_least c.verb-item.is refl (other_verb _ _ not_to_jani not_to_prism not_check)

@@ -1,0 +1,70 @@
+//! From the bytes of a JANI file to the text of the PRISM file that it is translated to.
+ghost use Rattle.std.specs.Prelude.{◌≡◌, [], ◌++◌, IfErr, IfOk};
+ghost use Rattle.prism_tree.specs.Syntax as prism;
+ghost use Rattle.prism_print.specs.Comments.{lines_text};
+ghost use Rattle.prism_print.specs.Printable.{IsPrintable};
+ghost use Rattle.prism_print.specs.Same.{SpellsFile};
+ghost use Rattle.prism_print.specs.Text.{file_text};
+ghost use Rattle.jani_tree.specs.Syntax.{file_of};
+ghost use Rattle.jani_tree.specs.Faults.{FailsFor};
+ghost use Rattle.prism_translation.specs.Refused.{refused};
+ghost use Rattle.model_command.specs.declared.words.Task.TheVariants.{ToPrism};
+ghost use Rattle.model_command.specs.Tasks.{Judged};
+ghost use Rattle.model_command.specs.ToPrism.{IsWrittenBack};
+
+use crate::reading::read_jani;
+use bridge_io::{List, Refused, Text};
+use jani_check::CheckedJani;
+use jani_to_prism::{CheckedPrismText, to_prism, translated_law};
+use prism_parse::one_tree;
+use prism_print::{commented_law, print};
+use prism_translation_names::lines_law;
+use std::alloc::{AllocError, Global};
+
+/// The text of the PRISM file that the JANI file of these bytes is translated to, or the least fault of the bytes, or of the
+/// translation.
+pub(crate) fn translate_back(alloc: Global, bytes: &[u8]) -> Result<List<u8>, Refused>
+    ensures { Judged ToPrism bytes.now result }
+{
+    match read_jani(alloc, bytes) {
+        Ok(checked) => written(alloc, checked),
+        Err(refused) => Err(refused),
+    }
+}
+
+/// The text for a judged file, which is let go once it is translated, or the least fault of its translation.
+fn written(alloc: Global, checked: CheckedJani) -> Result<List<u8>, Refused>
+    ensures ok { IfOk result (λ text. (refused (file_of checked) ≡ []) × ((model : prism.File) × IsWrittenBack (file_of checked) text model)) }
+    ensures refused { IfErr result (FailsFor (refused (file_of checked))) }
+{
+    translated_law();
+    commented_law();
+    one_tree();
+    lines_law();
+    let model = to_prism(alloc, &checked)?;
+    drop(checked);
+    let text = text_of(alloc, &model)?;
+    Ok(text)
+}
+
+/// The comment lines, each with its line feed, and the canonical text of the file. `Err` is want of memory.
+fn text_of(alloc: Global, model: &CheckedPrismText) -> Result<List<u8>, AllocError>
+    ensures { IfOk result (λ text. text ≡ lines_text model.now.lines ++ file_text (prism.file_of model.now.file)) }
+{
+    let mut text = comments(alloc, model.lines.as_slice())?;
+    let body = print(alloc, &model.file)?;
+    text.extend_from_slice(body.as_slice())?;
+    Ok(List::from_vec(text))
+}
+
+/// Lines, each with its line feed. `Err` is want of memory.
+fn comments(alloc: Global, lines: &[Text]) -> Result<Vec<u8>, AllocError>
+    ensures { IfOk result (λ text. text.items ≡ lines_text lines.now) }
+{
+    let mut text = Vec::new(alloc);
+    for line in lines {
+        text.extend_from_slice(line.as_str().as_bytes())?;
+        text.push(b'\n')?;
+    }
+    Ok(text)
+}
