@@ -1,0 +1,7 @@
+pub mod Booleans
+pub mod Numbers
+pub mod Options
+pub mod Lists
+pub mod Each
+pub mod Members
+pub mod Texts

@@ -1,0 +1,27 @@
+-- Options.
+use Rattle.std.proofs.Common.{◌≡◌, Bool, true, false, ◌||◌, Option, Some, None, is_some, is_none, option_map, if◌then◌else◌, refl}
+use Rattle.std.specs.Option.{option_or}
+
+pub none_of : {A : Type 0} (o : Option A) → is_some o ≡ false → o ≡ None
+none_of None e = refl
+none_of (Some x) e = absurd cc
+
+pub none_is : {A : Type 0} (o : Option A) → is_none o ≡ true → o ≡ None
+none_is None e = refl
+none_is (Some x) e = absurd cc
+
+pub is_some-map : {A B : Type 0} (f : A → B) (o : Option A) → is_some (option_map f o) ≡ is_some o
+is_some-map f None = refl
+is_some-map f (Some x) = refl
+
+pub is_some-or : {A : Type 0} (a b : Option A) → is_some (option_or a b) ≡ (is_some a || is_some b)
+is_some-or None b = refl
+is_some-or (Some x) b = refl
+
+pub is_some-if : {A : Type 0} (b : Bool) (x : A) (o : Option A) → is_some (if b then Some x else o) ≡ (if b then true else is_some o)
+is_some-if true x o = refl
+is_some-if false x o = refl
+
+pub option_map-if : {A B : Type 0} (f : A → B) (b : Bool) (x : A) (o : Option A) → option_map f (if b then Some x else o) ≡ (if b then Some (f x) else option_map f o)
+option_map-if f true x o = refl
+option_map-if f false x o = refl
