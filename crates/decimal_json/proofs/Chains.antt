@@ -21,7 +21,8 @@ use Rattle.decimal_json.specs.declared.chars.Within.TheVariants.{Between}
 use Rattle.decimal_json.specs.declared.number.Stage.{Stage}
 use Rattle.decimal_json.specs.declared.number.Digits.{Digits}
 use Rattle.decimal_json.specs.Grammar.{is_space, is_among, names, key_mark}
-use Rattle.decimal_json.specs.Number.{first, onward, is_end, beyond, worth, RunsOn}
+use Rattle.frac_core.specs.Numeral.{is_beyond, worth}
+use Rattle.decimal_json.specs.Number.{first, onward, is_end, RunsOn}
 use Rattle.decimal_json.specs.Strings as chars
 use Rattle.decimal_json.specs.Strings.{is_between, in_utf8, ended, Passes}
 use Rattle.decimal_json.specs.States.{Goes, goes_on, Quiet, Steps, Halts, verdict, closes, begin_now, begin_value, begin_key, begin_members, begin_colon, in_string, in_key, waits, AllSpaces, Along, Advances, Behind}
@@ -230,7 +231,7 @@ number_along (b ∷ w) at n u v fs l e h =
 
 -- what stands behind a whole number
 pub number_follows : (w : List ℕ) (at n : ℕ) (u v : Stage) (d : Decimal) (fs : List Frame) (answer : Result State Stop) →
-    first (get_or w 0 0) ≡ Some u → RunsOn u (take n (drop 1 w)) v → n + 1 < length w → onward v (get_or w (n + 1) 0) ≡ None → is_end v ≡ true → beyond (take (n + 1) w) ≡ false → d ≡ worth (take (n + 1) w) →
+    first (get_or w 0 0) ≡ Some u → RunsOn u (take n (drop 1 w)) v → n + 1 < length w → onward v (get_or w (n + 1) 0) ≡ None → is_end v ≡ true → is_beyond (take (n + 1) w) ≡ false → d ≡ worth (take (n + 1) w) →
     Goes (at + (n + 1)) (get_or w (n + 1) 0) (closes (reverse fs) (Number at d)) answer → Quiet answer → (x : State) × Along at (take (n + 1) w) (record { mode = modes.Value; frames = fs }) x × Steps (at + (n + 1)) (get_or w (n + 1) 0) x answer × (x.frames ≡ fs)
 unfolding spelling
 number_follows w at n u v d fs answer e h l o i y z g q =

@@ -4,7 +4,8 @@ use Rattle.std.specs.Prelude.{Option, Some, None, is_some, bytes_eq, nat_lt, if�
 use Rattle.std.proofs.lemmas.Bool.Decides.{nat_tests}
 use Rattle.std.specs.Global.{Box, Global}
 use Rattle.std.specs.Map.{lookup}
-use Rattle.std.proofs.lemmas.List.{take-append-drop, length-append, drop_all}
+use Rattle.std.proofs.lemmas.List.{take-append-drop, length-append, drop_all, map-append}
+use Rattle.basics.specs.Options.{none_of}
 use Rattle.indexmap.specs.IndexMap.{IndexMap, get_by}
 use Rattle.decimal_json.specs.declared.tree.Member.{Member}
 use Rattle.decimal_json.specs.Grammar.{is_among, names}
@@ -20,21 +21,11 @@ among_append (x ∷ xs) ys s = go (bytes_eq s x) (among_append xs ys s)
     go true h = refl
     go false h = h
 
-pub map_append : {A B : Type 0} (f : A → B) (xs ys : List A) → map f (xs ++ ys) ≡ map f xs ++ map f ys
-map_append f [] ys = refl
-map_append f (x ∷ xs) ys = ap (λ u. f x ∷ u) (map_append f xs ys)
-
-or_false : (a b c : Bool) → c ≡ a || b → a ≡ false → c ≡ b
-or_false false b c h e = h
-or_false true b c h e = absurd cc
-
--- ---- one after another
-
 -- ---- the first few, and the later ones
 
 module _ (list : List Member) (n : ℕ) where
   parted : (s : List ℕ) → is_among (names list) s ≡ is_among (names (take n list)) s || is_among (names (drop n list)) s
-  parted s = ap (λ (u : List Member). is_among (names u) s) (sym (take-append-drop n list)) ∙ ap (λ (u : List (List ℕ)). is_among u s) (map_append (λ m. m.key.name) (take n list) (drop n list)) ∙ among_append (names (take n list)) (names (drop n list)) s
+  parted s = ap (λ (u : List Member). is_among (names u) s) (sym (take-append-drop n list)) ∙ ap (λ (u : List (List ℕ)). is_among u s) (map-append (λ m. m.key.name) (take n list) (drop n list)) ∙ among_append (names (take n list)) (names (drop n list)) s
 
   -- a further member among the first few
   pub none_later : (m : Member) (more : List Member) (late : List (List ℕ)) → more ≡ list ++ m ∷ [] → length list < n → late ≡ names (drop n list) → late ≡ names (drop n more)
@@ -44,7 +35,7 @@ module _ (list : List Member) (n : ℕ) where
   -- and behind them
   pub one_later : (m : Member) (more : List Member) (late later : List (List ℕ)) → more ≡ list ++ m ∷ [] → n ≤ length list → late ≡ names (drop n list) → later ≡ late ++ m.key.name ∷ [] → later ≡ names (drop n more)
   one_later m more late later e l f g =
-      g ∙ ap (λ (u : List (List ℕ)). u ++ m.key.name ∷ []) f ∙ sym (map_append (λ k. k.key.name) (drop n list) (m ∷ [])) ∙ ap names (sym (drop_more n list (m ∷ []) l)) ∙ ap (λ (u : List Member). names (drop n u)) (sym e)
+      g ∙ ap (λ (u : List (List ℕ)). u ++ m.key.name ∷ []) f ∙ sym (map-append (λ k. k.key.name) (drop n list) (m ∷ [])) ∙ ap names (sym (drop_more n list (m ∷ []) l)) ∙ ap (λ (u : List Member). names (drop n u)) (sym e)
     where
       drop_more : (n : ℕ) (xs ys : List Member) → n ≤ length xs → drop n (xs ++ ys) ≡ drop n xs ++ ys
       drop_more zero xs ys h = refl
@@ -60,10 +51,6 @@ module _ (list : List Member) (n : ℕ) where
       go false t g = one_later m more late later e (grind (arith, nat_tests, t, l)) f g
 
 -- ---- in the map
-
-none_of : {A : Type 0} (o : Option A) → is_some o ≡ false → o ≡ None
-none_of None e = refl
-none_of (Some x) e = absurd cc
 
 found_in : (s : List ℕ) (es : List (String Global × Unit {0})) → is_some (lookup (λ k. bytes_eq s (string_bytes k)) es) ≡ is_among (map (λ e. string_bytes e.0) es) s
 found_in s [] = refl
@@ -86,5 +73,5 @@ module _ {S : Type 0} where
 
   pub noted_is : (m : IndexMap (String Global) (Unit {0}) S) (k : String Global) (more : List (String Global × Unit {0})) (names : List (List ℕ)) (key : List ℕ) → more ≡ m.entries ++ (k, tt) ∷ [] → map (λ e. string_bytes e.0) m.entries ≡ names → string_bytes k ≡ key → map (λ e. string_bytes e.0) more ≡ names ++ key ∷ []
   noted_is m k more names key e f g =
-      ap (λ (u : List (String Global × Unit {0})). map (λ e. string_bytes e.0) u) e ∙ map_append (λ (x : String Global × Unit {0}). string_bytes x.0) m.entries ((k, tt) ∷ [])
+      ap (λ (u : List (String Global × Unit {0})). map (λ e. string_bytes e.0) u) e ∙ map-append (λ (x : String Global × Unit {0}). string_bytes x.0) m.entries ((k, tt) ∷ [])
       ∙ ap (λ (u : List (List ℕ)). u ++ string_bytes k ∷ []) f ∙ ap (λ (u : List ℕ). names ++ u ∷ []) g

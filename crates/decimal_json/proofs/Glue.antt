@@ -1,5 +1,5 @@
 -- From lemmas on places to what a step ensures.
-use Rattle.std.proofs.Common.{◌≡◌, ℕ, ◌+◌, ◌<◌, ◌≤◌, Bool, true, false, nat_eq, nat_lt, List, [], ◌∷◌, ◌++◌, length, reverse, refl, sym, ap, subst, ◌∙◌, arith, append_assoc}
+use Rattle.std.proofs.Common.{◌≡◌, ℕ, ◌+◌, ◌<◌, ◌≤◌, Bool, true, false, nat_eq, nat_lt, List, [], ◌∷◌, ◌++◌, length, reverse, refl, sym, ap, subst, ◌∙◌, arith, append_assoc, ne_eqb, append-nil}
 use Rattle.bridge_io.specs.declared.reason.Reason.TheVariants.{TooDeep, TwiceMember, BadNumber}
 use Rattle.std.specs.Prelude.{Option, None, Some, if◌then◌else◌}
 use Rattle.decimal_json.specs.declared.tree.Json.{Json}
@@ -26,9 +26,9 @@ use Rattle.decimal_json.specs.declared.number.Stage.{Stage}
 use Rattle.decimal_json.specs.declared.number.Digits.{Digits}
 use Rattle.frac_core.specs.declared.decimal.Decimal.{Decimal}
 use Rattle.decimal_json.specs.declared.tree.Json.TheVariants.{Number}
-use Rattle.decimal_json.specs.Number.{first, onward, is_end, beyond, worth, number_mark, measured}
+use Rattle.frac_core.specs.Numeral.{is_beyond, worth, decimal_of}
+use Rattle.decimal_json.specs.Number.{first, onward, is_end, number_mark}
 use Rattle.decimal_json.specs.States.{begin_now, rest, TooFarEnd, Finishes}
-use Rattle.decimal_json.proofs.Values.{differs}
 use Rattle.decimal_json.proofs.Turning.{turns_from, barred_from}
 use Rattle.decimal_json.specs.declared.machine.Mode.TheVariants as modes
 use Rattle.std.specs.Prelude.{Result, Ok, Err}
@@ -36,15 +36,11 @@ use Rattle.decimal_json.specs.declared.machine.State.{State}
 use Rattle.decimal_json.specs.declared.machine.Stop.{Stop}
 use Rattle.decimal_json.specs.declared.machine.Stop.TheVariants.{Memory, Here, At, TooFar}
 use Rattle.decimal_json.specs.declared.machine.Mode.{Mode}
-use Rattle.std.proofs.lemmas.List.{reverse-append, length-reverse}
+use Rattle.std.proofs.lemmas.List.{reverse-append, length-reverse, nil_from_length}
 
 next_is : (p : Place) → IsNext p (next p)
 unfolding next
-next_is p = record { at = refl; new = []; marks = sym (append_nil p.marks); fine = tt; ended = λ m a. absurd a }
-  where
-    append_nil : {A : Type 0} (xs : List A) → xs ++ [] ≡ xs
-    append_nil [] = refl
-    append_nil (x ∷ xs) = ap (λ u. x ∷ u) (append_nil xs)
+next_is p = record { at = refl; new = []; marks = sym (append-nil p.marks); fine = tt; ended = λ m a. absurd a }
 
 noted_is : (p : Place) (m : Mark) → IsFine m → m.to ≡ p.at + 1 → IsNext p (noted m (next p))
 unfolding next noted
@@ -177,22 +173,14 @@ module _ (at c from : ℕ) (n : Digits) (fs : List Frame) where
     ended = λ m a. elim a [ inl e ↦ (let h : m.to ≡ p.at = ap (λ (k : Mark). k.to) e in let j : q.at ≡ p.at + 1 = i.at in omega arith) | inr b ↦ i.ended m b ];
   }
 
-  mark_fine : (p : Place) → beyond n.text ≡ false → IsFine (number_mark n.text from p.at)
+  mark_fine : (p : Place) → is_beyond n.text ≡ false → IsFine (number_mark n.text from p.at)
   mark_fine p e = ap (λ b. if b then Some BadNumber else None) e
 
   quiet_fresh : (p q : Place) (m : Mode) → NoNumber m → Fresh p q m
-  quiet_fresh p q modes.Value h = tt
-  quiet_fresh p q (modes.First a) h = tt
-  quiet_fresh p q (modes.FirstKey a) h = tt
-  quiet_fresh p q (modes.Key a b) h = tt
-  quiet_fresh p q (modes.Colon a b) h = tt
-  quiet_fresh p q (modes.InKey a b d f g) h = tt
-  quiet_fresh p q (modes.InString a b d) h = tt
-  quiet_fresh p q (modes.Word a b) h = tt
   quiet_fresh p q (modes.InNumber a b) h = absurd h
-  quiet_fresh p q (modes.After a) h = tt
+  quiet_fresh p q m h = tt
 
-  pub number_over : (d : Decimal) (r : Result State Stop) → verdict n ≡ false → onward n.stage c ≡ None → is_end n.stage ≡ true → beyond n.text ≡ false → d ≡ worth n.text → Goes at c (closes (reverse fs) (Number from d)) r → Quiet r → Numbers at c from n (reverse fs) r
+  pub number_over : (d : Decimal) (r : Result State Stop) → verdict n ≡ false → onward n.stage c ≡ None → is_end n.stage ≡ true → is_beyond n.text ≡ false → d ≡ worth n.text → Goes at c (closes (reverse fs) (Number from d)) r → Quiet r → Numbers at c from n (reverse fs) r
   unfolding noted some_place
   number_over d (Ok t) k e f b i g h = λ p j.
       let v = g (noted (number_mark n.text from p.at) p) j in
@@ -217,7 +205,7 @@ word_from p c b bytes left x fs e f =
 pub word_bad_from : (p : Place) (c b : ℕ) (bytes left : List ℕ) (x : Json) (fs : List Frame) → bytes ≡ b ∷ left → (b ≡ c → ⊥) → Barred p c (in_word bytes x fs)
 word_bad_from p c b bytes left x fs e n =
     let F : List ℕ → Type 0 = λ u. Barred p c (in_word u x fs) in
-    subst F (sym e) (s.word_bad p c b left fs x (differs c b (λ f. n (sym f))))
+    subst F (sym e) (s.word_bad p c b left fs x (ne_eqb c b (λ f. n (sym f))))
 
 pub word_over : (at c : ℕ) (bytes : List ℕ) (x : Json) (fs : List Frame) (r : Result State Stop) → bytes ≡ [] → Goes at c (closes fs x) r → Goes at c (in_word bytes x fs) r
 word_over at c bytes x fs r e h =
@@ -263,10 +251,6 @@ module _ (start : ℕ) (done : List Member) (from : ℕ) (t : Within) (text : Li
 
 -- ---- the end
 
-length-zero : {A : Type 0} (xs : List A) → length xs ≡ 0 → xs ≡ []
-length-zero [] e = refl
-length-zero (x ∷ xs) e = absurd (omega arith)
-
 open_top : (m : Mode) (f : Frame) (fs : List Frame) → Over (goes_on m (f ∷ fs)) None
 open_top modes.Value f fs p = s.value_open (f ∷ fs) p
 open_top (modes.First at) f fs p = s.items_open at (f ∷ fs) p
@@ -290,7 +274,7 @@ pub finish_as : (m n : Mode) (fs : List Frame) (r : Option Json) → m ≡ n →
 finish_as m n fs r e l k h =
     let F : Mode → Type 0 = λ k. Over (goes_on k (reverse fs)) r × Settles k in
     let G : List Frame → Type 0 = λ u. Over (goes_on n (reverse u)) r in
-    subst F (sym e) (subst G (sym (length-zero fs l)) h, k)
+    subst F (sym e) (subst G (sym (nil_from_length fs l)) h, k)
 
 pub memory_numbers : (at c from : ℕ) (n : Digits) (fs : List Frame) (r : Result State Stop) → IsErr r → IsErrAnd r (λ e. e ≡ Memory) → Numbers at c from n fs r
 memory_numbers at c from n fs (Ok t) h g = absurd (let e : false ≡ true = h in cc)
@@ -317,25 +301,25 @@ pub far_end : (m : Mode) (at : ℕ) (n : Digits) (from : ℕ) → m ≡ modes.In
 far_end m at n from e f v = let F : Mode → Type 0 = λ k. TooFarEnd k from in subst F (sym e) (f, v)
 
 -- what a measure says
-pub measured_none : (t : List ℕ) (r : Option Decimal) → r ≡ measured t → r ≡ None → beyond t ≡ true
-measured_none t r e f = go (beyond t) refl
+pub measured_none : (t : List ℕ) (r : Option Decimal) → r ≡ decimal_of t → r ≡ None → is_beyond t ≡ true
+measured_none t r e f = go (is_beyond t) refl
   where
-    go : (b : Bool) → beyond t ≡ b → beyond t ≡ true
+    go : (b : Bool) → is_beyond t ≡ b → is_beyond t ≡ true
     go true h = h
     go false h = absurd (let x : None ≡ Some (worth t) = sym f ∙ e ∙ ap (λ b. if b then None else Some (worth t)) h in cc)
 
-pub measured_some : (t : List ℕ) (r : Option Decimal) (d : Decimal) → r ≡ measured t → r ≡ Some d → (beyond t ≡ false) × (d ≡ worth t)
-measured_some t r d e f = go (beyond t) refl
+pub measured_some : (t : List ℕ) (r : Option Decimal) (d : Decimal) → r ≡ decimal_of t → r ≡ Some d → (is_beyond t ≡ false) × (d ≡ worth t)
+measured_some t r d e f = go (is_beyond t) refl
   where
-    go : (b : Bool) → beyond t ≡ b → (beyond t ≡ false) × (d ≡ worth t)
+    go : (b : Bool) → is_beyond t ≡ b → (is_beyond t ≡ false) × (d ≡ worth t)
     go true h = absurd (let x : None ≡ Some d = sym (ap (λ b. if b then None else Some (worth t)) h) ∙ sym e ∙ f in cc)
     go false h = (h, (let x : Some d ≡ Some (worth t) = sym f ∙ e ∙ ap (λ b. if b then None else Some (worth t)) h in cc))
 
-pub verdict_end : (n : Digits) → is_end n.stage ≡ true → verdict n ≡ beyond n.text
-verdict_end n e = ap (λ b. if b then beyond n.text else n.before) e
+pub verdict_end : (n : Digits) → is_end n.stage ≡ true → verdict n ≡ is_beyond n.text
+verdict_end n e = ap (λ b. if b then is_beyond n.text else n.before) e
 
 pub verdict_open : (n : Digits) → is_end n.stage ≡ false → verdict n ≡ n.before
-verdict_open n e = ap (λ b. if b then beyond n.text else n.before) e
+verdict_open n e = ap (λ b. if b then is_beyond n.text else n.before) e
 
 pub over_After : (x : Json) → Over (closes [] x) (Some x)
 over_After x p = (p, s.end_stops x p, inl refl)

@@ -30,7 +30,8 @@ use Rattle.decimal_json.proofs.Steps as s
 use Rattle.bridge_io.specs.declared.reason.Reason.TheVariants.{TwiceMember}
 use Rattle.decimal_json.specs.declared.number.Stage.{Stage}
 use Rattle.decimal_json.specs.declared.number.Digits.{Digits}
-use Rattle.decimal_json.specs.Number.{first, onward, is_end, beyond, RunsOn}
+use Rattle.frac_core.specs.Numeral.{is_beyond}
+use Rattle.decimal_json.specs.Number.{first, onward, is_end, RunsOn}
 use Rattle.decimal_json.specs.States.{AllSpaces, verdict}
 use Rattle.decimal_json.proofs.Glue.{number_steps, number_stuck, verdict_end, closes_is, closes_not, key_breaks}
 use Rattle.decimal_json.proofs.Chains.{tail_is, key_along, key_ends, spaces_on, spelling, Spelt, number_along}
@@ -185,7 +186,7 @@ module _ (w : List ℕ) (at n : ℕ) (u v : Stage) (l : 0 < length w) (e : first
         go false b = number_fault fs Here tt (number_steps (at + (n + 1)) (get_or w (n + 1) 0) at (modes.InNumber at (number_read fs)) (number_read fs) fs (Err Here) refl (number_stuck (at + (n + 1)) (get_or w (n + 1) 0) at (number_read fs) fs b o i))
 
     -- it breaks a limit
-    pub number_too_far : is_end v ≡ true → beyond (take (n + 1) w) ≡ true → NoScalar at w
+    pub number_too_far : is_end v ≡ true → is_beyond (take (n + 1) w) ≡ true → NoScalar at w
     unfolding number_read number_state
     number_too_far i b fs = number_fault fs (TooFar at) tt (refl, verdict_end (number_read fs) i ∙ b, o)
 

@@ -1,7 +1,5 @@
 pub mod Numbers
 pub mod Strings
-pub mod Worth
-pub mod Normal
 pub mod Turning
 pub mod Limits
 pub mod Values

@@ -1,5 +1,5 @@
 -- Arrays and objects that stand whole.
-use Rattle.std.proofs.Common.{◌≡◌, ℕ, zero, suc, ◌+◌, ◌<◌, ◌≤◌, Bool, true, false, ◌||◌, nat_eq, List, [], ◌∷◌, ◌++◌, take, drop, length, reverse, refl, sym, ap, subst, ◌∙◌, inl, inr, arith, append_assoc, append-nil}
+use Rattle.std.proofs.Common.{◌≡◌, ℕ, zero, suc, ◌+◌, ◌<◌, ◌≤◌, Bool, true, false, ◌||◌, nat_eq, List, [], ◌∷◌, ◌++◌, take, drop, length, reverse, refl, sym, ap, subst, ◌∙◌, inl, inr, arith, append_assoc, append-nil, ne_eqb}
 use Rattle.std.specs.Prelude.{◌⊎◌, Result, Ok, Err, codes}
 use Rattle.std.proofs.Math.Seq.{take-length}
 use Rattle.std.proofs.lemmas.List.{length-append, length-drop, length-take-le}
@@ -18,7 +18,7 @@ use Rattle.decimal_json.specs.Lang.{Place, Lang, next, Turns, ◌>>◌}
 use Rattle.decimal_json.specs.Grammar.{ws, is_space, bracket}
 use Rattle.decimal_json.specs.States.{goes_on, Goes, Quiet, Steps, rest, closes, begin_now, begin_value, begin_items, begin_members, in_word, Along}
 use Rattle.decimal_json.specs.Whole.{HasRoom, IsWhole, Skips, IsNaming}
-use Rattle.decimal_json.proofs.Values.{past_space, differs}
+use Rattle.decimal_json.proofs.Values.{past_space}
 use Rattle.decimal_json.proofs.Steps as s
 use Rattle.decimal_json.proofs.Glue.{plain, with_mark, bracket_fine, by_mode, goes_by, pushed, popped, word_over, open_object_close}
 use Rattle.decimal_json.specs.declared.machine.Mode.{Mode}
@@ -190,7 +190,7 @@ module _ (w : List ℕ) (at depth : ℕ) where
   pub items_first : (n : ℕ) (list : List Json) → 0 < length w → get_or w 0 0 ≡ 91 → Skips w 1 n → (n < length w → is_space (get_or w n 0) ≡ false) → (get_or w n 0 ≡ 93 → ⊥) → list ≡ [] → ItemsTo list n
   items_first n list l c k z x e =
       let F : List Json → Type 0 = λ u. ItemsTo u n in
-      subst F (sym e) (k.within, λ fs r. (record { mode = modes.First at; frames = fs }, array_in n fs l c k r, λ i. first_item (at + n) (get_or w n 0) at fs (z i) (differs _ _ x), inl (refl, refl, differs _ _ x)), z)
+      subst F (sym e) (k.within, λ fs r. (record { mode = modes.First at; frames = fs }, array_in n fs l c k r, λ i. first_item (at + n) (get_or w n 0) at fs (z i) (ne_eqb _ _ x), inl (refl, refl, ne_eqb _ _ x)), z)
 
   pub array_empty : (n : ℕ) (list : List Json) → 0 < length w → get_or w 0 0 ≡ 91 → Skips w 1 n → get_or w n 0 ≡ 93 → n + 1 < length w → list ≡ [] → IsWhole (depth + 1) at w (Array at list) (n + 1)
   array_empty n list l c k z i e =
@@ -275,7 +275,7 @@ module _ (w : List ℕ) (at depth : ℕ) where
       first_opens (at + n) at done fs e,
       modes.FirstKey at,
       refl,
-      λ i q. (λ p a. s.members_barred at (reverse fs) p (get_or w n 0) (z i) q (differs _ _ x), tt),
+      λ i q. (λ p a. s.members_barred at (reverse fs) p (get_or w n 0) (z i) q (ne_eqb _ _ x), tt),
     ),
   )
 

@@ -11,7 +11,8 @@ use Rattle.decimal_json.specs.declared.tree.Json.TheOpen as layer
 use Rattle.decimal_json.specs.declared.tree.Member.{Member}
 use Rattle.decimal_json.specs.Lang.{Mark, Place, next, noted, IsFine, AllFine, Lang, one_of, gives, here, note, ◌>>=◌, ◌or◌, many_with}
 use Rattle.decimal_json.specs.Grammar.{ws, byte, exactly, next_item, listed, word, chars, string, string_value, key_mark, number_value, is_among, same_state, also, array, member, object, value_with, value_at, value, text}
-use Rattle.decimal_json.specs.Number.{nexts, number, worth}
+use Rattle.frac_core.specs.Numeral.{worth}
+use Rattle.decimal_json.specs.Number.{nexts, number}
 use Rattle.decimal_json.specs.Faults.{start, Reads}
 use Rattle.decimal_json.specs.Proper.{all_true, apart, once_step, once_member, keys_once, member_once}
 

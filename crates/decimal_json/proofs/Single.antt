@@ -1,7 +1,6 @@
 -- Bytes spell one value: in each state of a reader a byte leads to one other state or to none, and the end leaves one value or none.
-use Rattle.std.proofs.Common.{◌≡◌, ℕ, Bool, true, false, nat_eq, List, [], ◌∷◌, ◌++◌, refl, sym, ap, ◌∙◌, arith, inl, inr}
+use Rattle.std.proofs.Common.{◌≡◌, ℕ, Bool, true, false, nat_eq, List, [], ◌∷◌, ◌++◌, refl, sym, ap, ◌∙◌, inl, inr, eqb-true}
 use Rattle.std.specs.Prelude.{◌⊎◌, Option, Some, None, codes}
-use Rattle.std.proofs.lemmas.Bool.Decides.{nat_tests}
 use Rattle.bridge_io.specs.declared.reason.Named.{Named}
 use Rattle.decimal_json.specs.declared.tree.Json.{Json}
 use Rattle.decimal_json.specs.declared.tree.Json.TheVariants.{Null, Truth, Str, Array, Object, Number}
@@ -13,7 +12,8 @@ use Rattle.decimal_json.specs.declared.chars.Within.{Within}
 use Rattle.decimal_json.specs.declared.chars.Within.TheVariants.{Between, InEscape, InBytes}
 use Rattle.decimal_json.specs.Lang.{Mark, Place, next, noted, Lang, Turns, Barred, Stops, NoEmpty}
 use Rattle.decimal_json.specs.Grammar.{is_space, text}
-use Rattle.decimal_json.specs.Number.{first, onward, is_end, number_mark, worth}
+use Rattle.frac_core.specs.Numeral.{worth}
+use Rattle.decimal_json.specs.Number.{first, onward, is_end, number_mark}
 use Rattle.decimal_json.specs.Strings as chars
 use Rattle.decimal_json.specs.Strings.{in_utf8, ended}
 use Rattle.decimal_json.specs.States.{closes, begin_value, begin_now, begin_items, begin_members, begin_key, begin_colon, in_string, in_key, in_number, in_word}
@@ -58,11 +58,8 @@ Moves p c L = ((t : Spot) × (q : Place) × Turns p c q L (rest t)) ⊎ Barred p
 which : {A : Type 0} (c k : ℕ) → (c ≡ k → A) → (nat_eq c k ≡ false → A) → A
 which {A = A} c k f g = go (nat_eq c k) refl
   where
-    same : (c k : ℕ) → nat_eq c k ≡ true → c ≡ k
-    same c k e = grind (arith, nat_tests)
-
     go : (b : Bool) → nat_eq c k ≡ b → A
-    go true e = f (same c k e)
+    go true e = f (eqb-true c k e)
     go false e = g e
 
 whether : {A : Type 0} (b : Bool) → (b ≡ true → A) → (b ≡ false → A) → A

@@ -1,18 +1,18 @@
 -- The canonical text, piece by piece.
-use Rattle.std.proofs.Common.{◌/◌, ◌%◌, ◌^◌, ◌-◌, cond, nat_lt, ◌≡◌, ℕ, ◌+◌, List, [], ◌∷◌, ◌++◌, map, refl, sym, ap, ◌∙◌, append_assoc, take, drop, length, nat_eq, subst, ◌<◌, ◌≤◌, arith, zero, suc}
-use Rattle.std.specs.Prelude.{codes, Bool, true, false, ℤ, pos, negsuc, decimal, ◌<ℤ◌, unsigned_abs}
-use Rattle.std.proofs.Math.Nat.{pow-suc}
-use Rattle.std.proofs.Math.Seq.{take-add}
+use Rattle.std.proofs.Common.{nat_lt, ◌≡◌, ℕ, ◌+◌, List, [], ◌∷◌, ◌++◌, map, refl, sym, ap, ◌∙◌, append_assoc, take, drop, length, nat_eq, subst, ◌<◌, ◌≤◌, arith, zero, suc, append-nil}
+use Rattle.std.specs.Prelude.{true, false}
+use Rattle.std.proofs.Math.Seq.{take-add, take-length}
 use Rattle.std.proofs.Math.ListN.{get_or}
 use Rattle.std.proofs.lemmas.Bool.Decides.{nat_tests}
-use Rattle.std.proofs.lemmas.Int.{ints}
+use Rattle.std.proofs.lemmas.List.{map_push}
 use Rattle.decimal_json.specs.declared.tree.Json.{Json}
 use Rattle.decimal_json.specs.declared.tree.Member.{Member}
 use Rattle.decimal_json.specs.declared.tree.Json.TheOpen as layer
 use Rattle.decimal_json.specs.declared.tree.Json.TheVariants.{Array, Object, rolls-Array, rolls-Object}
 use Rattle.decimal_json.specs.declared.tree.Json.{fold-roll-Json}
 use Rattle.decimal_json.specs.declared.tree.Json.TheFolds.{fold_out-Member}
-use Rattle.decimal_json.specs.Text.{padded, real_text, escaped_byte, is_bare, AllBare, escaped, value_step, member_step, text_of, member_text, with_commas, behind_commas, quoted}
+use Rattle.decimal_json.specs.Text.{escaped_byte, is_bare, AllBare, escaped, value_step, member_step, text_of, member_text, with_commas, behind_commas, quoted}
+use Rattle.decimal_json.proofs.Escapes.{escaped_append}
 
 pub text_Array : (at : ℕ) (xs : List Json) → text_of (Array at xs) ≡ 0x5b ∷ (with_commas (map text_of xs) ++ 0x5d ∷ [])
 text_Array at xs = ap text_of (sym (rolls-Array at xs)) ∙ fold-roll-Json _ _ value_step member_step (layer.Array at xs)
@@ -20,17 +20,9 @@ text_Array at xs = ap text_of (sym (rolls-Array at xs)) ∙ fold-roll-Json _ _ v
 pub text_Object : (at close : ℕ) (ms : List Member) → text_of (Object at ms close) ≡ 0x7b ∷ (with_commas (map member_text ms) ++ 0x7d ∷ [])
 text_Object at close ms = ap text_of (sym (rolls-Object at ms close)) ∙ fold-roll-Json _ _ value_step member_step (layer.Object at ms close)
 
-append_nil : (xs : List ℕ) → xs ++ [] ≡ xs
-append_nil [] = refl
-append_nil (x ∷ xs) = ap (λ u. x ∷ u) (append_nil xs)
-
 behind_snoc : (ts : List (List ℕ)) (t : List ℕ) → behind_commas (ts ++ t ∷ []) ≡ behind_commas ts ++ 0x2c ∷ t
-behind_snoc [] t = ap (λ u. 0x2c ∷ u) (append_nil t)
+behind_snoc [] t = ap (λ u. 0x2c ∷ u) (append-nil t)
 behind_snoc (s ∷ ts) t = ap (λ u. 0x2c ∷ (s ++ u)) (behind_snoc ts t) ∙ ap (λ u. 0x2c ∷ u) (sym (append_assoc s (behind_commas ts) (0x2c ∷ t)))
-
-map_snoc : {X : Type 0} (f : X → List ℕ) (xs : List X) (x : X) → map f (xs ++ x ∷ []) ≡ map f xs ++ f x ∷ []
-map_snoc f [] x = refl
-map_snoc f (y ∷ xs) x = ap (λ u. f y ∷ u) (map_snoc f xs x)
 
 commas_snoc : (s : List ℕ) (ts : List (List ℕ)) (t : List ℕ) → with_commas ((s ∷ ts) ++ t ∷ []) ≡ with_commas (s ∷ ts) ++ 0x2c ∷ t
 commas_snoc s ts t = ap (λ u. s ++ u) (behind_snoc ts t) ∙ sym (append_assoc s (behind_commas ts) (0x2c ∷ t))
@@ -46,57 +38,23 @@ module _ {X : Type 0} (f : X → List ℕ) (start out mid end : List ℕ) (b : �
   first_step o t z e =
       let a : take i xs ≡ [] = ap (λ k. take k xs) z in
       let g : take (i + 1) xs ≡ x ∷ [] = t ∙ ap (λ (u : List X). u ++ x ∷ []) a in
-      e ∙ ap (λ (u : List ℕ). u ++ f x) (o ∙ ap (λ (u : List X). start ++ b ∷ with_commas (map f u)) a) ∙ append_assoc start (b ∷ []) (f x) ∙ ap (λ (u : List ℕ). start ++ b ∷ u) (sym (append_nil (f x))) ∙ ap (λ (u : List X). start ++ b ∷ with_commas (map f u)) (sym g)
+      e ∙ ap (λ (u : List ℕ). u ++ f x) (o ∙ ap (λ (u : List X). start ++ b ∷ with_commas (map f u)) a) ∙ append_assoc start (b ∷ []) (f x) ∙ ap (λ (u : List ℕ). start ++ b ∷ u) (sym (append-nil (f x))) ∙ ap (λ (u : List X). start ++ b ∷ with_commas (map f u)) (sym g)
 
   pub more_step : out ≡ start ++ b ∷ with_commas (map f (take i xs)) → take (i + 1) xs ≡ take i xs ++ x ∷ [] → (i ≡ 0 → ⊥) → i < length xs → mid ≡ out ++ 0x2c ∷ [] → end ≡ mid ++ f x → end ≡ start ++ b ∷ with_commas (map f (take (i + 1) xs))
   more_step o t z l m e =
       let y = taken xs i z l in
       let g : with_commas (map f (take (i + 1) xs)) ≡ with_commas (map f (take i xs)) ++ 0x2c ∷ f x =
-      ap (λ (u : List X). with_commas (map f u)) (t ∙ ap (λ (u : List X). u ++ x ∷ []) y.2) ∙ ap (λ (u : List (List ℕ)). with_commas u) (map_snoc f (y.0 ∷ y.1) x) ∙ commas_snoc (f y.0) (map f y.1) (f x) ∙ ap (λ (u : List X). with_commas (map f u) ++ 0x2c ∷ f x) (sym y.2) in
+      ap (λ (u : List X). with_commas (map f u)) (t ∙ ap (λ (u : List X). u ++ x ∷ []) y.2) ∙ ap (λ (u : List (List ℕ)). with_commas u) (map_push f (y.0 ∷ y.1) x) ∙ commas_snoc (f y.0) (map f y.1) (f x) ∙ ap (λ (u : List X). with_commas (map f u) ++ 0x2c ∷ f x) (sym y.2) in
       e ∙ ap (λ (u : List ℕ). u ++ f x) (m ∙ ap (λ (u : List ℕ). u ++ 0x2c ∷ []) o) ∙ append_assoc _ (0x2c ∷ []) (f x) ∙ append_assoc start (b ∷ with_commas (map f (take i xs))) (0x2c ∷ f x) ∙ ap (λ (u : List ℕ). start ++ b ∷ u) (sym g)
-
-take_all : {X : Type 0} (xs : List X) → take (length xs) xs ≡ xs
-take_all [] = refl
-take_all (x ∷ xs) = ap (λ u. x ∷ u) (take_all xs)
 
 -- the closing bracket behind all of them
 pub closing : {X : Type 0} (f : X → List ℕ) (start out end : List ℕ) (b d : ℕ) (xs : List X) (i : ℕ) → out ≡ start ++ b ∷ with_commas (map f (take i xs)) → end ≡ out ++ d ∷ [] → i ≡ length xs → end ≡ start ++ b ∷ (with_commas (map f xs) ++ d ∷ [])
 closing {X = X} f start out end b d xs i o e l =
-    e ∙ ap (λ (u : List ℕ). u ++ d ∷ []) (o ∙ ap (λ (u : List X). start ++ b ∷ with_commas (map f u)) (ap (λ k. take k xs) l ∙ take_all xs))
+    e ∙ ap (λ (u : List ℕ). u ++ d ∷ []) (o ∙ ap (λ (u : List X). start ++ b ∷ with_commas (map f u)) (ap (λ k. take k xs) l ∙ take-length xs))
     ∙ append_assoc start (b ∷ with_commas (map f xs)) (d ∷ [])
 
 pub member_is : (m : Member) → member_text m ≡ quoted m.key.name ++ 0x3a ∷ text_of m.value
 member_is m = fold_out-Member _ _ value_step member_step m
-
--- ---- reals, by the exponent's sign and size
-
-pub text_zero : (n : ℕ) (z : ℤ) → z ≡ pos 0 → real_text n z ≡ decimal n ++ codes ".0"
-text_zero n z e = ap (real_text n) e
-
-pub text_high : (n : ℕ) (z : ℤ) → pos 0 <ℤ z → real_text n z ≡ decimal n ++ (codes "e" ++ decimal (unsigned_abs z))
-text_high n (pos zero) h = absurd (omega (arith, ints))
-text_high n (pos (suc p)) h = refl
-text_high n (negsuc m) h = absurd (omega (arith, ints))
-
-pub text_point : (n : ℕ) (z : ℤ) → z <ℤ pos 0 → unsigned_abs z ≤ 20 → real_text n z ≡ decimal (n / 10 ^ unsigned_abs z) ++ (codes "." ++ padded (unsigned_abs z) (n % 10 ^ unsigned_abs z))
-text_point n (pos p) h l = absurd (omega (arith, ints))
-text_point n (negsuc m) h l =
-    let e : nat_lt m 20 ≡ true = grind (arith, nat_tests) in
-    ap (λ (t : Bool). cond t (decimal (n / 10 ^ suc m) ++ (codes "." ++ padded (suc m) (n % 10 ^ suc m))) (decimal n ++ (codes "e-" ++ decimal (suc m)))) e
-
-pub text_low : (n : ℕ) (z : ℤ) → z <ℤ pos 0 → 20 < unsigned_abs z → real_text n z ≡ decimal n ++ (codes "e-" ++ decimal (unsigned_abs z))
-text_low n (pos p) h l = absurd (omega (arith, ints))
-text_low n (negsuc m) h l =
-    let e : nat_lt m 20 ≡ false = grind (arith, nat_tests) in
-    ap (λ (t : Bool). cond t (decimal (n / 10 ^ suc m) ++ (codes "." ++ padded (suc m) (n % 10 ^ suc m))) (decimal n ++ (codes "e-" ++ decimal (suc m)))) e
-
-pub padded_step : (k n : ℕ) (o : List ℕ) → (k ≡ 0 → ⊥) → (o ++ padded (k - 1) (n / 10)) ++ (48 + n % 10) ∷ [] ≡ o ++ padded k n
-padded_step zero n o h = absurd (h refl)
-padded_step (suc k) n o h = let e : suc k - 1 ≡ k = omega arith in rw (e, append_assoc) refl
-
-pub positive : (k : ℕ) → 0 < 10 ^ k
-positive zero = omega arith
-positive (suc k) = let h = positive k in let e = pow-suc 10 k in omega arith
 
 -- ---- strings
 
@@ -139,15 +97,11 @@ bare_more w v c e h k = let F : List ℕ → Type 0 = λ u. AllBare u in subst F
 pub bare_pushed : (out end w : List ℕ) → AllBare w → end ≡ out ++ w → end ≡ out ++ escaped w
 bare_pushed out end w h e = e ∙ ap (λ u. out ++ u) (sym (bare_text w h))
 
-escaped_join : (v w : List ℕ) → escaped (v ++ w) ≡ escaped v ++ escaped w
-escaped_join [] w = refl
-escaped_join (c ∷ v) w = ap (λ u. escaped_byte c ++ u) (escaped_join v w) ∙ sym (append_assoc (escaped_byte c) (escaped v) (escaped w))
-
 pub escaped_on : (start bytes rest out end : List ℕ) (i m : ℕ) → rest ≡ drop i bytes → out ≡ start ++ 0x22 ∷ escaped (take i bytes) → end ≡ out ++ escaped (take m rest) → end ≡ start ++ 0x22 ∷ escaped (take (i + m) bytes)
 escaped_on start bytes rest out end i m r o e =
     e ∙ ap (λ (u : List ℕ). u ++ escaped (take m rest)) o ∙ append_assoc start (0x22 ∷ escaped (take i bytes)) (escaped (take m rest))
-    ∙ ap (λ (u : List ℕ). start ++ 0x22 ∷ u) (sym (escaped_join (take i bytes) (take m rest)) ∙ ap escaped (ap (λ (u : List ℕ). take i bytes ++ take m u) r ∙ sym (take-add i m bytes)))
+    ∙ ap (λ (u : List ℕ). start ++ 0x22 ∷ u) (sym (escaped_append (take i bytes) (take m rest)) ∙ ap escaped (ap (λ (u : List ℕ). take i bytes ++ take m u) r ∙ sym (take-add i m bytes)))
 
 pub one_byte : (w : List ℕ) → 0 < length w → escaped (take 1 w) ≡ escaped_byte (get_or w 0 0)
 one_byte [] l = absurd (omega arith)
-one_byte (c ∷ w) l = append_nil (escaped_byte c)
+one_byte (c ∷ w) l = append-nil (escaped_byte c)

@@ -18,7 +18,8 @@ use Rattle.decimal_json.specs.declared.number.Stage.{Stage}
 use Rattle.decimal_json.specs.declared.number.Digits.{Digits}
 use Rattle.decimal_json.specs.declared.chars.Within.{Within}
 use Rattle.decimal_json.specs.Strings.{chars_rest}
-use Rattle.decimal_json.specs.Number.{number_rest, number_mark, worth, beyond, is_end, onward}
+use Rattle.frac_core.specs.Numeral.{worth, is_beyond}
+use Rattle.decimal_json.specs.Number.{number_rest, number_mark, is_end, onward}
 use Rattle.decimal_json.specs.declared.tree.Json.TheVariants.{Number}
 use Rattle.decimal_json.specs.Grammar.{is_space, ws, byte, exactly, listed, next_item, names, same_state, also, key_mark, member, value}
 
@@ -147,7 +148,7 @@ pub record Breaks (p : Place) (c : ℕ) (L : Lang Json) (from : ℕ) (reason : R
 
 -- the longest number that stands up to here breaks a limit
 abbrev pub verdict : Digits → Bool
-verdict n = if is_end n.stage then beyond n.text else n.before
+verdict n = if is_end n.stage then is_beyond n.text else n.before
 
 -- no number, or one that begins at this offset
 abbrev pub Fresh : Place → Place → Mode → Type 0

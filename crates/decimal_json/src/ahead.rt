@@ -12,9 +12,10 @@ use crate::chars::{Within, closes};
 use crate::letters::Letters;
 use crate::machine::is_space;
 use crate::members::{Members, Pending};
-use crate::number::{Stage, first, is_end, measure, onward};
+use crate::number::{Stage, first, is_end, onward};
 use crate::tree::Json;
 use bridge_io::List;
+use frac_core::decimal_of;
 use std::alloc::{AllocError, Global};
 
 /// How many of the first bytes are spaces.
@@ -82,7 +83,7 @@ fn whole_number(at: usize, bytes: &[u8]) -> Option<(Json, usize)>
     if !is_end(last) {
         return None;
     }
-    let value = measure(&bytes[..end])?;
+    let value = decimal_of(&bytes[..end])?;
     Some((Json::Number(at, value), end))
 }
 

@@ -11,9 +11,10 @@ use crate::brackets::{Brackets, Frame};
 use crate::chars::{Within, closes, onward as char_onward};
 use crate::letters::Letters;
 use crate::members::{Members, Pending};
-use crate::number::{Digits, first, first_digit, is_end, measure, next_digit, onward, verdict};
+use crate::number::{Digits, first, first_digit, is_end, next_digit, onward, verdict};
 use crate::tree::Json;
 use bridge_io::{List, Reason};
+use frac_core::decimal_of;
 use std::alloc::{AllocError, Global};
 
 /// A space, a tab, a line feed or a carriage return.
@@ -474,7 +475,7 @@ pub(crate) fn in_number(
                 }
                 return Err(Stop::Here);
             }
-            match measure(digits.text.as_slice()) {
+            match decimal_of(digits.text.as_slice()) {
                 None => Err(Stop::TooFar(start)),
                 Some(value) => in_after(alloc, at, Json::Number(start, value), frames, c),
             }
@@ -516,7 +517,7 @@ fn finish_number(start: usize, digits: Digits, frames: Brackets) -> Result<Optio
     if !is_end(digits.stage) {
         return Ok(None);
     }
-    match measure(digits.text.as_slice()) {
+    match decimal_of(digits.text.as_slice()) {
         None => Err(start),
         Some(value) => Ok(Some(Json::Number(start, value))),
     }

@@ -1,2 +1,6 @@
 mod Parts
 mod Decimals
+pub mod Digits
+pub mod Readings
+pub mod Worth
+pub mod Back

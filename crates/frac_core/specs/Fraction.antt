@@ -7,6 +7,7 @@ use Rattle.std.specs.Int.{int_div_euclid, int_rem_euclid}
 use Rattle.std.specs.declared.cmp.Ordering.{Ordering}
 use Rattle.std.proofs.Common.{lt-ltb, eq-eqb, pos_of_ne-zero}
 use Rattle.std.proofs.Math.Nat.{mul-div_cancel'}
+use Rattle.std.proofs.lemmas.Bool.{and_from}
 use Rattle.frac_core.specs.Gcd.{gcd, gcd_lem, gcd_pos, gcd-div, gcd-one}
 
 -- a positive denominator that has no factor in common with the numerator
@@ -43,20 +44,8 @@ pub nat_abs-shrunk : (n : ℤ) (g : ℕ) → nat_abs (shrunk n g) ≡ nat_abs n 
 nat_abs-shrunk (pos n) g = refl
 nat_abs-shrunk (negsuc n) g = nat_abs-neg_pos (suc n / g)
 
-both_true : (a b : Bool) → a ≡ true → b ≡ true → (a && b) ≡ true
-both_true true b h k = k
-both_true false b h k = h
-
-pub first_true : (a b : Bool) → (a && b) ≡ true → a ≡ true
-first_true true b h = refl
-first_true false b h = h
-
-pub second_true : (a b : Bool) → (a && b) ≡ true → b ≡ true
-second_true true b h = h
-second_true false b h = cc
-
 pub is_lowest_from : (n : ℤ) (d : ℕ) → 0 < d → gcd (nat_abs n) d ≡ 1 → IsTrue (is_lowest n d)
-is_lowest_from n d p e = both_true _ _ (lt-ltb 0 d p) (eq-eqb _ _ e)
+is_lowest_from n d p e = and_from _ _ (lt-ltb 0 d p) (eq-eqb _ _ e)
 
 pub quotient_pos : (g d : ℕ) → 0 < d → g * (d / g) ≡ d → 0 < d / g
 quotient_pos g d p e = pos_of_ne-zero (λ z. let t = ap (λ q. g * q) z in omega arith)

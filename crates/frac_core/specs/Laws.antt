@@ -4,11 +4,12 @@ use Rattle.std.proofs.lemmas.Int.{unsigned_abs-mul}
 use Rattle.std.proofs.Math.Nat.{mul-div_cancel', div-mul_cancel}
 use Rattle.frac_core.specs.Gcd.{gcd, gcd_lem, gcd_comm, same_from_cross}
 use Rattle.frac_core.specs.Ints.{minus_same, as_minus, by_parts, by_parts2, by_parts3, swap4, neg_ℤ-*ℤ, *ℤ-neg_ℤ, *ℤ_cancel, *ℤ_assoc}
-use Rattle.frac_core.specs.Fraction.{Fraction, fraction, is_lowest, IsKept, shrunk, first_true, second_true, whole, quotient, plus, negated, difference, times, over, nought, unit, same_number}
+use Rattle.frac_core.specs.Fraction.{Fraction, fraction, is_lowest, IsKept, shrunk, whole, quotient, plus, negated, difference, times, over, nought, unit, same_number}
 use mathlib.Core.Bool.{Bool-set}
 use Rattle.std.specs.Cmp.{IsEquivalence}
 use Rattle.std.proofs.lemmas.Bool.Decides.{Decides-int_eq}
 use Rattle.std.proofs.lemmas.Cmp.{and_equiv, on_equiv, int_eq_equiv, nat_eq_equiv}
+use Rattle.basics.specs.Booleans.{first_true, second_true}
 
 pub den_pos : (x : Fraction) → 0 < x.den
 den_pos x = ltb-true 0 x.den (first_true _ _ x.lowest)

@@ -8,3 +8,5 @@ pub mod Rounding
 pub mod Sums
 pub mod FractionLaws
 pub mod Decimal
+pub mod Numeral
+pub mod Text

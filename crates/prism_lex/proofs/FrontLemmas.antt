@@ -2,6 +2,7 @@
 use Rattle.std.proofs.Common.{◌≡◌, ℕ, ◌≤◌, ◌<◌, Bool, true, false, List, [], ◌∷◌, ◌++◌, length, take, Option, Some, None, refl, sym, ap, subst, ◌∙◌, arith, inl, inr}
 use Rattle.std.specs.Prelude.{◌⊎◌, is_some, not}
 use Rattle.std.specs.List.{list_any}
+use Rattle.std.proofs.lemmas.Bool.{not-false}
 use Rattle.prism_lex.specs.declared.token.TokenKind.{TokenKind}
 use Rattle.prism_lex.specs.declared.token.TokenKind.TheVariants.{Word, Ident, Quoted, Number, Symbol, End}
 use Rattle.prism_lex.specs.declared.automaton.State.{State}
@@ -25,10 +26,6 @@ all_names : list_any (λ e. is_no_name e.0) words ≡ false
 unfolding words is_no_name
 all_names = refl
 
-not_not : (a : Bool) → not a ≡ false → a ≡ true
-not_not true h = refl
-not_not false h = absurd cc
-
 pub some_is : {A : Type 0} (o : Option A) (x : A) → o ≡ Some x → is_some o ≡ true
 some_is None x e = absurd cc
 some_is (Some y) x e = refl
@@ -36,7 +33,7 @@ some_is (Some y) x e = refl
 -- A reserved word is a name.
 pub word_name : (w : List ℕ) → is_some (lookup w words) ≡ true → is_name w ≡ true
 unfolding is_no_name
-word_name w h = not_not (is_name w) (lookup_none is_no_name words w all_names h)
+word_name w h = not-false (is_name w) (lookup_none is_no_name words w all_names h)
 
 -- Each token is accepted by the automaton, or a symbol.
 pub accepted_or_symbol : (w : List ℕ) (k : TokenKind) → IsKind w k → (accepts (after Start w) ≡ true) ⊎ (is_some (lookup w symbols) ≡ true)

@@ -1,7 +1,6 @@
 -- A gap is separators and comments.
-use Rattle.std.proofs.Common.{◌≡◌, ℕ, Bool, true, false, cond, List, [], ◌∷◌, ◌++◌, Option, Some, None, refl, sym, ap, subst, ◌∙◌, arith, inl, inr, append_assoc, append-nil}
+use Rattle.std.proofs.Common.{◌≡◌, ℕ, Bool, true, false, cond, List, [], ◌∷◌, ◌++◌, Option, Some, None, refl, sym, ap, subst, ◌∙◌, inl, inr, append_assoc, append-nil, eqb-true}
 use Rattle.std.specs.Prelude.{◌⊎◌, ◌&&◌, ◌==◌, not}
-use Rattle.std.proofs.lemmas.Bool.Decides.{nat_tests}
 use Rattle.prism_lex.specs.declared.gap.Gap.TheVariants.{Between, FirstSlash, Comment, Other}
 use Rattle.prism_lex.specs.Gaps.{is_separator, may_end, gap_after, IsGap, Piece, separator, comment, has_no_lf, AllPieces, pieces_text, cut_text, IsCut, HasPieces, GapIsPieces}
 
@@ -48,9 +47,6 @@ other_no : {A : Type 0} (bytes : List ℕ) → may_end (gap_after Other bytes) �
 other_no [] h = absurd cc
 other_no (b ∷ bytes) h = other_no bytes h
 
-is_byte : (b n : ℕ) → (b == n) ≡ true → b ≡ n
-is_byte b n h = grind (arith, nat_tests)
-
 with_comment : (b : ℕ) (bytes : List ℕ) → b ≡ 47 → HasSlash bytes → HasPieces (b ∷ bytes)
 with_comment b bytes e h = go h.2
   where
@@ -75,15 +71,15 @@ backs (b ∷ bytes) = let r = backs bytes in record { between = go_between r (is
   where
     go_between : Backs bytes → (t : Bool) → is_separator b ≡ t → (s : Bool) → (b == 47) ≡ s → may_end (gap_after (cond t Between (cond s FirstSlash Other)) bytes) ≡ true → HasPieces (b ∷ bytes)
     go_between r true e s f h = let p = r.between h in (separator b ∷ p.0, p.1, (e, p.2), p.3, ap (λ (u : List ℕ). b ∷ u) p.4)
-    go_between r false e true f h = with_comment b bytes (is_byte b 47 f) (r.slash h)
+    go_between r false e true f h = with_comment b bytes (eqb-true b 47 f) (r.slash h)
     go_between r false e false f h = other_no bytes h
 
     go_slash : Backs bytes → (s : Bool) → (b == 47) ≡ s → may_end (gap_after (cond s Comment Other) bytes) ≡ true → HasSlash (b ∷ bytes)
-    go_slash r true f h = (bytes, (let i = is_byte b 47 f in cc), r.within h)
+    go_slash r true f h = (bytes, (let i = eqb-true b 47 f in cc), r.within h)
     go_slash r false f h = other_no bytes h
 
     go_within : Backs bytes → (s : Bool) → (b == 10) ≡ s → may_end (gap_after (cond s Between Comment) bytes) ≡ true → HasComment (b ∷ bytes)
-    go_within r true f h = inr ([], bytes, refl, (let i = is_byte b 10 f in cc), r.between h)
+    go_within r true f h = inr ([], bytes, refl, (let i = eqb-true b 10 f in cc), r.between h)
     go_within r false f h = comment_more b bytes f (r.within h)
 
 pub gap_pieces : GapIsPieces

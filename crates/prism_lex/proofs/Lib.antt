@@ -2,10 +2,9 @@ pub mod Tables
 pub mod Longest
 pub mod LongestGap
 pub mod GapLemmas
-pub mod Readings
-pub mod Worth
 pub mod Shapes
 pub mod NumeralLemmas
+pub mod Worth
 pub mod LongestSymbol
 pub mod FrontLemmas
 pub mod NextLemmas

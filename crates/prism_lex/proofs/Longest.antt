@@ -7,7 +7,7 @@ use Rattle.prism_lex.specs.declared.automaton.State.{State}
 use Rattle.prism_lex.specs.declared.automaton.State.TheVariants.{Start, Dead}
 use Rattle.prism_lex.specs.Automaton.{step, accepts, after, longest}
 
-within_step : (n m : ℕ) (a : Bool) → n ≤ m → cond (nat_lt 0 n) (suc n) (cond a 1 0) ≤ suc m
+pub within_step : (n m : ℕ) (a : Bool) → n ≤ m → cond (nat_lt 0 n) (suc n) (cond a 1 0) ≤ suc m
 within_step n m a h = grind (arith, nat_tests)
 
 pub longest_within : (s : State) (bs : List ℕ) → longest s bs ≤ length bs
@@ -23,10 +23,10 @@ longest_is s (b ∷ bs) h = go (longest (step s b) bs) (nat_lt 0 (longest (step 
     go n false true e f r h = f
     go n false false e f r h = absurd (omega arith)
 
-first_of_two : (n k : ℕ) (a : Bool) → k ≤ n → 0 < k → suc k ≤ cond (nat_lt 0 n) (suc n) (cond a 1 0)
+pub first_of_two : (n k : ℕ) (a : Bool) → k ≤ n → 0 < k → suc k ≤ cond (nat_lt 0 n) (suc n) (cond a 1 0)
 first_of_two n k a h p = grind (arith, nat_tests)
 
-one_at_least : (n : ℕ) (a : Bool) → a ≡ true → 1 ≤ cond (nat_lt 0 n) (suc n) (cond a 1 0)
+pub one_at_least : (n : ℕ) (a : Bool) → a ≡ true → 1 ≤ cond (nat_lt 0 n) (suc n) (cond a 1 0)
 one_at_least n a e = grind (arith, nat_tests)
 
 pub longest_most : (s : State) (bs v z : List ℕ) → bs ≡ v ++ z → 0 < length v → accepts (after s v) ≡ true → length v ≤ longest s bs

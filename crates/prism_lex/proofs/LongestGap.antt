@@ -5,9 +5,7 @@ use Rattle.std.proofs.Math.Seq.{drop-cons}
 use Rattle.prism_lex.specs.declared.gap.Gap.{Gap}
 use Rattle.prism_lex.specs.declared.gap.Gap.TheVariants.{Other}
 use Rattle.prism_lex.specs.Gaps.{gap_step, may_end, gap_after, gap_len}
-
-within_step : (n m : ℕ) (a : Bool) → n ≤ m → cond (nat_lt 0 n) (suc n) (cond a 1 0) ≤ suc m
-within_step n m a h = grind (arith, nat_tests)
+use Rattle.prism_lex.proofs.Longest.{within_step, first_of_two, one_at_least}
 
 pub gap_within : (s : Gap) (bs : List ℕ) → gap_len s bs ≤ length bs
 gap_within s [] = omega arith
@@ -21,12 +19,6 @@ gap_is s (b ∷ bs) h = go (gap_len (gap_step s b) bs) (nat_lt 0 (gap_len (gap_s
     go n true a e f r h = r (grind (arith, nat_tests, e))
     go n false true e f r h = f
     go n false false e f r h = absurd (omega arith)
-
-first_of_two : (n k : ℕ) (a : Bool) → k ≤ n → 0 < k → suc k ≤ cond (nat_lt 0 n) (suc n) (cond a 1 0)
-first_of_two n k a h p = grind (arith, nat_tests)
-
-one_at_least : (n : ℕ) (a : Bool) → a ≡ true → 1 ≤ cond (nat_lt 0 n) (suc n) (cond a 1 0)
-one_at_least n a e = grind (arith, nat_tests)
 
 pub gap_most : (s : Gap) (bs v z : List ℕ) → bs ≡ v ++ z → 0 < length v → may_end (gap_after s v) ≡ true → length v ≤ gap_len s bs
 gap_most s bs [] z e h a = absurd (omega arith)

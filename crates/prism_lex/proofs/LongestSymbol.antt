@@ -153,17 +153,7 @@ none_loud = refl
 
 dead_is : (s : State) → is_dead s ≡ true → s ≡ Dead
 dead_is Dead h = refl
-dead_is Start h = absurd cc
-dead_is Letters h = absurd cc
-dead_is Whole h = absurd cc
-dead_is Point h = absurd cc
-dead_is Part h = absurd cc
-dead_is Mark h = absurd cc
-dead_is Sign h = absurd cc
-dead_is Power h = absurd cc
-dead_is Quote h = absurd cc
-dead_is Inside h = absurd cc
-dead_is Closed h = absurd cc
+dead_is s h = absurd cc
 
 silent_parts : (a b : Bool) → (a || not b) ≡ false → (a ≡ false) × (b ≡ true)
 silent_parts true b h = absurd cc

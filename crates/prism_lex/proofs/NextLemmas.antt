@@ -1,7 +1,7 @@
 -- What comes next from an offset on.
 use Rattle.std.proofs.Common.{◌≡◌, ℕ, zero, suc, ◌+◌, ◌-◌, ◌≤◌, ◌<◌, true, List, [], ◌∷◌, ◌++◌, length, take, drop, None, refl, sym, ap, subst, ◌∙◌, arith, append-nil, length-drop, drop-drop}
 use Rattle.std.specs.Prelude.{slice_range}
-use Rattle.std.proofs.lemmas.List.{take-append-drop, length-take-le}
+use Rattle.std.proofs.lemmas.List.{take-append-drop, length-take-le, nil_from_length}
 use Rattle.bridge_io.specs.declared.reason.Reason.{Reason}
 use Rattle.prism_lex.specs.declared.gap.Gap.TheVariants.{Between}
 use Rattle.prism_lex.specs.declared.token.Token.{Token}
@@ -63,9 +63,6 @@ text_is bytes from n m = ap (take m) (drop-drop n from bytes) ∙ ap (λ (u : �
     minus : (a b c : ℕ) → c ≡ a + b + c - (a + b)
     minus a b c = omega arith
 
-not_end : (bytes : List ℕ) (k : TokenKind) (n : ℕ) → front.Begins bytes k n → k ≡ End → ⊥
-not_end bytes k n b e = let F : TokenKind → Type 0 = λ u. IsKind (take n bytes) u in subst F e b.is
-
 behind_length : (bytes : List ℕ) (from n : ℕ) → from ≤ length bytes → n ≡ gap_len Between (drop from bytes) → length (drop n (drop from bytes)) + (from + n) ≡ length bytes
 behind_length bytes from n l e = let a = length-drop n (drop from bytes) in let b = length-drop from bytes in let c = gap_within Between (drop from bytes) in omega arith
 
@@ -97,16 +94,9 @@ continues bytes rest behind from n k m c g =
       within = (let a = b.within in omega arith);
     }
 
-pub no_end : (behind : List ℕ) (k : TokenKind) (m : ℕ) → {A : Type 0} → front.Begins behind k m → k ≡ End → A
-no_end behind k m b e = absurd (not_end behind k m b e)
-
-nil : (xs : List ℕ) → length xs ≡ 0 → xs ≡ []
-nil [] h = refl
-nil (x ∷ xs) h = absurd (omega arith)
-
 pub end_at : (bytes : List ℕ) (from n : ℕ) → n ≡ gap_len Between (drop from bytes) → length (drop n (drop from bytes)) ≡ 0 → IsEnd bytes from
 end_at bytes from n e l =
-    let all : take n (drop from bytes) ≡ drop from bytes = sym (append-nil (take n (drop from bytes))) ∙ ap (λ (u : List ℕ). take n (drop from bytes) ++ u) (sym (nil (drop n (drop from bytes)) l)) ∙ take-append-drop n (drop from bytes) in
+    let all : take n (drop from bytes) ≡ drop from bytes = sym (append-nil (take n (drop from bytes))) ∙ ap (λ (u : List ℕ). take n (drop from bytes) ++ u) (sym (nil_from_length (drop n (drop from bytes)) l)) ∙ take-append-drop n (drop from bytes) in
     let F : ℕ → Type 0 = λ u. IsGap (take u (drop from bytes)) in
     let G : List ℕ → Type 0 = λ u. IsGap u in
     subst G all (subst F (sym e) ((gap_longest (drop from bytes)).is))

@@ -1,16 +1,16 @@
 -- Numbers as they are written, and as the automaton reads them.
 use Rattle.std.proofs.Common.{◌^◌, ◌↔◌, mul_assoc, ◌≡◌, ℕ, suc, ◌+◌, ◌*◌, ◌≤◌, ◌<◌, Bool, true, false, cond, List, [], ◌∷◌, ◌++◌, length, Option, Some, None, refl, sym, ap, subst, ◌∙◌, arith, inl, inr, append-nil}
-use Rattle.std.specs.Prelude.{nat_le, ◌⊎◌, ◌||◌, ◌==◌, is_some}
+use Rattle.std.specs.Prelude.{nat_le, ◌⊎◌, ◌||◌, ◌==◌}
 use Rattle.std.proofs.lemmas.Bool.Decides.{nat_tests}
 use Rattle.std.proofs.Math.Nat.{pow-suc, pow-le-pow_right, mul_comm, mul-le-mul_right}
 use Rattle.std.specs.Char.{digit_value}
 use Rattle.std.specs.Str.Parse.{AllDigits, IsNumeral, digits_value, digits_value_after}
+use Rattle.frac_core.specs.Numeral.{Exponent, Numeral, sign_text, exponent_text, part_text, numeral_text, IsSign, IsExponent, IsPart, HasDigits}
+use Rattle.frac_core.proofs.Readings.{numeral_read}
 use Rattle.prism_lex.specs.declared.automaton.State.{State}
 use Rattle.prism_lex.specs.declared.automaton.State.TheVariants.{Start, Letters, Whole, Point, Part, Mark, Sign, Power, Quote, Dead}
-use Rattle.prism_lex.specs.declared.number.Reading.{Reading}
 use Rattle.prism_lex.specs.Automaton.{step, after, is_letter, is_digit}
-use Rattle.prism_lex.specs.Numbers.{made, nothing_read, read_byte, reading, is_at_digit, is_real}
-use Rattle.prism_lex.specs.Numerals.{Exponent, Numeral, sign_text, exponent_text, part_text, numeral_text, IsSign, IsExponent, IsMantissa, IsProper, part_digits, has_minus, exponent_minus, exponent_value, numeral_reading, NumeralIsNumber, NumberIsNumeral, significant, LimitIs38Digits}
+use Rattle.prism_lex.specs.Numbers.{is_at_digit, IsMantissa, IsProper, NumeralIsNumber, NumberIsNumeral, significant, LimitIs38Digits}
 use Rattle.prism_lex.proofs.Shapes.{dead, family, Within, family_after}
 
 -- ---- from the numeral to the automaton
@@ -21,69 +21,31 @@ digit_is c h = grind (arith, nat_tests)
 not_letter : (c : ℕ) → digit_value c < 10 → is_letter c ≡ false
 not_letter c h = grind (arith, nat_tests)
 
-cond_digit : (c : ℕ) (x y : State) → digit_value c < 10 → cond (is_digit c) x y ≡ x
-cond_digit c x y h = ap (λ (b : Bool). cond b x y) (digit_is c h)
+-- a digit leads from one state to the other
+abbrev Leads : State → State → Type 0
+Leads s t = (c : ℕ) → digit_value c < 10 → step s c ≡ t
 
-start_digit : (c : ℕ) → digit_value c < 10 → step Start c ≡ Whole
-start_digit c h = rw (not_letter c h, digit_is c h) refl
+on_digit : (c : ℕ) (x y : State) → digit_value c < 10 → cond (is_digit c) x y ≡ x
+on_digit c x y h = ap (λ (b : Bool). cond b x y) (digit_is c h)
 
--- State and reading agree from here on.
-record Goes (s : State) (r : Reading) (bs : List ℕ) (t : State) (q : Reading) (cs : List ℕ) : Type 0 where
-  value : reading s r bs ≡ reading t q cs
-  state : after s bs ≡ after t cs
+start_leads : Leads Start Whole
+start_leads c h = rw (not_letter c h, digit_is c h) refl
 
-goes : (s t : State) (c : ℕ) (bs : List ℕ) (r : Reading) → step s c ≡ t → Goes s r (c ∷ bs) t (read_byte t c r) bs
-goes s t c bs r e = record { value = ap (λ (u : State). reading u (read_byte u c r) bs) e; state = ap (λ (u : State). after u bs) e }
+-- where a block of digits leads
+stays : (t : State) (ds rest : List ℕ) → Leads t t → AllDigits 10 ds → after t (ds ++ rest) ≡ after t rest
+stays t [] rest f h = refl
+stays t (c ∷ ds) rest f h = ap (λ (u : State). after u (ds ++ rest)) (f c h.0) ∙ stays t ds rest f h.1
 
-then : {s t u : State} {r q v : Reading} {bs cs ds : List ℕ} → Goes s r bs t q cs → Goes t q cs u v ds → Goes s r bs u v ds
-then g h = record { value = g.value ∙ h.value; state = g.state ∙ h.state }
+leads : (s t : State) (ds rest : List ℕ) → Leads s t → Leads t t → IsNumeral 10 ds → after s (ds ++ rest) ≡ after t rest
+leads s t [] rest f g h = absurd (omega (arith, h.0))
+leads s t (c ∷ ds) rest f g h = ap (λ (u : State). after u (ds ++ rest)) (f c h.1.0) ∙ stays t ds rest g h.1.1
 
-stay : (s : State) (r : Reading) (bs : List ℕ) → Goes s r bs s r bs
-stay s r bs = record { value = refl; state = refl }
+ends : (s : State) (ds : List ℕ) → Leads s Power → IsNumeral 10 ds → after s ds ≡ Power
+ends s ds f h = ap (after s) (sym (append-nil ds)) ∙ leads s Power ds [] f (λ c k. on_digit c _ _ k) h
 
-same_places : (s t : State) (r : Reading) (bs rest : List ℕ) (n p k : ℕ) (m : Bool) (q : ℕ) → p ≡ k → Goes s r bs t (made n p m q) rest → Goes s r bs t (made n k m q) rest
-same_places s t r bs rest n p k m q e g = let F : ℕ → Type 0 = λ u. Goes s r bs t (made n u m q) rest in subst F e g
-
--- what a block of digits does to a reading, from a state in which it stays
-whole_block : (ds rest : List ℕ) (n p : ℕ) (m : Bool) (q : ℕ) → AllDigits 10 ds → Goes Whole (made n p m q) (ds ++ rest) Whole (made (digits_value_after 10 n ds) p m q) rest
-whole_block [] rest n p m q h = stay _ _ _
-whole_block (c ∷ ds) rest n p m q h = then (goes Whole Whole c (ds ++ rest) _ (cond_digit c _ _ h.0)) (whole_block ds rest (n * 10 + digit_value c) p m q h.1)
-
-part_block : (ds rest : List ℕ) (n p : ℕ) (m : Bool) (q : ℕ) → AllDigits 10 ds → Goes Part (made n p m q) (ds ++ rest) Part (made (digits_value_after 10 n ds) (p + length ds) m q) rest
-part_block [] rest n p m q h = same_places Part Part (made n p m q) rest rest n p (p + 0) m q (omega arith) (stay _ _ _)
-part_block (c ∷ ds) rest n p m q h =
-    same_places Part Part (made n p m q) (c ∷ ds ++ rest) rest _ ((p + 1) + length ds) (p + suc (length ds)) m q (omega arith)
-    (then (goes Part Part c (ds ++ rest) _ (cond_digit c _ _ h.0)) (part_block ds rest (n * 10 + digit_value c) (p + 1) m q h.1))
-
-power_block : (ds rest : List ℕ) (n p : ℕ) (m : Bool) (q : ℕ) → AllDigits 10 ds → Goes Power (made n p m q) (ds ++ rest) Power (made n p m (digits_value_after 10 q ds)) rest
-power_block [] rest n p m q h = stay _ _ _
-power_block (c ∷ ds) rest n p m q h = then (goes Power Power c (ds ++ rest) _ (cond_digit c _ _ h.0)) (power_block ds rest n p m (q * 10 + digit_value c) h.1)
-
--- the same from the state before the first digit
-start_block : (ds rest : List ℕ) → IsNumeral 10 ds → Goes Start nothing_read (ds ++ rest) Whole (made (digits_value 10 ds) 0 false 0) rest
-start_block [] rest h = absurd (omega (arith, h.0))
-start_block (c ∷ ds) rest h = then (goes Start Whole c (ds ++ rest) _ (start_digit c h.1.0)) (whole_block ds rest (0 * 10 + digit_value c) 0 false 0 h.1.1)
-
-point_block : (ds rest : List ℕ) (n : ℕ) → IsNumeral 10 ds → Goes Point (made n 0 false 0) (ds ++ rest) Part (made (digits_value_after 10 n ds) (length ds) false 0) rest
-point_block [] rest n h = absurd (omega (arith, h.0))
-point_block (c ∷ ds) rest n h =
-    same_places Point Part (made n 0 false 0) (c ∷ ds ++ rest) rest _ (1 + length ds) (suc (length ds)) false 0 (omega arith)
-    (then (goes Point Part c (ds ++ rest) _ (cond_digit c _ _ h.1.0)) (part_block ds rest (n * 10 + digit_value c) 1 false 0 h.1.1))
-
-mark_block : (ds : List ℕ) (n p : ℕ) → IsNumeral 10 ds → Goes Mark (made n p false 0) (ds ++ []) Power (made n p false (digits_value 10 ds)) []
-mark_block [] n p h = absurd (omega (arith, h.0))
-mark_block (c ∷ ds) n p h = then (goes Mark Power c (ds ++ []) _ (cond_digit c _ _ h.1.0)) (power_block ds [] n p false (0 * 10 + digit_value c) h.1.1)
-
-sign_block : (ds : List ℕ) (n p : ℕ) (m : Bool) → IsNumeral 10 ds → Goes Sign (made n p m 0) (ds ++ []) Power (made n p m (digits_value 10 ds)) []
-sign_block [] n p m h = absurd (omega (arith, h.0))
-sign_block (c ∷ ds) n p m h = then (goes Sign Power c (ds ++ []) _ (cond_digit c _ _ h.1.0)) (power_block ds [] n p m (0 * 10 + digit_value c) h.1.1)
-
-at_end : {s t : State} {r q : Reading} (ds : List ℕ) → Goes s r (ds ++ []) t q [] → Goes s r ds t q []
-at_end {s} {t} {r} {q} ds g = let F : List ℕ → Type 0 = λ u. Goes s r u t q [] in subst F (append-nil ds) g
-
-signed_block : (s : Option ℕ) (ds : List ℕ) (n p : ℕ) → IsSign s → IsNumeral 10 ds → Goes Mark (made n p false 0) (sign_text s ++ ds) Power (made n p (has_minus s) (digits_value 10 ds)) []
-signed_block None ds n p h k = at_end ds (mark_block ds n p k)
-signed_block (Some s) ds n p h k = then (goes Mark Sign s ds _ (is_sign h)) (at_end ds (sign_block ds n p (s == 45) k))
+signed_ends : (s : Option ℕ) (ds : List ℕ) → IsSign s → IsNumeral 10 ds → after Mark (sign_text s ++ ds) ≡ Power
+signed_ends None ds h k = ends Mark ds (λ c k. on_digit c _ _ k) k
+signed_ends (Some s) ds h k = ap (λ (u : State). after u ds) (is_sign h) ∙ ends Sign ds (λ c k. on_digit c _ _ k) k
   where
     is_sign : (s ≡ 43) ⊎ (s ≡ 45) → step Mark s ≡ Sign
     is_sign (inl e) = ap (step Mark) e
@@ -95,56 +57,37 @@ marked t m (inl e) (inr f) = rw (e, f) refl
 marked t m (inr e) (inl f) = rw (e, f) refl
 marked t m (inr e) (inr f) = rw (e, f) refl
 
--- where a number ends whose digits end in a state
-abbrev last_state : State → Option Exponent → State
-last_state t None = t
-last_state t (Some e) = Power
+exponent_ends : (t : State) (e : Option Exponent) → (t ≡ Whole) ⊎ (t ≡ Part) → IsExponent e → is_at_digit (after t (exponent_text e)) ≡ true
+exponent_ends t None (inl h) k = ap is_at_digit h
+exponent_ends t None (inr h) k = ap is_at_digit h
+exponent_ends t (Some e) h k = ap (λ (u : State). is_at_digit (after u (sign_text e.sign ++ e.digits))) (marked t e.mark h k.0) ∙ ap is_at_digit (signed_ends e.sign e.digits k.1 k.2)
 
-exponent_block : (t : State) (e : Option Exponent) (n p : ℕ) → (t ≡ Whole) ⊎ (t ≡ Part) → IsExponent e → Goes t (made n p false 0) (exponent_text e) (last_state t e) (made n p (exponent_minus e) (exponent_value e)) []
-exponent_block t None n p h k = stay _ _ _
-exponent_block t (Some e) n p h k = then (goes t Mark e.mark _ _ (marked t e.mark h k.0)) (signed_block e.sign e.digits n p k.1 k.2)
+part_leads : (ds rest : List ℕ) → IsNumeral 10 ds → after Point (ds ++ rest) ≡ after Part rest
+part_leads ds rest h = leads Point Part ds rest (λ c k. on_digit c _ _ k) (λ c k. on_digit c _ _ k) h
 
-abbrev mantissa_state : Option (List ℕ) → State
-mantissa_state None = Whole
-mantissa_state (Some ds) = Part
+whole_leads : (ds rest : List ℕ) → IsNumeral 10 ds → after Start (ds ++ rest) ≡ after Whole rest
+whole_leads ds rest h = leads Start Whole ds rest start_leads (λ c k. on_digit c _ _ k) h
 
-digits_after : (n : ℕ) (a b : List ℕ) → digits_value_after 10 n (a ++ b) ≡ digits_value_after 10 (digits_value_after 10 n a) b
-digits_after n [] b = refl
-digits_after n (c ∷ a) b = digits_after (n * 10 + digit_value c) a b
+is_number_text : (whole : List ℕ) (part : Option (List ℕ)) (e : Option Exponent) → IsMantissa whole part → IsExponent e → is_at_digit (after Start (whole ++ (part_text part ++ exponent_text e))) ≡ true
+is_number_text whole None e h k = ap is_at_digit (whole_leads whole (exponent_text e) h) ∙ exponent_ends Whole e (inl refl) k
+is_number_text [] (Some ds) e h k = ap is_at_digit (part_leads ds (exponent_text e) h.1) ∙ exponent_ends Part e (inr refl) k
+is_number_text (c ∷ cs) (Some ds) e h k =
+    ap is_at_digit (whole_leads (c ∷ cs) (46 ∷ (ds ++ exponent_text e)) (omega arith, h.0) ∙ part_leads ds (exponent_text e) h.1) ∙ exponent_ends Part e (inr refl) k
 
-same_digits : (s t : State) (r : Reading) (bs rest : List ℕ) (n k p : ℕ) (m : Bool) (q : ℕ) → n ≡ k → Goes s r bs t (made n p m q) rest → Goes s r bs t (made k p m q) rest
-same_digits s t r bs rest n k p m q e g = let F : ℕ → Type 0 = λ u. Goes s r bs t (made u p m q) rest in subst F e g
-
-mantissa_block : (whole : List ℕ) (part : Option (List ℕ)) (rest : List ℕ) → IsMantissa whole part → Goes Start nothing_read (whole ++ (part_text part ++ rest)) (mantissa_state part) (made (digits_value 10 (whole ++ part_digits part)) (length (part_digits part)) false 0) rest
-mantissa_block whole None rest h = same_digits _ _ _ _ _ _ _ 0 false 0 (ap (digits_value 10) (sym (append-nil whole))) (start_block whole rest h)
-mantissa_block [] (Some ds) rest h = then (goes Start Point 46 (ds ++ rest) _ refl) (point_block ds rest 0 h.1)
-mantissa_block (c ∷ cs) (Some ds) rest h =
-    same_digits _ _ _ _ _ _ _ (length ds) false 0 (sym (digits_after 0 (c ∷ cs) ds))
-    (then (start_block (c ∷ cs) (46 ∷ (ds ++ rest)) (omega arith, h.0)) (then (goes Whole Point 46 (ds ++ rest) _ refl) (point_block ds rest (digits_value 10 (c ∷ cs)) h.1)))
-
-mantissa_is : (part : Option (List ℕ)) → (mantissa_state part ≡ Whole) ⊎ (mantissa_state part ≡ Part)
-mantissa_is None = inl refl
-mantissa_is (Some ds) = inr refl
-
-numeral_block : (n : Numeral) → IsProper n → Goes Start nothing_read (numeral_text n) (last_state (mantissa_state n.part) n.exponent) (numeral_reading n) []
-numeral_block n h = then (mantissa_block n.whole n.part (exponent_text n.exponent) h.0) (exponent_block (mantissa_state n.part) n.exponent _ _ (mantissa_is n.part) h.1)
-
-last_digit : (part : Option (List ℕ)) (e : Option Exponent) → is_at_digit (last_state (mantissa_state part) e) ≡ true
-last_digit None None = refl
-last_digit None (Some e) = refl
-last_digit (Some ds) None = refl
-last_digit (Some ds) (Some e) = refl
-
-last_real : (part : Option (List ℕ)) (e : Option Exponent) → is_real (last_state (mantissa_state part) e) ≡ (is_some part || is_some e)
-last_real None None = refl
-last_real None (Some e) = refl
-last_real (Some ds) None = refl
-last_real (Some ds) (Some e) = refl
+has_digits : (whole : List ℕ) (part : Option (List ℕ)) (e : Option Exponent) → IsMantissa whole part → IsExponent e → HasDigits (record { whole = whole; part = part; exponent = e })
+has_digits whole None e h k = record { whole = h.1; part = tt; exponent = k }
+has_digits whole (Some ds) e h k = record { whole = h.0; part = h.1; exponent = k }
 
 pub numeral_number : NumeralIsNumber
-numeral_number n h =
-    let g = numeral_block n h in
-    (ap is_at_digit g.state ∙ last_digit n.part n.exponent, ap is_real g.state ∙ last_real n.part n.exponent, g.value)
+numeral_number n h = (is_number_text n.whole n.part n.exponent h.0 h.1, numeral_read false n (has_digits n.whole n.part n.exponent h.0 h.1))
+
+-- a numeral with digits before its point
+pub proper_of : (n : Numeral) → HasDigits n → 0 < length n.whole → IsProper n
+proper_of n h l = (pick n.part h.part, h.exponent)
+  where
+    pick : (p : Option (List ℕ)) → IsPart p → IsMantissa n.whole p
+    pick None k = (l, h.whole)
+    pick (Some ds) k = (h.whole, k)
 
 -- ---- from the automaton to the numeral
 
@@ -221,10 +164,6 @@ point_back (b ∷ bs) h = go (is_digit b) refl h
     go : (t : Bool) → is_digit b ≡ t → is_at_digit (after (cond t Part Dead) bs) ≡ true → (ds : List ℕ) × (e : Option Exponent) × IsNumeral 10 ds × IsExponent e × (b ∷ bs ≡ ds ++ exponent_text e)
     go true e h = let p = part_back bs h in (b ∷ p.0, p.1, numeral_of b p.0 e p.2, p.3, ap (λ (u : List ℕ). b ∷ u) p.4)
     go false e h = dead_no bs h
-
-abbrev IsPart : Option (List ℕ) → Type 0
-IsPart None = Unit {0}
-IsPart (Some ds) = IsNumeral 10 ds
 
 -- digits, and then what may follow them
 abbrev HasWhole : List ℕ → Type 0

@@ -36,15 +36,7 @@ number_class : (s : State) → is_at_digit s ≡ true → state_class s ≡ 3
 number_class Whole h = refl
 number_class Part h = refl
 number_class Power h = refl
-number_class Start h = absurd cc
-number_class Letters h = absurd cc
-number_class Point h = absurd cc
-number_class Mark h = absurd cc
-number_class Sign h = absurd cc
-number_class Quote h = absurd cc
-number_class Inside h = absurd cc
-number_class Closed h = absurd cc
-number_class Dead h = absurd cc
+number_class s h = absurd cc
 
 class_is : (w : List ℕ) (k : TokenKind) → IsKind w k → state_class (after Start w) ≡ kind_class k
 class_is w (Word r) h = ap state_class (name_state w (word_name w (some_is _ r h)))

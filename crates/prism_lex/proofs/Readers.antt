@@ -48,13 +48,7 @@ kind_exists w h = pick (after Start w) refl
     pick Whole e = number Whole e refl (λ f. cc) (λ f. cc)
     pick Part e = number Part e refl (λ f. cc) (λ f. cc)
     pick Power e = number Power e refl (λ f. cc) (λ f. cc)
-    pick Start e = let a = ap accepts e in absurd cc
-    pick Point e = let a = ap accepts e in absurd cc
-    pick Mark e = let a = ap accepts e in absurd cc
-    pick Sign e = let a = ap accepts e in absurd cc
-    pick Quote e = let a = ap accepts e in absurd cc
-    pick Inside e = let a = ap accepts e in absurd cc
-    pick Dead e = let a = ap accepts e in absurd cc
+    pick s e = let a = ap accepts e in absurd cc
 
 abbrev HasFront : List ℕ → Type 0
 HasFront bytes = ((k : TokenKind) × (n : ℕ) × Begins bytes k n) ⊎ BeginsNone bytes

@@ -181,15 +181,7 @@ pub number_accepted : (s : State) → is_at_digit s ≡ true → accepts s ≡ t
 number_accepted Whole h = refl
 number_accepted Part h = refl
 number_accepted Power h = refl
-number_accepted Start h = absurd cc
-number_accepted Letters h = absurd cc
-number_accepted Point h = absurd cc
-number_accepted Mark h = absurd cc
-number_accepted Sign h = absurd cc
-number_accepted Quote h = absurd cc
-number_accepted Inside h = absurd cc
-number_accepted Closed h = absurd cc
-number_accepted Dead h = absurd cc
+number_accepted s h = absurd cc
 
 pub accepted_number : (s : State) → accepts s ≡ true → (s ≡ Letters → ⊥) → (s ≡ Closed → ⊥) → is_at_digit s ≡ true
 accepted_number Whole h f g = refl
@@ -197,10 +189,4 @@ accepted_number Part h f g = refl
 accepted_number Power h f g = refl
 accepted_number Letters h f g = absurd (f refl)
 accepted_number Closed h f g = absurd (g refl)
-accepted_number Start h f g = absurd cc
-accepted_number Point h f g = absurd cc
-accepted_number Mark h f g = absurd cc
-accepted_number Sign h f g = absurd cc
-accepted_number Quote h f g = absurd cc
-accepted_number Inside h f g = absurd cc
-accepted_number Dead h f g = absurd cc
+accepted_number s h f g = absurd cc

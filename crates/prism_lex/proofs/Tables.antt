@@ -1,10 +1,11 @@
 -- Look-ups in tables of texts.
-use Rattle.std.proofs.Common.{◌≡◌, ℕ, Bool, true, false, cond, List, [], ◌∷◌, length, Option, Some, None, refl, sym, ap, ◌≢◌, ◌∙◌, arith}
+use Rattle.std.proofs.Common.{◌≡◌, ℕ, Bool, true, false, cond, List, [], ◌∷◌, length, Option, Some, None, refl, sym, ap, ◌≢◌, ◌∙◌, arith, eq-eqb}
 use Rattle.std.specs.Prelude.{◌==◌, ◌||◌, is_some}
 use Rattle.std.specs.List.{list_any}
 use Rattle.std.specs.Str.{bytes_eq}
 use Rattle.std.proofs.lemmas.Slice.Eq.{bytes_eq-Decides}
 use Rattle.std.proofs.lemmas.Bool.Decides.{nat_tests}
+use Rattle.std.proofs.lemmas.Bool.{or_left, or_right}
 use Rattle.prism_lex.specs.declared.words.Reserved.{Reserved}
 use Rattle.prism_lex.specs.Words.{lookup, words}
 
@@ -16,12 +17,9 @@ of_length n (e ∷ es) = cond (length e.0 == n) (e ∷ of_length n es) (of_lengt
 same_length : (u v : List ℕ) → bytes_eq u v ≡ true → length u ≡ length v
 same_length u v h = ap length ((bytes_eq-Decides u v).0 h)
 
-is_length : (n m : ℕ) → n ≡ m → (n == m) ≡ true
-is_length n m h = grind (arith, nat_tests)
-
 keeps : {A : Type 0} (text : List ℕ) (e : List ℕ × A) (rest all : Option A) (es : List (List ℕ × A)) → rest ≡ lookup text es → (t : Bool) → bytes_eq e.0 text ≡ t → (s : Bool) → (length e.0 == length text) ≡ s → cond t (Some e.1) rest ≡ lookup text (cond s (e ∷ es) es)
 keeps text e rest all es r true f true g = rw f refl
-keeps text e rest all es r true f false g = absurd (let a = is_length (length e.0) (length text) (same_length e.0 text f) in cc)
+keeps text e rest all es r true f false g = absurd (let a = eq-eqb (length e.0) (length text) (same_length e.0 text f) in cc)
 keeps text e rest all es r false f true g = rw f r
 keeps text e rest all es r false f false g = r
 
@@ -44,14 +42,6 @@ word_of_no_length text h1 h2 h3 h4 h5 h6 h7 h9 h10 h11 h12 h13 h14 h16 =
     sym (lookup-of_length text words ∙ ap (lookup text) e)
 
 -- ---- tests of all texts of a table
-
-or_left : (a b : Bool) → a ≡ true → (a || b) ≡ true
-or_left true b e = refl
-or_left false b e = absurd cc
-
-or_right : (a b : Bool) → b ≡ true → (a || b) ≡ true
-or_right true b e = refl
-or_right false b e = e
 
 any_step : {A : Type 0} (p : List ℕ → Bool) (u text : List ℕ) (j : A) (rest : Option A) (others : Bool) → p text ≡ true → (is_some rest ≡ true → others ≡ true) → (t : Bool) → bytes_eq u text ≡ t → is_some (cond t (Some j) rest) ≡ true → (p u || others) ≡ true
 any_step p u text j rest others h r true f g = let e : u ≡ text = (bytes_eq-Decides u text).0 f in or_left (p u) others (ap p e ∙ h)

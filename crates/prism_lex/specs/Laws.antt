@@ -4,7 +4,8 @@ use Rattle.bridge_io.specs.declared.reason.Fault.{Fault}
 use Rattle.frac_core.specs.declared.decimal.Decimal.{Decimal}
 use Rattle.frac_core.specs.Decimal.{is_normal}
 use Rattle.prism_lex.specs.declared.token.Token.{Token}
-use Rattle.prism_lex.specs.Numbers.{IsWorth, is_past}
+use Rattle.prism_lex.specs.Numbers.{IsWorth}
+use Rattle.frac_core.specs.Numeral.{is_beyond}
 use Rattle.prism_lex.specs.Tokens.{Lexeme, Ending, end_of, lexeme_of, refusal_of, IsNext, IsEnd, Reads, Tokens, TokenFaults, Continues, IsFault}
 
 -- From an offset on comes one token at most, and none where only a gap is left.
@@ -70,9 +71,12 @@ abbrev pub FaultIsFirst : Type 0
 FaultIsFirst = (bytes : List ℕ) (to : ℕ) (ls : List Lexeme) (f : Fault) →
     Reaches bytes 0 ls to → IsFault bytes to f → IsFirstFault bytes f × ((ms : List Lexeme) → Tokens bytes ms → AllAccepted ms → ⊥)
 
--- The value of a number is in normal form, and within the limits where the number is not refused.
+-- The value of a number has no sign, is in normal form, and is within the limits where the number is not refused.
+abbrev pub NumberHasNoSign : Type 0
+NumberHasNoSign = (w : List ℕ) (d : Decimal) → IsWorth w d → d.negative ≡ false
+
 abbrev pub NumberIsNormal : Type 0
 NumberIsNormal = (w : List ℕ) (d : Decimal) → IsWorth w d → is_normal d ≡ true
 
 abbrev pub NumberIsWithin : Type 0
-NumberIsWithin = (w : List ℕ) (d : Decimal) → IsWorth w d → is_past w d ≡ false → (d.digits < 10 ^ 38) × (nat_abs d.exponent ≤ 400)
+NumberIsWithin = (w : List ℕ) (d : Decimal) → IsWorth w d → is_beyond w ≡ false → (d.digits < 10 ^ 38) × (nat_abs d.exponent ≤ 400)

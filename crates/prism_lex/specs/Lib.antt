@@ -3,7 +3,6 @@ pub mod Symbols
 pub mod Automaton
 pub mod Gaps
 pub mod Numbers
-pub mod Numerals
 pub mod Tokens
 pub mod Front
 pub mod Laws

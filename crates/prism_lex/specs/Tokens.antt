@@ -9,7 +9,8 @@ use Rattle.prism_lex.specs.declared.token.TokenKind.{TokenKind}
 use Rattle.prism_lex.specs.declared.token.TokenKind.TheVariants.{Word, Ident, Quoted, Number, Symbol, End}
 use Rattle.prism_lex.specs.Words.{lookup, words, symbols}
 use Rattle.prism_lex.specs.Automaton.{is_letter, is_digit}
-use Rattle.prism_lex.specs.Numbers.{IsWorth, is_past}
+use Rattle.prism_lex.specs.Numbers.{IsWorth}
+use Rattle.frac_core.specs.Numeral.{is_beyond}
 use Rattle.prism_lex.specs.Gaps.{IsGap}
 
 -- a letter or _, then letters, digits and _
@@ -93,7 +94,7 @@ Tokens bytes ls = Reads bytes 0 ls finished
 abbrev pub refusal : TokenKind → List ℕ → Option Reason
 refusal Ident w = if nat_lt 255 (length w) then Some TooLong else None
 refusal Quoted w = if nat_lt 257 (length w) then Some TooLong else None
-refusal (Number d) w = if is_past w d then Some BadNumber else None
+refusal (Number d) w = if is_beyond w then Some BadNumber else None
 refusal _ w = None
 
 abbrev pub refusal_of : Lexeme → Option Reason

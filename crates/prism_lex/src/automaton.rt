@@ -1,7 +1,6 @@
 // Names, numbers and quoted names.
 ghost use Rattle.std.specs.Prelude.{◌≡◌, ◌≤◌, true, take, length};
 ghost use Rattle.prism_lex.specs.Automaton.{step, accepts, after, longest};
-ghost use Rattle.prism_lex.specs.Numbers.{is_at_digit};
 
 /// How far a name, a number or a quoted name has come.
 #[derive(Clone, Copy, Debug, PartialEq, Eq)]
@@ -20,11 +19,10 @@ pub enum State {
     Dead,
 }
 
-/// The state that a byte leads to. What leads to digits is a digit.
+/// The state that a byte leads to.
 #[inline(always)]
 pub(crate) fn step(state: State, byte: u8) -> State
-    ensures value { result ≡ step state byte }
-    ensures digit { is_at_digit result ≡ true → (48 ≤ byte) × (byte ≤ 57) }
+    ensures { result ≡ step state byte }
 {
     match (state, byte) {
         (State::Start | State::Letters, b'a'..=b'z' | b'A'..=b'Z' | b'_') => State::Letters,

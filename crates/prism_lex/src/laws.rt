@@ -1,7 +1,7 @@
 // What holds of the tokens of a text.
 ghost use Rattle.prism_lex.specs.Gaps.{GapIsPieces};
-ghost use Rattle.prism_lex.specs.Numerals.{NumeralIsNumber, NumberIsNumeral, LimitIs38Digits};
-ghost use Rattle.prism_lex.specs.Laws.{OneNext, EndHasNoNext, OneReading, OneList, OneFaults, SomeFaults, CleanIsFaultless, NextGoesOn, EndIsWhole, FaultIsFirst, NumberIsNormal, NumberIsWithin};
+ghost use Rattle.prism_lex.specs.Numbers.{NumeralIsNumber, NumberIsNumeral, LimitIs38Digits};
+ghost use Rattle.prism_lex.specs.Laws.{OneNext, EndHasNoNext, OneReading, OneList, OneFaults, SomeFaults, CleanIsFaultless, NextGoesOn, EndIsWhole, FaultIsFirst, NumberHasNoSign, NumberIsNormal, NumberIsWithin};
 
 /// A text has one reading, so one list of tokens at most, and one list of faults. Nothing is done.
 pub fn one_list()
@@ -24,12 +24,13 @@ pub fn reader_laws()
 {}
 
 /// A number is digits, or digits that may be missing, a point and digits, each with an optional exponent, and
-/// is read as it is written. Its value is in normal form, and within the limits where the number is not refused.
+/// is read as it is written. Its value has no sign, is in normal form, and within the limits where the number is not refused.
 /// Nothing is done.
 pub fn number_laws()
     ensures numeral { NumeralIsNumber }
     ensures number { NumberIsNumeral }
     ensures limit { LimitIs38Digits }
+    ensures sign { NumberHasNoSign }
     ensures normal { NumberIsNormal }
     ensures within { NumberIsWithin }
 {}

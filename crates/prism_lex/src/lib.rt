@@ -6,14 +6,12 @@
 mod automaton;
 mod gap;
 mod laws;
-mod number;
 mod symbols;
 mod token;
 mod words;
 
 pub use automaton::State;
 pub use laws::{gap_law, number_laws, one_list, reader_laws};
-pub use number::Reading;
 pub use symbols::Symbol;
 pub use token::{Token, TokenKind, next_token};
 pub use words::Reserved;

@@ -1,17 +1,16 @@
 // Tokens.
 ghost use Rattle.std.specs.Prelude.{◌≡◌, ◌≢◌, ◌≤◌, length, true, IfOk, IfErr};
 ghost use Rattle.prism_lex.specs.Automaton.{accepts, after};
-ghost use Rattle.prism_lex.specs.Numbers.{is_real, is_number};
+ghost use Rattle.prism_lex.specs.Numbers.{is_number};
 ghost use Rattle.prism_lex.specs.Tokens.{is_name, IsKind, Continues, Finishes, IsFault};
 ghost use Rattle.prism_lex.specs.Front.{IsAccepted, IsRefused, IsAcceptedText, IsRefusedText};
 
 use crate::automaton::{State, scan};
 use crate::gap::gap_len;
-use crate::number::number_value;
 use crate::symbols::{Symbol, front_symbol};
 use crate::words::{Reserved, reserved_word};
 use bridge_io::{Fault, Reason};
-use frac_core::Decimal;
+use frac_core::{Decimal, decimal_of};
 
 /// What a token is. The text of an identifier or of a quoted name, with its quotes, is read off the bytes.
 #[derive(Clone, Copy, Debug, PartialEq, Eq)]
@@ -60,20 +59,13 @@ fn quoted_kind(text: &[u8]) -> Result<TokenKind, Reason>
     Ok(TokenKind::Quoted)
 }
 
-fn is_real(state: State) -> bool
-    ensures { result ≡ is_real state }
-{
-    matches!(state, State::Part | State::Power)
-}
-
 // What a number is, or why it is refused.
-fn number_kind(text: &[u8], state: State) -> Result<TokenKind, Reason>
-    requires state { state ≡ after State.Start text.now }
-    requires number { is_number text.now ≡ true }
+fn number_kind(text: &[u8]) -> Result<TokenKind, Reason>
+    requires { is_number text.now ≡ true }
     ensures ok { IfOk result (IsAcceptedText text.now) }
     ensures err { IfErr result (IsRefusedText text.now) }
 {
-    match number_value(text, is_real(state)) {
+    match decimal_of(text) {
         Some(value) => Ok(TokenKind::Number(value)),
         None => Err(Reason::BadNumber),
     }
@@ -89,7 +81,7 @@ fn kind_of(text: &[u8], state: State) -> Result<TokenKind, Reason>
     match state {
         State::Letters => name_kind(text),
         State::Closed => quoted_kind(text),
-        _ => number_kind(text, state),
+        _ => number_kind(text),
     }
 }
 

@@ -2,6 +2,7 @@
 use Rattle.std.proofs.Common.{◌≡◌, ℕ, zero, suc, Bool, true, false, cond, List, [], ◌∷◌, ◌++◌, Option, Some, None, refl, sym, ap, subst, ◌∙◌, inl, inr}
 use Rattle.std.specs.Prelude.{◌⊎◌, ◌==◌, codes}
 use Rattle.std.specs.Str.{bytes_eq}
+use Rattle.basics.specs.Each.{each_parts}
 use Rattle.op_trees.specs.Tree.{Truth, Number, Name, One, Two, Three}
 use Rattle.prism_lex.specs.declared.token.TokenKind.{TokenKind}
 use Rattle.prism_lex.specs.declared.token.TokenKind.TheVariants as K
@@ -9,7 +10,7 @@ use Rattle.prism_lex.specs.declared.words.Reserved.{Reserved}
 use Rattle.prism_lex.specs.declared.symbols.Symbol.{Symbol}
 use Rattle.prism_lex.specs.declared.symbols.Symbol.TheVariants as S
 use Rattle.prism_lex.specs.Tokens.{Lexeme, IsKind, Reads, Tokens, finished, end_of}
-use Rattle.prism_lex.proofs.Worth.{worth_normal}
+use Rattle.prism_lex.proofs.Worth.{worth_normal, worth_unsigned}
 use Rattle.prism_tree.specs.declared.operator.PrismOp.{PrismOp}
 use Rattle.prism_tree.specs.declared.operator.PrismOp.TheVariants as O
 use Rattle.prism_tree.specs.Operators.{arity}
@@ -26,12 +27,8 @@ IsLexeme t = IsKind t.text t.kind
 pub record Keeps {A : Type 0} (L : Lang A) (P : A → Type 0) : Type 0 where
   pub keeps : (w : List Lexeme) (x : A) → Each IsLexeme w → L w x → P x
 
-each_split : {A : Type 0} (P : A → Type 0) (xs ys : List A) → Each P (xs ++ ys) → Each P xs × Each P ys
-each_split P [] ys e = (tt, e)
-each_split P (x ∷ xs) ys e = let r = each_split P xs ys e.1 in ((e.0, r.0), r.1)
-
 split : (w a b : List Lexeme) → w ≡ a ++ b → Each IsLexeme w → Each IsLexeme a × Each IsLexeme b
-split w a b e h = let F : List Lexeme → Type 0 = λ u. Each IsLexeme u in each_split IsLexeme a b (subst F e h)
+split w a b e h = let F : List Lexeme → Type 0 = λ u. Each IsLexeme u in each_parts IsLexeme a b (subst F e h)
 
 one_lexeme : (w : List Lexeme) (t : Lexeme) → w ≡ t ∷ [] → Each IsLexeme w → IsLexeme t
 one_lexeme w t e h = let F : List Lexeme → Type 0 = λ u. Each IsLexeme u in (subst F e h).0
@@ -94,11 +91,7 @@ Good e = IsPrintableExpression e
 
 moved_good : (at : ℕ) (e : Expression) → Good e → Good (moved at e)
 moved_good at (Truth from b) p = p
-moved_good at (Number from d) p = p
-moved_good at (Name from x) p = p
-moved_good at (One from o a) p = p
-moved_good at (Two from o a b) p = p
-moved_good at (Three from o a b c) p = p
+moved_good at e p = p
 
 -- the operators between operands take two
 abbrev TakesTwo : Option (ℕ × PrismOp) → Type 0
@@ -137,7 +130,7 @@ level_two n (Some p) o h e = go (p.0 == n) e
 number_good : (t : Lexeme) (k : TokenKind) (e : Expression) → IsKind t.text k → number_of t k ≡ Some e → Good e
 number_good t (K.Number d) e h f =
     let i : Number t.at d ≡ e = cc in
-    subst Good i (worth_normal t.text d h, h.negative)
+    subst Good i (worth_normal t.text d h, worth_unsigned t.text d h)
 number_good t k e h f = absurd cc
 
 -- the functions that names are

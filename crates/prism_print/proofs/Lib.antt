@@ -1,6 +1,4 @@
-pub mod Digits
 pub mod Steps
-pub mod Worth
 pub mod Stands
 pub mod Pieces
 pub mod Spelling

@@ -2,6 +2,8 @@
 use Rattle.std.proofs.Common.{◌≡◌, ℕ, Bool, true, false, cond, List, [], ◌∷◌, ◌++◌, refl, sym, ap, subst, ◌∙◌, append_assoc, arith}
 use Rattle.std.specs.Prelude.{◌||◌, ◌&&◌, not, codes}
 use Rattle.std.specs.List.{list_all}
+use Rattle.std.proofs.lemmas.Bool.{and_from}
+use Rattle.basics.specs.Booleans.{first_true, second_true}
 use Rattle.op_trees.specs.declared.tree.Ty.{Ty}
 use Rattle.op_trees.specs.declared.tree.Ty.TheVariants as T
 use Rattle.op_trees.specs.Tree.{Truth, Number, Name, One, Two, Three}
@@ -16,15 +18,19 @@ use Rattle.prism_lex.specs.Words.{words}
 use Rattle.prism_lex.specs.Automaton.{accepts, after}
 use Rattle.prism_lex.specs.Gaps.{is_separator}
 use Rattle.prism_lex.specs.Tokens.{IsKind, is_name}
+use Rattle.prism_lex.specs.Numbers.{is_number, IsWorth}
+use Rattle.prism_lex.proofs.NumeralLemmas.{numeral_number, proper_of}
 use Rattle.prism_lex.proofs.Shapes.{name_state, quoted_state, number_accepted}
 use Rattle.prism_tree.specs.declared.operator.PrismOp.{PrismOp}
 use Rattle.prism_tree.specs.declared.operator.PrismOp.TheVariants as O
 use Rattle.prism_tree.specs.Operators.{arity}
 use Rattle.prism_tree.specs.Syntax.{Expression}
-use Rattle.prism_print.specs.Numbers.{number_text}
+use Rattle.frac_core.specs.declared.decimal.Decimal.{Decimal}
+use Rattle.frac_core.specs.Numeral.{minus_text, numeral_text}
+use Rattle.frac_core.specs.Text.{number_text}
+use Rattle.frac_core.proofs.Back.{text_back}
 use Rattle.prism_print.specs.Text.{operator_text, is_function, is_node, type_text, listed}
-use Rattle.prism_print.specs.Printable.{Each, IsPrintableExpression}
-use Rattle.prism_print.proofs.Worth.{literal_worth}
+use Rattle.prism_print.specs.Printable.{Each, IsLiteral, IsPrintableExpression}
 use Rattle.prism_print.proofs.Stands.{Calm, at_end, at_byte, is_stop, Plain, is_plain, Stands, symbol_text, is_open, symbol_stands, symbol_calm, accepted_stands, accepted_plain_text}
 use Rattle.prism_print.proofs.Pieces.{Piece, printed, blank, text, mark, operator_kind, sign, spaced, within, called, pieces, Element, a_word, a_type, a_symbol, a_name, a_title, an_expression, a_blank, word_text, type_word, quoted_text, flat}
 use Rattle.prism_print.proofs.Lexed.{Spaced}
@@ -128,6 +134,13 @@ two_sound : (o : PrismOp) (x y t : Bool) (qs rs : List Piece) → is_function o 
 two_sound o x y true qs rs e f g = called_sound o qs rs e f g
 two_sound o x y false qs rs e f g = spaced_sound (operator_kind o) (operator_text o) (within x qs) (within y rs) (λ rest. sign_stands o (32 ∷ rest) refl (λ _. space_calm rest)) (within_sound x qs f) (within_sound y rs g)
 
+-- The canonical text of a literal is a number of its value.
+literal_worth : (d : Decimal) → IsLiteral d → IsWorth (number_text d) d
+literal_worth d h =
+    let t = text_back d h.0 in
+    let e : number_text d ≡ numeral_text t.numeral = t.text ∙ ap (λ (m : Bool). minus_text m ++ numeral_text t.numeral) h.1 in
+    record { number = ap is_number e ∙ (numeral_number t.numeral (proper_of t.numeral t.digits t.some)).0; value = t.value }
+
 pub tree_sound : (e : Expression) → IsPrintableExpression e → Sound (pieces e)
 tree_sound (Truth at true) p = accepted_sound (K.Word W.True) (codes "true") true_kind refl
 tree_sound (Truth at false) p = accepted_sound (K.Word W.False) (codes "false") false_kind refl
@@ -201,14 +214,6 @@ IsProperTemplate (a_blank g ∷ is) = IsProperTemplate is
 
 -- ---- what the tests mean
 
-and_left : (a b : Bool) → (a && b) ≡ true → a ≡ true
-and_left true b e = refl
-and_left false b e = absurd cc
-
-and_right : (a b : Bool) → (a && b) ≡ true → b ≡ true
-and_right true b e = e
-and_right false b e = absurd cc
-
 word_kind : (r : Reserved) → has_text (word_text r) ≡ true → IsKind (word_text r) (K.Word r)
 unfolding words
 word_kind W.Mdp h = refl
@@ -276,36 +281,33 @@ open_plain false b P h f e = absurd cc
 pub template_spaced : (n : Front) (is : List Element) → neat n is ≡ true → IsProperTemplate is → (ps : List Piece) → Spaced ps → Means n (text ps) → Spaced (flat is ++ ps) × Means (front n is) (text (flat is ++ ps))
 template_spaced n [] e p ps s m = (s, m)
 template_spaced n (a_word r ∷ is) e p ps s m =
-    let q = template_spaced n is (and_right (fits (a_word r) (front n is)) _ e) p ps s m in
-    let f = and_left (fits (a_word r) (front n is)) _ e in
-    let h = and_left (has_text (word_text r)) _ f in
-    ((accepted_stands (K.Word r) (word_text r) _ (word_kind r h) (word_accepted r h) (q.1.calm (and_right (has_text (word_text r)) _ f)), q.0), accepted_means (word_text r) _ (word_accepted r h))
+    let q = template_spaced n is (second_true (fits (a_word r) (front n is)) _ e) p ps s m in
+    let f = first_true (fits (a_word r) (front n is)) _ e in
+    let h = first_true (has_text (word_text r)) _ f in
+    ((accepted_stands (K.Word r) (word_text r) _ (word_kind r h) (word_accepted r h) (q.1.calm (second_true (has_text (word_text r)) _ f)), q.0), accepted_means (word_text r) _ (word_accepted r h))
 template_spaced n (a_type t ∷ is) e p ps s m =
-    let q = template_spaced n is (and_right (front n is).calm _ e) p ps s m in
-    ((accepted_stands (K.Word (type_word t)) (type_text t) _ (type_kind t) (type_accepted t) (q.1.calm (and_left (front n is).calm _ e)), q.0), accepted_means (type_text t) _ (type_accepted t))
+    let q = template_spaced n is (second_true (front n is).calm _ e) p ps s m in
+    ((accepted_stands (K.Word (type_word t)) (type_text t) _ (type_kind t) (type_accepted t) (q.1.calm (first_true (front n is).calm _ e)), q.0), accepted_means (type_text t) _ (type_accepted t))
 template_spaced n (a_symbol y ∷ is) e p ps s m =
-    let q = template_spaced n is (and_right (fits (a_symbol y) (front n is)) _ e) p ps s m in
-    ((symbol_stands y _ (open_plain (is_open y) (front n is).plain _ (and_left (fits (a_symbol y) (front n is)) _ e) q.1.plain), q.0), symbol_means y _)
+    let q = template_spaced n is (second_true (fits (a_symbol y) (front n is)) _ e) p ps s m in
+    ((symbol_stands y _ (open_plain (is_open y) (front n is).plain _ (first_true (fits (a_symbol y) (front n is)) _ e) q.1.plain), q.0), symbol_means y _)
 template_spaced n (a_name x ∷ is) e p ps s m =
-    let q = template_spaced n is (and_right (front n is).calm _ e) p.1 ps s m in
+    let q = template_spaced n is (second_true (front n is).calm _ e) p.1 ps s m in
     let a = name_accepted x p.0.0 in
-    ((accepted_stands K.Ident x _ p.0 a (q.1.calm (and_left (front n is).calm _ e)), q.0), accepted_means x _ a)
+    ((accepted_stands K.Ident x _ p.0 a (q.1.calm (first_true (front n is).calm _ e)), q.0), accepted_means x _ a)
 template_spaced n (a_title x ∷ is) e p ps s m =
-    let q = template_spaced n is (and_right (front n is).calm _ e) p.1 ps s m in
-    ((accepted_stands K.Quoted (quoted_text x) _ (x, refl, p.0) (ap accepts (quoted_state (quoted_text x) x refl p.0)) (q.1.calm (and_left (front n is).calm _ e)), q.0), title_means x _)
+    let q = template_spaced n is (second_true (front n is).calm _ e) p.1 ps s m in
+    ((accepted_stands K.Quoted (quoted_text x) _ (x, refl, p.0) (ap accepts (quoted_state (quoted_text x) x refl p.0)) (q.1.calm (first_true (front n is).calm _ e)), q.0), title_means x _)
 template_spaced n (an_expression x ∷ is) e p ps s m =
-    let q = template_spaced n is (and_right (front n is).calm _ e) p.1 ps s m in
-    let r = tree_sound x p.0 (flat is ++ ps) q.0 (q.1.calm (and_left (front n is).calm _ e)) in
+    let q = template_spaced n is (second_true (front n is).calm _ e) p.1 ps s m in
+    let r = tree_sound x p.0 (flat is ++ ps) q.0 (q.1.calm (first_true (front n is).calm _ e)) in
     let F : List Piece → Type 0 = λ u. Spaced u × Means wordy (text u) in
     subst F (sym (append_assoc (pieces x) (flat is) ps)) (r.0, record { calm = λ h. absurd cc; plain = λ _. r.1 })
 template_spaced n (a_blank g ∷ is) e p ps s m =
-    let q = template_spaced n is (and_right (list_all is_separator g) _ e) p ps s m in
-    ((and_left (list_all is_separator g) _ e, q.0), front_means g _)
+    let q = template_spaced n is (second_true (list_all is_separator g) _ e) p ps s m in
+    ((first_true (list_all is_separator g) _ e, q.0), front_means g _)
 
 -- ---- lists of templates
-
-both_true : (a b : Bool) → a ≡ true → b ≡ true → (a && b) ≡ true
-both_true a b e f = rw (e, f) refl
 
 front_append : (n : Front) (is js : List Element) → front n (is ++ js) ≡ front (front n js) is
 front_append n [] js = refl
@@ -320,7 +322,7 @@ front_append n (a_blank g ∷ is) js = refl
 pub neat_append : (n : Front) (is js : List Element) → neat (front n js) is ≡ true → neat n js ≡ true → neat n (is ++ js) ≡ true
 neat_append n [] js e f = f
 neat_append n (i ∷ is) js e f =
-    both_true _ _ (ap (fits i) (front_append n is js) ∙ and_left (fits i (front (front n js) is)) _ e) (neat_append n is js (and_right (fits i (front (front n js) is)) _ e) f)
+    and_from _ _ (ap (fits i) (front_append n is js) ∙ first_true (fits i (front (front n js) is)) _ e) (neat_append n is js (second_true (fits i (front (front n js) is)) _ e) f)
 
 -- where between and before end in blanks, and each template goes before what may follow it
 pub listed_neat : {A : Type 0} (Q : Front → Type 0) (n : Front) (between : List Element) (f : A → List Element) → ((m : Front) → neat m between ≡ true) → ((x : A) (m : Front) → Q m → neat m (f x) ≡ true)

@@ -13,7 +13,7 @@ use Rattle.prism_lex.specs.declared.symbols.Symbol.TheVariants as S
 use Rattle.prism_tree.specs.declared.operator.PrismOp.{PrismOp}
 use Rattle.prism_tree.specs.declared.operator.PrismOp.TheVariants as O
 use Rattle.prism_tree.specs.Syntax.{Expression}
-use Rattle.prism_print.specs.Numbers.{number_text}
+use Rattle.frac_core.specs.Text.{number_text}
 use Rattle.prism_print.specs.Text.{operator_text, is_function, is_node, enclosed, expression_text, type_text}
 use Rattle.prism_print.proofs.Stands.{symbol_text}
 

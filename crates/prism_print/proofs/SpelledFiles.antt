@@ -2,6 +2,9 @@
 use Rattle.std.proofs.Common.{◌≡◌, ℕ, false, List, [], ◌∷◌, ◌++◌, Option, Some, None, refl, sym, ap, subst, ◌∙◌, append_assoc, append-nil, map}
 use Rattle.std.specs.Prelude.{codes}
 use Rattle.std.specs.Option.{option_map}
+use Rattle.std.proofs.lemmas.List.{map-append}
+use Rattle.std.proofs.Math.Seq.{append_snoc}
+use Rattle.basics.specs.Lists.{cons_same}
 use Rattle.bridge_io.specs.declared.reason.Named.{Named}
 use Rattle.op_trees.specs.declared.tree.Ty.{Ty}
 use Rattle.op_trees.specs.declared.tree.Ty.TheVariants as T
@@ -29,9 +32,6 @@ V = int_too false
 
 -- ---- lists
 
-cons_same : {C : Type 0} (x y : C) (xs ys : List C) → x ≡ y → xs ≡ ys → x ∷ xs ≡ y ∷ ys
-cons_same x y xs ys e f = cc
-
 -- each member is spelled by its template behind what stands before it
 listed_writes : {A B C : Type 0} (M : Lang B) (bare : B → C) (into : A → C) (P : A → Type 0) (between : List Element) (f : A → List Element) → ((x : A) → P x → Writes M (λ y. bare y ≡ into x) (flat (between ++ f x)))
     → (before : List Element) → ((x : A) → P x → Writes M (λ y. bare y ≡ into x) (flat (before ++ f x))) → (xs : List A) → Each P xs → Writes (many M) (λ ys. map bare ys ≡ map into xs) (flat (listed before between f xs))
@@ -41,10 +41,6 @@ listed_writes {A} {B} {C} M bare into P between f h before g (x ∷ xs) e =
     let F : List Piece → Type 0 = λ u. Writes (many M) (λ ys. map bare ys ≡ map into (x ∷ xs)) u in
     subst F (sym (ap flat (sym (append_assoc before (f x) l)) ∙ flat_append (before ++ f x) l))
     (many_one (g x e.0) (listed_writes M bare into P between f h between h xs e.1) (λ y ys p q. cons_same (bare y) (into x) (map bare ys) (map into xs) p q))
-
-map_append : {A B : Type 0} (f : A → B) (xs ys : List A) → map f (xs ++ ys) ≡ map f xs ++ map f ys
-map_append f [] ys = refl
-map_append f (x ∷ xs) ys = ap (λ (u : List _). f x ∷ u) (map_append f xs ys)
 
 -- any number more behind a first one
 more_writes : {A B : Type 0} (M : Lang A) (bare : A → B) (y : A) (xs : List A) (ps : List Piece) → Writes (many M) (λ ys. map bare ys ≡ map bare xs) ps → Writes (front M (y ∷ [])) (λ ys. map bare ys ≡ bare y ∷ map bare xs) ps
@@ -286,10 +282,6 @@ command_writes c p = command_with c.action c.guard c.branches p
 
 -- ---- modules
 
-body_same : (x : Named) (vs us : List Var) (cs ds : List Command) → map bare_var us ≡ map bare_var vs → map bare_command ds ≡ map bare_command cs
-    → bare_module (plain (record { name = x; vars = us; commands = ds })) ≡ bare_module (plain (record { name = x; vars = vs; commands = cs }))
-body_same x vs us cs ds e f = cc
-
 indented_var : (v : Var) → IsPrintableVar v → Writes (var expr V) (λ y. bare_var y ≡ bare_var v) (flat (indent ∷ var_parts v))
 indented_var v p = blank_writes _ (var_writes v p)
 
@@ -493,7 +485,7 @@ sections_of f = map const_of f.constants ++ (map global_of f.globals ++ (map for
 group_writes : (is js : List Element) (us vs : List Section) → Writes (many Sections) (λ ys. map bare_section ys ≡ us) (flat is) → Writes (many Sections) (λ ys. map bare_section ys ≡ vs) (flat js) → Writes (many Sections) (λ ys. map bare_section ys ≡ us ++ vs) (flat (is ++ js))
 group_writes is js us vs l m =
     let F : List Piece → Type 0 = λ u. Writes (many Sections) (λ ys. map bare_section ys ≡ us ++ vs) u in
-    subst F (sym (flat_append is js)) (many_both Sections l m (λ xs ys e f. map_append bare_section xs ys ∙ ap (λ (u : List Section). u ++ map bare_section ys) e ∙ ap (λ (u : List Section). us ++ u) f))
+    subst F (sym (flat_append is js)) (many_both Sections l m (λ xs ys e f. map-append bare_section xs ys ∙ ap (λ (u : List Section). u ++ map bare_section ys) e ∙ ap (λ (u : List Section). us ++ u) f))
 
 sections_writes : (f : File) → IsPrintable f → Writes (many Sections) (λ ys. map bare_section ys ≡ sections_of f) (flat (constants_parts f ++ (globals_parts f ++ (formulas_parts f ++ (modules_parts f ++ (labels_parts f ++ structures_parts f))))))
 sections_writes f p =
@@ -507,12 +499,12 @@ sections_writes f p =
 -- ---- what sections make
 
 bare_with : (f : File) (s : Section) → bare_file (with_section f s) ≡ with_section (bare_file f) (bare_section s)
-bare_with f (a_const c) = ap (λ (u : List Const). record { constants = u; globals = map bare_var f.globals; formulas = map bare_formula f.formulas; modules = map bare_module f.modules; labels = map bare_label f.labels; rewards = map bare_rewards f.rewards; end = 0 }) (map_append bare_const f.constants (c ∷ []))
-bare_with f (a_global v) = ap (λ (u : List Var). record { constants = map bare_const f.constants; globals = u; formulas = map bare_formula f.formulas; modules = map bare_module f.modules; labels = map bare_label f.labels; rewards = map bare_rewards f.rewards; end = 0 }) (map_append bare_var f.globals (v ∷ []))
-bare_with f (a_formula x) = ap (λ (u : List Formula). record { constants = map bare_const f.constants; globals = map bare_var f.globals; formulas = u; modules = map bare_module f.modules; labels = map bare_label f.labels; rewards = map bare_rewards f.rewards; end = 0 }) (map_append bare_formula f.formulas (x ∷ []))
-bare_with f (a_module m) = ap (λ (u : List Module). record { constants = map bare_const f.constants; globals = map bare_var f.globals; formulas = map bare_formula f.formulas; modules = u; labels = map bare_label f.labels; rewards = map bare_rewards f.rewards; end = 0 }) (map_append bare_module f.modules (m ∷ []))
-bare_with f (a_label l) = ap (λ (u : List Label). record { constants = map bare_const f.constants; globals = map bare_var f.globals; formulas = map bare_formula f.formulas; modules = map bare_module f.modules; labels = u; rewards = map bare_rewards f.rewards; end = 0 }) (map_append bare_label f.labels (l ∷ []))
-bare_with f (a_rewards r) = ap (λ (u : List Rewards). record { constants = map bare_const f.constants; globals = map bare_var f.globals; formulas = map bare_formula f.formulas; modules = map bare_module f.modules; labels = map bare_label f.labels; rewards = u; end = 0 }) (map_append bare_rewards f.rewards (r ∷ []))
+bare_with f (a_const c) = ap (λ (u : List Const). record { constants = u; globals = map bare_var f.globals; formulas = map bare_formula f.formulas; modules = map bare_module f.modules; labels = map bare_label f.labels; rewards = map bare_rewards f.rewards; end = 0 }) (map-append bare_const f.constants (c ∷ []))
+bare_with f (a_global v) = ap (λ (u : List Var). record { constants = map bare_const f.constants; globals = u; formulas = map bare_formula f.formulas; modules = map bare_module f.modules; labels = map bare_label f.labels; rewards = map bare_rewards f.rewards; end = 0 }) (map-append bare_var f.globals (v ∷ []))
+bare_with f (a_formula x) = ap (λ (u : List Formula). record { constants = map bare_const f.constants; globals = map bare_var f.globals; formulas = u; modules = map bare_module f.modules; labels = map bare_label f.labels; rewards = map bare_rewards f.rewards; end = 0 }) (map-append bare_formula f.formulas (x ∷ []))
+bare_with f (a_module m) = ap (λ (u : List Module). record { constants = map bare_const f.constants; globals = map bare_var f.globals; formulas = map bare_formula f.formulas; modules = u; labels = map bare_label f.labels; rewards = map bare_rewards f.rewards; end = 0 }) (map-append bare_module f.modules (m ∷ []))
+bare_with f (a_label l) = ap (λ (u : List Label). record { constants = map bare_const f.constants; globals = map bare_var f.globals; formulas = map bare_formula f.formulas; modules = map bare_module f.modules; labels = u; rewards = map bare_rewards f.rewards; end = 0 }) (map-append bare_label f.labels (l ∷ []))
+bare_with f (a_rewards r) = ap (λ (u : List Rewards). record { constants = map bare_const f.constants; globals = map bare_var f.globals; formulas = map bare_formula f.formulas; modules = map bare_module f.modules; labels = map bare_label f.labels; rewards = u; end = 0 }) (map-append bare_rewards f.rewards (r ∷ []))
 
 bare_fold : (f : File) (ss : List Section) → bare_file (fold_left with_section f ss) ≡ fold_left with_section (bare_file f) (map bare_section ss)
 bare_fold f [] = refl
@@ -525,33 +517,29 @@ fold_append f s (x ∷ xs) ys = fold_append f (f s x) xs ys
 abbrev made : List Const → List Var → List Formula → List Module → List Label → List Rewards → File
 made cs gs fs ms ls rs = record { constants = cs; globals = gs; formulas = fs; modules = ms; labels = ls; rewards = rs; end = 0 }
 
--- a list one longer at its end, and then the rest
-one_further : {A : Type 0} (xs : List A) (y : A) (ys : List A) → (xs ++ y ∷ []) ++ ys ≡ xs ++ y ∷ ys
-one_further xs y ys = append_assoc xs (y ∷ []) ys
-
 fold_consts : (cs xs : List Const) (gs : List Var) (fs : List Formula) (ms : List Module) (ls : List Label) (rs : List Rewards) → fold_left with_section (made cs gs fs ms ls rs) (map const_of xs) ≡ made (cs ++ map bare_const xs) gs fs ms ls rs
 fold_consts cs [] gs fs ms ls rs = ap (λ (u : List Const). made u gs fs ms ls rs) (sym (append-nil cs))
-fold_consts cs (x ∷ xs) gs fs ms ls rs = fold_consts (cs ++ bare_const x ∷ []) xs gs fs ms ls rs ∙ ap (λ (u : List Const). made u gs fs ms ls rs) (one_further cs (bare_const x) (map bare_const xs))
+fold_consts cs (x ∷ xs) gs fs ms ls rs = fold_consts (cs ++ bare_const x ∷ []) xs gs fs ms ls rs ∙ ap (λ (u : List Const). made u gs fs ms ls rs) (append_snoc cs (bare_const x) (map bare_const xs))
 
 fold_globals : (cs : List Const) (gs xs : List Var) (fs : List Formula) (ms : List Module) (ls : List Label) (rs : List Rewards) → fold_left with_section (made cs gs fs ms ls rs) (map global_of xs) ≡ made cs (gs ++ map bare_var xs) fs ms ls rs
 fold_globals cs gs [] fs ms ls rs = ap (λ (u : List Var). made cs u fs ms ls rs) (sym (append-nil gs))
-fold_globals cs gs (x ∷ xs) fs ms ls rs = fold_globals cs (gs ++ bare_var x ∷ []) xs fs ms ls rs ∙ ap (λ (u : List Var). made cs u fs ms ls rs) (one_further gs (bare_var x) (map bare_var xs))
+fold_globals cs gs (x ∷ xs) fs ms ls rs = fold_globals cs (gs ++ bare_var x ∷ []) xs fs ms ls rs ∙ ap (λ (u : List Var). made cs u fs ms ls rs) (append_snoc gs (bare_var x) (map bare_var xs))
 
 fold_formulas : (cs : List Const) (gs : List Var) (fs xs : List Formula) (ms : List Module) (ls : List Label) (rs : List Rewards) → fold_left with_section (made cs gs fs ms ls rs) (map formula_of xs) ≡ made cs gs (fs ++ map bare_formula xs) ms ls rs
 fold_formulas cs gs fs [] ms ls rs = ap (λ (u : List Formula). made cs gs u ms ls rs) (sym (append-nil fs))
-fold_formulas cs gs fs (x ∷ xs) ms ls rs = fold_formulas cs gs (fs ++ bare_formula x ∷ []) xs ms ls rs ∙ ap (λ (u : List Formula). made cs gs u ms ls rs) (one_further fs (bare_formula x) (map bare_formula xs))
+fold_formulas cs gs fs (x ∷ xs) ms ls rs = fold_formulas cs gs (fs ++ bare_formula x ∷ []) xs ms ls rs ∙ ap (λ (u : List Formula). made cs gs u ms ls rs) (append_snoc fs (bare_formula x) (map bare_formula xs))
 
 fold_modules : (cs : List Const) (gs : List Var) (fs : List Formula) (ms xs : List Module) (ls : List Label) (rs : List Rewards) → fold_left with_section (made cs gs fs ms ls rs) (map module_of xs) ≡ made cs gs fs (ms ++ map bare_module xs) ls rs
 fold_modules cs gs fs ms [] ls rs = ap (λ (u : List Module). made cs gs fs u ls rs) (sym (append-nil ms))
-fold_modules cs gs fs ms (x ∷ xs) ls rs = fold_modules cs gs fs (ms ++ bare_module x ∷ []) xs ls rs ∙ ap (λ (u : List Module). made cs gs fs u ls rs) (one_further ms (bare_module x) (map bare_module xs))
+fold_modules cs gs fs ms (x ∷ xs) ls rs = fold_modules cs gs fs (ms ++ bare_module x ∷ []) xs ls rs ∙ ap (λ (u : List Module). made cs gs fs u ls rs) (append_snoc ms (bare_module x) (map bare_module xs))
 
 fold_labels : (cs : List Const) (gs : List Var) (fs : List Formula) (ms : List Module) (ls xs : List Label) (rs : List Rewards) → fold_left with_section (made cs gs fs ms ls rs) (map label_of xs) ≡ made cs gs fs ms (ls ++ map bare_label xs) rs
 fold_labels cs gs fs ms ls [] rs = ap (λ (u : List Label). made cs gs fs ms u rs) (sym (append-nil ls))
-fold_labels cs gs fs ms ls (x ∷ xs) rs = fold_labels cs gs fs ms (ls ++ bare_label x ∷ []) xs rs ∙ ap (λ (u : List Label). made cs gs fs ms u rs) (one_further ls (bare_label x) (map bare_label xs))
+fold_labels cs gs fs ms ls (x ∷ xs) rs = fold_labels cs gs fs ms (ls ++ bare_label x ∷ []) xs rs ∙ ap (λ (u : List Label). made cs gs fs ms u rs) (append_snoc ls (bare_label x) (map bare_label xs))
 
 fold_rewards : (cs : List Const) (gs : List Var) (fs : List Formula) (ms : List Module) (ls : List Label) (rs xs : List Rewards) → fold_left with_section (made cs gs fs ms ls rs) (map rewards_of xs) ≡ made cs gs fs ms ls (rs ++ map bare_rewards xs)
 fold_rewards cs gs fs ms ls rs [] = ap (λ (u : List Rewards). made cs gs fs ms ls u) (sym (append-nil rs))
-fold_rewards cs gs fs ms ls rs (x ∷ xs) = fold_rewards cs gs fs ms ls (rs ++ bare_rewards x ∷ []) xs ∙ ap (λ (u : List Rewards). made cs gs fs ms ls u) (one_further rs (bare_rewards x) (map bare_rewards xs))
+fold_rewards cs gs fs ms ls rs (x ∷ xs) = fold_rewards cs gs fs ms ls (rs ++ bare_rewards x ∷ []) xs ∙ ap (λ (u : List Rewards). made cs gs fs ms ls u) (append_snoc rs (bare_rewards x) (map bare_rewards xs))
 
 -- The sections of a file make it.
 fold_sections : (f : File) → fold_left with_section (empty 0) (sections_of f) ≡ bare_file f

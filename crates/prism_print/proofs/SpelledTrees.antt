@@ -3,6 +3,7 @@ use Rattle.std.proofs.Common.{◌≡◌, ℕ, zero, suc, ◌+◌, ◌≤◌, Boo
 use Rattle.std.specs.Prelude.{codes, max}
 use Rattle.frac_core.specs.declared.decimal.Decimal.{Decimal}
 use Rattle.op_trees.specs.Tree.{Truth, Number, Name, One, Two, Three, bare}
+use Rattle.op_trees.specs.Names.{offset_of}
 use Rattle.prism_lex.specs.declared.token.TokenKind.{TokenKind}
 use Rattle.prism_lex.specs.declared.token.TokenKind.TheVariants as K
 use Rattle.prism_lex.specs.declared.words.Reserved.{Reserved}
@@ -13,7 +14,7 @@ use Rattle.prism_lex.specs.Tokens.{Lexeme}
 use Rattle.prism_tree.specs.declared.operator.PrismOp.{PrismOp}
 use Rattle.prism_tree.specs.declared.operator.PrismOp.TheVariants as O
 use Rattle.prism_tree.specs.Operators.{arity}
-use Rattle.prism_tree.specs.Syntax.{Expression, offset_of, moved}
+use Rattle.prism_tree.specs.Syntax.{Expression, moved}
 use Rattle.prism_tree.specs.Lang.{Lang, token, token_with, gives, ◌>>=◌, ◌or◌, many, folding, fold_left}
 use Rattle.prism_tree.specs.Grammar.{infix_of, at_level, operator_at, prefix_at, joined_by, operand, chain, prefixed, over_prefix, function_of, number_of, truth, parenthesised, argument, one_argument, two_arguments, arguments, name_or_call, extremum, prim, level, choice, conditional, expr_at, expr}
 use Rattle.prism_print.specs.Text.{is_node}
@@ -27,11 +28,7 @@ Same e x = bare x ≡ bare e
 
 bare_moved : (at : ℕ) (e : Expression) → bare (moved at e) ≡ bare e
 bare_moved at (Truth from b) = refl
-bare_moved at (Number from d) = refl
-bare_moved at (Name from x) = refl
-bare_moved at (One from o a) = refl
-bare_moved at (Two from o a b) = refl
-bare_moved at (Three from o a b c) = refl
+bare_moved at e = refl
 
 -- ---- from one level to the next: E are the expressions inside others
 
@@ -252,11 +249,7 @@ depth (Three at o a b c) = max (depth a) (max (depth b) (depth c)) + 2
 
 some_depth : (e : Expression) → 1 ≤ depth e
 some_depth (Truth at b) = omega arith
-some_depth (Number at d) = omega arith
-some_depth (Name at x) = omega arith
-some_depth (One at o a) = omega arith
-some_depth (Two at o a b) = omega arith
-some_depth (Three at o a b c) = omega arith
+some_depth e = omega arith
 
 abbrev AtDepth : Expression → Type 0
 AtDepth e = (m : ℕ) → depth e ≤ suc m → Both (expr_at m) e

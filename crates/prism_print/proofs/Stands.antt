@@ -5,6 +5,7 @@ use Rattle.std.specs.List.{list_all}
 use Rattle.std.proofs.lemmas.Bool.Decides.{nat_tests}
 use Rattle.std.proofs.Math.Seq.{take-append_seam}
 use Rattle.std.proofs.Common.{append-nil}
+use Rattle.std.proofs.lemmas.Bool.{and_parts}
 use Rattle.prism_lex.specs.declared.automaton.State.{State}
 use Rattle.prism_lex.specs.declared.automaton.State.TheVariants.{Start, Letters, Whole, Point, Part, Mark, Sign, Power, Quote, Inside, Closed, Dead}
 use Rattle.prism_lex.specs.declared.token.TokenKind.{TokenKind}
@@ -66,10 +67,6 @@ none_of true b h = absurd cc
 none_of false true h = absurd cc
 none_of false false h = (refl, refl)
 
-both_true : (a b : Bool) → (a && b) ≡ true → (a ≡ true) × (b ≡ true)
-both_true true b h = (refl, h)
-both_true false b h = absurd cc
-
 -- a gap that no comment at its end is cut off from: separators, and comments with their line feeds
 abbrev pub Closes : List ℕ → Type 0
 Closes g = (ps : List gaps.Piece) × gaps.AllPieces ps × (g ≡ gaps.pieces_text ps)
@@ -92,7 +89,7 @@ closes_both g h e f =
 pub separators_close : (g : List ℕ) → list_all is_separator g ≡ true → Closes g
 separators_close [] h = ([], tt, refl)
 separators_close (b ∷ g) h =
-    let p = both_true (is_separator b) (list_all is_separator g) h in
+    let p = and_parts (is_separator b) (list_all is_separator g) h in
     let r = separators_close g p.1 in
     (gaps.separator b ∷ r.0, (p.0, r.1), ap (λ (u : List ℕ). b ∷ u) r.2)
 
@@ -114,7 +111,7 @@ slash_separates b e h = let F : ℕ → Type 0 = λ u. is_separator u ≡ true i
 
 -- ---- lines
 line_of : (b : ℕ) (t : List ℕ) → gaps.has_no_lf (b ∷ t) ≡ true → (b ≢ 10) × (gaps.has_no_lf t ≡ true)
-line_of b t h = let p = both_true (not (b == 10)) (gaps.has_no_lf t) h in ((λ e. let F : ℕ → Type 0 = λ u. not (u == 10) ≡ true in let k = subst F e p.0 in absurd cc), p.1)
+line_of b t h = let p = and_parts (not (b == 10)) (gaps.has_no_lf t) h in ((λ e. let F : ℕ → Type 0 = λ u. not (u == 10) ≡ true in let k = subst F e p.0 in absurd cc), p.1)
 
 -- bytes without a line feed end before it
 ends_before : (t u a z : List ℕ) → gaps.has_no_lf t ≡ true → u ++ 10 ∷ a ≡ t ++ z → length t ≤ length u
@@ -177,10 +174,10 @@ gap_longest g bs h s = record {
 
 -- ---- names, numbers and words
 
-last_one : (n : ℕ) (a : Bool) → n ≡ 0 → a ≡ true → cond (nat_lt 0 n) (suc n) (cond a 1 0) ≡ 1
+pub last_one : (n : ℕ) (a : Bool) → n ≡ 0 → a ≡ true → cond (nat_lt 0 n) (suc n) (cond a 1 0) ≡ 1
 last_one n a e f = rw (e, f) refl
 
-one_more : (n k : ℕ) (a : Bool) → n ≡ suc k → cond (nat_lt 0 n) (suc n) (cond a 1 0) ≡ suc (suc k)
+pub one_more : (n k : ℕ) (a : Bool) → n ≡ suc k → cond (nat_lt 0 n) (suc n) (cond a 1 0) ≡ suc (suc k)
 one_more n k a e = grind (arith, nat_tests)
 
 -- a text that is accepted, behind which the automaton goes no further, is the longest
@@ -219,13 +216,7 @@ stop_step Whole c a h = rw (h.digit, h.point, h.mark) refl
 stop_step Part c a h = rw (h.digit, h.mark) refl
 stop_step Power c a h = rw h.digit refl
 stop_step Closed c a h = refl
-stop_step Start c a h = absurd cc
-stop_step Point c a h = absurd cc
-stop_step Mark c a h = absurd cc
-stop_step Sign c a h = absurd cc
-stop_step Quote c a h = absurd cc
-stop_step Inside c a h = absurd cc
-stop_step Dead c a h = absurd cc
+stop_step s c a h = absurd cc
 
 dots_stop : (s : State) (r : List ℕ) → accepts s ≡ true → longest s (46 ∷ 46 ∷ r) ≡ 0
 dots_stop Letters r a = stopped Letters 46 (46 ∷ r) refl
@@ -233,13 +224,7 @@ dots_stop Whole r a = none_more (longest Point (46 ∷ r)) false (stopped Point 
 dots_stop Part r a = stopped Part 46 (46 ∷ r) refl
 dots_stop Power r a = stopped Power 46 (46 ∷ r) refl
 dots_stop Closed r a = stopped Closed 46 (46 ∷ r) refl
-dots_stop Start r a = absurd cc
-dots_stop Point r a = absurd cc
-dots_stop Mark r a = absurd cc
-dots_stop Sign r a = absurd cc
-dots_stop Quote r a = absurd cc
-dots_stop Inside r a = absurd cc
-dots_stop Dead r a = absurd cc
+dots_stop s r a = absurd cc
 
 calm_stop : (s : State) (bs : List ℕ) → accepts s ≡ true → Calm bs → longest s bs ≡ 0
 calm_stop s bs a (at_end e) = ap (longest s) e

@@ -20,14 +20,6 @@ five_done a b c d e o0 o1 o2 o3 o4 o5 e1 e2 e3 e4 e5 =
 
 -- ---- lists
 
--- one item more
-pub listed_step : {A : Type 0} (f : A → List ℕ) (xs : List A) (x : A) (i : ℕ) (lead between o p q w : List ℕ) → i < length xs → x ≡ get_or xs i x → p ≡ o ++ lead → q ≡ p ++ f x → o ++ listed lead between f (drop i xs) ≡ w → q ++ listed between between f (drop (i + 1) xs) ≡ w
-listed_step {A} f xs x i lead between o p q w lt e g h k =
-    let d : drop i xs ≡ x ∷ drop (suc i) xs = drop-cons xs i x lt ∙ ap (λ (z : A). z ∷ drop (suc i) xs) (sym e) in
-    let F : List A → Type 0 = λ u. o ++ listed lead between f u ≡ w in
-    rw add-one (ap (λ (u : List ℕ). u ++ listed between between f (drop (suc i) xs)) (h ∙ ap (λ (u : List ℕ). u ++ f x) g)
-    ∙ four_joined o lead (f x) (listed between between f (drop (suc i) xs)) ∙ subst F d k)
-
 -- the texts of what the items stand for
 pub listed_map : {A C : Type 0} (before between : List ℕ) (f : C → List ℕ) (g : A → C) (xs : List A) → listed before between f (map g xs) ≡ listed before between (λ x. f (g x)) xs
 listed_map before between f g [] = refl

@@ -11,7 +11,7 @@ use Rattle.prism_tree.specs.declared.syntax.NamePair.{NamePair}
 use Rattle.prism_tree.specs.declared.syntax.ItemOn.{ItemOn}
 use Rattle.prism_tree.specs.declared.syntax.ItemOn.TheVariants.{InState, Silent, Action}
 use Rattle.prism_tree.specs.Syntax.{Expression, Const, Range, Var, Formula, Label, Write, Branch, Command, Body, Module, plain, copied, Item, Rewards, File}
-use Rattle.prism_print.specs.Numbers.{number_text}
+use Rattle.frac_core.specs.Text.{number_text}
 
 -- ---- expressions (manual, "Expressions")
 

@@ -4,7 +4,7 @@ ghost use Rattle.std.specs.Prelude.{◌≡◌, ◌++◌, true, OnOk};
 ghost use Rattle.op_trees.specs.Tree.{tree};
 ghost use Rattle.prism_print.specs.Text.{operator_text, is_function, is_node, enclosed, expression_text, operand_text};
 
-use crate::numbers::write_number;
+use frac_core::write_number;
 use op_trees::Expr;
 use prism_tree::{Pe, PrismOp};
 use std::alloc::AllocError;

@@ -8,7 +8,6 @@ mod expressions;
 mod file;
 mod laws;
 mod modules;
-mod numbers;
 mod parts;
 
 pub use file::print;

@@ -1,9 +1,8 @@
-use Rattle.std.proofs.Common.{ℕ, List, ◌+◌, ◌-◌, length, take, drop, ◌∙◌, refl, ap, subst, arith}
+use Rattle.std.proofs.Common.{ℕ, List, ◌+◌, ◌-◌, length, take, drop, ◌∙◌, refl, ap, subst, arith, ne_eqb}
 use Rattle.std.proofs.Math.ListN.{get_or}
 use Rattle.decimal_json.specs.Whole.{IsWhole}
 use Rattle.decimal_json.specs.Held.{is_bracket, NoValue}
 use Rattle.decimal_json.specs.declared.ahead.Ahead.TheVariants.{Named as Keyed, Valued}
-use Rattle.decimal_json.proofs.Values.{differs}
 use Rattle.decimal_json.proofs.Chains.{tail_is}
 use Rattle.decimal_json.proofs.Whole.{whole_of, looks_of, trailed, whole_within}
 use Rattle.decimal_json.proofs.Held.{nothing_left, tail_some, text_none, word_none, number_none, too_deep, trailed_none, none_of, some_of, stops_on, word_first, look_other, looks_all, no_member, looks_named, named_end, at_tail}
@@ -98,7 +97,7 @@ pub tight-returns-in-102-clause-none : goal.tight-returns-in-102-clause-none
 tight-returns-in-102-clause-none t c = word_none c.args.depth c.args.at c.args.bytes.now c.whole_word.result _ (word_first (get_or c.args.bytes.now 0 0) (λ a b d. let h = c.in-102.is in omega (arith, a, b, d, h))) c.whole_word.ensures.none
 
 pub tight-returns-in_default-clause-none : goal.tight-returns-in_default-clause-none
-tight-returns-in_default-clause-none t c = number_none c.args.depth c.args.at c.args.bytes.now c.whole_number.result c.requires.some (differs _ _ (λ f. grind (arith, f)), differs _ _ (λ f. grind (arith, f)), differs _ _ (λ f. grind (arith, f)), differs _ _ (λ f. omega arith), differs _ _ (λ f. omega arith), differs _ _ (λ f. omega arith)) c.whole_number.ensures.none
+tight-returns-in_default-clause-none t c = number_none c.args.depth c.args.at c.args.bytes.now c.whole_number.result c.requires.some (ne_eqb _ _ (λ f. grind (arith, f)), ne_eqb _ _ (λ f. grind (arith, f)), ne_eqb _ _ (λ f. grind (arith, f)), ne_eqb _ _ (λ f. omega arith), ne_eqb _ _ (λ f. omega arith), ne_eqb _ _ (λ f. omega arith)) c.whole_number.ensures.none
 
 pub whole-returns-then-end-bytes-clause-none : goal.whole-returns-then-end-bytes-clause-none
 whole-returns-then-end-bytes-clause-none t c = λ i. trailed_none c.args.depth c.args.at c.args.bytes.now c.in-Some.size _ c.in-Some.value c.past_spaces-end.ensures.skips c.if-end-bytes.true (whole_of c.args.depth c.args.at c.args.bytes.now _ c.in-Some.value c.in-Some.size c.in-Some.is c.in_ok-tight.ensures.whole)
@@ -119,7 +118,7 @@ whole_array-returns-then-bytes-end-ne93-clause-none t c =
     elim c.then-bytes-end-ne93.branch [
       | whole_array-then-bytes-end-ne93-via-then-bytes-end-ne93 w ↦
           items_refused c.args.bytes.now c.args.at c.args.depth _ c.loop-n.n c.in-Some.size c.loop-n.list _ c.in-Some.value e c.loop-n.invariant c.loop-n-test.true i c.in_ok-push-in-Some.ensures.ok
-          (stops_on c.args.bytes.now _ c.loop-n.n c.in-Some.size _ e refl (some_of _ _ (c.in-Some.value, c.in-Some.size) c.in-Some.is c.in_ok-item.ensures.stops)) (differs _ _ c.if-bytes-end-ne44.true) (differs _ _ w.if-bytes-end-ne93.true)
+          (stops_on c.args.bytes.now _ c.loop-n.n c.in-Some.size _ e refl (some_of _ _ (c.in-Some.value, c.in-Some.size) c.in-Some.is c.in_ok-item.ensures.stops)) (ne_eqb _ _ c.if-bytes-end-ne44.true) (ne_eqb _ _ w.if-bytes-end-ne93.true)
       | whole_array-then-bytes-end-ne93-via-else-bytes-end-ne93+then-end-bytes w ↦ items_out c.args.bytes.now c.args.at c.args.depth _ c.loop-n.n c.in-Some.size c.loop-n.list _ c.in-Some.value e c.loop-n.invariant c.loop-n-test.true i c.in_ok-push-in-Some.ensures.ok w.if-bytes-end-ne93.false w.if-end-bytes.true
     ]
 
@@ -139,7 +138,7 @@ whole_object-returns-then-bytes-end-ne125-clause-none t c =
     elim c.then-bytes-end-ne125.branch [
       | whole_object-then-bytes-end-ne125-via-then-bytes-end-ne125 w ↦
           members_refused c.args.bytes.now c.args.at c.args.depth _ c.loop-n.n c.in-Valued.m c.in-Valued.size c.loop-n.done _ c.in-Valued.pending c.in-Valued.value e c.loop-n.invariant c.loop-n-test.true c.if-bytes-n-eq34.true k.0 k.1 c.in_ok-done-in-Valued.ensures
-          (stops_on c.args.bytes.now _ c.loop-n.n (c.in-Valued.m + c.in-Valued.size) _ e (omega arith) (looks_all c.args.depth (c.args.at + c.loop-n.n) (take (length c.args.bytes.now - c.loop-n.n) (drop c.loop-n.n c.args.bytes.now)) c.loop-n.done c.in_ok-pending.field-0 (Valued c.in-Valued.pending c.in-Valued.m c.in-Valued.value c.in-Valued.size) c.in-Valued.is c.in_ok-pending.ensures.none)) (differs _ _ c.if-bytes-end-ne44.true) (differs _ _ w.if-bytes-end-ne125.true)
+          (stops_on c.args.bytes.now _ c.loop-n.n (c.in-Valued.m + c.in-Valued.size) _ e (omega arith) (looks_all c.args.depth (c.args.at + c.loop-n.n) (take (length c.args.bytes.now - c.loop-n.n) (drop c.loop-n.n c.args.bytes.now)) c.loop-n.done c.in_ok-pending.field-0 (Valued c.in-Valued.pending c.in-Valued.m c.in-Valued.value c.in-Valued.size) c.in-Valued.is c.in_ok-pending.ensures.none)) (ne_eqb _ _ c.if-bytes-end-ne44.true) (ne_eqb _ _ w.if-bytes-end-ne125.true)
       | whole_object-then-bytes-end-ne125-via-else-bytes-end-ne125+then-end-bytes w ↦ members_out c.args.bytes.now c.args.at c.args.depth _ c.loop-n.n c.in-Valued.m c.in-Valued.size c.loop-n.done _ c.in-Valued.pending c.in-Valued.value e c.loop-n.invariant c.loop-n-test.true c.if-bytes-n-eq34.true k.0 k.1 c.in_ok-done-in-Valued.ensures w.if-bytes-end-ne125.false w.if-end-bytes.true
     ]
 
@@ -153,6 +152,6 @@ whole_object-returns-in_default t c =
 pub whole_object-returns-clause-none : goal.whole_object-returns-clause-none
 whole_object-returns-clause-none t c =
     elim c.loop-n-test.branch [
-      | whole_object-then-loop-n-test+else-bytes-n-eq34 w ↦ members_no_key c.args.bytes.now c.args.at c.args.depth c.loop-n.n c.loop-n.done c.loop-n.invariant w.loop-n-test.true (differs _ _ w.if-bytes-n-eq34.false)
+      | whole_object-then-loop-n-test+else-bytes-n-eq34 w ↦ members_no_key c.args.bytes.now c.args.at c.args.depth c.loop-n.n c.loop-n.done c.loop-n.invariant w.loop-n-test.true (ne_eqb _ _ w.if-bytes-n-eq34.false)
       | whole_object-else-loop-n-test w ↦ members_over c.args.bytes.now c.args.at c.args.depth c.loop-n.n c.loop-n.done c.loop-n.invariant (let a = c.loop-n.invariant.0 in let b = w.loop-n-test.false in omega (arith, a, b))
     ]

@@ -1,6 +1,5 @@
-use Rattle.std.proofs.Common.{ℕ, List, refl, ap, ◌∙◌}
+use Rattle.std.proofs.Common.{ℕ, List, refl, ap, ◌∙◌, ne_eqb}
 use Rattle.decimal_json.specs.Grammar.{is_among, names}
-use Rattle.decimal_json.proofs.Values.{differs}
 use Rattle.decimal_json.proofs.Whole.{naming_on}
 use Rattle.decimal_json.proofs.Held.{skipped_within, tail_within, key_unended, key_refused, key_twice, key_without_colon, key_no_colon, naming}
 use Rattle.decimal_json.proofs.ahead.named.Goals as goal
@@ -27,7 +26,7 @@ returns-then-colon-bytes-clause-none c =
       | then-colon-bytes-via-then-colon-bytes w ↦ key_without_colon c.args.bytes.now _ _ c.args.at c.in_ok-n.n _ _ refl c.new.ensures c.in_ok-n.ensures.passes.1 c.args.members _ c.closes.ensures l c.if-not-closes.false _ has c.if-has.false c.past_spaces-colon.result k w.if-colon-bytes.true
       | then-colon-bytes-via-else-colon-bytes+then-bytes-colon-ne58 w ↦
           let m = skipped_within _ _ _ k w.if-colon-bytes.false in
-          key_no_colon c.args.bytes.now _ _ c.args.at c.in_ok-n.n _ _ refl c.new.ensures c.in_ok-n.ensures.passes.1 c.args.members _ c.closes.ensures l c.if-not-closes.false _ has c.if-has.false c.past_spaces-colon.result k m (c.past_spaces-colon.ensures.stops m) (differs _ _ w.if-bytes-colon-ne58.true)
+          key_no_colon c.args.bytes.now _ _ c.args.at c.in_ok-n.n _ _ refl c.new.ensures c.in_ok-n.ensures.passes.1 c.args.members _ c.closes.ensures l c.if-not-closes.false _ has c.if-has.false c.past_spaces-colon.result k m (c.past_spaces-colon.ensures.stops m) (ne_eqb _ _ w.if-bytes-colon-ne58.true)
     ]
 
 pub returns-clause-whole : goal.returns-clause-whole

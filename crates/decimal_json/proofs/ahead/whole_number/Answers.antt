@@ -6,7 +6,7 @@ use Rattle.decimal_json.proofs.ahead.whole_number.Goals as goal
 
 pub returns-clause-whole : goal.returns-clause-whole
 returns-clause-whole c =
-    let m = measured_some _ _ _ c.measure.ensures c.in_ok-value.was in
+    let m = measured_some _ _ _ c.decimal_of.ensures c.in_ok-value.was in
     record {
       some = omega arith;
       within = omega arith;
@@ -27,4 +27,4 @@ returns-in_err-value-clause-none c =
     let l = tail_within c.args.bytes.now _ c.number_front-n.result.0 refl c.number_front-n.ensures.within c.requires.some c.if-end-bytes.false in
     if_none c.from_residual-in_err-value.result _
     (inr (number_too_far c.args.bytes.now c.args.at c.number_front-n.result.0 _ _ c.requires.some (sym c.first.ensures ∙ c.in_ok-stage.was) (front_runs c.args.bytes.now _ c.number_front-n.result.0 _ _ refl c.number_front-n.ensures.runs) l
-    (front_stops c.args.bytes.now _ c.number_front-n.result.0 _ refl l c.number_front-n.ensures.stops) (sym c.is_end.ensures ∙ c.if-not-is_end.false) (measured_none _ _ c.measure.ensures c.in_err-value.was)))
+    (front_stops c.args.bytes.now _ c.number_front-n.result.0 _ refl l c.number_front-n.ensures.stops) (sym c.is_end.ensures ∙ c.if-not-is_end.false) (measured_none _ _ c.decimal_of.ensures c.in_err-value.was)))

@@ -1,9 +1,8 @@
-use Rattle.std.proofs.Common.{refl, sym, ◌∙◌, reverse, arith, []}
+use Rattle.std.proofs.Common.{refl, sym, ◌∙◌, reverse, arith, [], ne_eqb}
 use Rattle.decimal_json.specs.declared.tree.Json.TheVariants.{Object}
 use Rattle.decimal_json.specs.declared.chars.Within.TheVariants.{Between}
 use Rattle.decimal_json.specs.States.{closes, begin_members, in_key}
 use Rattle.decimal_json.proofs.Glue.{plain}
-use Rattle.decimal_json.proofs.Values.{differs}
 use Rattle.decimal_json.proofs.Steps as s
 use Rattle.decimal_json.proofs.machine.in_first_key.Goals as goal
 
@@ -17,4 +16,4 @@ pub returns-in-34 : goal.returns-in-34
 returns-in-34 c p e = rw c.new-in-34.ensures rw c.new-in-34-2.ensures (plain p _ _ 0x22 _ (λ k. in_key c.args.start [] k Between [] (reverse c.args.frames)) e c.in-34.is (s.members_quote _ _ p))
 
 pub returns-in_default : goal.returns-in_default
-returns-in_default c p e = s.members_barred _ _ p _ (sym c.is_space.ensures ∙ c.if-is_space.false) (differs _ _ (λ f. omega arith)) (differs _ _ (λ f. omega arith))
+returns-in_default c p e = s.members_barred _ _ p _ (sym c.is_space.ensures ∙ c.if-is_space.false) (ne_eqb _ _ (λ f. omega arith)) (ne_eqb _ _ (λ f. omega arith))

@@ -10,6 +10,6 @@ same {bs} {i} {s} {n} {t} m u e f p = let F : ℕ → Type 0 = λ k. Scanned bs 
 pub loop-i-preserved : goal.loop-i-preserved
 loop-i-preserved c =
     elim c.if-accepts.branch [
-      | then-accepts w ↦ same _ _ w.len-is w.last-is (scanned_end _ _ _ _ _ _ _ c.loop-i.invariant c.loop-i-test.true c.step-state.ensures.value (sym c.accepts.ensures ∙ w.if-accepts.true))
-      | else-accepts w ↦ same _ _ w.len-is w.last-is (scanned_on _ _ _ _ _ _ _ c.loop-i.invariant c.loop-i-test.true c.step-state.ensures.value (sym c.accepts.ensures ∙ w.if-accepts.false))
+      | then-accepts w ↦ same _ _ w.len-is w.last-is (scanned_end _ _ _ _ _ _ _ c.loop-i.invariant c.loop-i-test.true c.step-state.ensures (sym c.accepts.ensures ∙ w.if-accepts.true))
+      | else-accepts w ↦ same _ _ w.len-is w.last-is (scanned_on _ _ _ _ _ _ _ c.loop-i.invariant c.loop-i-test.true c.step-state.ensures (sym c.accepts.ensures ∙ w.if-accepts.false))
     ]

@@ -1,14 +1,11 @@
-use Rattle.std.proofs.Common.{◌≡◌, List, ℕ, true, refl}
-use Rattle.frac_core.specs.declared.decimal.Decimal.{Decimal}
+use Rattle.std.proofs.Common.{◌∙◌, Bool, Some, None, cond, ap, refl, sym}
 use Rattle.bridge_io.specs.declared.reason.Reason.TheVariants.{BadNumber}
+use Rattle.frac_core.specs.Numeral.{worth}
+use Rattle.frac_core.proofs.Worth.{beyond_none}
 use Rattle.prism_lex.specs.declared.token.TokenKind.TheVariants.{Number}
-use Rattle.prism_lex.specs.Numbers.{is_number, IsWorth, is_past}
-use Rattle.prism_lex.specs.Front.{IsRefusedText}
-use Rattle.prism_lex.proofs.Worth.{worth_some}
 use Rattle.prism_lex.proofs.token.number_kind.Goals as goal
 
-past : (w : List ℕ) → is_number w ≡ true → ((d : Decimal) → IsWorth w d → is_past w d ≡ true) → IsRefusedText w BadNumber
-past w h f = let s = worth_some w h in (Number s.0, s.1, rw (f s.0 s.1) refl)
-
 pub returns-in-None-clause-err : goal.returns-in-None-clause-err
-returns-in-None-clause-err c = past c.args.text.now c.requires.number c.in-None.ensures.none
+returns-in-None-clause-err c =
+    let past = beyond_none c.args.text.now (sym c.decimal_of.ensures ∙ c.in-None.is) in
+    (Number (worth c.args.text.now), record { number = c.requires; value = refl }, ap (λ (b : Bool). cond b (Some BadNumber) None) past)

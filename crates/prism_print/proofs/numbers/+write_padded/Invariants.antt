@@ -1,4 +1,0 @@
-use Rattle.prism_print.proofs.numbers.+write_padded.Given as goal
-
-abbrev pub decreases-write_padded : goal.decreases-write_padded
-decreases-write_padded l = l.width
