@@ -1,4 +1,2 @@
-pub mod Toy
-pub mod ToyLaws
 pub mod Point
 pub mod PointLaws

@@ -1,23 +1,21 @@
 //! Times exact fractions and the evaluation of trees beside the same loops over plain integers. Without words it does each once on
 //! small sizes and prints what they come to; with the word `time` it does them on large ones and prints nanoseconds. Without words
 //! it also prints worked answers of the calls of the lowest crates, which its stored run compares with what was worked out by hand.
-//! The trees are of an operator set of their own: strict and lazy operators with one, two and three operands.
+//! The trees are of the operators that languages have in common, strict and lazy ones with one, two and three operands.
 #![tactic(auto)]
 
 mod plain;
 mod point;
 mod tables;
-mod toy;
 mod trees;
 
 use frac_core::Frac;
-use op_trees::{Expr, count, eval};
+use op_trees::{Expr, StandardOp, count, eval};
 use plain::{Ratio, plain_eval, plain_tree};
 use point::Point;
 use std::alloc::{AllocError, Global};
 use std::time::Instant;
 use std::{env, io};
-use toy::Toy;
 use trees::{Tree, call_laws, name, number, show_sameness, show_trees, two};
 
 const SMALL: u32 = 1_000;
@@ -183,17 +181,17 @@ fn tree(alloc: Global, height: u32) -> Tree {
         return two(
             alloc,
             0,
-            Toy::Equal,
+            StandardOp::Equal,
             name(alloc, 0, "x"),
             number(alloc, 0, 3),
         );
     }
     let left = tree(alloc, height - 1);
     let right = tree(alloc, height - 1);
-    two(alloc, 0, Toy::And, left, right)
+    two(alloc, 0, StandardOp::And, left, right)
 }
 
-fn holds(tree: &Expr<Toy>) -> bool {
+fn holds(tree: &Expr<StandardOp>) -> bool {
     eval(tree, &Point { x: 3 }).is_ok()
 }
 
@@ -206,7 +204,7 @@ fn time_trees(rt: &HostRuntime) -> io::Result<()> {
     println!(rt; "nodes {nodes}: eval {exact} ns, integers {plain} ns ({value} {plain_value})")
 }
 
-fn time_eval(rt: &HostRuntime, tree: &Expr<Toy>) -> io::Result<(u128, bool)> {
+fn time_eval(rt: &HostRuntime, tree: &Expr<StandardOp>) -> io::Result<(u128, bool)> {
     let start = Instant::now(rt)?;
     let value = holds(tree);
     Ok((start.elapsed(rt)?.as_nanos(), value))

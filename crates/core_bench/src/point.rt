@@ -3,10 +3,9 @@
 ghost use Rattle.std.specs.Prelude.{◌≡◌};
 ghost use Rattle.core_bench.specs.Point.{number_at, turned};
 
-use crate::toy::Toy;
 use bridge_io::Text;
 use frac_core::Frac;
-use op_trees::{Bodies, Expr, Names, OpMap, Shape, Ty, Value};
+use op_trees::{Bodies, Expr, Names, OpMap, Shape, StandardOp, Ty, Value};
 use std::alloc::{AllocError, Global};
 
 /// All names are ints, and `x` alone has a value.
@@ -46,16 +45,16 @@ fn number(x: i64) -> Option<Value>
 /// The name `y` has a body.
 #[derive(Drop)]
 pub struct Bodied {
-    pub body: Expr<Toy>,
+    pub body: Expr<StandardOp>,
 }
 
-impl Bodies<Toy> for Bodied {
+impl Bodies<StandardOp> for Bodied {
     ghost use Rattle.core_bench.specs.Point.{body_of};
     ghost use Rattle.op_trees.specs.Tree.{tree};
 
     ghost bodies = { λ b. body_of (tree b.body) };
 
-    fn body(&self, name: &str) -> Option<&Expr<Toy>> {
+    fn body(&self, name: &str) -> Option<&Expr<StandardOp>> {
         if name == "y" { Some(&self.body) } else { None }
     }
 }
@@ -64,7 +63,7 @@ impl Bodies<Toy> for Bodied {
 #[derive(Clone, Copy)]
 pub struct Turned;
 
-impl OpMap<Toy, Toy> for Turned {
+impl OpMap<StandardOp, StandardOp> for Turned {
     ghost use Rattle.std.specs.Prelude.{◌≡◌, IfOk};
     ghost use Rattle.core_bench.specs.Point.{turned_node};
     ghost use Rattle.op_trees.specs.Rebuilt.{shape};
@@ -72,7 +71,11 @@ impl OpMap<Toy, Toy> for Turned {
 
     ghost rebuilt = { λ m. turned_node };
 
-    fn rebuild(&self, alloc: Global, node: Shape<Toy, Toy>) -> Result<Expr<Toy>, AllocError>
+    fn rebuild(
+        &self,
+        alloc: Global,
+        node: Shape<StandardOp, StandardOp>,
+    ) -> Result<Expr<StandardOp>, AllocError>
         ensures { IfOk result (λ r. tree r ≡ turned_node (shape node)) }
     {
         match node {
@@ -86,11 +89,11 @@ impl OpMap<Toy, Toy> for Turned {
     }
 }
 
-fn turn(o: Toy) -> Toy
+fn turn(o: StandardOp) -> StandardOp
     ensures { result ≡ turned o }
 {
     match o {
-        Toy::Greater => Toy::Equal,
+        StandardOp::Greater => StandardOp::Equal,
         o => o,
     }
 }

@@ -1,6 +1,5 @@
 //! Worked answers of small trees: their values, their types, their sizes, and what is made of them.
 use crate::point::{Bodied, Point, Turned};
-use crate::toy::Toy;
 use bridge_io::Text;
 use frac_core::Decimal;
 use op_trees::*;
@@ -8,7 +7,7 @@ use std::alloc::{AllocError, Global};
 use std::io;
 
 /// A tree, where memory was ample.
-pub type Tree = Result<Box<Expr<Toy>>, AllocError>;
+pub type Tree = Result<Box<Expr<StandardOp>>, AllocError>;
 
 #[derive(Clone, Copy)]
 enum Worked {
@@ -48,7 +47,7 @@ pub fn show_trees(rt: &HostRuntime) -> io::Result<()> {
     Ok(())
 }
 
-fn show_tree(rt: &HostRuntime, name: &str, e: &Expr<Toy>) -> io::Result<()> {
+fn show_tree(rt: &HostRuntime, name: &str, e: &Expr<StandardOp>) -> io::Result<()> {
     let [a, b, c, d] = [value(e, 0), value(e, 1), value(e, 2), value(e, 3)];
     let (ty, height, nodes) = (ty(e), height(e), count(e));
     println!(rt; "{name}: {a} {b} {c} {d}, {ty}, {height} high, {nodes} nodes")
@@ -68,28 +67,28 @@ fn sameness(alloc: Global) -> Result<(bool, bool, bool), AllocError> {
     let copied = is_same(&guarded, copy(alloc))?;
     let moved = is_same(
         &guarded,
-        two(alloc, 30, Toy::And, positive(alloc), ratio(alloc)),
+        two(alloc, 30, StandardOp::And, positive(alloc), ratio(alloc)),
     )?;
     let turned = is_same(&guarded, tree_of(alloc, Worked::Turned))?;
     Ok((copied, moved, turned))
 }
 
-fn is_same(guarded: &Expr<Toy>, e: Tree) -> Result<bool, AllocError> {
+fn is_same(guarded: &Expr<StandardOp>, e: Tree) -> Result<bool, AllocError> {
     Ok(same(&*e?, guarded))
 }
 
 /// The laws of trees hold for these operators, names and maps.
 pub fn call_laws() {
-    evaluation_law::<Toy>();
-    typing_law::<Toy, Point>();
-    offset_law::<Toy>();
-    substitution_law::<Toy>();
-    formula_law::<Toy>();
-    renaming_law::<Toy>();
-    mapping_law::<Toy, Toy>();
+    evaluation_law::<StandardOp>();
+    typing_law::<StandardOp, Point>();
+    offset_law::<StandardOp>();
+    substitution_law::<StandardOp>();
+    formula_law::<StandardOp>();
+    renaming_law::<StandardOp>();
+    mapping_law::<StandardOp, StandardOp>();
 }
 
-fn value(e: &Expr<Toy>, x: i64) -> &'static str {
+fn value(e: &Expr<StandardOp>, x: i64) -> &'static str {
     match eval(e, &Point { x }) {
         Ok(Value::Truth(true)) => "true",
         Ok(Value::Truth(false)) => "false",
@@ -99,7 +98,7 @@ fn value(e: &Expr<Toy>, x: i64) -> &'static str {
     }
 }
 
-fn ty(e: &Expr<Toy>) -> &'static str {
+fn ty(e: &Expr<StandardOp>) -> &'static str {
     match type_of(e, &Point { x: 0 }) {
         Ok(Ty::Bool) => "bool",
         Ok(_) => "number",
@@ -110,8 +109,8 @@ fn ty(e: &Expr<Toy>) -> &'static str {
 
 fn tree_of(alloc: Global, worked: Worked) -> Tree {
     match worked {
-        Worked::Guarded => two(alloc, 3, Toy::And, positive(alloc), ratio(alloc)),
-        Worked::Turned => two(alloc, 3, Toy::And, ratio(alloc), positive(alloc)),
+        Worked::Guarded => two(alloc, 3, StandardOp::And, positive(alloc), ratio(alloc)),
+        Worked::Turned => two(alloc, 3, StandardOp::And, ratio(alloc), positive(alloc)),
         Worked::Negated => one(alloc, 0, positive(alloc)),
         Worked::Chosen => chosen(alloc),
         Worked::Strict => strict(alloc),
@@ -124,7 +123,7 @@ fn tree_of(alloc: Global, worked: Worked) -> Tree {
     }
 }
 
-fn boxed(alloc: Global, e: Expr<Toy>) -> Tree {
+fn boxed(alloc: Global, e: Expr<StandardOp>) -> Tree {
     Ok(Box::new(alloc, e)?)
 }
 
@@ -149,11 +148,11 @@ fn truth(alloc: Global, at: usize) -> Tree {
 }
 
 fn one(alloc: Global, at: usize, a: Tree) -> Tree {
-    boxed(alloc, Expr::One(at, Toy::Not, a?))
+    boxed(alloc, Expr::One(at, StandardOp::Not, a?))
 }
 
 /// An operator with two operands.
-pub fn two(alloc: Global, at: usize, o: Toy, a: Tree, b: Tree) -> Tree {
+pub fn two(alloc: Global, at: usize, o: StandardOp, a: Tree, b: Tree) -> Tree {
     boxed(alloc, Expr::Two(at, o, a?, b?))
 }
 
@@ -161,28 +160,37 @@ fn positive(alloc: Global) -> Tree {
     two(
         alloc,
         1,
-        Toy::Greater,
+        StandardOp::Greater,
         name(alloc, 0, "x"),
         number(alloc, 2, 0),
     )
 }
 
 fn share(alloc: Global, divisor: Tree) -> Tree {
-    two(alloc, 5, Toy::Divide, number(alloc, 4, 6), divisor)
+    two(alloc, 5, StandardOp::Div, number(alloc, 4, 6), divisor)
 }
 
 fn ratio(alloc: Global) -> Tree {
     let x = name(alloc, 6, "x");
-    two(alloc, 7, Toy::Equal, share(alloc, x), number(alloc, 8, 3))
+    two(
+        alloc,
+        7,
+        StandardOp::Equal,
+        share(alloc, x),
+        number(alloc, 8, 3),
+    )
 }
 
 fn chosen(alloc: Global) -> Tree {
     let condition = positive(alloc)?;
     let (then, other) = both(ratio(alloc), truth(alloc, 9))?;
-    boxed(alloc, Expr::Three(0, Toy::Choose, condition, then, other))
+    boxed(
+        alloc,
+        Expr::Three(0, StandardOp::Ite, condition, then, other),
+    )
 }
 
-fn both(a: Tree, b: Tree) -> Result<(Box<Expr<Toy>>, Box<Expr<Toy>>), AllocError> {
+fn both(a: Tree, b: Tree) -> Result<(Box<Expr<StandardOp>>, Box<Expr<StandardOp>>), AllocError> {
     Ok((a?, b?))
 }
 
@@ -193,21 +201,39 @@ fn wide(alloc: Global, at: usize) -> Tree {
 
 fn strict(alloc: Global) -> Tree {
     let zero = number(alloc, 2, 0);
-    two(alloc, 3, Toy::Equal, share(alloc, zero), wide(alloc, 4))
+    two(
+        alloc,
+        3,
+        StandardOp::Equal,
+        share(alloc, zero),
+        wide(alloc, 4),
+    )
 }
 
 fn lazy(alloc: Global) -> Tree {
-    let guard = two(alloc, 7, Toy::Equal, wide(alloc, 6), number(alloc, 8, 0));
-    two(alloc, 5, Toy::And, positive(alloc), guard)
+    let guard = two(
+        alloc,
+        7,
+        StandardOp::Equal,
+        wide(alloc, 6),
+        number(alloc, 8, 0),
+    );
+    two(alloc, 5, StandardOp::And, positive(alloc), guard)
 }
 
 fn misfits(alloc: Global) -> Tree {
-    let late = two(alloc, 7, Toy::Greater, name(alloc, 6, "x"), truth(alloc, 8));
+    let late = two(
+        alloc,
+        7,
+        StandardOp::Greater,
+        name(alloc, 6, "x"),
+        truth(alloc, 8),
+    );
     let early = one(alloc, 2, name(alloc, 3, "x"));
-    two(alloc, 1, Toy::And, late, early)
+    two(alloc, 1, StandardOp::And, late, early)
 }
 
-fn replaced(alloc: Global, e: &Expr<Toy>, bodies: &Bodied) -> Tree {
+fn replaced(alloc: Global, e: &Expr<StandardOp>, bodies: &Bodied) -> Tree {
     boxed(alloc, substitute(alloc, e, bodies)?)
 }
 
@@ -215,12 +241,12 @@ fn given(alloc: Global) -> Tree {
     let e = two(
         alloc,
         7,
-        Toy::Equal,
+        StandardOp::Equal,
         name(alloc, 4, "y"),
         number(alloc, 8, 3),
     )?;
     let (six, x) = both(number(alloc, 0, 6), name(alloc, 0, "x"))?;
-    let body = Expr::Two(0, Toy::Divide, six, x);
+    let body = Expr::Two(0, StandardOp::Div, six, x);
     replaced(alloc, &e, &Bodied { body })
 }
 

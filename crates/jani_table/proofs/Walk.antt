@@ -1,5 +1,7 @@
 -- The soonest fault, item by item and member by member.
 use Rattle.std.proofs.Common.{◌≡◌, ℕ, ◌+◌, ◌<◌, ◌≤◌, sym, ap, ◌∙◌, List, ◌++◌, Option, Some, None, length, drop, get_or}
+use Rattle.std.proofs.lemmas.List.{drop_more}
+use Rattle.basics.specs.Lists.{drop_item}
 use Rattle.bridge_io.specs.declared.reason.Fault.{Fault}
 use Rattle.bridge_io.specs.declared.reason.Named.{Named}
 use Rattle.bridge_io.specs.declared.reason.Reason.TheVariants.{UnknownMember}
@@ -9,7 +11,7 @@ use Rattle.decimal_json.specs.declared.tree.Member.{Member}
 use Rattle.jani_table.specs.declared.table.Form.{Form}
 use Rattle.jani_table.specs.declared.table.Kind.{Kind}
 use Rattle.jani_table.specs.Node.{Node, Fields, node, nodes, fields}
-use Rattle.jani_table.specs.NodeLaws.{node_array, node_object, node_named, drop_item, drop_next, drop_all}
+use Rattle.jani_table.specs.NodeLaws.{node_array, node_object, node_named, drop_all}
 use Rattle.jani_table.specs.Table.{Row, item_form, known_form}
 use Rattle.jani_table.specs.Words.{kind_fault}
 use Rattle.jani_table.specs.Least.{soonest, sooner}
@@ -39,7 +41,7 @@ pub rows_next : (ms : Fields) (close : ℕ) (rows : List Row) (i : ℕ) (r : Row
 rows_next ms close rows i r best new all n inv h =
     ap (λ b. soonest b (missing_faults ms close (drop (i + 1) rows))) n
     ∙ (sym (soonest_append best (row_faults ms close (get_or rows i r)) (missing_faults ms close (drop (i + 1) rows)))
-    ∙ (sym (ap (λ ys. soonest best (missing_faults ms close ys)) (drop_next rows i r h)) ∙ inv))
+    ∙ (sym (ap (λ ys. soonest best (missing_faults ms close ys)) (drop_more rows i r h)) ∙ inv))
 
 abbrev pub member_part : Kind → Named × Node → List Fault
 member_part kind p = by_form (known_form kind p.0.name) (fault p.0.at UnknownMember) (λ g. faults g p.1)

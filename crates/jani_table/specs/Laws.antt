@@ -4,6 +4,8 @@ use Rattle.std.proofs.Common.{◌≡◌, ℕ, ◌+◌, ◌<◌, refl, sym, ap, s
 use Rattle.std.specs.Prelude.{bytes_eq}
 use Rattle.std.specs.List.{list_any}
 use Rattle.std.proofs.lemmas.Slice.Eq.{bytes_eq-Decides}
+use Rattle.std.proofs.lemmas.Bool.{or_cases, and_parts}
+use Rattle.basics.specs.Lists.{append_right}
 use Rattle.bridge_io.specs.declared.reason.Reason.{Reason}
 use Rattle.bridge_io.specs.declared.reason.Reason.TheVariants.{UnknownMember, MissingMember, LeftOut, WrongShape}
 use Rattle.bridge_io.specs.declared.reason.Fault.{Fault}
@@ -26,10 +28,6 @@ pub append_left : {A : Type 0} (xs ys : List A) → xs ++ ys ≡ [] → xs ≡ [
 append_left [] ys e = refl
 append_left (x ∷ xs) ys e = absurd cc
 
-pub append_right : {A : Type 0} (xs ys : List A) → xs ++ ys ≡ [] → ys ≡ []
-append_right [] ys e = e
-append_right (x ∷ xs) ys e = absurd cc
-
 -- ---- members
 
 by_test : {A : Type 0} (b : Bool) (x : A) (o : Option A) (w : A) → (if b then Some x else o) ≡ Some w → ((b ≡ true) × (x ≡ w)) ⊎ ((b ≡ false) × (o ≡ Some w))
@@ -49,17 +47,9 @@ member_clean kind key g (field n v rest) w k c m =
       | inr e ↦ member_clean kind key g rest w k (append_right (by_form (known_form kind n.name) (fault n.at UnknownMember) (λ g. faults g v)) _ c) e.1
     ]
 
-unless_clean : (b : Bool) (at : ℕ) (reason : Reason) → fault_unless b at reason ≡ [] → b ≡ true
+pub unless_clean : (b : Bool) (at : ℕ) (reason : Reason) → fault_unless b at reason ≡ [] → b ≡ true
 unless_clean true at reason e = refl
 unless_clean false at reason e = absurd cc
-
-or_cases : (a b : Bool) → (a || b) ≡ true → (a ≡ true) ⊎ (b ≡ true)
-or_cases true b e = inl refl
-or_cases false b e = inr e
-
-both_true : (a b : Bool) → (a && b) ≡ true → (a ≡ true) × (b ≡ true)
-both_true true b e = (refl, e)
-both_true false b e = absurd cc
 
 not_first : (a b : Bool) → a ≡ true → (not a || b) ≡ true → b ≡ true
 not_first true b h e = e
@@ -75,7 +65,7 @@ needed_there ms close [] key n c = absurd cc
 needed_there ms close (r ∷ rows) key n c =
     elim (or_cases (is_row_for key r) (list_any (is_row_for key) rows) n) [
       | inl e ↦
-          let both = both_true (is_required r.1) (bytes_eq (spelled r.0) (spelled key)) e in
+          let both = and_parts (is_required r.1) (bytes_eq (spelled r.0) (spelled key)) e in
           let same : spelled r.0 ≡ spelled key = (bytes_eq-Decides (spelled r.0) (spelled key)).0 both.1 in
           let there : (not (is_required r.1) || has r.0 ms) ≡ true = unless_clean (not (is_required r.1) || has r.0 ms) close MissingMember (append_left _ (missing_faults ms close rows) c) in
           ap (λ s. is_some (member_text s ms)) (sym same) ∙ not_first (is_required r.1) (has r.0 ms) both.0 there

@@ -1,6 +1,6 @@
 -- What stands where in a JANI file (jani-model specification, version 1): the objects, their members and what each member
 -- has to be.
-use Rattle.std.specs.Prelude.{ℕ, List, [], ◌∷◌, Bool, true, false, Option, Some, None, codes, bytes_eq, find}
+use Rattle.std.specs.Prelude.{ℕ, List, Bool, true, false, Option, Some, None, codes, bytes_eq, find}
 use Rattle.jani_table.specs.declared.key.Key.{Key}
 use Rattle.jani_table.specs.declared.key.Key.TheVariants as K
 use Rattle.jani_table.specs.declared.table.Form.{Form}
@@ -9,6 +9,7 @@ use Rattle.jani_table.specs.declared.table.Kind.{Kind}
 use Rattle.jani_table.specs.declared.table.Kind.TheVariants as O
 use Rattle.jani_table.specs.declared.table.Need.{Need}
 use Rattle.jani_table.specs.declared.table.Need.TheVariants.{Required, Optional}
+use Rattle.jani_table.specs.declared.table.TheConstants.{MODEL, ACTION, CONSTANT, VARIABLE, RANGE, AUTOMATON, LOCATION, TRANSIENT_VALUE, EDGE, DESTINATION, ASSIGNMENT, SYSTEM, ELEMENT, VECTOR, BOXED, UNARY, BINARY, CHOICE, UNCLEAR}
 
 -- the key as it is written
 abbrev pub spelled : Key → List ℕ
@@ -66,155 +67,30 @@ spelled K.Comment = codes "comment"
 abbrev pub Row : Type 0
 Row = Key × Need × Form
 
--- The members of each object. A comment may stand in every object.
+-- The members of each object, as src/table.rt lists them. A comment may stand in every object.
 abbrev pub rows_of : Kind → List Row
-rows_of O.Model =
-    (K.JaniVersion, Required, F.Version)
-    ∷ (K.Name, Required, F.Text)
-    ∷ (K.Type, Required, F.ModelType)
-    ∷ (K.Features, Optional, F.Features)
-    ∷ (K.Actions, Optional, F.Actions)
-    ∷ (K.Constants, Optional, F.Constants)
-    ∷ (K.Variables, Optional, F.Variables)
-    ∷ (K.RestrictInitial, Optional, F.ModelInitial)
-    ∷ (K.Properties, Optional, F.Anything)
-    ∷ (K.Automata, Required, F.Automata)
-    ∷ (K.System, Required, F.System)
-    ∷ (K.Functions, Optional, F.LeftOut)
-    ∷ (K.Metadata, Optional, F.Anything)
-    ∷ (K.Comment, Optional, F.Text)
-    ∷ []
-rows_of O.Action =
-    (K.Name, Required, F.Name)
-    ∷ (K.Comment, Optional, F.Text)
-    ∷ []
-rows_of O.Constant =
-    (K.Name, Required, F.Name)
-    ∷ (K.Type, Required, F.ConstantType)
-    ∷ (K.Value, Optional, F.Expression)
-    ∷ (K.Comment, Optional, F.Text)
-    ∷ []
-rows_of O.ConstantRange =
-    (K.Kind, Required, F.BoundedWord)
-    ∷ (K.Base, Required, F.BaseWord)
-    ∷ (K.LowerBound, Optional, F.Expression)
-    ∷ (K.UpperBound, Optional, F.Expression)
-    ∷ (K.Comment, Optional, F.Text)
-    ∷ []
-rows_of O.Variable =
-    (K.Name, Required, F.Name)
-    ∷ (K.Type, Required, F.VariableType)
-    ∷ (K.Transient, Optional, F.Truth)
-    ∷ (K.InitialValue, Optional, F.Expression)
-    ∷ (K.Comment, Optional, F.Text)
-    ∷ []
-rows_of O.Range =
-    (K.Kind, Required, F.BoundedWord)
-    ∷ (K.Base, Required, F.BaseWord)
-    ∷ (K.LowerBound, Optional, F.Expression)
-    ∷ (K.UpperBound, Optional, F.Expression)
-    ∷ (K.Comment, Optional, F.Text)
-    ∷ []
-rows_of O.Automaton =
-    (K.Name, Required, F.Name)
-    ∷ (K.Variables, Optional, F.Variables)
-    ∷ (K.Locations, Required, F.Locations)
-    ∷ (K.InitialLocations, Required, F.InitialLocations)
-    ∷ (K.Edges, Required, F.Edges)
-    ∷ (K.RestrictInitial, Optional, F.AutomatonInitial)
-    ∷ (K.Functions, Optional, F.LeftOut)
-    ∷ (K.Comment, Optional, F.Text)
-    ∷ []
-rows_of O.Location =
-    (K.Name, Required, F.Name)
-    ∷ (K.TransientValues, Optional, F.TransientValues)
-    ∷ (K.TimeProgress, Optional, F.LeftOut)
-    ∷ (K.Comment, Optional, F.Text)
-    ∷ []
-rows_of O.TransientValue =
-    (K.Ref, Required, F.Name)
-    ∷ (K.Value, Required, F.Expression)
-    ∷ (K.Comment, Optional, F.Text)
-    ∷ []
-rows_of O.Edge =
-    (K.Location, Required, F.Name)
-    ∷ (K.Action, Optional, F.Name)
-    ∷ (K.Guard, Optional, F.Boxed)
-    ∷ (K.Destinations, Required, F.Destinations)
-    ∷ (K.Rate, Optional, F.LeftOut)
-    ∷ (K.Comment, Optional, F.Text)
-    ∷ []
-rows_of O.Destination =
-    (K.Location, Required, F.Name)
-    ∷ (K.Probability, Optional, F.Boxed)
-    ∷ (K.Assignments, Optional, F.Assignments)
-    ∷ (K.Comment, Optional, F.Text)
-    ∷ []
-rows_of O.Assignment =
-    (K.Ref, Required, F.Name)
-    ∷ (K.Value, Required, F.Expression)
-    ∷ (K.Index, Optional, F.Index)
-    ∷ (K.Comment, Optional, F.Text)
-    ∷ []
-rows_of O.System =
-    (K.Elements, Required, F.Elements)
-    ∷ (K.Syncs, Optional, F.Vectors)
-    ∷ (K.Comment, Optional, F.Text)
-    ∷ []
-rows_of O.Element =
-    (K.Automaton, Required, F.Name)
-    ∷ (K.InputEnable, Optional, F.InputEnable)
-    ∷ (K.Comment, Optional, F.Text)
-    ∷ []
-rows_of O.Vector =
-    (K.Synchronise, Required, F.Synchronise)
-    ∷ (K.Result, Optional, F.Name)
-    ∷ (K.Comment, Optional, F.Text)
-    ∷ []
-rows_of O.Boxed =
-    (K.Exp, Required, F.Expression)
-    ∷ (K.Comment, Optional, F.Text)
-    ∷ []
-rows_of O.ModelInitial =
-    (K.Exp, Required, F.Expression)
-    ∷ (K.Comment, Optional, F.Text)
-    ∷ []
-rows_of O.AutomatonInitial =
-    (K.Exp, Required, F.Expression)
-    ∷ (K.Comment, Optional, F.Text)
-    ∷ []
-rows_of O.Unary =
-    (K.Op, Required, F.Operator)
-    ∷ (K.Exp, Required, F.Expression)
-    ∷ (K.Constant, Optional, F.LeftOut)
-    ∷ (K.Comment, Optional, F.Text)
-    ∷ []
-rows_of O.Binary =
-    (K.Op, Required, F.Operator)
-    ∷ (K.Left, Required, F.Expression)
-    ∷ (K.Right, Required, F.Expression)
-    ∷ (K.Constant, Optional, F.LeftOut)
-    ∷ (K.Comment, Optional, F.Text)
-    ∷ []
-rows_of O.Choice =
-    (K.Op, Required, F.Operator)
-    ∷ (K.If, Required, F.Expression)
-    ∷ (K.Then, Required, F.Expression)
-    ∷ (K.Else, Required, F.Expression)
-    ∷ (K.Constant, Optional, F.LeftOut)
-    ∷ (K.Comment, Optional, F.Text)
-    ∷ []
-rows_of O.Unclear =
-    (K.Op, Required, F.Operator)
-    ∷ (K.Exp, Optional, F.Expression)
-    ∷ (K.Left, Optional, F.Expression)
-    ∷ (K.Right, Optional, F.Expression)
-    ∷ (K.If, Optional, F.Expression)
-    ∷ (K.Then, Optional, F.Expression)
-    ∷ (K.Else, Optional, F.Expression)
-    ∷ (K.Constant, Optional, F.LeftOut)
-    ∷ (K.Comment, Optional, F.Text)
-    ∷ []
+rows_of O.Model = MODEL
+rows_of O.Action = ACTION
+rows_of O.Constant = CONSTANT
+rows_of O.ConstantRange = RANGE
+rows_of O.Variable = VARIABLE
+rows_of O.Range = RANGE
+rows_of O.Automaton = AUTOMATON
+rows_of O.Location = LOCATION
+rows_of O.TransientValue = TRANSIENT_VALUE
+rows_of O.Edge = EDGE
+rows_of O.Destination = DESTINATION
+rows_of O.Assignment = ASSIGNMENT
+rows_of O.System = SYSTEM
+rows_of O.Element = ELEMENT
+rows_of O.Vector = VECTOR
+rows_of O.Boxed = BOXED
+rows_of O.ModelInitial = BOXED
+rows_of O.AutomatonInitial = BOXED
+rows_of O.Unary = UNARY
+rows_of O.Binary = BINARY
+rows_of O.Choice = CHOICE
+rows_of O.Unclear = UNCLEAR
 
 abbrev pub is_required : Need → Bool
 is_required Required = true

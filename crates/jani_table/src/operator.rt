@@ -1,13 +1,9 @@
 // The operators of JANI expressions (jani-model specification, version 1, "Expressions").
-ghost use Rattle.std.specs.Prelude.{◌≡◌, Some};
-ghost use Rattle.op_trees.specs.Meaning.{narrowed};
-ghost use Rattle.op_trees.specs.declared.tree.Value.TheVariants as V;
-ghost use Rattle.jani_table.specs.declared.operator.JaniOp.TheVariants.{Rem};
-ghost use Rattle.jani_table.specs.Operators.{op_text, op_of, after_and, after_or, after_implies, after_test, answer_of, sort_one, sort_two, sort_three, joined, is_less, of_one, of_two, of_numbers, of_truths};
 
-use frac_core::{Frac, FracFail};
-use op_trees::{EvalFail, Next, Operator, Ty, Value};
-use std::cmp::Ordering;
+ghost use Rattle.std.specs.Prelude.{◌≡◌};
+ghost use Rattle.jani_table.specs.Operators.{op_of, op_text, standard};
+
+use op_trees::{EvalFail, Next, Operator, StandardOp, Ty, Value};
 
 /// The operators of an expression.
 #[derive(Clone, Copy, PartialEq, Eq)]
@@ -127,231 +123,52 @@ impl Operator for JaniOp {
     ghost same_law = { Prim.search rules };
 
     fn arity(self) -> u8 {
-        match self {
-            JaniOp::Not | JaniOp::Floor | JaniOp::Ceil => 1,
-            JaniOp::Ite => 3,
-            _ => 2,
-        }
+        self.standard().arity()
     }
 
     fn sort(self, a: Ty, b: Option<Ty>, c: Option<Ty>) -> Option<Ty> {
-        match (b, c) {
-            (None, None) => self.sort_one(a),
-            (Some(b), None) => self.sort_two(a, b),
-            (Some(b), Some(c)) => self.sort_three(a, b, c),
-            (None, Some(_)) => None,
-        }
+        self.standard().sort(a, b, c)
     }
 
     fn is_strict(self) -> bool {
-        !matches!(
-            self,
-            JaniOp::And | JaniOp::Or | JaniOp::Implies | JaniOp::Ite
-        )
+        self.standard().is_strict()
     }
 
     fn after_first(self, first: Value) -> Next {
-        match self {
-            JaniOp::And => after_and(first),
-            JaniOp::Or => after_or(first),
-            JaniOp::Implies => after_implies(first),
-            JaniOp::Ite => after_test(first),
-            _ => Next::All,
-        }
+        self.standard().after_first(first)
     }
 
     fn apply(self, a: Value, b: Option<Value>) -> Result<Value, EvalFail> {
-        match b {
-            None => self.of_one(a),
-            Some(b) => self.of_two(a, b),
-        }
+        self.standard().apply(a, b)
     }
 }
 
 impl JaniOp {
-    fn sort_one(self, a: Ty) -> Option<Ty>
-        ensures { result ≡ sort_one self a }
-    {
-        match (self, a) {
-            (JaniOp::Floor | JaniOp::Ceil, Ty::Int | Ty::Real) => Some(Ty::Int),
-            (JaniOp::Not, Ty::Bool) => Some(Ty::Bool),
-            _ => None,
-        }
-    }
-
-    fn sort_two(self, a: Ty, b: Ty) -> Option<Ty>
-        ensures { result ≡ sort_two self a b }
+    /// The operator that it is written for.
+    fn standard(self) -> StandardOp
+        ensures { result ≡ standard self }
     {
         match self {
-            JaniOp::Mul | JaniOp::Add | JaniOp::Sub | JaniOp::Min | JaniOp::Max => joined(a, b),
-            JaniOp::Div => joined(a, b).map(|_| Ty::Real),
-            JaniOp::Less | JaniOp::AtMost | JaniOp::AtLeast | JaniOp::Greater => {
-                joined(a, b).map(|_| Ty::Bool)
-            }
-            JaniOp::Equal | JaniOp::Unequal => match (a, b) {
-                (Ty::Bool, Ty::Bool) => Some(Ty::Bool),
-                _ => joined(a, b).map(|_| Ty::Bool),
-            },
-            JaniOp::And | JaniOp::Or | JaniOp::Implies => match (a, b) {
-                (Ty::Bool, Ty::Bool) => Some(Ty::Bool),
-                _ => None,
-            },
-            JaniOp::Rem => match (a, b) {
-                (Ty::Int, Ty::Int) => Some(Ty::Int),
-                _ => None,
-            },
-            _ => None,
+            JaniOp::Ite => StandardOp::Ite,
+            JaniOp::Or => StandardOp::Or,
+            JaniOp::And => StandardOp::And,
+            JaniOp::Not => StandardOp::Not,
+            JaniOp::Equal => StandardOp::Equal,
+            JaniOp::Unequal => StandardOp::Unequal,
+            JaniOp::Less => StandardOp::Less,
+            JaniOp::AtMost => StandardOp::AtMost,
+            JaniOp::Greater => StandardOp::Greater,
+            JaniOp::AtLeast => StandardOp::AtLeast,
+            JaniOp::Add => StandardOp::Add,
+            JaniOp::Sub => StandardOp::Sub,
+            JaniOp::Mul => StandardOp::Mul,
+            JaniOp::Rem => StandardOp::Mod,
+            JaniOp::Div => StandardOp::Div,
+            JaniOp::Floor => StandardOp::Floor,
+            JaniOp::Ceil => StandardOp::Ceil,
+            JaniOp::Implies => StandardOp::Implies,
+            JaniOp::Min => StandardOp::Min,
+            JaniOp::Max => StandardOp::Max,
         }
-    }
-
-    fn sort_three(self, a: Ty, b: Ty, c: Ty) -> Option<Ty>
-        ensures { result ≡ sort_three self a b c }
-    {
-        match (self, a, b, c) {
-            (JaniOp::Ite, Ty::Bool, Ty::Bool, Ty::Bool) => Some(Ty::Bool),
-            (JaniOp::Ite, Ty::Bool, _, _) => joined(b, c),
-            _ => None,
-        }
-    }
-
-    fn of_one(self, a: Value) -> Result<Value, EvalFail>
-        ensures { result ≡ narrowed (of_one self a) }
-    {
-        match (self, a) {
-            (JaniOp::Floor, Value::Number(x)) => held(x.floor()),
-            (JaniOp::Ceil, Value::Number(x)) => held(x.ceil()),
-            (JaniOp::Not, Value::Truth(p)) => Ok(Value::Truth(!p)),
-            _ => Err(EvalFail::Undef),
-        }
-    }
-
-    fn of_two(self, a: Value, b: Value) -> Result<Value, EvalFail>
-        ensures { result ≡ narrowed (of_two self a b) }
-    {
-        match a {
-            Value::Number(x) => match b {
-                Value::Number(y) => self.of_numbers(x, y),
-                Value::Truth(_) => Err(EvalFail::Undef),
-            },
-            Value::Truth(p) => match b {
-                Value::Truth(q) => self.of_truths(p, q),
-                Value::Number(_) => Err(EvalFail::Undef),
-            },
-        }
-    }
-
-    fn of_numbers(self, x: Frac, y: Frac) -> Result<Value, EvalFail>
-        ensures { result ≡ narrowed (of_numbers self x y) }
-    {
-        match self {
-            JaniOp::Mul => exact(x.mul(y)),
-            JaniOp::Div => exact(x.div(y)),
-            JaniOp::Add => exact(x.add(y)),
-            JaniOp::Sub => exact(x.sub(y)),
-            JaniOp::Less => Ok(Value::Truth(is_less(x, y))),
-            JaniOp::AtMost => Ok(Value::Truth(!is_less(y, x))),
-            JaniOp::AtLeast => Ok(Value::Truth(!is_less(x, y))),
-            JaniOp::Greater => Ok(Value::Truth(is_less(y, x))),
-            JaniOp::Equal => Ok(Value::Truth(x == y)),
-            JaniOp::Unequal => Ok(Value::Truth(!(x == y))),
-            JaniOp::Min => held(if is_less(y, x) { y } else { x }),
-            JaniOp::Max => held(if is_less(x, y) { y } else { x }),
-            JaniOp::Rem => modulo(x, y),
-            _ => Err(EvalFail::Undef),
-        }
-    }
-
-    fn of_truths(self, p: bool, q: bool) -> Result<Value, EvalFail>
-        ensures { result ≡ narrowed (of_truths self p q) }
-    {
-        match self {
-            JaniOp::Equal => Ok(Value::Truth(p == q)),
-            JaniOp::Unequal => Ok(Value::Truth(p != q)),
-            _ => Err(EvalFail::Undef),
-        }
-    }
-}
-
-// Of two numbers: int where both are, else real.
-fn joined(a: Ty, b: Ty) -> Option<Ty>
-    ensures { result ≡ joined a b }
-{
-    match (a, b) {
-        (Ty::Bool, _) | (_, Ty::Bool) => None,
-        (Ty::Int, Ty::Int) => Some(Ty::Int),
-        _ => Some(Ty::Real),
-    }
-}
-
-fn after_and(first: Value) -> Next
-    ensures { result ≡ after_and first }
-{
-    match first {
-        Value::Truth(false) => Next::Done(Value::Truth(false)),
-        _ => Next::Second,
-    }
-}
-
-fn after_or(first: Value) -> Next
-    ensures { result ≡ after_or first }
-{
-    match first {
-        Value::Truth(true) => Next::Done(Value::Truth(true)),
-        _ => Next::Second,
-    }
-}
-
-fn after_implies(first: Value) -> Next
-    ensures { result ≡ after_implies first }
-{
-    match first {
-        Value::Truth(false) => Next::Done(Value::Truth(true)),
-        _ => Next::Second,
-    }
-}
-
-fn after_test(first: Value) -> Next
-    ensures { result ≡ after_test first }
-{
-    match first {
-        Value::Truth(true) => Next::Second,
-        _ => Next::Third,
-    }
-}
-
-// What a call of frac_core gives as a value.
-fn exact(q: Result<Frac, FracFail>) -> Result<Value, EvalFail>
-    ensures { result ≡ answer_of q }
-{
-    match q {
-        Ok(x) => Ok(Value::Number(x)),
-        Err(FracFail::Wide) => Err(EvalFail::Wide),
-        Err(FracFail::ZeroDivisor) => Err(EvalFail::Undef),
-    }
-}
-
-// A fraction that the code holds is never wide.
-fn held(x: Frac) -> Result<Value, EvalFail>
-    ensures { result ≡ narrowed (Some (V.Number x)) }
-{
-    let _num = x.num();
-    Ok(Value::Number(x))
-}
-
-fn is_less(x: Frac, y: Frac) -> bool
-    ensures { result ≡ is_less x y }
-{
-    matches!(x.cmp(y), Ordering::Less)
-}
-
-fn modulo(x: Frac, y: Frac) -> Result<Value, EvalFail>
-    ensures { result ≡ narrowed (of_numbers Rem x y) }
-{
-    if !x.is_whole() || !y.is_whole() {
-        return Err(EvalFail::Undef);
-    }
-    match x.modulo(y) {
-        Some(z) => held(z),
-        None => Err(EvalFail::Undef),
     }
 }

@@ -197,15 +197,6 @@ const CONSTANT: [Row; 4] = [
     (Key::Comment, Need::Optional, Form::Text),
 ];
 
-// The members of the bounded type of a constant, which is left out.
-const CONSTANT_RANGE: [Row; 5] = [
-    (Key::Kind, Need::Required, Form::BoundedWord),
-    (Key::Base, Need::Required, Form::BaseWord),
-    (Key::LowerBound, Need::Optional, Form::Expression),
-    (Key::UpperBound, Need::Optional, Form::Expression),
-    (Key::Comment, Need::Optional, Form::Text),
-];
-
 // The members of a variable.
 const VARIABLE: [Row; 5] = [
     (Key::Name, Need::Required, Form::Name),
@@ -215,7 +206,7 @@ const VARIABLE: [Row; 5] = [
     (Key::Comment, Need::Optional, Form::Text),
 ];
 
-// The members of the bounded type of a variable.
+// The members of a bounded type.
 const RANGE: [Row; 5] = [
     (Key::Kind, Need::Required, Form::BoundedWord),
     (Key::Base, Need::Required, Form::BaseWord),
@@ -302,20 +293,8 @@ const VECTOR: [Row; 3] = [
     (Key::Comment, Need::Optional, Form::Text),
 ];
 
-// The members of a guard or a probability.
+// The members of a guard, a probability or a condition on initial states.
 const BOXED: [Row; 2] = [
-    (Key::Exp, Need::Required, Form::Expression),
-    (Key::Comment, Need::Optional, Form::Text),
-];
-
-// The members of the condition on the initial states of a model.
-const MODEL_INITIAL: [Row; 2] = [
-    (Key::Exp, Need::Required, Form::Expression),
-    (Key::Comment, Need::Optional, Form::Text),
-];
-
-// The members of the condition on the initial states of an automaton.
-const AUTOMATON_INITIAL: [Row; 2] = [
     (Key::Exp, Need::Required, Form::Expression),
     (Key::Comment, Need::Optional, Form::Text),
 ];
@@ -368,7 +347,7 @@ pub fn rows(kind: Kind) -> &'static [Row]
         Kind::Model => &MODEL,
         Kind::Action => &ACTION,
         Kind::Constant => &CONSTANT,
-        Kind::ConstantRange => &CONSTANT_RANGE,
+        Kind::ConstantRange => &RANGE,
         Kind::Variable => &VARIABLE,
         Kind::Range => &RANGE,
         Kind::Automaton => &AUTOMATON,
@@ -381,8 +360,8 @@ pub fn rows(kind: Kind) -> &'static [Row]
         Kind::Element => &ELEMENT,
         Kind::Vector => &VECTOR,
         Kind::Boxed => &BOXED,
-        Kind::ModelInitial => &MODEL_INITIAL,
-        Kind::AutomatonInitial => &AUTOMATON_INITIAL,
+        Kind::ModelInitial => &BOXED,
+        Kind::AutomatonInitial => &BOXED,
         Kind::Unary => &UNARY,
         Kind::Binary => &BINARY,
         Kind::Choice => &CHOICE,

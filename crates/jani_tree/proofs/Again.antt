@@ -1,6 +1,7 @@
 -- The canonical value of a tree spells the tree.
 use Rattle.std.proofs.Common.{◌≡◌, ℕ, refl, List, [], ◌∷◌, Option, Some, None, Bool, true, false, arith}
 use Rattle.std.specs.Prelude.{map}
+use Rattle.basics.specs.Each.{each_unit}
 use Rattle.bridge_io.specs.declared.reason.Named.{Named}
 use Rattle.op_trees.specs.declared.tree.Ty.{Ty}
 use Rattle.op_trees.specs.declared.tree.Ty.TheVariants as T
@@ -94,12 +95,8 @@ each_again P f F again (x ∷ xs) h = (again x h.0, each_again P f F again xs h.
 list_again : {A : Type 0} (P : Node → A → Type 0) (f : A → Node) (F : A → Type 0) → ((x : A) → F x → P (f x) x) → (at : ℕ) (xs : List A) → OfAll F xs → IsItems P (list_node f at xs) xs
 list_again P f F again at xs h = record { list = refl; items = each_again P f F again xs h }
 
-all_of : {A : Type 0} (xs : List A) → OfAll (λ x. Unit {0}) xs
-all_of [] = tt
-all_of (x ∷ xs) = (tt, all_of xs)
-
 plain_again : {A : Type 0} (P : Node → A → Type 0) (f : A → Node) → ((x : A) → P (f x) x) → (at : ℕ) (xs : List A) → IsItems P (list_node f at xs) xs
-plain_again P f again at xs = list_again P f (λ x. Unit {0}) (λ x h. again x) at xs (all_of xs)
+plain_again P f again at xs = list_again P f (λ x. Unit {0}) (λ x h. again x) at xs (each_unit xs)
 
 -- ---- objects
 

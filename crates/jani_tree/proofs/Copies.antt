@@ -1,16 +1,13 @@
 -- Lists that are made item by item, and are seen alike.
 use Rattle.std.proofs.Common.{◌≡◌, ℕ, ◌+◌, ◌<◌, ◌≤◌, refl, sym, ap, ◌∙◌, List, [], ◌∷◌, ◌++◌, Some, None, length, drop, get_or, append_assoc}
 use Rattle.std.specs.Prelude.{map}
-use Rattle.std.proofs.lemmas.List.{append-nil}
+use Rattle.std.proofs.lemmas.List.{append-nil, map-append}
+use Rattle.basics.specs.Lists.{drop_item}
 use Rattle.decimal_json.specs.declared.tree.Json.{Json}
 use Rattle.decimal_json.specs.declared.tree.Json.TheVariants.{Array}
 use Rattle.jani_table.specs.Node.{Node, array, node, nodes_of}
-use Rattle.jani_table.specs.NodeLaws.{drop_item, drop_all, node_array}
+use Rattle.jani_table.specs.NodeLaws.{drop_all, node_array}
 use Rattle.jani_tree.specs.Canonical.{some_list, list_node}
-
-map_append : {A B : Type 0} (f : A → B) (xs ys : List A) → map f (xs ++ ys) ≡ map f xs ++ map f ys
-map_append f [] ys = refl
-map_append f (x ∷ xs) ys = ap (λ zs. f x ∷ zs) (map_append f xs ys)
 
 pub map_map : {A B C : Type 0} (f : B → C) (g : A → B) (xs : List A) → map f (map g xs) ≡ map (λ x. f (g x)) xs
 map_map f g [] = refl
@@ -21,7 +18,7 @@ pub made_next : {A B C : Type 0} (f : B → C) (g : A → C) (xs : List A) (made
     map f made ++ map g (drop i xs) ≡ map g xs → map f new ++ map g (drop (i + 1) xs) ≡ map g xs
 made_next f g xs made new i x y h e c n inv =
     ap (λ ys. map f ys ++ map g (drop (i + 1) xs)) n
-    ∙ (ap (λ ys. ys ++ map g (drop (i + 1) xs)) (map_append f made (y ∷ []))
+    ∙ (ap (λ ys. ys ++ map g (drop (i + 1) xs)) (map-append f made (y ∷ []))
     ∙ (append_assoc (map f made) (f y ∷ []) (map g (drop (i + 1) xs))
     ∙ (ap (λ z. map f made ++ z ∷ map g (drop (i + 1) xs)) c
     ∙ (sym (ap (λ ys. map f made ++ map g ys) (drop_item xs i x h e)) ∙ inv))))

@@ -2,7 +2,12 @@
 use Rattle.std.proofs.Common.{◌≡◌, ℕ, refl, sym, ap, subst, ◌∙◌, List, [], ◌∷◌, ◌++◌, Option, Some, None, Bool, true, false, ◌||◌, ◌&&◌, not, if◌then◌else◌, is_some}
 use Rattle.std.specs.Prelude.{map, bytes_eq}
 use Rattle.std.specs.Option.{option_map}
-use Rattle.std.proofs.lemmas.Slice.Eq.{bytes_eq-Decides}
+use Rattle.std.proofs.lemmas.Bool.{not-true}
+use Rattle.std.proofs.Math.Bool.{or_assoc}
+use Rattle.basics.specs.Texts.{bytes_eq-false_comm}
+use Rattle.basics.specs.Options.{none_of}
+use Rattle.basics.specs.Booleans.{first_true, second_true, or_none}
+use Rattle.basics.specs.Lists.{append_both}
 use Rattle.bridge_io.specs.declared.reason.Fault.{Fault}
 use Rattle.bridge_io.specs.declared.reason.Reason.TheVariants.{MissingMember, UnknownMember}
 use Rattle.jani_table.specs.declared.key.Key.{Key}
@@ -29,34 +34,10 @@ pub record Good (C : List Fault → Type 0) (form : Form) (v : Node) : Type 0 wh
 
 -- ---- truth values and lists
 
-pub both_empty : {A : Type 0} (xs ys : List A) → xs ≡ [] → ys ≡ [] → xs ++ ys ≡ []
-both_empty [] ys e f = f
-both_empty (x ∷ xs) ys e f = absurd cc
-
-first_true : (a b : Bool) → (a && b) ≡ true → a ≡ true
-first_true true b e = refl
-first_true false b e = absurd cc
-
-second_true : (a b : Bool) → (a && b) ≡ true → b ≡ true
-second_true true b e = e
-second_true false b e = absurd cc
-
-not_true : (a : Bool) → not a ≡ true → a ≡ false
-not_true true e = absurd cc
-not_true false e = refl
-
-or_again : (a b c : Bool) → ((a || b) || c) ≡ (a || (b || c))
-or_again true b c = refl
-or_again false b c = refl
-
 no_more : (a b : Bool) → a ≡ (a || (b && false))
 no_more true b = refl
 no_more false true = refl
 no_more false false = refl
-
-or_nothing : (a : Bool) → a ≡ (a || false)
-or_nothing true = refl
-or_nothing false = refl
 
 one_more : (a b : Bool) → (a || b) ≡ (a || (b && true))
 one_more true b = refl
@@ -66,17 +47,6 @@ one_more false false = refl
 unless_true : (b : Bool) (at : ℕ) → b ≡ true → fault_unless b at MissingMember ≡ []
 unless_true true at e = refl
 unless_true false at e = absurd cc
-
-none_of : {A : Type 0} (o : Option A) → is_some o ≡ false → o ≡ None
-none_of None e = refl
-none_of (Some x) e = absurd cc
-
-same_way : (s t : List ℕ) → bytes_eq s t ≡ false → bytes_eq t s ≡ false
-same_way s t e = turned (bytes_eq t s) refl
-  where
-    turned : (b : Bool) → bytes_eq t s ≡ b → b ≡ false
-    turned true f = absurd (let g : bytes_eq s t ≡ true = (bytes_eq-Decides s t).1 (sym ((bytes_eq-Decides t s).0 f)) in cc)
-    turned false f = refl
 
 -- ---- which members there are
 
@@ -117,11 +87,11 @@ has_maybe s fs k None = no_more (is_some (member_text s fs)) (bytes_eq s (spelle
 has_maybe s fs k (Some v) = has_entry s fs k v ∙ one_more (is_some (member_text s fs)) (bytes_eq s (spelled k))
 
 has_more : (s : List ℕ) (fs : Fields) (ms : List (Key × Option Node)) → is_some (member_text s (with_members fs ms)) ≡ (is_some (member_text s fs) || has_some s ms)
-has_more s fs [] = or_nothing (is_some (member_text s fs))
+has_more s fs [] = or_none (is_some (member_text s fs))
 has_more s fs (m ∷ ms) =
     has_more s (with_maybe fs m.0 m.1) ms
     ∙ (ap (λ b. b || has_some s ms) (has_maybe s fs m.0 m.1)
-    ∙ or_again (is_some (member_text s fs)) (bytes_eq s (spelled m.0) && is_some m.1) (has_some s ms))
+    ∙ or_assoc (is_some (member_text s fs)) (bytes_eq s (spelled m.0) && is_some m.1) (has_some s ms))
 
 pub has_members : (k : Key) (ms : List (Key × Option Node)) → has k (with_members no_fields ms) ≡ has_some (spelled k) ms
 has_members k ms = has_more (spelled k) no_fields ms
@@ -130,7 +100,7 @@ all_missing_none : (ms : List (Key × Option Node)) (close : ℕ) (rows : List R
 unfolding row_faults
 all_missing_none ms close [] e = refl
 all_missing_none ms close (r ∷ rows) e =
-    both_empty (row_faults (with_members no_fields ms) close r) (missing_faults (with_members no_fields ms) close rows)
+    append_both (row_faults (with_members no_fields ms) close r) (missing_faults (with_members no_fields ms) close rows)
     (unless_true (not (is_required r.1) || has r.0 (with_members no_fields ms)) close
     (ap (λ b. not (is_required r.1) || b) (has_members r.0 ms) ∙ first_true (not (is_required r.1) || has_some (spelled r.0) ms) (all_there ms rows) e))
     (all_missing_none ms close rows (second_true (not (is_required r.1) || has_some (spelled r.0) ms) (all_there ms rows) e))
@@ -185,7 +155,7 @@ module _ (C : List Fault → Type 0) (by : IsByParts C) where
   entry_apart no_fields k v a f o = (refl, o, tt)
   entry_apart (field n w rest) k v a f o =
       let p = passed (bytes_eq (spelled k) n.name) w (member_text (spelled k) rest) f in
-      (apart_from n.name rest k v a.0 (same_way (spelled k) n.name p.0), a.1, entry_apart rest k v a.2 p.1 o)
+      (apart_from n.name rest k v a.0 (bytes_eq-false_comm (spelled k) n.name p.0), a.1, entry_apart rest k v a.2 p.1 o)
 
   abbrev Fresh : Fields → List (Key × Option Node) → Type 0
   Fresh fs ms = OfAll (λ m. is_some (member_text (spelled m.0) fs) ≡ false) ms
@@ -193,7 +163,7 @@ module _ (C : List Fault → Type 0) (by : IsByParts C) where
   fresh_next : (fs : Fields) (k : Key) (o : Option Node) (ms : List (Key × Option Node)) → Fresh fs ms → none_is k ms ≡ true → Fresh (with_maybe fs k o) ms
   fresh_next fs k o [] f e = tt
   fresh_next fs k o (m ∷ ms) f e =
-      let other = not_true (bytes_eq (spelled m.0) (spelled k)) (first_true (not (bytes_eq (spelled m.0) (spelled k))) (none_is k ms) e) in (
+      let other = not-true (bytes_eq (spelled m.0) (spelled k)) (first_true (not (bytes_eq (spelled m.0) (spelled k))) (none_is k ms) e) in (
         has_maybe (spelled m.0) fs k o ∙ (ap (λ b. b || (bytes_eq (spelled m.0) (spelled k) && is_some o)) f.0 ∙ ap (λ b. b && is_some o) other),
         fresh_next fs k o ms f.1 (second_true (not (bytes_eq (spelled m.0) (spelled k))) (none_is k ms) e),
       )
@@ -223,7 +193,7 @@ module _ (C : List Fault → Type 0) (by : IsByParts C) where
       let fs = with_members no_fields ms in
       let h = all_filled kind no_fields ms (record { clean = by.none; normal = tt; apart = tt }) g (all_fresh ms) a in
       let own : own_faults kind fs at 0 ≡ [] =
-      both_empty (missing_faults fs 0 (rows_of kind)) (other_faults kind fs at 0) (all_missing_none ms 0 (rows_of kind) t) o in
+      append_both (missing_faults fs 0 (rows_of kind)) (other_faults kind fs at 0) (all_missing_none ms 0 (rows_of kind) t) o in
       record {
         clean =
             subst C (sym (ap (λ o. by_kind o (fault_if at (kind_fault form)) (λ k. members_faults k fs ++ own_faults k fs at 0)) k))

@@ -1,11 +1,13 @@
 -- What is written can be kept: its strings are UTF-8, and its numbers are within the bounds of their type where they are in normal
 -- form.
-use Rattle.std.proofs.Common.{◌≡◌, ℕ, ◌+◌, ◌<◌, ◌≤◌, Bool, true, false, ◌&&◌, refl, sym, subst, ◌∙◌, List, [], ◌∷◌, Option, Some, None, length, drop, get_or, map}
+use Rattle.std.proofs.Common.{◌≡◌, ℕ, ◌+◌, ◌<◌, ◌≤◌, Bool, true, false, refl, sym, subst, ◌∙◌, List, [], ◌∷◌, Option, Some, None, length, drop, get_or, map, map-id}
 use Rattle.std.specs.Prelude.{codes, Result, Ok, Err, OnOk, pos}
 use Rattle.std.specs.Char.{encode_utf8}
 use Rattle.std.specs.Str.{is_utf8}
 use Rattle.std.proofs.lemmas.Str.{is_utf8-from_IsUtf8}
 use Rattle.std.specs.Option.{option_map}
+use Rattle.basics.specs.Booleans.{first_true, second_true}
+use Rattle.basics.specs.Lists.{drop_item}
 use Rattle.bridge_io.specs.declared.reason.Named.{Named}
 use Rattle.frac_core.specs.declared.decimal.Decimal.{Decimal}
 use Rattle.frac_core.specs.Decimal.{is_normal}
@@ -21,8 +23,8 @@ use Rattle.decimal_json.specs.Proper.{all_true, is_kept, proper_step, proper_mem
 use Rattle.jani_table.specs.declared.key.Key.{Key}
 use Rattle.jani_table.specs.declared.key.Key.TheVariants as K
 use Rattle.jani_table.specs.declared.operator.JaniOp.{JaniOp}
-use Rattle.jani_table.specs.Node.{Node, null, truth, number, text, object, Fields, no_fields, field, nodes_of, fields_of, node, named_node, node_step, member_step}
-use Rattle.jani_table.specs.NodeLaws.{drop_item, drop_all}
+use Rattle.jani_table.specs.Node.{Node, truth, number, text, object, Fields, no_fields, field, nodes_of, fields_of, node, named_node, node_step, member_step}
+use Rattle.jani_table.specs.NodeLaws.{drop_all}
 use Rattle.jani_table.specs.Operators.{op_text}
 use Rattle.jani_table.specs.Table.{spelled}
 use Rattle.op_trees.specs.Tree.{One, Two, Three}
@@ -34,7 +36,6 @@ use Rattle.jani_table.specs.declared.words.Feature.TheVariants.{DerivedOperators
 use Rattle.jani_tree.specs.Canonical.{OfSome, OfAll, with_entry, with_maybe, with_members, object_of, list_node, some_list, word, name_node, keyed_node, expr_node, boxed_node, bounded_word, kind_node, flag_node, head_members, part_node, const_node, var_node, write_node, location_node, destination_node, edge_node, automaton_node, vector_node, system_node, file_members, file_node}
 use Rattle.jani_tree.specs.Form.{NormalNodes, NormalFields}
 use Rattle.jani_tree.specs.Text.{ProperNode, ProperNodes, ProperFields, KeptNode}
-use Rattle.jani_tree.proofs.Lists.{map_same}
 use Rattle.jani_tree.proofs.Normal.{normal_again}
 
 -- ---- what was written
@@ -43,9 +44,6 @@ written (Ok x) p = p
 written (Err x) p = tt
 
 -- ---- leaves
-pub kept_null : (at : ℕ) → KeptNode (null at)
-kept_null at = record { proper = λ n. tt }
-
 pub kept_truth : (at : ℕ) (b : Bool) → KeptNode (truth at b)
 kept_truth at b = record { proper = λ n. tt }
 
@@ -174,10 +172,6 @@ kept_seen f g at xs h = kept_list f at (map g xs) (all_seen f g xs h)
 pub kept_at : {A : Type 0} (f : A → Node) (at : ℕ) (xs : List A) → KeptNode (list_node f 0 xs) → KeptNode (list_node f at xs)
 kept_at f at xs h = record { proper = h.proper }
 
-pub kept_some_list : {A : Type 0} (f : A → Node) (xs : List A) → KeptNode (list_node f 0 xs) → OfSome KeptNode (some_list f xs)
-kept_some_list f [] h = tt
-kept_some_list f (x ∷ xs) h = h
-
 pub kept_next : {A Q : Type 0} (P : A → Type 0) (xs : List A) (x : A) (i : ℕ) → i < length xs → x ≡ get_or xs i x → P x → (OfAll P (drop i xs) → Q) → OfAll P (drop (i + 1) xs) → Q
 kept_next P xs x i h e p inv rest = inv (subst (OfAll P) (sym (drop_item xs i x h e)) (p, rest))
 
@@ -257,21 +251,13 @@ J = Such the_family (claims IsProper IsMemberProper) member-Json
 abbrev M : Type 0
 M = Such the_family (claims IsProper IsMemberProper) member-Member
 
-and_left : (a b : Bool) → a && b ≡ true → a ≡ true
-and_left true b e = refl
-and_left false b e = e
-
-and_right : (a b : Bool) → a && b ≡ true → b ≡ true
-and_right true b e = e
-and_right false b e = absurd (let k : false ≡ true = e in cc)
-
 each_proper : (ys : List J) → all_true (map is_proper (map (λ (e : J). e.0) ys)) ≡ true → ProperNodes (nodes_of (map node (map (λ (e : J). e.0) ys)))
 each_proper [] s = tt
-each_proper (y ∷ ys) s = (y.1 (and_left _ _ s), each_proper ys (and_right _ _ s))
+each_proper (y ∷ ys) s = (y.1 (first_true _ _ s), each_proper ys (second_true _ _ s))
 
 each_member : (ms : List M) → all_true (map member_proper (map (λ (e : M). e.0) ms)) ≡ true → ProperFields (fields_of (map named_node (map (λ (e : M). e.0) ms)))
 each_member [] s = tt
-each_member (m ∷ ms) s = let h = m.1 (and_left _ _ s) in (h.0, h.1, each_member ms (and_right _ _ s))
+each_member (m ∷ ms) s = let h = m.1 (first_true _ _ s) in (h.0, h.1, each_member ms (second_true _ _ s))
 
 proper_as : (x : Json) (n : Node) (c : Bool) → node x ≡ n → is_proper x ≡ c → (c ≡ true → ProperNode n) → IsProper x
 proper_as x n c e g h a = subst ProperNode (sym e) (h (sym g ∙ a))
@@ -292,7 +278,7 @@ member_layer y =
     let seen = fold-roll-Member _ _ node_step member_step z in
     let kept = fold-roll-Member _ _ proper_step proper_member z in
     λ k. let g = sym kept ∙ k in
-    subst (λ (p : Named × Node). (is_utf8 p.0.name ≡ true) × ProperNode p.1) (sym seen) (and_left _ _ g, y.value.1 (and_right _ _ g))
+    subst (λ (p : Named × Node). (is_utf8 p.0.name ≡ true) × ProperNode p.1) (sym seen) (first_true _ _ g, y.value.1 (second_true _ _ g))
 
 proper_node : (x : Json) → IsProper x
 proper_node x = ind-Json IsProper IsMemberProper
@@ -339,10 +325,10 @@ kept_automaton a n v l i e =
     kept_object 0
     ((K.Name, Some (name_node a.name)) ∷ (K.Variables, some_list var_node a.variables) ∷ (K.Locations, Some (list_node location_node 0 a.locations))
     ∷ (K.InitialLocations, Some (list_node name_node 0 a.initial)) ∷ (K.Edges, Some (list_node edge_node 0 a.edges)) ∷ [])
-    (kept_text a.name.at a.name.name n, (v, (l, (subst (λ ns. KeptNode (list_node name_node 0 ns)) (map_same a.initial) i, (e, tt)))))
+    (kept_text a.name.at a.name.name n, (v, (l, (subst (λ ns. KeptNode (list_node name_node 0 ns)) (map-id a.initial) i, (e, tt)))))
 
 pub kept_vector : (x : Vector) → KeptNode (list_node part_node 0 (map (λ n. n) x.parts)) → OfSome KeptNode (option_map name_node x.result) → KeptNode (vector_node x)
-kept_vector x p r = kept_object 0 ((K.Synchronise, Some (list_node part_node x.at x.parts)) ∷ (K.Result, option_map name_node x.result) ∷ []) (kept_at part_node x.at x.parts (subst (λ ns. KeptNode (list_node part_node 0 ns)) (map_same x.parts) p), (r, tt))
+kept_vector x p r = kept_object 0 ((K.Synchronise, Some (list_node part_node x.at x.parts)) ∷ (K.Result, option_map name_node x.result) ∷ []) (kept_at part_node x.at x.parts (subst (λ ns. KeptNode (list_node part_node 0 ns)) (map-id x.parts) p), (r, tt))
 
 pub kept_system : (elements : List Named) (vectors : List Vector) → OfAll (λ n. KeptNode (name_node n)) elements → KeptNode (list_node vector_node 0 vectors) → KeptNode (system_node elements 0 vectors)
 kept_system elements vectors e v =

@@ -1,15 +1,16 @@
 -- Lists of trees, item by item.
-use Rattle.std.proofs.Common.{◌≡◌, ℕ, ◌+◌, ◌<◌, ◌≤◌, refl, sym, ap, subst, ◌∙◌, List, [], ◌∷◌, ◌++◌, Option, Some, length, drop, get_or, append_assoc, IsTrue}
+use Rattle.std.proofs.Common.{◌≡◌, ℕ, ◌+◌, ◌<◌, ◌≤◌, sym, ap, subst, ◌∙◌, List, [], ◌∷◌, ◌++◌, Option, Some, length, drop, get_or, append_assoc, IsTrue, map-id}
 use Rattle.std.specs.Prelude.{map, IsSomeAnd}
 use Rattle.std.proofs.lemmas.List.{append-nil}
+use Rattle.basics.specs.Lists.{drop_item, append_right}
 use Rattle.jani_table.specs.declared.table.Form.{Form}
 use Rattle.decimal_json.specs.declared.tree.Json.{Json}
 use Rattle.jani_table.specs.Node.{Node, Nodes, no_nodes, more_nodes, node, nodes, at_of}
-use Rattle.jani_table.specs.NodeLaws.{drop_item, drop_all}
+use Rattle.jani_table.specs.NodeLaws.{drop_all}
 use Rattle.jani_table.specs.Table.{item_form}
 use Rattle.jani_table.specs.Faults.{faults, items_faults, items_in, is_array, or_left_out}
 use Rattle.jani_table.specs.Parts.{item_of}
-use Rattle.jani_table.specs.Laws.{append_left, append_right}
+use Rattle.jani_table.specs.Laws.{append_left}
 use Rattle.jani_tree.specs.Jani.{Each, IsItems, IsList, IsListAt}
 
 module _ {A : Type 0} (P : Node → A → Type 0) (form : Form) (vs : List Json) where
@@ -53,12 +54,8 @@ each_seen P f (more_nodes v vs) (x ∷ xs) e = (e.0, each_seen P f vs xs e.1)
 pub items_seen : {A B : Type 0} (P : Node → B → Type 0) (f : A → B) (v : Node) (xs : List A) → IsItems (λ v x. P v (f x)) v xs → IsItems P v (map f xs)
 items_seen P f v xs i = record { list = i.list; items = each_seen P f (items_in v) xs i.items }
 
-pub map_same : {A : Type 0} (xs : List A) → map (λ x. x) xs ≡ xs
-map_same [] = refl
-map_same (x ∷ xs) = ap (λ ys. x ∷ ys) (map_same xs)
-
 pub list_same : {A : Type 0} (P : Node → A → Type 0) (o : Option Node) (xs : List A) → IsList P o (map (λ x. x) xs) → IsList P o xs
-list_same P o xs i = subst (λ ys. IsList P o ys) (map_same xs) i
+list_same P o xs i = subst (λ ys. IsList P o ys) (map-id xs) i
 
 -- ---- lists whose offset is kept
 

@@ -1,6 +1,7 @@
 -- Data without addresses is that of a JSON value; so the canonical text of what can be kept is spelled by it.
-use Rattle.std.proofs.Common.{◌≡◌, ℕ, refl, sym, ap, ap₂, ◌∙◌, Bool, true, false, ◌&&◌, List, [], ◌∷◌, map}
+use Rattle.std.proofs.Common.{◌≡◌, ℕ, refl, sym, ap, ap₂, ◌∙◌, true, List, [], ◌∷◌, map}
 use Rattle.std.specs.Str.{is_utf8}
+use Rattle.std.proofs.lemmas.Bool.{and_from}
 use Rattle.bridge_io.specs.declared.reason.Named.{Named}
 use Rattle.decimal_json.specs.declared.tree.Json.{Json}
 use Rattle.decimal_json.specs.declared.tree.Json.TheVariants.{Null, Truth, Number, Str, Array, Object, rolls-Null, rolls-Truth, rolls-Number, rolls-Str, rolls-Array, rolls-Object}
@@ -51,10 +52,6 @@ mutual
       ap₂ (λ (p : Named × Node) fs. field p.0 p.1 fs) (fold-roll-Member _ _ _ _ (record { key = n; value = json_of v }) ∙ ap (λ w. (n, w)) (node_back v)) (fields_back rest)
 
 -- ---- what can be kept
-both : (a b : Bool) → a ≡ true → b ≡ true → a && b ≡ true
-both true b e f = f
-both false b e f = absurd (let k : false ≡ true = e in cc)
-
 mutual
   unfolding json_of
 
@@ -68,13 +65,13 @@ mutual
 
   proper_items : (vs : Nodes) → ProperNodes vs → all_true (map is_proper (items_of vs)) ≡ true
   proper_items no_nodes p = refl
-  proper_items (more_nodes v vs) p = both (is_proper (json_of v)) (all_true (map is_proper (items_of vs))) (proper_back v p.0) (proper_items vs p.1)
+  proper_items (more_nodes v vs) p = and_from (is_proper (json_of v)) (all_true (map is_proper (items_of vs))) (proper_back v p.0) (proper_items vs p.1)
 
   proper_members : (ms : Fields) → ProperFields ms → all_true (map member_proper (members_of ms)) ≡ true
   proper_members no_fields p = refl
   proper_members (field n v rest) p =
-      both (member_proper (record { key = n; value = json_of v })) (all_true (map member_proper (members_of rest)))
-      (fold-roll-Member _ _ _ _ (record { key = n; value = json_of v }) ∙ both (is_utf8 n.name) (is_proper (json_of v)) p.0 (proper_back v p.1)) (proper_members rest p.2)
+      and_from (member_proper (record { key = n; value = json_of v })) (all_true (map member_proper (members_of rest)))
+      (fold-roll-Member _ _ _ _ (record { key = n; value = json_of v }) ∙ and_from (is_utf8 n.name) (is_proper (json_of v)) p.0 (proper_back v p.1)) (proper_members rest p.2)
 
 -- ---- the canonical text of data that can be kept is spelled by a value of it
 pub spelled_node : (v : Node) (bytes : List ℕ) → bytes ≡ node_text v → ProperNode v → SpellsNode bytes v

@@ -1,5 +1,7 @@
 -- Each literal of the data of a value is in normal form exactly where each number of the value is.
-use Rattle.std.proofs.Common.{◌≡◌, refl, sym, subst, ◌∙◌, Bool, true, false, ◌&&◌, List, [], ◌∷◌, map}
+use Rattle.std.proofs.Common.{◌≡◌, refl, sym, subst, ◌∙◌, Bool, true, List, [], ◌∷◌, map}
+use Rattle.std.proofs.lemmas.Bool.{and_from}
+use Rattle.basics.specs.Booleans.{first_true, second_true}
 use Rattle.bridge_io.specs.declared.reason.Named.{Named}
 use Rattle.decimal_json.specs.declared.tree.Json.{Json}
 use Rattle.decimal_json.specs.declared.tree.Member.{Member}
@@ -25,33 +27,21 @@ J = Such the_family (claims IsKept IsMemberKept) member-Json
 abbrev M : Type 0
 M = Such the_family (claims IsKept IsMemberKept) member-Member
 
-and_left : (a b : Bool) → a && b ≡ true → a ≡ true
-and_left true b e = refl
-and_left false b e = e
-
-and_right : (a b : Bool) → a && b ≡ true → b ≡ true
-and_right true b e = e
-and_right false b e = absurd (let k : false ≡ true = e in cc)
-
 each_kept : (ys : List J) → all_true (map all_normal (map (λ (e : J). e.0) ys)) ≡ true → NormalNodes (nodes_of (map node (map (λ (e : J). e.0) ys)))
 each_kept [] s = tt
-each_kept (y ∷ ys) s = (y.1.0 (and_left _ _ s), each_kept ys (and_right _ _ s))
-
-both : (a b : Bool) → a ≡ true → b ≡ true → a && b ≡ true
-both true b e f = f
-both false b e f = absurd (let k : false ≡ true = e in cc)
+each_kept (y ∷ ys) s = (y.1.0 (first_true _ _ s), each_kept ys (second_true _ _ s))
 
 each_again : (ys : List J) → NormalNodes (nodes_of (map node (map (λ (e : J). e.0) ys))) → all_true (map all_normal (map (λ (e : J). e.0) ys)) ≡ true
 each_again [] n = refl
-each_again (y ∷ ys) n = both _ _ (y.1.1 n.0) (each_again ys n.1)
+each_again (y ∷ ys) n = and_from _ _ (y.1.1 n.0) (each_again ys n.1)
 
 each_member : (ms : List M) → all_true (map member_normal (map (λ (e : M). e.0) ms)) ≡ true → NormalFields (fields_of (map named_node (map (λ (e : M). e.0) ms)))
 each_member [] s = tt
-each_member (m ∷ ms) s = (m.1.0 (and_left _ _ s), each_member ms (and_right _ _ s))
+each_member (m ∷ ms) s = (m.1.0 (first_true _ _ s), each_member ms (second_true _ _ s))
 
 each_member_again : (ms : List M) → NormalFields (fields_of (map named_node (map (λ (e : M). e.0) ms))) → all_true (map member_normal (map (λ (e : M). e.0) ms)) ≡ true
 each_member_again [] n = refl
-each_member_again (m ∷ ms) n = both _ _ (m.1.1 n.0) (each_member_again ms n.1)
+each_member_again (m ∷ ms) n = and_from _ _ (m.1.1 n.0) (each_member_again ms n.1)
 
 kept_as : (x : Json) (n : Node) (c : Bool) → node x ≡ n → all_normal x ≡ c → (c ≡ true → NormalNode n) → (NormalNode n → c ≡ true) → IsKept x
 kept_as x n c e g h k = (λ a. subst NormalNode (sym e) (h (sym g ∙ a)), λ b. g ∙ k (subst NormalNode e b))

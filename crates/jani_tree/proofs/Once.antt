@@ -1,7 +1,8 @@
 -- Where no object of a value has a key twice, none of its data has.
-use Rattle.std.proofs.Common.{◌≡◌, refl, sym, ap, subst, ◌∙◌, ℕ, Bool, true, false, not, ◌&&◌, ◌||◌, List, [], ◌∷◌, ◌++◌, map}
+use Rattle.std.proofs.Common.{◌≡◌, refl, sym, ap, subst, ◌∙◌, ℕ, Bool, true, false, not, ◌||◌, List, [], ◌∷◌, ◌++◌, map}
 use Rattle.std.specs.Prelude.{Option, Some, None, bytes_eq, if◌then◌else◌}
 use Rattle.std.proofs.lemmas.Slice.Eq.{bytes_eq-Decides}
+use Rattle.basics.specs.Booleans.{first_true, second_true}
 use Rattle.bridge_io.specs.declared.reason.Named.{Named}
 use Rattle.decimal_json.specs.declared.tree.Json.{Json}
 use Rattle.decimal_json.specs.declared.tree.Member.{Member}
@@ -28,14 +29,6 @@ J = Such the_family (claims IsOnce IsMemberOnce) member-Json
 
 abbrev M : Type 0
 M = Such the_family (claims IsOnce IsMemberOnce) member-Member
-
-and_left : (a b : Bool) → a && b ≡ true → a ≡ true
-and_left true b e = refl
-and_left false b e = e
-
-and_right : (a b : Bool) → a && b ≡ true → b ≡ true
-and_right true b e = e
-and_right false b e = absurd (let k : false ≡ true = e in cc)
 
 -- ---- among keys
 
@@ -72,22 +65,22 @@ keys ms = map (λ m. m.0) (map member_once (members ms))
 none_behind : (ms : List M) (before : List (List ℕ)) (k : List ℕ) → is_among before k ≡ true → apart before (keys ms) ≡ true → member_text k (fields_of (map named_node (members ms))) ≡ None
 none_behind [] before k a h = refl
 none_behind (m ∷ ms) before k a h =
-    let e : bytes_eq k (named_node m.0).0.name ≡ false = subst (λ s. bytes_eq k s ≡ false) m.1.0 (differs before k (member_once m.0).0 a (and_left _ _ h)) in
-    let rest = none_behind ms (before ++ (member_once m.0).0 ∷ []) k (among_more before _ k a) (and_right _ _ h) in
+    let e : bytes_eq k (named_node m.0).0.name ≡ false = subst (λ s. bytes_eq k s ≡ false) m.1.0 (differs before k (member_once m.0).0 a (first_true _ _ h)) in
+    let rest = none_behind ms (before ++ (member_once m.0).0 ∷ []) k (among_more before _ k a) (second_true _ _ h) in
     ap (λ b. if b then Some (named_node m.0).1 else member_text k (fields_of (map named_node (members ms)))) e ∙ rest
 
 -- ---- values
 
 each_once : (ys : List J) → all_true (map keys_once (map (λ (e : J). e.0) ys)) ≡ true → KeysOnceInside (nodes_of (map node (map (λ (e : J). e.0) ys)))
 each_once [] s = tt
-each_once (y ∷ ys) s = (y.1 (and_left _ _ s), each_once ys (and_right _ _ s))
+each_once (y ∷ ys) s = (y.1 (first_true _ _ s), each_once ys (second_true _ _ s))
 
 each_apart : (ms : List M) (before : List (List ℕ)) → apart before (keys ms) ≡ true → all_true (map (λ m. m.1) (map member_once (members ms))) ≡ true → KeysApart (fields_of (map named_node (members ms)))
 each_apart [] before h s = tt
 each_apart (m ∷ ms) before h s =
     let key = (member_once m.0).0 in
     let among : is_among (before ++ key ∷ []) (named_node m.0).0.name ≡ true = subst (λ k. is_among (before ++ key ∷ []) k ≡ true) m.1.0 (among_end before key) in
-    (none_behind ms (before ++ key ∷ []) (named_node m.0).0.name among (and_right _ _ h), m.1.1 (and_left _ _ s), each_apart ms (before ++ key ∷ []) (and_right _ _ h) (and_right _ _ s))
+    (none_behind ms (before ++ key ∷ []) (named_node m.0).0.name among (second_true _ _ h), m.1.1 (first_true _ _ s), each_apart ms (before ++ key ∷ []) (second_true _ _ h) (second_true _ _ s))
 
 once_as : (x : Json) (n : Node) (c : Bool) → node x ≡ n → keys_once x ≡ c → (c ≡ true → KeysOnce n) → IsOnce x
 once_as x n c e g h = λ a. subst KeysOnce (sym e) (h (sym g ∙ a))
@@ -101,7 +94,7 @@ layers (layer.Array at ys) = let vs : List Json = map (λ (e : J). e.0) ys in
     once_as _ _ _ (fold-roll-Json _ _ node_step member_step (layer.Array at vs)) (fold-roll-Json _ _ once_step once_member (layer.Array at vs)) (each_once ys)
 layers (layer.Object at ms c) =
     once_as _ _ _ (fold-roll-Json _ _ node_step member_step (layer.Object at (members ms) c)) (fold-roll-Json _ _ once_step once_member (layer.Object at (members ms) c))
-    (λ k. each_apart ms [] (and_left _ _ k) (and_right _ _ k))
+    (λ k. each_apart ms [] (first_true _ _ k) (second_true _ _ k))
 
 member_layer : (y : Member-F J M) → IsMemberOnce (roll-Member (map-Member J M Json Member (λ e. e.0) (λ e. e.0) y))
 member_layer y =

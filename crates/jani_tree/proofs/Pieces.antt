@@ -1,15 +1,16 @@
 -- The canonical text of each object is made of the pieces that are written one behind the other.
-use Rattle.std.proofs.Common.{◌≡◌, ℕ, ◌+◌, ◌<◌, ◌≤◌, refl, sym, ap, ap₂, ◌∙◌, List, [], ◌∷◌, ◌++◌, Option, Some, None, length, drop, get_or, append_assoc, map}
+use Rattle.std.proofs.Common.{◌≡◌, ℕ, ◌+◌, ◌<◌, ◌≤◌, refl, sym, ap, ap₂, ◌∙◌, List, [], ◌∷◌, ◌++◌, Option, Some, None, length, drop, get_or, append_assoc, map, map-id}
 use Rattle.std.specs.Prelude.{codes, Result, Ok, Err, OnOk, is_ok, cond}
-use Rattle.std.specs.Fmt.{digits}
+use Rattle.frac_core.specs.Text.{digits}
 use Rattle.std.specs.Option.{option_map}
 use Rattle.std.proofs.lemmas.List.{append-nil}
+use Rattle.basics.specs.Lists.{drop_item}
 use Rattle.bridge_io.specs.declared.reason.Named.{Named}
 use Rattle.decimal_json.specs.Text.{behind_commas, quoted, with_commas}
 use Rattle.jani_table.specs.declared.key.Key.{Key}
 use Rattle.jani_table.specs.declared.key.Key.TheVariants as K
 use Rattle.jani_table.specs.Node.{Node, Fields, no_fields, field, nodes_of}
-use Rattle.jani_table.specs.NodeLaws.{drop_item, drop_all}
+use Rattle.jani_table.specs.NodeLaws.{drop_all}
 use Rattle.jani_table.specs.Table.{spelled}
 use Rattle.jani_table.specs.Words.{ty_text}
 use Rattle.jani_table.specs.Operators.{op_text}
@@ -20,7 +21,6 @@ use Rattle.jani_tree.specs.Syntax as V
 use Rattle.jani_tree.specs.Syntax.{Expression, Const, VarKind, Var, bounded, Location, Destination, Edge, Automaton, Vector, File}
 use Rattle.jani_tree.specs.Canonical.{bounded_word, version_node, features_node, file_members, with_entry, with_members, object_of, list_node, some_list, word, name_node, keyed_node, expr_node, boxed_node, kind_node, const_node, flag_node, var_node, write_node, location_node, destination_node, edge_node, automaton_node, part_node, vector_node, system_node}
 use Rattle.jani_tree.specs.Text.{node_text, item_texts, member_texts, jani_text}
-use Rattle.jani_tree.proofs.Lists.{map_same}
 use Rattle.jani_tree.specs.Pieces.{if_some, keyed_text, list_text}
 
 -- ---- pieces one behind the other
@@ -203,7 +203,7 @@ automaton_pieces a =
 
 pub automaton_text : (a : Automaton) → node_text (automaton_node a) ≡ joined (automaton_pieces a)
 automaton_text a =
-    ap (λ ns. node_text (object_of 0 ((K.Name, Some (name_node a.name)) ∷ automaton_members a ns))) (sym (map_same a.initial))
+    ap (λ ns. node_text (object_of 0 ((K.Name, Some (name_node a.name)) ∷ automaton_members a ns))) (sym (map-id a.initial))
     ∙ object_text 0 K.Name (name_node a.name) (automaton_members a (map (λ x. x) a.initial))
 
 -- ---- the composition and the file
@@ -213,7 +213,7 @@ vector_pieces x = (codes "{\"synchronise\":" ++ node_text (list_node part_node 0
 
 pub vector_text : (x : Vector) → node_text (vector_node x) ≡ joined (vector_pieces x)
 vector_text x =
-    ap (λ ps. node_text (object_of 0 ((K.Synchronise, Some (list_node part_node x.at ps)) ∷ (K.Result, option_map name_node x.result) ∷ []))) (sym (map_same x.parts))
+    ap (λ ps. node_text (object_of 0 ((K.Synchronise, Some (list_node part_node x.at ps)) ∷ (K.Result, option_map name_node x.result) ∷ []))) (sym (map-id x.parts))
     ∙ object_text 0 K.Synchronise (list_node part_node x.at (map (λ y. y) x.parts)) ((K.Result, option_map name_node x.result) ∷ [])
 
 abbrev pub system_pieces : List Named → List Vector → List (List ℕ)

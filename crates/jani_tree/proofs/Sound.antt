@@ -3,6 +3,7 @@ use Rattle.std.proofs.Common.{◌≡◌, ℕ, ◌<◌, refl, sym, ap, subst, ◌
 use Rattle.std.specs.Prelude.{pos, codes, nat_lt}
 use Rattle.std.specs.Option.{option_map}
 use Rattle.std.proofs.lemmas.Bool.Decides.{nat_tests}
+use Rattle.basics.specs.Lists.{append_right, append_both}
 use Rattle.bridge_io.specs.declared.reason.Fault.{Fault}
 use Rattle.bridge_io.specs.declared.reason.Named.{Named}
 use Rattle.bridge_io.specs.declared.reason.Reason.TheVariants.{TooLong, WrongShape, LeftOut, MissingMember, InitialSet}
@@ -19,7 +20,7 @@ use Rattle.jani_table.specs.declared.table.Kind.{Kind}
 use Rattle.jani_table.specs.declared.table.Kind.TheVariants as O
 use Rattle.jani_table.specs.declared.operator.JaniOp.{JaniOp}
 use Rattle.jani_table.specs.Node.{Node, null, truth, number, text, array, object, no_fields}
-use Rattle.jani_table.specs.Laws.{append_left, append_right}
+use Rattle.jani_table.specs.Laws.{append_left}
 use Rattle.jani_table.specs.Words.{name_fault, unless, ty_text, ty_of, feature_of, refused_of}
 use Rattle.jani_table.specs.Operators.{op_of, op_text}
 use Rattle.jani_table.specs.Faults.{faults, fault_if, or_unclear, op_kind, has, fault_unless, is_true, member}
@@ -27,7 +28,7 @@ use Rattle.jani_tree.specs.Syntax.{Expression, Const, VarKind, boolean, integer,
 use Rattle.jani_tree.specs.Canonical.{with_members, object_of, list_node, some_list, word, name_node, keyed_node, expr_node, boxed_node, bounded_word, kind_node, const_node, flag_node, var_node, write_node, location_node, destination_node, edge_node, automaton_node, part_node, vector_node, system_node, version_node, features_node, head_members, file_members, file_node, OfSome, OfAll, HasBounds, VarForm, AutomatonForm, FileForm}
 use Rattle.jani_tree.specs.Form.{HasItems, HasOne, IsGiven, IsShortName, NormalNode, KeysOnce, FileWith, NameForm, ExprForm, KindForm, ConstRead, VarRead, WriteRead, LocationRead, DestinationRead, EdgeRead, AutomatonRead, PartForm, VectorRead}
 use Rattle.jani_tree.proofs.Again.{op_again, kind_one, kind_two, kind_three, ty_again}
-use Rattle.jani_tree.proofs.Filled.{IsByParts, Good, both_empty, has_members, object_good, list_good, some_list_good, option_good}
+use Rattle.jani_tree.proofs.Filled.{IsByParts, Good, has_members, object_good, list_good, some_list_good, option_good}
 
 -- ---- names
 within : (n at : ℕ) (t : Bool) → nat_lt n 256 ≡ t → n < 256 → fault_if at (unless t TooLong) ≡ []
@@ -69,7 +70,7 @@ abbrev pub IsNone : List Fault → Type 0
 IsNone fs = fs ≡ []
 
 pub no_fault : IsByParts IsNone
-no_fault = record { none = refl; both = both_empty; left = append_left; right = append_right }
+no_fault = record { none = refl; both = append_both; left = append_left; right = append_right }
 
 -- ---- trees, by what is asked of names and of faults
 module _ (C : List Fault → Type 0) (by : IsByParts C) (IsName : List ℕ → Type 0) (fine : (at : ℕ) (s : List ℕ) → IsName s → C (fault_if at (name_fault s))) where

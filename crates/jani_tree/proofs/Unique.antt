@@ -34,10 +34,6 @@ operation_object (number at d) _ o k i = cc
 operation_object (text at s) _ o k i = cc
 operation_object (array at vs) _ o k i = cc
 
-not_truth : (v : Node) (at at2 : ℕ) (b : Bool) (o : JaniOp) (k : Kind) → v ≡ truth at b → IsOperation v at2 o k → ⊥
-unfolding is_object
-not_truth v at at2 b o k e i = cc (operation_object v at2 o k i, ap is_object e)
-
 same_op : (v : Node) (at at2 : ℕ) (o p : JaniOp) (k l : Kind) → IsOperation v at o k → IsOperation v at2 p l → (at ≡ at2) × (o ≡ p) × (k ≡ l)
 same_op v at at2 o p k l i j =
     let e : o ≡ p = cc (i.op, j.op) in (cc (i.offset, j.offset), e, cc (i.takes, j.takes, e))

@@ -1,18 +1,15 @@
 -- A form that asks less of names has all trees that one which asks more has.
-use Rattle.std.proofs.Common.{◌≡◌, ℕ, List, [], ◌∷◌, Option, Some, None}
+use Rattle.std.proofs.Common.{◌≡◌, ℕ, List, Option, Some, None}
+use Rattle.basics.specs.Each.{each_then}
 use Rattle.bridge_io.specs.declared.reason.Named.{Named}
 use Rattle.op_trees.specs.Tree.{Truth, Number, Name, One, Two, Three}
 use Rattle.jani_tree.specs.Syntax.{Expression, Const, VarKind, boolean, integer, number as real, real_bounded, one_sided, bounded, Var, Write, Location, Destination, Edge, Automaton, Vector, File}
-use Rattle.jani_tree.specs.Canonical.{OfSome, OfAll}
+use Rattle.jani_tree.specs.Canonical.{OfSome}
 use Rattle.jani_tree.specs.Form.{HasItems, IsShortName, NameForm, ExprForm, KindForm, ConstRead, VarRead, WriteRead, LocationRead, DestinationRead, EdgeRead, AutomatonRead, PartForm, VectorRead, FileWith, FileRead, FileShort}
 
-some_wider : {A : Type 0} (F G : A → Type 0) → ((x : A) → F x → G x) → (o : Option A) → OfSome F o → OfSome G o
+pub some_wider : {A : Type 0} (F G : A → Type 0) → ((x : A) → F x → G x) → (o : Option A) → OfSome F o → OfSome G o
 some_wider F G h None p = tt
 some_wider F G h (Some x) p = h x p
-
-all_wider : {A : Type 0} (F G : A → Type 0) → ((x : A) → F x → G x) → (xs : List A) → OfAll F xs → OfAll G xs
-all_wider F G h [] p = tt
-all_wider F G h (x ∷ xs) p = (h x p.0, all_wider F G h xs p.1)
 
 module _ (P Q : List ℕ → Type 0) (wider : (s : List ℕ) → P s → Q s) where
   name : (n : Named) → NameForm P n → NameForm Q n
@@ -50,13 +47,13 @@ module _ (P Q : List ℕ → Type 0) (wider : (s : List ℕ) → P s → Q s) wh
   write w p = record { target = name w.target p.target; value = expr w.value p.value }
 
   location : (l : Location) → LocationRead P l → LocationRead Q l
-  location l p = record { name = name l.name p.name; values = all_wider (WriteRead P) (WriteRead Q) write l.values p.values }
+  location l p = record { name = name l.name p.name; values = each_then (WriteRead P) (WriteRead Q) write l.values p.values }
 
   destination : (d : Destination) → DestinationRead P d → DestinationRead Q d
   destination d p = record {
     location = name d.location p.location;
     weight = exprs d.weight p.weight;
-    writes = all_wider (WriteRead P) (WriteRead Q) write d.writes p.writes;
+    writes = each_then (WriteRead P) (WriteRead Q) write d.writes p.writes;
   }
 
   edge : (e : Edge) → EdgeRead P e → EdgeRead Q e
@@ -64,31 +61,31 @@ module _ (P Q : List ℕ → Type 0) (wider : (s : List ℕ) → P s → Q s) wh
     location = name e.location p.location;
     action = names e.action p.action;
     guard = exprs e.guard p.guard;
-    destinations = all_wider (DestinationRead P) (DestinationRead Q) destination e.destinations p.destinations;
+    destinations = each_then (DestinationRead P) (DestinationRead Q) destination e.destinations p.destinations;
     some = p.some;
   }
 
   automaton : (a : Automaton) → AutomatonRead P a → AutomatonRead Q a
   automaton a p = record {
     name = name a.name p.name;
-    variables = all_wider (VarRead P) (VarRead Q) var a.variables p.variables;
-    locations = all_wider (LocationRead P) (LocationRead Q) location a.locations p.locations;
-    initial = all_wider (NameForm P) (NameForm Q) name a.initial p.initial;
+    variables = each_then (VarRead P) (VarRead Q) var a.variables p.variables;
+    locations = each_then (LocationRead P) (LocationRead Q) location a.locations p.locations;
+    initial = each_then (NameForm P) (NameForm Q) name a.initial p.initial;
     begins = p.begins;
-    edges = all_wider (EdgeRead P) (EdgeRead Q) edge a.edges p.edges;
+    edges = each_then (EdgeRead P) (EdgeRead Q) edge a.edges p.edges;
   }
 
   vector : (x : Vector) → VectorRead P x → VectorRead Q x
-  vector x p = record { parts = all_wider (PartForm P) (PartForm Q) names x.parts p.parts; result = names x.result p.result }
+  vector x p = record { parts = each_then (PartForm P) (PartForm Q) names x.parts p.parts; result = names x.result p.result }
 
   pub file_wider : (f : File) → FileWith P f → FileWith Q f
   file_wider f p = record {
-    actions = all_wider (NameForm P) (NameForm Q) name f.actions p.actions;
-    constants = all_wider (ConstRead P) (ConstRead Q) const f.constants p.constants;
-    variables = all_wider (VarRead P) (VarRead Q) var f.variables p.variables;
-    automata = all_wider (AutomatonRead P) (AutomatonRead Q) automaton f.automata p.automata;
-    elements = all_wider (NameForm P) (NameForm Q) name f.elements p.elements;
-    vectors = all_wider (VectorRead P) (VectorRead Q) vector f.vectors p.vectors;
+    actions = each_then (NameForm P) (NameForm Q) name f.actions p.actions;
+    constants = each_then (ConstRead P) (ConstRead Q) const f.constants p.constants;
+    variables = each_then (VarRead P) (VarRead Q) var f.variables p.variables;
+    automata = each_then (AutomatonRead P) (AutomatonRead Q) automaton f.automata p.automata;
+    elements = each_then (NameForm P) (NameForm Q) name f.elements p.elements;
+    vectors = each_then (VectorRead P) (VectorRead Q) vector f.vectors p.vectors;
     properties = p.properties;
   }
 

@@ -4,6 +4,7 @@ use Rattle.std.specs.Prelude.{◌≡◌, ℕ, pos, List, [], ◌∷◌, map, cod
 use Rattle.std.specs.Option.{option_map}
 use Rattle.bridge_io.specs.declared.reason.Named.{Named}
 use Rattle.op_trees.specs.declared.tree.Ty.TheVariants as T
+use Rattle.op_trees.specs.Names as Walks
 use Rattle.op_trees.specs.Tree.{Truth, Number, Name, One, Two, Three}
 use Rattle.jani_table.specs.declared.key.Key.{Key}
 use Rattle.jani_table.specs.declared.key.Key.TheVariants as K
@@ -151,12 +152,7 @@ file_node f = object 0 (with_members (with_members no_fields head_members) (file
 
 -- each node has its operator's number of operands
 abbrev pub HasOperands : Expression → Type 0
-HasOperands (Truth at b) = Unit {0}
-HasOperands (Number at d) = Unit {0}
-HasOperands (Name at x) = Unit {0}
-HasOperands (One at o a) = (arity o ≡ 1) × HasOperands a
-HasOperands (Two at o a b) = (arity o ≡ 2) × HasOperands a × HasOperands b
-HasOperands (Three at o a b c) = (arity o ≡ 3) × HasOperands a × HasOperands b × HasOperands c
+HasOperands e = Walks.HasOperands arity e
 
 abbrev pub OfSome : {A : Type 0} → (A → Type 0) → Option A → Type 0
 OfSome P None = Unit {0}

@@ -3,7 +3,8 @@ use Rattle.std.specs.Prelude.{◌≡◌, ℕ, true, false, List, [], ◌∷◌, 
 use Rattle.std.specs.Str.{is_utf8}
 use Rattle.decimal_json.specs.declared.tree.Json.{Json}
 use Rattle.decimal_json.specs.Proper.{is_kept, SpellsValue}
-use Rattle.decimal_json.specs.Text.{number_text, quoted, with_commas, text_of}
+use Rattle.frac_core.specs.Text.{number_text}
+use Rattle.decimal_json.specs.Text.{quoted, with_commas, text_of}
 use Rattle.jani_table.specs.Node.{Node, null, truth, number, text, array, object, Nodes, no_nodes, more_nodes, Fields, no_fields, field, node}
 use Rattle.jani_tree.specs.Syntax.{File}
 use Rattle.jani_tree.specs.Canonical.{file_node}

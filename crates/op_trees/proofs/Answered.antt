@@ -2,6 +2,7 @@
 use Rattle.std.proofs.Common.{◌≡◌, ℕ, List, [], ◌++◌, Bool, true, false, ◌||◌, Option, Some, None, Result, Ok, Err, if◌then◌else◌, refl, sym, ap, ap₂, ◌∙◌}
 use Rattle.std.specs.List.{list_any}
 use Rattle.std.proofs.lemmas.List.Folds.{list_any-append}
+use Rattle.std.proofs.Math.Bool.{or-false, or-true}
 use Rattle.op_trees.specs.declared.tree.Value.{Value}
 use Rattle.op_trees.specs.declared.tree.Next.{Next}
 use Rattle.op_trees.specs.declared.tree.Next.TheVariants.{Done, Second, Third, All}
@@ -22,14 +23,6 @@ abbrev pub lazy_answer : {O : Type 0} → Meaning O → O → Result Value EvalF
 lazy_answer m o (Ok x) b c = next_answer (m.first o x) b c
 lazy_answer m o (Err f) b c = Err f
 
-or_false : (b : Bool) → (b || false) ≡ b
-or_false true = refl
-or_false false = refl
-
-or_true : (b : Bool) → (b || true) ≡ true
-or_true true = refl
-or_true false = refl
-
 or_absorbs : (a b : Bool) → (a ≡ true → b ≡ true) → (a || b) ≡ b
 or_absorbs true b h = sym (h refl)
 or_absorbs false b h = refl
@@ -37,29 +30,29 @@ or_absorbs false b h = refl
 module _ {O : Type 0} (m : Meaning O) (o : O) where
   one_answered : (p : Bool) (v : Option Value) → answered (is_wide_value (of_one m o v) || p) (of_one m o v)
       ≡ one_answer m o (answered p v)
-  one_answered true v = ap (λ b. answered b (of_one m o v)) (or_true (is_wide_value (of_one m o v)))
+  one_answered true v = ap (λ b. answered b (of_one m o v)) (or-true (is_wide_value (of_one m o v)))
   one_answered false None = refl
-  one_answered false (Some x) = ap (λ b. answered b (m.value o x None)) (or_false (is_wide_value (m.value o x None)))
+  one_answered false (Some x) = ap (λ b. answered b (m.value o x None)) (or-false (is_wide_value (m.value o x None)))
 
   both_answered : (p q : Bool) (v w : Option Value) →
       answered (is_wide_value (of_both m o v w) || (p || q)) (of_both m o v w)
       ≡ both_answer m o (answered p v) (answered q w)
-  both_answered true q v w = ap (λ b. answered b (of_both m o v w)) (or_true (is_wide_value (of_both m o v w)))
+  both_answered true q v w = ap (λ b. answered b (of_both m o v w)) (or-true (is_wide_value (of_both m o v w)))
   both_answered false true None w = refl
   both_answered false true (Some x) w =
-      ap (λ b. answered b (of_both m o (Some x) w)) (or_true (is_wide_value (of_both m o (Some x) w)))
+      ap (λ b. answered b (of_both m o (Some x) w)) (or-true (is_wide_value (of_both m o (Some x) w)))
   both_answered false false None None = refl
   both_answered false false None (Some y) = refl
   both_answered false false (Some x) None = refl
   both_answered false false (Some x) (Some y) =
-      ap (λ b. answered b (m.value o x (Some y))) (or_false (is_wide_value (m.value o x (Some y))))
+      ap (λ b. answered b (m.value o x (Some y))) (or-false (is_wide_value (m.value o x (Some y))))
 
   module _ (P : Tree O → Bool) (b c : Option Value) (bs cs : List (Tree O)) (b_counts : is_wide_value b
       ≡ true → list_any P bs ≡ true) (c_counts : is_wide_value c ≡ true → list_any P cs ≡ true) where
     next_answered : (n : Next) →
         answered (is_wide_value (chosen n b c) || list_any P (asked n bs cs)) (chosen n b c)
         ≡ next_answer n (answered (list_any P bs) b) (answered (list_any P cs) c)
-    next_answered (Done v) = ap (λ t. answered t (Some v)) (or_false (is_wide_value (Some v)))
+    next_answered (Done v) = ap (λ t. answered t (Some v)) (or-false (is_wide_value (Some v)))
     next_answered Second = ap (λ t. answered t b) (or_absorbs _ _ b_counts)
     next_answered Third = ap (λ t. answered t c) (or_absorbs _ _ c_counts)
     next_answered All = refl
@@ -67,7 +60,7 @@ module _ {O : Type 0} (m : Meaning O) (o : O) where
     lazy_answered : (p : Bool) (a : Option Value) →
         answered (is_wide_value (of_lazy m o a b c) || (p || list_any P (asked_by m o a bs cs))) (of_lazy m o a b c)
         ≡ lazy_answer m o (answered p a) (answered (list_any P bs) b) (answered (list_any P cs) c)
-    lazy_answered true a = ap (λ t. answered t (of_lazy m o a b c)) (or_true (is_wide_value (of_lazy m o a b c)))
+    lazy_answered true a = ap (λ t. answered t (of_lazy m o a b c)) (or-true (is_wide_value (of_lazy m o a b c)))
     lazy_answered false None = refl
     lazy_answered false (Some x) = next_answered (m.first o x)
 
@@ -96,14 +89,14 @@ module _ {O : Type 0} (m : Meaning O) (env : Environment) where
       ∙ lazy_answered m o P None None [] [] (λ h. h) (λ h. h) (needs_wide m a env) (value_of m a env))
     where
       nothing_asked : (P : Tree O → Bool) (v : Option Value) (b : Bool) → (b || list_any P (asked_by m o v [] [])) ≡ b
-      nothing_asked P None b = or_false b
+      nothing_asked P None b = or-false b
       nothing_asked P (Some x) b = none_of (m.first o x)
         where
           none_of : (n : Next) → (b || list_any P (asked n [] [])) ≡ b
-          none_of (Done v) = or_false b
-          none_of Second = or_false b
-          none_of Third = or_false b
-          none_of All = or_false b
+          none_of (Done v) = or-false b
+          none_of Second = or-false b
+          none_of Third = or-false b
+          none_of All = or-false b
 
   pub strict_two : (at : ℕ) (o : O) (a b : Tree O) → m.strict o ≡ true → answer m (Two at o a b) env
       ≡ both_answer m o (answer m a env) (answer m b env)

@@ -1,9 +1,14 @@
 pub mod Tree
+pub mod Names
+pub mod NameLaws
 pub mod Meaning
 pub mod Seen
 pub mod SeenLaws
 pub mod Types
 pub mod Operators
+pub mod Standard
+pub mod StandardLaws
+pub mod AlongLaws
 pub mod TypeLaws
 pub mod Rebuilt
 pub mod Laws

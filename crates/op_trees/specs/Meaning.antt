@@ -25,6 +25,16 @@ pub record Meaning (O : Type 0) : Type 0 where
   pub first : O → Value → Next
   pub value : O → Value → Option Value → Option Value
 
+-- operators that are read as others mean what those do
+abbrev pub along : {P O : Type 0} → (P → O) → Meaning O → Meaning P
+along meant m = record {
+  arity = λ o. m.arity (meant o);
+  sort = λ o. m.sort (meant o);
+  strict = λ o. m.strict (meant o);
+  first = λ o. m.first (meant o);
+  value = λ o. m.value (meant o);
+}
+
 -- the values of names, None where there is none
 abbrev pub Environment : Type 0
 Environment = List ℕ → Option Value

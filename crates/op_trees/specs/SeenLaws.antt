@@ -5,16 +5,13 @@ use Rattle.std.specs.List.{list_any}
 use Rattle.std.specs.Option.{option_map}
 use Rattle.std.proofs.Common.{refl, sym, ap, ap₂, ◌∙◌, arith}
 use Rattle.std.proofs.lemmas.List.Folds.{list_any-append}
+use Rattle.std.proofs.Math.Bool.{or-false}
 use Rattle.op_trees.specs.declared.tree.Value.{Value}
 use Rattle.op_trees.specs.declared.tree.Next.{Next}
 use Rattle.op_trees.specs.declared.tree.Next.TheVariants.{Done, Second, Third, All}
 use Rattle.op_trees.specs.Tree.{Tree, Truth, Number, Name, One, Two, Three, AllNames, bare, replaced, substituted, written_out, renamed}
 use Rattle.op_trees.specs.Meaning.{Meaning, Environment, number, is_wide_value, of_one, of_both, of_lazy, value_of, needed, asked, asked_by, needs_wide, answered, answer}
 use Rattle.op_trees.specs.Seen.{Seen, known, known_names, node, asked_wide, asked_by_wide, lazy_node, one_node, two_node, seen, seen_through, looked_up, IsSeenAsBody, SeesBodies, FallsTo, IsFalling}
-
-pub or_false : (b : Bool) → (b || false) ≡ b
-or_false true = refl
-or_false false = refl
 
 -- ---- the one recursion is the value and the list of what the value needs
 module _ {O : Type 0} (m : Meaning O) (env : Environment) where
@@ -64,7 +61,7 @@ module _ {O : Type 0} (m : Meaning O) (env : Environment) where
       by_strict true = refl
       by_strict false =
           ap (node (of_lazy m o (value_of m a env) None None)) (ap (λ w. needs_wide m a env || w) (asked_by_none o (value_of m a env))
-          ∙ or_false (needs_wide m a env))
+          ∙ or-false (needs_wide m a env))
 
   two_is : (at : ℕ) (o : O) (a b : Tree O) → two_node m o (value_and_wide a) (value_and_wide b)
       ≡ value_and_wide (Two at o a b)
@@ -83,8 +80,8 @@ module _ {O : Type 0} (m : Meaning O) (env : Environment) where
   pub seen_is : (t : Tree O) → seen m t (known_names env) ≡ value_and_wide t
   seen_is (Truth at b) = refl
   seen_is (Number at d) =
-      ap (λ w. record { value = Some (number d); wide = w }) (sym (or_false (is_wide_value (Some (number d)))))
-  seen_is (Name at x) = ap (λ w. record { value = env x; wide = w }) (sym (or_false (is_wide_value (env x))))
+      ap (λ w. record { value = Some (number d); wide = w }) (sym (or-false (is_wide_value (Some (number d)))))
+  seen_is (Name at x) = ap (λ w. record { value = env x; wide = w }) (sym (or-false (is_wide_value (env x))))
   seen_is (One at o a) = ap (one_node m o) (seen_is a) ∙ one_is at o a
   seen_is (Two at o a b) = ap₂ (two_node m o) (seen_is a) (seen_is b) ∙ two_is at o a b
   seen_is (Three at o a b c) =
@@ -147,14 +144,7 @@ module _ {O : Type 0} (m : Meaning O) where
 
   pub seen_agree : (t : Tree O) (env new : List ℕ → Seen) → ((x : List ℕ) → env x ≡ new x) → seen m t env
       ≡ seen m t new
-  seen_agree (Truth at b) env new h = refl
-  seen_agree (Number at d) env new h = refl
-  seen_agree (Name at x) env new h = h x
-  seen_agree (One at o a) env new h = ap (one_node m o) (seen_agree a env new h)
-  seen_agree (Two at o a b) env new h = ap₂ (two_node m o) (seen_agree a env new h) (seen_agree b env new h)
-  seen_agree (Three at o a b c) env new h =
-      ap₂ {B = Seen →
-      Seen} (λ r g. g r) (seen_agree a env new h) (ap₂ (λ s t r. lazy_node m o r s t) (seen_agree b env new h) (seen_agree c env new h))
+  seen_agree t env new h = seen_agree_on t env new (names_all (λ x. env x ≡ new x) h t)
 
   at_body : (env new : List ℕ → Seen) (write : Tree O → Tree O) → ((t : Tree O) → seen m (write t) env
       ≡ seen m t new) → (o : Option (Tree O)) (s : Seen) → seen_through m (option_map write o) env s

@@ -17,7 +17,8 @@ use Rattle.op_trees.specs.declared.tree.Next.TheVariants as N
 use Rattle.op_trees.specs.Tree.{Tree, Truth, Number, Name, One, Two, Three, AllNames, AllNumbers, bare, replaced, substituted, written_out, renamed}
 use Rattle.op_trees.specs.Meaning.{Meaning, Environment, number, chosen, of_one, of_both, of_lazy, value_of, needs_wide, answered, answer}
 use Rattle.op_trees.specs.SeenLaws.{names_all}
-use Rattle.op_trees.specs.Operators.{IsLawful, TakesFirst, fits_some}
+use Rattle.op_trees.specs.Names.{HasOperands}
+use Rattle.op_trees.specs.Operators.{IsLawful, TakesFirst, fits_some, given_count}
 use Rattle.op_trees.specs.Types.{Types, fits, has_type, AgreesWith, number_type, sort_one, sort_two, sort_three, type_in, misfit_at, misfits, IsLeast, type_through, types_looked_up, typed_one, typed_two, typed_three, typed}
 
 -- ---- the type or the least misfit
@@ -257,16 +258,22 @@ answer_agrees m lawful types env h e t n k =
 
 -- ---- substitution, writing out and renaming
 module _ {O : Type 0} (m : Meaning O) where
+  -- the type of a tree rests on the types of its own names alone
+  pub type_agree_on : (t : Tree O) (types new : Types) → AllNames (λ x. types x ≡ new x) t → type_in m types t
+      ≡ type_in m new t
+  type_agree_on (Truth at b) types new h = refl
+  type_agree_on (Number at d) types new h = refl
+  type_agree_on (Name at x) types new h = h
+  type_agree_on (One at o a) types new h = ap (sort_one m o) (type_agree_on a types new h)
+  type_agree_on (Two at o a b) types new h =
+      ap₂ (sort_two m o) (type_agree_on a types new h.0) (type_agree_on b types new h.1)
+  type_agree_on (Three at o a b c) types new h =
+      ap₂ {B = Option Ty →
+      Option Ty} (λ r g. g r) (type_agree_on a types new h.0) (ap₂ (λ s t r. sort_three m o r s t) (type_agree_on b types new h.1) (type_agree_on c types new h.2))
+
   pub type_agree : (t : Tree O) (types new : Types) → ((x : List ℕ) → types x ≡ new x) → type_in m types t
       ≡ type_in m new t
-  type_agree (Truth at b) types new h = refl
-  type_agree (Number at d) types new h = refl
-  type_agree (Name at x) types new h = h x
-  type_agree (One at o a) types new h = ap (sort_one m o) (type_agree a types new h)
-  type_agree (Two at o a b) types new h = ap₂ (sort_two m o) (type_agree a types new h) (type_agree b types new h)
-  type_agree (Three at o a b c) types new h =
-      ap₂ {B = Option Ty →
-      Option Ty} (λ r g. g r) (type_agree a types new h) (ap₂ (λ s t r. sort_three m o r s t) (type_agree b types new h) (type_agree c types new h))
+  type_agree t types new h = type_agree_on t types new (names_all (λ x. types x ≡ new x) h t)
 
   pub type-renamed : (new : List ℕ → List ℕ) (types : Types) (t : Tree O) → type_in m types (renamed new t)
       ≡ type_in m (λ x. types (new x)) t
@@ -329,3 +336,68 @@ module _ {O : Type 0} (m : Meaning O) where
 
   pub type_same : (t u : Tree O) → bare t ≡ bare u → (types : Types) → type_in m types t ≡ type_in m types u
   type_same t u h types = sym (type-bare t types) ∙ ap (λ e. type_in m types e) h ∙ type-bare u types
+
+-- ---- what a type gives of the operands
+module _ {O : Type 0} (m : Meaning O) where
+  pub some_one : (o : O) (a : Option Ty) → IsTrue (is_some (sort_one m o a)) → IsTrue (is_some a)
+  some_one o None h = h
+  some_one o (Some a) h = refl
+
+  pub some_two : (o : O) (a b : Option Ty) → IsTrue (is_some (sort_two m o a b)) → IsTrue (is_some a) × IsTrue (is_some b)
+  some_two o None b h = absurd cc
+  some_two o (Some a) None h = absurd cc
+  some_two o (Some a) (Some b) h = (refl, refl)
+
+  pub some_three : (o : O) (a b c : Option Ty) → IsTrue (is_some (sort_three m o a b c)) →
+      IsTrue (is_some a) × IsTrue (is_some b) × IsTrue (is_some c)
+  some_three o None b c h = absurd cc
+  some_three o (Some a) None c h = absurd cc
+  some_three o (Some a) (Some b) None h = absurd cc
+  some_three o (Some a) (Some b) (Some c) h = (refl, refl, refl)
+
+  -- each name of an expression that has a type has one
+  pub names_typed : (types : Types) (e : Tree O) → IsTrue (is_some (type_in m types e)) → AllNames (λ x. IsTrue (is_some (types x))) e
+  names_typed types (Truth at b) h = tt
+  names_typed types (Number at d) h = tt
+  names_typed types (Name at x) h = h
+  names_typed types (One at o a) h = names_typed types a (some_one o (type_in m types a) h)
+  names_typed types (Two at o a b) h =
+      let s = some_two o (type_in m types a) (type_in m types b) h in
+      (names_typed types a s.0, names_typed types b s.1)
+  names_typed types (Three at o a b c) h =
+      let s = some_three o (type_in m types a) (type_in m types b) (type_in m types c) h in
+      (names_typed types a s.0, names_typed types b s.1, names_typed types c s.2)
+
+  -- and each of its nodes has as many operands as its operator
+  module _ (lawful : IsLawful m) where
+    counted : (o : O) (a : Ty) (b c : Option Ty) (t : Option Ty) → m.sort o a b c ≡ t → IsTrue (is_some t) → m.arity o ≡ given_count b c
+    counted o a b c None e h = absurd cc
+    counted o a b c (Some t) e h = sym (lawful.counted o a b c t e)
+
+    one_counted : (o : O) (a : Option Ty) → IsTrue (is_some (sort_one m o a)) → m.arity o ≡ 1
+    one_counted o None h = absurd cc
+    one_counted o (Some a) h = counted o a None None _ refl h
+
+    two_counted : (o : O) (a b : Option Ty) → IsTrue (is_some (sort_two m o a b)) → m.arity o ≡ 2
+    two_counted o None b h = absurd cc
+    two_counted o (Some a) None h = absurd cc
+    two_counted o (Some a) (Some b) h = counted o a (Some b) None _ refl h
+
+    three_counted : (o : O) (a b c : Option Ty) → IsTrue (is_some (sort_three m o a b c)) → m.arity o ≡ 3
+    three_counted o None b c h = absurd cc
+    three_counted o (Some a) None c h = absurd cc
+    three_counted o (Some a) (Some b) None h = absurd cc
+    three_counted o (Some a) (Some b) (Some c) h = counted o a (Some b) (Some c) _ refl h
+
+    pub typed_operands : (types : Types) (e : Tree O) → IsTrue (is_some (type_in m types e)) → HasOperands m.arity e
+    typed_operands types (Truth at b) h = tt
+    typed_operands types (Number at d) h = tt
+    typed_operands types (Name at x) h = tt
+    typed_operands types (One at o a) h =
+        (one_counted o (type_in m types a) h, typed_operands types a (some_one o (type_in m types a) h))
+    typed_operands types (Two at o a b) h =
+        let s = some_two o (type_in m types a) (type_in m types b) h in
+        (two_counted o (type_in m types a) (type_in m types b) h, typed_operands types a s.0, typed_operands types b s.1)
+    typed_operands types (Three at o a b c) h =
+        let s = some_three o (type_in m types a) (type_in m types b) (type_in m types c) h in
+        (three_counted o (type_in m types a) (type_in m types b) (type_in m types c) h, typed_operands types a s.0, typed_operands types b s.1, typed_operands types c s.2)

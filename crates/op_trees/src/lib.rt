@@ -8,6 +8,7 @@ mod laws;
 mod measure;
 mod operator;
 mod rebuild;
+mod standard;
 mod tree;
 mod typing;
 
@@ -19,5 +20,6 @@ pub use laws::{
 pub use measure::{count, height, same};
 pub use operator::{Names, Operator};
 pub use rebuild::{Bodies, OpMap, Shape, copy_expr, map_ops, substitute};
+pub use standard::StandardOp;
 pub use tree::{EvalFail, Expr, Next, Ty, Value};
 pub use typing::type_of;

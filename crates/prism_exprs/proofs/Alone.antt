@@ -1,6 +1,7 @@
 -- Operands that stand alone, and chains that do not begin.
-use Rattle.std.proofs.Common.{◌≡◌, ℕ, suc, Bool, true, false, List, [], ◌∷◌, Option, Some, None, refl, sym, ap, ap₂, subst, ◌∙◌, map, arith}
-use Rattle.std.specs.Prelude.{◌||◌, IfOk, Result, Ok, Err}
+use Rattle.std.proofs.Common.{◌≡◌, ℕ, suc, true, false, List, [], ◌∷◌, Option, Some, None, refl, sym, subst, ◌∙◌, map, arith}
+use Rattle.std.specs.Prelude.{IfOk, Result, Ok, Err}
+use Rattle.std.proofs.lemmas.Bool.{or_parts}
 use Rattle.prism_lex.specs.declared.token.TokenKind.TheVariants as K
 use Rattle.prism_lex.specs.declared.symbols.Symbol.{Symbol}
 use Rattle.prism_lex.specs.declared.symbols.Symbol.TheVariants as S
@@ -11,14 +12,12 @@ use Rattle.prism_tree.specs.Grammar.{infix_of, at_level, prim, expr}
 use Rattle.prism_exprs.specs.declared.tokens.Kept.{Kept}
 use Rattle.prism_exprs.specs.declared.tokens.Kept.TheVariants as H
 use Rattle.prism_exprs.specs.declared.tokens.Found.{Found}
-use Rattle.prism_exprs.specs.declared.tokens.Literal.{Literal}
 use Rattle.prism_exprs.specs.declared.tokens.Stop.{Stop}
 use Rattle.prism_exprs.specs.declared.tokens.Tokens.{Tokens}
-use Rattle.prism_exprs.specs.Kept.{seen, lexeme_at, kept_symbol, kept_infix}
+use Rattle.prism_exprs.specs.Kept.{seen, lexeme_at, kept_symbol}
 use Rattle.prism_exprs.specs.Reading.{Ends, Reads, Parses, starts, is_kind}
-use Rattle.prism_exprs.specs.Levels.{is_symbol, binds_below, more, goes_on, others, is_operator, joins_at, kept_plain, kept_goes_on, IsLeaf}
+use Rattle.prism_exprs.specs.Levels.{is_symbol, binds_below, more, goes_on, others, is_operator, joins_at, kept_plain, IsLeaf}
 use Rattle.prism_exprs.proofs.Choice.{FirstIs}
-use Rattle.prism_exprs.proofs.Keeping.{symbol_kept, infix_kept}
 use Rattle.prism_exprs.proofs.Symbols.{symbol_same}
 use Rattle.prism_exprs.proofs.Climb.{chain_end}
 use Rattle.prism_exprs.proofs.Rising.{Unsigned, unsigned, rises, stop_rises}
@@ -26,29 +25,17 @@ use Rattle.prism_exprs.proofs.Conditionals.{map_cons, test_alone, test_stops}
 
 -- ---- what goes on with an expression
 
-pub goes_kept : (bytes : List ℕ) (literals : List Literal) (x : Found) → goes_on (lexeme_at bytes literals x).kind ≡ kept_goes_on x.kind
-goes_kept bytes literals x =
-    let k = (lexeme_at bytes literals x).kind in
-    let a : is_symbol S.Question k ≡ kept_symbol x.kind S.Question = symbol_kept bytes literals x.kind x.at x.size S.Question in
-    let b : is_symbol S.LeftParenthesis k ≡ kept_symbol x.kind S.LeftParenthesis = symbol_kept bytes literals x.kind x.at x.size S.LeftParenthesis in
-    let c : binds_below 10 (infix_of k) ≡ binds_below 10 (kept_infix x.kind) = ap (λ (p : Option (ℕ × PrismOp)). binds_below 10 p) (infix_kept bytes literals x.kind x.at x.size) in
-    ap₂ (λ (u v : Bool). u || v) a (ap₂ (λ (u v : Bool). u || v) b c)
-
-either : (a b : Bool) → (a || b) ≡ false → (a ≡ false) × (b ≡ false)
-either true b e = absurd cc
-either false b e = (refl, e)
-
 ends_below : (us : List Lexeme) → Ends goes_on us → Ends (more 10) us
 ends_below [] e = tt
-ends_below (t ∷ us) e = (either (is_symbol S.Question t.kind) (more 10 t.kind) e).1
+ends_below (t ∷ us) e = (or_parts (is_symbol S.Question t.kind) (more 10 t.kind) e).1
 
 no_question : (us : List Lexeme) → Ends goes_on us → starts (is_kind (K.Symbol S.Question)) us ≡ false
 no_question [] e = refl
-no_question (t ∷ us) e = (either (is_symbol S.Question t.kind) (more 10 t.kind) e).0
+no_question (t ∷ us) e = (or_parts (is_symbol S.Question t.kind) (more 10 t.kind) e).0
 
 pub no_open : (us : List Lexeme) → Ends goes_on us → starts (is_kind (K.Symbol S.LeftParenthesis)) us ≡ false
 no_open [] e = refl
-no_open (t ∷ us) e = (either (is_symbol S.LeftParenthesis t.kind) (binds_below 10 (infix_of t.kind)) (either (is_symbol S.Question t.kind) (more 10 t.kind) e).1).0
+no_open (t ∷ us) e = (or_parts (is_symbol S.LeftParenthesis t.kind) (binds_below 10 (infix_of t.kind)) (or_parts (is_symbol S.Question t.kind) (more 10 t.kind) e).1).0
 
 -- ---- a leaf at any level
 
@@ -76,14 +63,6 @@ leaf_expr view t (Ok y) l p e =
 leaf_expr view t (Err s) l p e = test_stops (seen t) s (stop_rises 10 0 (seen t) s (omega arith) (leaf_unsigned t l) p)
 
 -- ---- looking for a leaf
-
-pub ends_empty : (f : Found → Lexeme) (found : List Found) → found ≡ [] → Ends goes_on (map f found)
-ends_empty f found e = let F : List Found → Type 0 = λ u. Ends goes_on (map f u) in subst F (sym e) tt
-
-pub ends_first : (bytes : List ℕ) (literals : List Literal) (found xs : List Found) (x : Found) → found ≡ x ∷ xs → kept_goes_on x.kind ≡ false → Ends goes_on (map (lexeme_at bytes literals) found)
-ends_first bytes literals found xs x e h =
-    let F : List Found → Type 0 = λ u. Ends goes_on (map (lexeme_at bytes literals) u) in
-    subst F (sym e) (goes_kept bytes literals x ∙ h)
 
 -- A leaf is a number or an identifier.
 pub leaf_is : (k : Kept) → kept_plain k ≡ true → ((row : ℕ) → k ≡ H.Number row → ⊥) → k ≡ H.Ident

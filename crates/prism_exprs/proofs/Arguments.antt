@@ -1,6 +1,6 @@
 -- The steps of the readers of a name and of arguments.
-use Rattle.std.proofs.Common.{rules, ◌≡◌, ℕ, Bool, true, false, List, [], ◌∷◌, Option, Some, None, refl, sym, subst, map, length, ◌<◌}
-use Rattle.std.specs.Prelude.{◌||◌}
+use Rattle.std.proofs.Common.{rules, ◌≡◌, ℕ, true, false, List, [], ◌∷◌, Option, Some, None, refl, sym, subst, map, length, ◌<◌}
+use Rattle.std.proofs.lemmas.Bool.{or_left, or_from}
 use Rattle.op_trees.specs.Tree.{One, Two}
 use Rattle.prism_lex.specs.declared.token.TokenKind.TheVariants as K
 use Rattle.prism_lex.specs.declared.words.Reserved.{Reserved}
@@ -34,14 +34,6 @@ use Rattle.prism_exprs.proofs.Conditionals.{map_cons}
 use Rattle.prism_exprs.proofs.Symbols.{closed_reads}
 
 -- ---- a name, and what may stand behind it
-
-or_left : (a b : Bool) → a ≡ true → (a || b) ≡ true
-or_left true b h = refl
-or_left false b h = cc
-
-neither : (a b : Bool) → a ≡ false → b ≡ false → (a || b) ≡ false
-neither true b g h = cc
-neither false b g h = h
 
 open_on : (t : Lexeme) → is_kind (K.Symbol S.LeftParenthesis) t.kind ≡ true → more 0 t.kind ≡ true
 open_on t h = or_left _ _ h
@@ -204,7 +196,7 @@ more_ended o at x ts e h = folding_reads (λ y z. Two at o y z) (argument expr) 
   where
     ends : (ts : List Lexeme) → Ends goes_on ts → starts (is_kind (K.Symbol S.Comma)) ts ≡ false → Ends lists_on ts
     ends [] e h = tt
-    ends (t ∷ ts) e h = neither _ _ h e
+    ends (t ∷ ts) e h = or_from _ _ h e
 
 -- One more argument is read.
 pub more_leads : (o : PrismOp) (at : ℕ) (x y z : Expression) (ts us : List Lexeme) → Reads (argument expr) goes_on ts y us → z ≡ Two at o x y → Leads lists_on (more_arguments o at x) ts (more_arguments o at z) us

@@ -1,6 +1,7 @@
 -- Alternatives and repetitions.
-use Rattle.std.proofs.Common.{◌≡◌, Bool, true, false, List, [], ◌∷◌, ◌++◌, Option, Some, None, refl, sym, ap, subst, ◌∙◌, append_assoc, inl, inr}
+use Rattle.std.proofs.Common.{◌≡◌, Bool, true, false, List, [], ◌∷◌, ◌++◌, Option, Some, refl, sym, ap, subst, ◌∙◌, append_assoc, inl, inr}
 use Rattle.std.specs.Prelude.{◌⊎◌}
+use Rattle.std.proofs.lemmas.List.{append_cancel_left}
 use Rattle.prism_lex.specs.declared.token.TokenKind.{TokenKind}
 use Rattle.prism_lex.specs.Tokens.{Lexeme}
 use Rattle.prism_exprs.specs.declared.tokens.Stop.{Stop}
@@ -8,7 +9,7 @@ use Rattle.prism_exprs.specs.declared.tokens.Stop.TheVariants.{Memory, At}
 use Rattle.prism_exprs.specs.Kept.{seen}
 use Rattle.prism_tree.specs.Lang.{Lang, token, token_with, gives, folding, fold_left, ◌>>=◌, ◌or◌, many}
 use Rattle.prism_exprs.specs.Reading.{Stops, Ends, next, Dead, Reads, Fails}
-use Rattle.prism_exprs.proofs.Laws.{IsOne, HasWord, Follows, cancel, next-append, then_one, gives_one}
+use Rattle.prism_exprs.proofs.Laws.{IsOne, HasWord, Follows, next-append, then_one, gives_one}
 
 -- the same words, with the same values
 pub record Same {A : Type 0} (L M : Lang A) : Type 0 where
@@ -53,16 +54,6 @@ unfolding ◌or◌
 or_dead L M more u r p q other w z x e f (inl h) g = p other w z x e f h g
 or_dead L M more u r p q other w z x e f (inr h) g = q other w z x e f h g
 
-pub or_stops_left : {A : Type 0} (L M : Lang A) (more : TokenKind → Bool) (ts : List Lexeme) (e : Stop) → Barred M more ts → Stops L more ts e → Stops (L or M) more ts e
-unfolding ◌or◌
-or_stops_left L M more ts Memory b p = tt
-or_stops_left L M more ts (At r c) b p = record {
-  before = p.before;
-  parts = p.parts;
-  begins = let n = p.begins in (n.0, n.1, inl n.2);
-  dead = or_dead L M more p.before (seen r) p.dead (Barred-dead M more ts p.before (seen r) p.parts b);
-}
-
 pub or_fails_right : {A : Type 0} (L M : Lang A) (more : TokenKind → Bool) (ts r : List Lexeme) → Barred L more ts → Fails M more ts r → Fails (L or M) more ts r
 unfolding ◌or◌
 or_fails_right L M more ts r b p = record {
@@ -95,14 +86,6 @@ FirstIs P ts = (t : Lexeme) (rest : List Lexeme) → ts ≡ t ∷ rest → P t.k
 pub token_barred : {k : TokenKind} (m : TokenKind → Bool) (ts : List Lexeme) → FirstIs (λ j. j ≡ k → ⊥) ts → Barred (token k) m ts
 unfolding token
 token_barred m ts never other w z x e f h g = front ts x (sym (ap next (sym (f ∙ ap (λ (u : List Lexeme). u ++ z) h.0)) ∙ e)) (λ rest q. never x rest q h.1)
-  where
-    front : (ts : List Lexeme) (t : Lexeme) → next ts ≡ Some t → ((rest : List Lexeme) → ts ≡ t ∷ rest → ⊥) → ⊥
-    front [] t e f = absurd cc
-    front (s ∷ ts) t e f = f ts (let h : s ≡ t = cc in ap (λ (u : Lexeme). u ∷ ts) h)
-
-pub token_with_barred : {A : Type 0} (meaning : Lexeme → Option A) (m : TokenKind → Bool) (ts : List Lexeme) → ((t : Lexeme) (rest : List Lexeme) → ts ≡ t ∷ rest → meaning t ≡ None) → Barred (token_with meaning) m ts
-unfolding token_with
-token_with_barred {A} meaning m ts never other w z x e f h g = front ts h.0 (sym (ap next (sym (f ∙ ap (λ (u : List Lexeme). u ++ z) h.1)) ∙ e)) (λ rest q. let n : meaning h.0 ≡ None = never h.0 rest q in let o : meaning h.0 ≡ Some x = h.2 in absurd cc)
   where
     front : (ts : List Lexeme) (t : Lexeme) → next ts ≡ Some t → ((rest : List Lexeme) → ts ≡ t ∷ rest → ⊥) → ⊥
     front [] t e f = absurd cc
@@ -207,7 +190,7 @@ many_one {A} {L} {P} {m} {more} o r l = record { one = λ w z v y xs ys. go xs y
     go (x ∷ xs) (x' ∷ ys) w z v y g h e f i =
         let g1 : g.0 ++ (g.1 ++ z) ≡ h.0 ++ (h.1 ++ y) = sym (append_assoc g.0 g.1 z) ∙ ap (λ (u : List Lexeme). u ++ z) (sym g.2) ∙ e ∙ ap (λ (u : List Lexeme). u ++ y) h.2 ∙ append_assoc h.0 h.1 y in
         let k = l.one g.0 (g.1 ++ z) h.0 (h.1 ++ y) x x' g.3 h.3 g1 (many_ends o r xs g.1 z g.4 f) (many_ends o r ys h.1 y h.4 i) in
-        let g2 : g.1 ++ z ≡ h.1 ++ y = cancel g.0 _ _ (g1 ∙ ap (λ (u : List Lexeme). u ++ (h.1 ++ y)) (sym k.0)) in
+        let g2 : g.1 ++ z ≡ h.1 ++ y = append_cancel_left g.0 _ _ (g1 ∙ ap (λ (u : List Lexeme). u ++ (h.1 ++ y)) (sym k.0)) in
         let n = go xs ys g.1 z h.1 y g.4 h.4 g2 f i in
         let a_is : x ≡ x' = k.1 in
         let as_are : xs ≡ ys = n.1 in

@@ -1,9 +1,11 @@
 -- Reading chains and signs, and climbing from level to level.
 use Rattle.std.proofs.Common.{cond, ◌≡◌, ℕ, zero, suc, ◌<◌, ◌≤◌, Bool, true, false, List, [], ◌∷◌, Option, Some, None, refl, sym, ap, subst, arith, inl, inr}
-use Rattle.std.proofs.lemmas.Bool.{cases_lt, eqb-true}
+use Rattle.std.proofs.lemmas.Bool.{cases_lt, eqb-true, or_from}
 use Rattle.std.proofs.lemmas.Bool.Decides.{nat_tests}
-use Rattle.std.specs.Prelude.{◌⊎◌, ◌==◌, ◌||◌, nat_lt, if◌then◌else◌, Result, Ok, Err}
+use Rattle.std.specs.Prelude.{◌⊎◌, ◌==◌, nat_lt, if◌then◌else◌}
+use Rattle.basics.specs.Booleans.{first_false, second_false}
 use Rattle.op_trees.specs.Tree.{Two}
+use Rattle.op_trees.specs.Names.{offset_of}
 use Rattle.prism_lex.specs.declared.token.TokenKind.{TokenKind}
 use Rattle.prism_lex.specs.declared.token.TokenKind.TheVariants as K
 use Rattle.prism_lex.specs.declared.symbols.Symbol.{Symbol}
@@ -13,16 +15,15 @@ use Rattle.prism_tree.specs.declared.operator.PrismOp.{PrismOp}
 use Rattle.prism_tree.specs.declared.operator.PrismOp.TheVariants as O
 use Rattle.prism_exprs.specs.declared.tokens.Stop.{Stop}
 use Rattle.prism_exprs.specs.declared.tokens.Stop.TheVariants.{Memory, At}
-use Rattle.prism_exprs.specs.declared.tokens.Tokens.{Tokens}
-use Rattle.prism_tree.specs.Syntax.{Expression, offset_of}
+use Rattle.prism_tree.specs.Syntax.{Expression}
 use Rattle.prism_tree.specs.Lang.{Lang, gives, many, token_with}
-use Rattle.prism_exprs.specs.Reading.{Ends, none, Reads, Stops, Parses, same_kind}
+use Rattle.prism_exprs.specs.Reading.{Ends, none, Reads, Stops, same_kind}
 use Rattle.prism_tree.specs.Grammar.{symbol, infix_of, at_level, operator_at, prefix_at, joined_by, applied, operand, chain, prefixed, over_prefix, level, expr}
 use Rattle.prism_exprs.specs.Levels.{is_symbol, binds_below, more, CanBegin, others}
 use Rattle.prism_exprs.proofs.Laws.{none_ends, then_reads, then_stops, then_stops_later, step_reads, step_stops_later, token_one, token_with_one, gives_word}
-use Rattle.prism_exprs.proofs.Choice.{FirstIs, same_reads, same_stops, Same, many_one, folding_word, folding_follows, opens_follows, token_opens, then_opens}
+use Rattle.prism_exprs.proofs.Choice.{FirstIs, many_one, folding_word, folding_follows, opens_follows, token_opens, then_opens}
 use Rattle.prism_exprs.proofs.Loops.{Leads, then_leads, folding_reads, folding_leads, folding_stops}
-use Rattle.prism_exprs.proofs.Exprs.{operand_opens, operand_one, repeats, sign_repeats, level_one, level_opens, expr_one, gives_follows, first_false, second_false, more_within, none_no_minus, five_no_not}
+use Rattle.prism_exprs.proofs.Exprs.{operand_opens, operand_one, repeats, sign_repeats, level_one, level_opens, expr_one, gives_follows, more_within, none_no_minus, five_no_not}
 
 -- ---- the levels without a prefix
 
@@ -46,12 +47,8 @@ none_up_to : (n : ℕ) (p : Option (ℕ × PrismOp)) → at_level n p ≡ None �
 none_up_to n None e f = refl
 none_up_to n (Some p) e f = up_step n p (p.0 == n) refl e f
 
-neither : (a b : Bool) → a ≡ false → b ≡ false → (a || b) ≡ false
-neither true b g h = cc
-neither false b g h = h
-
 more_up : (n : ℕ) (k : TokenKind) → at_level n (infix_of k) ≡ None → more n k ≡ false → more (suc n) k ≡ false
-more_up n k e f = neither _ _ (first_false _ _ f) (none_up_to n (infix_of k) e (second_false (is_symbol S.LeftParenthesis k) _ f))
+more_up n k e f = or_from _ _ (first_false _ _ f) (none_up_to n (infix_of k) e (second_false (is_symbol S.LeftParenthesis k) _ f))
 
 -- ---- chains
 
@@ -201,9 +198,3 @@ neg_stops ts us signs e p q = stops_within _ (more 0) (more 1) ts e (more_within
 
 pub not_stops : (ts us signs : List Lexeme) (e : Stop) → Reads (many (symbol S.Not)) (is_symbol S.Not) ts signs us → Stops (level expr 5) (more 5) us e → Stops (level expr 6) (more 6) ts e
 not_stops ts us signs e p q = stops_within _ (more 5) (more 6) ts e (more_within 5) (signed_stops S.Not O.Not (level expr 5) (CanBegin 5) (more 5) ts us signs e refl (level_opens expr 5) (five_no_not 5 refl) p q)
-
--- ---- the whole expression
-
-pub same_parses : {X A : Type 0} {L M : Lang A} (view : X → A) (m : TokenKind → Bool) (ts : List Lexeme) (r : Result (X × Tokens) Stop) → Same L M → Parses view M m ts r → Parses view L m ts r
-same_parses view m ts (Ok x) s h = same_reads s h
-same_parses view m ts (Err e) s h = same_stops m ts e s h

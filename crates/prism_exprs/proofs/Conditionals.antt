@@ -1,8 +1,9 @@
 -- The steps of the reader of expressions over kept tokens: chains, and the choice behind a condition.
 use Rattle.std.proofs.Common.{◌≡◌, ℕ, suc, ◌≤◌, Bool, true, false, List, [], ◌∷◌, Option, Some, None, refl, sym, ap, subst, ◌∙◌, map, length, arith}
 use Rattle.std.proofs.lemmas.List.{length-append}
-use Rattle.std.specs.Prelude.{◌||◌}
+use Rattle.std.proofs.lemmas.Bool.{or_from, or_left}
 use Rattle.op_trees.specs.Tree.{Two, Three}
+use Rattle.op_trees.specs.Names.{offset_of}
 use Rattle.prism_lex.specs.declared.token.TokenKind.{TokenKind}
 use Rattle.prism_lex.specs.declared.token.TokenKind.TheVariants as K
 use Rattle.prism_lex.specs.declared.symbols.Symbol.TheVariants as S
@@ -12,7 +13,7 @@ use Rattle.prism_tree.specs.declared.operator.PrismOp.TheVariants as O
 use Rattle.prism_exprs.specs.declared.tokens.Found.{Found}
 use Rattle.prism_exprs.specs.declared.tokens.Literal.{Literal}
 use Rattle.prism_exprs.specs.declared.tokens.Stop.{Stop}
-use Rattle.prism_tree.specs.Syntax.{Expression, offset_of}
+use Rattle.prism_tree.specs.Syntax.{Expression}
 use Rattle.prism_tree.specs.Lang.{Lang, token, gives, ◌>>=◌, ◌or◌}
 use Rattle.prism_exprs.specs.Kept.{lexeme_at, kept_infix}
 use Rattle.prism_exprs.specs.Reading.{Ends, none, Reads, Stops, starts, is_kind}
@@ -79,14 +80,6 @@ pub test_leads : (ts us : List Lexeme) (c : Expression) → Reads (level expr 10
 unfolding conditional
 test_leads ts us c p = leads_on (same_leads goes_on ts expr-conditional) (then_leads (λ c. gives c or choice expr c) (more 10) goes_on (level_one expr 10 expr_one) (rest_follows expr) p)
 
-either_false : (a b : Bool) → a ≡ false → b ≡ false → (a || b) ≡ false
-either_false true b g h = cc
-either_false false b g h = h
-
-or_left : (a b : Bool) → a ≡ true → (a || b) ≡ true
-or_left true b h = refl
-or_left false b h = cc
-
 -- No question mark stands behind the condition.
 pub test_alone : (ts us : List Lexeme) (c : Expression) → Reads (level expr 10) (more 10) ts c us → starts (is_kind (K.Symbol S.Question)) us ≡ false → Reads expr goes_on ts c us
 unfolding gives
@@ -94,7 +87,7 @@ test_alone ts us c p h = (test_leads ts us c p).reads c us (or_reads_left (gives
   where
     ends : (us : List Lexeme) → Ends (more 10) us → starts (is_kind (K.Symbol S.Question)) us ≡ false → Ends goes_on us
     ends [] e h = tt
-    ends (t ∷ us) e h = either_false _ _ h e
+    ends (t ∷ us) e h = or_from _ _ h e
 
 -- A question mark stands behind it.
 pub choice_leads : (ts us : List Lexeme) (c : Expression) → Reads (level expr 10) (more 10) ts c us → starts (is_kind (K.Symbol S.Question)) us ≡ true → Leads goes_on expr ts (choice expr c) us

@@ -1,34 +1,12 @@
 -- Reading the front of a list, and parts that may be missing.
-use Rattle.std.proofs.Common.{◌≡◌, Bool, true, false, List, [], ◌∷◌, ◌++◌, sym, ap, subst, ◌∙◌, append_assoc, append-nil, inl, inr}
+use Rattle.std.proofs.Common.{◌≡◌, Bool, true, false, List, [], ◌∷◌, ◌++◌, sym, ap, subst, ◌∙◌, inl, inr}
 use Rattle.std.specs.Prelude.{◌⊎◌}
 use Rattle.prism_lex.specs.declared.token.TokenKind.{TokenKind}
 use Rattle.prism_lex.specs.Tokens.{Lexeme}
-use Rattle.prism_tree.specs.Lang.{Lang, gives, ◌or◌, Begins}
-use Rattle.prism_exprs.specs.Reading.{Ends, Reads, Fails}
+use Rattle.prism_tree.specs.Lang.{Lang, gives, ◌or◌}
+use Rattle.prism_exprs.specs.Reading.{Ends, Fails}
 use Rattle.prism_exprs.proofs.Laws.{IsOne, gives_word}
 use Rattle.prism_exprs.proofs.Choice.{Opens, Barred, gives_barred, barred_fails, or_barred, or_word}
-
--- What is read with a token left is read so whatever comes behind.
-pub cut_reads : {A : Type 0} (L : Lang A) (more : TokenKind → Bool) (front behind r : List Lexeme) (t : Lexeme) (x : A) → Reads L more front x (t ∷ r) → Reads L more (front ++ behind) x (t ∷ (r ++ behind))
-cut_reads L more front behind r t x p = record {
-  word = p.word;
-  parts = ap (λ (u : List Lexeme). u ++ behind) p.parts ∙ append_assoc p.word (t ∷ r) behind;
-  spells = p.spells;
-  ends = p.ends;
-}
-
--- What fails at a token fails there whatever comes behind.
-pub cut_fails : {A : Type 0} (L : Lang A) (more : TokenKind → Bool) (front behind r : List Lexeme) (t : Lexeme) → Fails L more front (t ∷ r) → Fails L more (front ++ behind) (t ∷ (r ++ behind))
-cut_fails L more front behind r t p = record {
-  before = p.before;
-  parts = ap (λ (u : List Lexeme). u ++ behind) p.parts ∙ append_assoc p.before (t ∷ r) behind;
-  begins = p.begins;
-  dead = p.dead;
-}
-
--- What fails at the end of the front begins a word there.
-pub cut_begins : {A : Type 0} (L : Lang A) (more : TokenKind → Bool) (front : List Lexeme) → Fails L more front [] → Begins L front
-cut_begins L more front p = let F : List Lexeme → Type 0 = λ u. Begins L u in subst F (sym (p.parts ∙ append-nil p.before)) p.begins
 
 -- ---- nothing, or a part whose first token goes on
 

@@ -1,10 +1,12 @@
 -- Expressions: the grammar as a limit, a word of each production, and one reading of each.
 use Rattle.std.proofs.Common.{cond, ◌≡◌, ℕ, zero, suc, ◌+◌, ◌≤◌, Bool, true, false, List, [], ◌∷◌, ◌++◌, Option, Some, None, refl, sym, ap, subst, ◌∙◌, append_assoc, arith, inl, inr}
-use Rattle.std.proofs.lemmas.Bool.{eqb-true}
+use Rattle.std.proofs.lemmas.Bool.{eqb-true, or_right, or_from}
 use Rattle.std.proofs.lemmas.Bool.Decides.{nat_tests}
-use Rattle.std.specs.Prelude.{◌⊎◌, ◌==◌, ◌||◌, nat_lt, if◌then◌else◌}
+use Rattle.std.specs.Prelude.{◌⊎◌, ◌==◌, nat_lt, if◌then◌else◌}
+use Rattle.basics.specs.Booleans.{first_false, second_false}
 use Rattle.frac_core.specs.declared.decimal.Decimal.{Decimal}
 use Rattle.op_trees.specs.Tree.{Truth, Name, Two, Three}
+use Rattle.op_trees.specs.Names.{offset_of}
 use Rattle.prism_lex.specs.declared.token.TokenKind.{TokenKind}
 use Rattle.prism_lex.specs.declared.token.TokenKind.TheVariants as K
 use Rattle.prism_lex.specs.declared.words.Reserved.{Reserved}
@@ -14,7 +16,7 @@ use Rattle.prism_lex.specs.declared.symbols.Symbol.TheVariants as S
 use Rattle.prism_lex.specs.Tokens.{Lexeme}
 use Rattle.prism_tree.specs.declared.operator.PrismOp.{PrismOp}
 use Rattle.prism_tree.specs.declared.operator.PrismOp.TheVariants as O
-use Rattle.prism_tree.specs.Syntax.{Expression, offset_of}
+use Rattle.prism_tree.specs.Syntax.{Expression}
 use Rattle.prism_tree.specs.Lang.{Lang, token_with, gives, never, ◌>>=◌, ◌or◌}
 use Rattle.prism_exprs.specs.Reading.{Ends, none, same_kind}
 use Rattle.prism_tree.specs.Grammar.{symbol, infix_of, at_level, operator_at, prefix_at, joined_by, applied, operand, chain, prefixed, over_prefix, function_of, number_of, number_at, parenthesised, argument, one_argument, two_arguments, arguments, name_or_call, extremum, truth, prim, level, choice, conditional, expr_at, expr}
@@ -89,10 +91,6 @@ choice_limit c l = then_limit (const_limit _) (λ q. then_limit l (λ a. then_li
 pub conditional_limit : {F : ℕ → Lang Expression} {G : Lang Expression} → IsLimit F G → IsLimit (λ n. conditional (F n)) (conditional G)
 unfolding conditional
 conditional_limit l = then_limit (level_limit 10 l) (λ c. or_limit (const_limit _) (choice_limit c l))
-
-expr_next : (n : ℕ) (w : List Lexeme) (e : Expression) → expr_at n w e → expr_at (suc n) w e
-expr_next zero w e p = absurd p
-expr_next (suc n) w e p = (conditional_limit (two_limit (expr_at n) (expr_at (suc n)) (expr_next n))).below 0 w e p
 
 expr_up : (m n : ℕ) → m ≤ n → (w : List Lexeme) (e : Expression) → expr_at m w e → expr_at n w e
 expr_up zero n h w e p = absurd p
@@ -238,29 +236,13 @@ infix_not_open n (K.Symbol S.LeftParenthesis) o e = cc
 infix_not_open n (K.Symbol s) o e = refl
 infix_not_open n k o e = cc
 
-or_true : (a b : Bool) → b ≡ true → (a || b) ≡ true
-or_true true b h = refl
-or_true false b h = h
-
-or_false : (a b : Bool) → a ≡ false → b ≡ false → (a || b) ≡ false
-or_false true b g h = cc
-or_false false b g h = h
-
-pub first_false : (a b : Bool) → (a || b) ≡ false → a ≡ false
-first_false true b h = cc
-first_false false b h = refl
-
-pub second_false : (a b : Bool) → (a || b) ≡ false → b ≡ false
-second_false true b h = cc
-second_false false b h = h
-
 pub more_within : (n : ℕ) (k : TokenKind) → more (suc n) k ≡ false → more n k ≡ false
-more_within n k e = or_false _ _ (first_false _ _ e) (lower n (infix_of k) (second_false (is_symbol S.LeftParenthesis k) _ e))
+more_within n k e = or_from _ _ (first_false _ _ e) (lower n (infix_of k) (second_false (is_symbol S.LeftParenthesis k) _ e))
 
 pub repeats : (n : ℕ) → Repeats (IsOperator n) (more n) (more (suc n))
 repeats n = record {
-  again = λ k h. or_true (is_symbol S.LeftParenthesis k) _ (found n (infix_of k) h.0 h.1).0;
-  apart = λ k h. or_false _ _ (infix_not_open n k h.0 h.1) (found n (infix_of k) h.0 h.1).1;
+  again = λ k h. or_right (is_symbol S.LeftParenthesis k) _ (found n (infix_of k) h.0 h.1).0;
+  apart = λ k h. or_from _ _ (infix_not_open n k h.0 h.1) (found n (infix_of k) h.0 h.1).1;
   within = more_within n;
 }
 
@@ -462,9 +444,6 @@ over_one None n L e o l = chain_one n L l
 pub level_one : (E : Lang Expression) (k : ℕ) → IsOne E goes_on → IsOne (level E k) (more k)
 level_one E zero l = prim_one E l
 level_one E (suc k) l = over_one (prefix_at k) k (level E k) refl (level_opens E k) (level_one E k l)
-
-colon_not_on : goes_on (K.Symbol S.Colon) ≡ false
-colon_not_on = refl
 
 pub choice_one : (E : Lang Expression) (c : Expression) → IsOne E goes_on → IsOne (choice E c) goes_on
 unfolding choice

@@ -3,11 +3,8 @@ use Rattle.std.proofs.Common.{◌≡◌, Bool, List, [], ◌∷◌, ◌++◌, re
 use Rattle.std.specs.Prelude.{◌⊎◌}
 use Rattle.prism_lex.specs.declared.token.TokenKind.{TokenKind}
 use Rattle.prism_lex.specs.Tokens.{Lexeme}
-use Rattle.prism_exprs.specs.declared.tokens.Stop.{Stop}
-use Rattle.prism_exprs.specs.declared.tokens.Stop.TheVariants.{Memory, At}
-use Rattle.prism_exprs.specs.Kept.{seen}
 use Rattle.prism_tree.specs.Lang.{Lang, ◌>>=◌, ◌or◌, Begins}
-use Rattle.prism_exprs.specs.Reading.{Stops, next, Dead, Fails}
+use Rattle.prism_exprs.specs.Reading.{next, Dead, Fails}
 use Rattle.prism_exprs.proofs.Laws.{next-append}
 use Rattle.prism_exprs.proofs.Choice.{Same, or_dead}
 
@@ -53,17 +50,6 @@ furthest_fails {A} P Q more ts r s p =
       record { before = p'.before; parts = s.parts ∙ p'.parts; begins = (n.0, n.1, inr n.2); dead = or_dead P Q more p'.before r d p'.dead },
       record { before = p'.before; parts = s.parts ∙ p'.parts; begins = (n.0, n.1, inl n.2); dead = or_dead Q P more p'.before r p'.dead d },
     )
-
-pub second_stops : {A : Type 0} (P Q : Lang A) (more : TokenKind → Bool) (ts : List Lexeme) (e : Stop) → Splits P Q more ts → Stops Q more ts e → Stops (P or Q) more ts e
-second_stops P Q more ts Memory s p = tt
-second_stops P Q more ts (At r c) s p = (furthest_fails P Q more ts (seen r) s p).0
-
-pub first_stops : {A : Type 0} (P Q : Lang A) (more : TokenKind → Bool) (ts : List Lexeme) (e : Stop) → Splits Q P more ts → Stops P more ts e → Stops (P or Q) more ts e
-first_stops P Q more ts Memory s p = tt
-first_stops P Q more ts (At r c) s p = (furthest_fails Q P more ts (seen r) s p).1
-
-pub splits_of : {A : Type 0} (P Q : Lang A) (more : TokenKind → Bool) (ts rest : List Lexeme) → (p : Fails P more ts rest) → Begins Q p.before → Splits P Q more ts
-splits_of P Q more ts rest p b = record { before = p.before; rest = rest; parts = p.parts; dead = p.dead; begins = b }
 
 -- alternatives, and then the same
 pub or_then : {A B : Type 0} (L M : Lang A) (N : A → Lang B) → Same ((L or M) >>= N) ((L >>= N) or (M >>= N))

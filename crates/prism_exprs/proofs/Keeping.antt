@@ -4,12 +4,11 @@ use Rattle.std.specs.Str.{is_utf8}
 use Rattle.std.specs.Prelude.{if◌then◌else◌}
 use Rattle.prism_lex.specs.declared.token.TokenKind.{TokenKind}
 use Rattle.prism_lex.specs.declared.token.TokenKind.TheVariants as K
-use Rattle.prism_lex.specs.declared.words.Reserved.{Reserved}
 use Rattle.prism_lex.specs.declared.symbols.Symbol.{Symbol as PrismSymbol}
 use Rattle.prism_exprs.specs.declared.tokens.Kept.{Kept}
 use Rattle.prism_exprs.specs.declared.tokens.Kept.TheVariants.{Word, Symbol, Ident, Quoted, Number}
 use Rattle.prism_exprs.specs.declared.tokens.Literal.{Literal}
-use Rattle.prism_exprs.specs.Kept.{lexeme_by, literal_at, in_row, text_at, made, kept_symbol, kept_word, kept_infix}
+use Rattle.prism_exprs.specs.Kept.{lexeme_by, literal_at, in_row, text_at, made, kept_symbol, kept_infix}
 use Rattle.prism_exprs.specs.Reading.{same_kind}
 use Rattle.prism_tree.specs.Grammar.{infix_of}
 
@@ -28,13 +27,6 @@ symbol_kept bytes literals (Symbol a) at size b = refl
 symbol_kept bytes literals Ident at size b = of_name (is_utf8 (text_at bytes at size)) K.Ident (text_at bytes at size) at (λ k. same_kind k (K.Symbol b)) false refl refl
 symbol_kept bytes literals Quoted at size b = of_name (is_utf8 (text_at bytes at size)) K.Quoted (text_at bytes at size) at (λ k. same_kind k (K.Symbol b)) false refl refl
 symbol_kept bytes literals (Number row) at size b = of_literal bytes (in_row literals row size) at (λ k. same_kind k (K.Symbol b)) false (λ l. refl) refl
-
-pub word_kept : (bytes : List ℕ) (literals : List Literal) (k : Kept) (at size : ℕ) (b : Reserved) → same_kind (lexeme_by bytes literals k at size).kind (K.Word b) ≡ kept_word k b
-word_kept bytes literals (Word r) at size b = refl
-word_kept bytes literals (Symbol a) at size b = refl
-word_kept bytes literals Ident at size b = of_name (is_utf8 (text_at bytes at size)) K.Ident (text_at bytes at size) at (λ k. same_kind k (K.Word b)) false refl refl
-word_kept bytes literals Quoted at size b = of_name (is_utf8 (text_at bytes at size)) K.Quoted (text_at bytes at size) at (λ k. same_kind k (K.Word b)) false refl refl
-word_kept bytes literals (Number row) at size b = of_literal bytes (in_row literals row size) at (λ k. same_kind k (K.Word b)) false (λ l. refl) refl
 
 pub infix_kept : (bytes : List ℕ) (literals : List Literal) (k : Kept) (at size : ℕ) → infix_of (lexeme_by bytes literals k at size).kind ≡ kept_infix k
 infix_kept bytes literals (Word r) at size = refl

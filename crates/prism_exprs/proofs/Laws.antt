@@ -7,6 +7,7 @@ use Rattle.prism_exprs.specs.declared.tokens.Stop.TheVariants.{Memory, At}
 use Rattle.prism_exprs.specs.declared.tokens.Tokens.{Tokens}
 use Rattle.std.specs.Prelude.{Result, IsErr, IsErrAnd}
 use Rattle.std.proofs.lemmas.Result.{err_from_is_err_and}
+use Rattle.std.proofs.lemmas.List.{append_cancel_left}
 use Rattle.prism_tree.specs.Lang.{Lang, token, token_with, gives, ◌>>=◌}
 use Rattle.prism_exprs.specs.Reading.{Parses, Stops, Ends, none, next, Reads, Fails}
 
@@ -31,10 +32,6 @@ none_ends (t ∷ ts) = refl
 
 pub none_follows : {A B : Type 0} (M : A → Lang B) (more : TokenKind → Bool) → Follows none M more
 none_follows M more = record { ends = λ x w z y h e. none_ends (w ++ z) }
-
-pub cancel : (a b c : List Lexeme) → a ++ b ≡ a ++ c → b ≡ c
-cancel [] b c e = e
-cancel (t ∷ a) b c e = cancel a b c cc
 
 pub Ends-next : (more : TokenKind → Bool) (a b : List Lexeme) → next b ≡ next a → Ends more a → Ends more b
 Ends-next more [] [] e h = tt
@@ -93,7 +90,7 @@ then_one {A} {B} {L} {M} m {more} cl cm fol = record {
       let g1 : p.1 ++ (p.2 ++ z) ≡ q.1 ++ (q.2 ++ y) = sym (append_assoc p.1 p.2 z) ∙ ap (λ (u : List Lexeme). u ++ z) (sym p.3) ∙ e ∙ ap (λ (u : List Lexeme). u ++ y) q.3 ∙ append_assoc q.1 q.2 y in
       let h = cl.one p.1 (p.2 ++ z) q.1 (q.2 ++ y) p.0 q.0 p.4 q.4 g1 (fol.ends p.0 p.2 z a p.5 f) (fol.ends q.0 q.2 y b q.5 g) in
       let P : A → Type 0 = λ x. M x q.2 b in
-      let g2 : p.2 ++ z ≡ q.2 ++ y = cancel p.1 _ _ (g1 ∙ ap (λ (u : List Lexeme). u ++ (q.2 ++ y)) (sym h.0)) in
+      let g2 : p.2 ++ z ≡ q.2 ++ y = append_cancel_left p.1 _ _ (g1 ∙ ap (λ (u : List Lexeme). u ++ (q.2 ++ y)) (sym h.0)) in
       let k = (cm p.0).one p.2 z q.2 y a b p.5 (subst P (sym h.1) q.5) g2 f g in
       (p.3 ∙ ap (λ (u : List Lexeme). u ++ p.2) h.0 ∙ ap (λ (u : List Lexeme). q.1 ++ u) k.0 ∙ sym q.3, k.1);
 }
@@ -103,9 +100,6 @@ unfolding ◌>>=◌
 then_word l cm =
     let n = cm l.1 in
     (l.0 ++ n.0, n.1, (l.1, l.0, n.0, refl, l.2, n.2))
-
-pub then_clear : {A B : Type 0} {L : Lang A} {M : A → Lang B} (m : TokenKind → Bool) {more : TokenKind → Bool} → IsClear L m → ((x : A) → IsClear (M x) more) → Follows m M more → IsClear (L >>= M) more
-then_clear m cl cm fol = record { unique = then_one m cl.unique (λ x. (cm x).unique) fol; word = then_word cl.word (λ x. (cm x).word) }
 
 -- Both parts are read.
 pub then_reads : {A B : Type 0} {L : Lang A} (M : A → Lang B) {m : TokenKind → Bool} {more : TokenKind → Bool} {ts mid rest : List Lexeme} {x : A} {y : B} → Reads L m ts x mid → Reads (M x) more mid y rest → Reads (L >>= M) more ts y rest
@@ -145,7 +139,7 @@ then_fails_later {A} {B} {L} M {m} {more} {ts} {mid} {rest} {x} cl fol p q = rec
       let P : List Lexeme → Type 0 = λ u. Ends m u in
       let e1 : Ends m (q.before ++ other) = Ends-next m (q.before ++ rest) (q.before ++ other) (next-append q.before rest other e) (subst P q.parts p.ends) in
       let k = cl.one p.word (q.before ++ other) h.1 (h.2 ++ z) x h.0 p.spells h.4 g1 e1 (fol.ends h.0 h.2 z y h.5 g) in
-      let g2 : q.before ++ other ≡ h.2 ++ z = cancel p.word _ _ (g1 ∙ ap (λ (u : List Lexeme). u ++ (h.2 ++ z)) (sym k.0)) in
+      let g2 : q.before ++ other ≡ h.2 ++ z = append_cancel_left p.word _ _ (g1 ∙ ap (λ (u : List Lexeme). u ++ (h.2 ++ z)) (sym k.0)) in
       let Q : A → Type 0 = λ a. M a h.2 y in
       q.dead other h.2 z y e g2 (subst Q (sym k.1) h.5) g;
 }
@@ -179,9 +173,6 @@ then_stops_later M m more Memory cl fol p q = tt
 then_stops_later M m more (At r c) cl fol p q = then_fails_later M cl fol p q
 
 -- ---- a step that nothing goes on with, and the rest
-
-pub step_clear : {A B : Type 0} {L : Lang A} (M : A → Lang B) {more : TokenKind → Bool} → IsClear L none → ((x : A) → IsClear (M x) more) → IsClear (L >>= M) more
-step_clear M {more} cl cm = then_clear none cl cm (none_follows M more)
 
 pub step_reads : {A B : Type 0} {L : Lang A} (M : A → Lang B) {more : TokenKind → Bool} {ts mid rest : List Lexeme} {x : A} {y : B} → Reads L none ts x mid → Reads (M x) more mid y rest → Reads (L >>= M) more ts y rest
 step_reads M p q = then_reads M p q

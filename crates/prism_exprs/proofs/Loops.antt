@@ -128,14 +128,6 @@ starts_ends first (t ∷ us) e = e
 pub loop_next : {A : Type 0} {K : Lang (List A)} (L : Lang A) (first : TokenKind → Bool) {ts us vs : List Lexeme} (xs : List A) (x : A) → Begun L first → IsOne L none → Leads first K ts (front L xs) us → Reads L none us x vs → Leads first K ts (front L (xs ++ x ∷ [])) vs
 loop_next L first xs x o l i p = leads_on i (folding_leads with_last xs x o (begun_repeats first) l p)
 
--- An item fails.
-pub loop_stops : {A : Type 0} {K : Lang (List A)} (L : Lang A) (first : TokenKind → Bool) {ts : List Lexeme} (us : List Lexeme) (xs : List A) (e : Stop) → Begun L first → Leads first K ts (front L xs) us → starts first us ≡ true → Stops L none us e → Stops K first ts e
-loop_stops L first {ts} us xs e o i s p =
-    let n = starts_cons first us s in
-    let F : List Lexeme → Type 0 = λ u. Stops L none u e in
-    let G : List Lexeme → Type 0 = λ u. Stops (front L xs) first u e in
-    i.stops e (subst G (sym n.2) (folding_stops with_last xs n.0 n.1 e o (begun_repeats first) n.3 (subst F n.2 p)))
-
 -- No item stands next.
 pub loop_done : {A : Type 0} {K : Lang (List A)} (L : Lang A) (first : TokenKind → Bool) {ts us : List Lexeme} (xs : List A) → Leads first K ts (front L xs) us → starts first us ≡ false → Reads K first ts xs us
 loop_done L first {us = us} xs i s = i.reads xs us (folding_reads with_last L xs us (starts_ends first us s))

@@ -2,7 +2,7 @@
 -- 1,024 tokens.
 use Rattle.std.proofs.Common.{◌≡◌, ℕ, zero, suc, ◌+◌, ◌<◌, ◌≤◌, Bool, List, [], ◌∷◌, ◌++◌, Option, Some, None, refl, sym, ap, subst, ◌∙◌, append_assoc, append-nil, length, arith, inl, inr}
 use Rattle.std.proofs.lemmas.Bool.{cases_lt}
-use Rattle.std.proofs.lemmas.List.{length-append, take-append-drop, length-take-le, take-map, length-map}
+use Rattle.std.proofs.lemmas.List.{length-append, take-append-drop, length-take-le, take-map, length-map, nil_from_length}
 use Rattle.std.proofs.lemmas.Result.{err_from_is_err_and}
 use Rattle.std.proofs.Math.Seq.{drop-append_seam}
 use Rattle.std.proofs.Math.ListN.{drop_of_length-le}
@@ -67,7 +67,7 @@ early_placed us u v h a b t e k = by_order (cases_lt (length a) (length u))
     by_order (inl p) = omega (arith, h, p)
     by_order (inr p) = let n = before_past us t k.0 k.1 k.2 in let m = placed_at (past us) u v a b t e p in absurd (omega (arith, n, m))
 
-early_short : (us w : List Lexeme) → length w ≤ 1024 → IsEarly us w
+pub early_short : (us w : List Lexeme) → length w ≤ 1024 → IsEarly us w
 early_short us w h a b t e k = omega (arith, h, ap length e, length-append a (t ∷ b))
 
 -- ---- what is known of every expression
@@ -95,10 +95,6 @@ outer_opens : (us : List Lexeme) → Opens (outer us) (CanBegin 10)
 unfolding outer
 outer_opens us w x h = expr_opens w x h.0
 
-outer_kinds : (us : List Lexeme) → Within in_expression (outer us)
-unfolding outer
-outer_kinds us = record { all = λ w x h. expr_kinds.all w x h.0 }
-
 -- ---- the same in each scope
 
 pub expressions_one : (s : Scope) → IsOne (expressions s) goes_on
@@ -121,13 +117,6 @@ expressions_opens s = of s.counted
     of : (c : Option (List Lexeme)) → Opens (expressions_of c) (CanBegin 10)
     of None = expr_opens
     of (Some us) = outer_opens us
-
-pub expressions_kinds : (s : Scope) → Within in_expression (expressions s)
-expressions_kinds s = of s.counted
-  where
-    of : (c : Option (List Lexeme)) → Within in_expression (expressions_of c)
-    of None = expr_kinds
-    of (Some us) = outer_kinds us
 
 -- ---- reading with the limit
 
@@ -309,12 +298,8 @@ deep_by s ts front word r n (At rest c) e h p b w =
     let H : Cause → Type 0 = λ d. Halts s d (expressions s) goes_on ts (seen rest) in
     subst H (sym w.2) (subst G (sym (w.1 ∙ i.1)) (outer_deep s ts (take 1024 ts) (drop 1025 ts) i.0 (seam ts 1024 ∙ ap (λ (u : List Lexeme). take 1024 ts ++ u) i.1) (length_taken ts 1024 (omega (arith, full, few))) (subst F read b)))
   where
-    none : (u : List Lexeme) → length u ≡ 0 → u ≡ []
-    none [] z = refl
-    none (t ∷ u) z = absurd (omega (arith, z))
-
     all_of : length r ≡ 0 → word ≡ take n ts
-    all_of z = sym (append-nil word) ∙ ap (λ (u : List Lexeme). word ++ u) (sym (none r z)) ∙ sym p ∙ e
+    all_of z = sym (append-nil word) ∙ ap (λ (u : List Lexeme). word ++ u) (sym (nil_from_length r z)) ∙ sym p ∙ e
 
 pub outer_deep_read : (s : Scope) (ts front r : List Lexeme) (x : Expression) (n : ℕ) (e : Stop) → front ≡ take n ts → n ≡ min (length ts) 1025 → Reads expr goes_on front x r → IsPast (n - length r) ts e → StopsIn s (expressions s) goes_on ts e
 outer_deep_read s ts front r x n e f h p w = deep_by s ts front p.word r n e f h p.parts ([], x, (let F : List Lexeme → Type 0 = λ u. expr u x in subst F (sym (append-nil p.word)) p.spells)) w

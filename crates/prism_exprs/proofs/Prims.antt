@@ -16,9 +16,6 @@ use Rattle.prism_exprs.proofs.Choice.{Same, Barred, Opens, or_barred, barred_fai
 use Rattle.prism_exprs.proofs.Loops.{Leads, leads_on, begin, same_leads, or_leads_right}
 use Rattle.prism_exprs.proofs.Exprs.{IsNumber, number_opens, truth_opens, name_opens, parenthesised_opens, extremum_opens, prim_opens, prim_word}
 
-next_is : (ts : List Lexeme) (t : Lexeme) (us : List Lexeme) → ts ≡ t ∷ us → next ts ≡ Some t
-next_is ts t us e = ap next e
-
 -- A language whose words begin with other tokens is barred.
 pub opens_barred : {A : Type 0} (L : Lang A) (m : TokenKind → Bool) (ts us : List Lexeme) (t : Lexeme) (P : TokenKind → Type 0) → Opens L P → ts ≡ t ∷ us → (P t.kind → ⊥) → Barred L m ts
 opens_barred L m ts us t P o e never other w z x n f h g =

@@ -1,9 +1,10 @@
 -- From an operand to a higher level, where no sign stands before it: through the levels of the operators that come.
 use Rattle.std.proofs.Common.{cond, ◌≡◌, ℕ, zero, suc, ◌<◌, ◌≤◌, Bool, true, false, List, [], ◌∷◌, ◌++◌, Option, Some, None, refl, sym, ap, subst, ◌∙◌, length, arith, inl, inr}
-use Rattle.std.proofs.lemmas.Bool.{cases_lt, eqb-true}
+use Rattle.std.proofs.lemmas.Bool.{cases_lt, eqb-true, or_from}
 use Rattle.std.proofs.lemmas.Bool.Decides.{nat_tests}
 use Rattle.std.proofs.lemmas.List.{length-append}
-use Rattle.std.specs.Prelude.{◌⊎◌, ◌==◌, ◌||◌, nat_lt, if◌then◌else◌}
+use Rattle.std.specs.Prelude.{◌⊎◌, ◌==◌, nat_lt, if◌then◌else◌}
+use Rattle.basics.specs.Booleans.{first_false, second_false}
 use Rattle.prism_lex.specs.declared.token.TokenKind.{TokenKind}
 use Rattle.prism_lex.specs.declared.token.TokenKind.TheVariants as K
 use Rattle.prism_lex.specs.declared.symbols.Symbol.{Symbol}
@@ -18,7 +19,7 @@ use Rattle.prism_exprs.specs.declared.tokens.Stop.{Stop}
 use Rattle.prism_exprs.specs.Reading.{Ends, Reads, Stops, starts, is_kind}
 use Rattle.prism_exprs.specs.Levels.{is_symbol, binds_below, more, others, level_below, next_level, sign_first}
 use Rattle.prism_exprs.proofs.Loops.{folding_reads}
-use Rattle.prism_exprs.proofs.Exprs.{more_within, repeats, first_false, second_false}
+use Rattle.prism_exprs.proofs.Exprs.{more_within, repeats}
 use Rattle.prism_exprs.proofs.Climb.{IsPlain, prefix_none, chain_reads, chain_stops, signed_reads, stops_up, neg_stops, not_stops, none_at_0, none_at_5}
 
 -- ---- no signs
@@ -136,14 +137,10 @@ none_below h (Some p) e = by_test (nat_lt p.0 h) refl e
     by_test true f e = absurd cc
     by_test false f e = f
 
-neither : (a b : Bool) → a ≡ false → b ≡ false → (a || b) ≡ false
-neither true b g h = cc
-neither false b g h = h
-
 -- Where no operator below h stands next, nothing goes on with level h.
 ends_up : (h n : ℕ) (us : List Lexeme) → next_level h us ≡ None → Ends (more n) us → Ends (more h) us
 ends_up h n [] e f = tt
-ends_up h n (t ∷ us) e f = neither _ _ (first_false _ _ f) (none_below h (infix_of t.kind) e)
+ends_up h n (t ∷ us) e f = or_from _ _ (first_false _ _ f) (none_below h (infix_of t.kind) e)
 
 -- the level of the operator is none below which nothing goes on
 not_lower : (n m : ℕ) (k : TokenKind) (op : PrismOp) → at_level n (infix_of k) ≡ Some op → more m k ≡ false → m ≤ n

@@ -1,7 +1,9 @@
 -- Reading one symbol of the kept tokens, the signs before an operand, and what ends one.
 use Rattle.std.proofs.Common.{◌≡◌, ℕ, Bool, true, false, List, [], ◌∷◌, ◌++◌, Option, Some, None, refl, sym, ap, subst, ◌∙◌, map, length, arith, take}
 use Rattle.std.proofs.lemmas.Bool.Decides.{nat_tests}
-use Rattle.std.specs.Prelude.{◌||◌}
+use Rattle.std.proofs.lemmas.Bool.{or_left, or_from}
+use Rattle.std.proofs.lemmas.List.{map_push}
+use Rattle.std.proofs.Math.Seq.{take-append_seam}
 use Rattle.op_trees.specs.Tree.{One}
 use denote.Enum.Bare.{true_same}
 use Rattle.prism_lex.specs.contracts.symbols.Symbol.{the_type as symbols}
@@ -55,17 +57,9 @@ symbol_reads bytes literals s x found xs r e y q =
 
 -- ---- behind an operand
 
-or_left : (a b : Bool) → a ≡ true → (a || b) ≡ true
-or_left true b h = refl
-or_left false b h = cc
-
 nothing_below : (p : Option (ℕ × PrismOp)) → binds_below 0 p ≡ false
 nothing_below None = refl
 nothing_below (Some p) = grind (arith, nat_tests)
-
-neither : (a b : Bool) → a ≡ false → b ≡ false → (a || b) ≡ false
-neither true b g h = cc
-neither false b g h = h
 
 pub closed_fails : (e : Expression) (ts : List Lexeme) → starts (is_kind (K.Symbol S.LeftParenthesis)) ts ≡ true → Fails (gives e) (more 0) ts ts
 closed_fails e ts h =
@@ -79,7 +73,7 @@ closed_reads e ts h = record { word = []; parts = refl; spells = (refl, refl); e
   where
     ends : (ts : List Lexeme) → starts (is_kind (K.Symbol S.LeftParenthesis)) ts ≡ false → Ends (more 0) ts
     ends [] h = tt
-    ends (t ∷ ts) h = neither _ _ h (nothing_below (infix_of t.kind))
+    ends (t ∷ ts) h = or_from _ _ h (nothing_below (infix_of t.kind))
 
 -- ---- signs
 
@@ -87,20 +81,12 @@ pub applied-append : (o : PrismOp) (ts : List Lexeme) (t : Lexeme) (e : Expressi
 applied-append o [] t e = refl
 applied-append o (s ∷ ts) t e = ap (One s.at o) (applied-append o ts t e)
 
-map-append_one : {A B : Type 0} (f : A → B) (xs : List A) (x : A) → map f (xs ++ x ∷ []) ≡ map f xs ++ f x ∷ []
-map-append_one f [] x = refl
-map-append_one {A} {B} f (y ∷ ys) x = ap (λ (u : List B). f y ∷ u) (map-append_one f ys x)
-
 pub sign_applied : (bytes : List ℕ) (literals : List Literal) (o : PrismOp) (x : Found) (signs front : List Found) (e e' : Expression) → signs ≡ front ++ x ∷ [] → e' ≡ One x.at o e →
     applied o (map (lexeme_at bytes literals) front) e' ≡ applied o (map (lexeme_at bytes literals) signs) e
 sign_applied bytes literals o x signs front e e' h g =
     let f = lexeme_at bytes literals in
     ap (λ (u : Expression). applied o (map f front) u) (g ∙ ap (λ (n : ℕ). One n o e) (sym (place_kept bytes literals x.kind x.at x.size)))
-    ∙ sym (applied-append o (map f front) (f x) e) ∙ ap (λ (u : List Lexeme). applied o u e) (sym (map-append_one f front x)) ∙ ap (λ (u : List Found). applied o (map f u) e) (sym h)
-
-pub take_front : {A : Type 0} (a b : List A) → take (length a) (a ++ b) ≡ a
-take_front [] b = refl
-take_front {A} (x ∷ a) b = ap (λ (u : List A). x ∷ u) (take_front a b)
+    ∙ sym (applied-append o (map f front) (f x) e) ∙ ap (λ (u : List Lexeme). applied o u e) (sym (map_push f front x)) ∙ ap (λ (u : List Found). applied o (map f u) e) (sym h)
 
 pub symbol_itself : (s : Symbol) → same_kind (K.Symbol s) (K.Symbol s) ≡ true
 symbol_itself s = true_same symbols s s refl
@@ -124,7 +110,7 @@ pub sign_leads : (bytes : List ℕ) (literals : List Literal) (s : Symbol) (ts :
     Leads (is_kind (K.Symbol s)) (many (symbol s)) ts (front (symbol s) (map (lexeme_at bytes literals) (done ++ x ∷ []))) (map (lexeme_at bytes literals) behind)
 sign_leads bytes literals s ts done rest behind x e y l =
     let f = lexeme_at bytes literals in
-    rw (map-append_one f done x)
+    rw (map_push f done x)
     (loop_next (symbol s) (is_kind (K.Symbol s)) (map f done) (f x) (sign_begun s) (token_one (K.Symbol s)) l (symbol_reads bytes literals s x rest behind (map f behind) e y refl))
 
 -- the signs that were read, where no other one stands next
@@ -134,7 +120,7 @@ pub signs_read : (bytes : List ℕ) (literals : List Literal) (s : Symbol) (ts a
     a ≡ map (lexeme_at bytes literals) signs → b ≡ map (lexeme_at bytes literals) rest → Reads (many (symbol s)) (is_kind (K.Symbol s)) ts a b
 signs_read bytes literals s ts a b found done rest signs n l e p q r g h =
     let f = lexeme_at bytes literals in
-    let i : signs ≡ done = r ∙ ap (λ (m : ℕ). take m found) q ∙ ap (λ (u : List Found). take (length done) u) p ∙ take_front done rest in
+    let i : signs ≡ done = r ∙ ap (λ (m : ℕ). take m found) q ∙ ap (λ (u : List Found). take (length done) u) p ∙ take-append_seam done rest in
     let a_is : map f done ≡ a = sym (g ∙ ap (λ (u : List Found). map f u) i) in
     let F : List Lexeme → Type 0 = λ u. Reads (many (symbol s)) (is_kind (K.Symbol s)) ts u b in
     let G : List Lexeme → Type 0 = λ u. Reads (many (symbol s)) (is_kind (K.Symbol s)) ts (map f done) u in

@@ -1,9 +1,10 @@
 // What the reader of expressions is made of: one token, and one node.
 ghost use Rattle.std.specs.Prelude.{◌≡◌, IfOk, map, Some};
 ghost use Rattle.op_trees.specs.Tree.{tree, One, Two, Three};
+ghost use Rattle.op_trees.specs.Names.{offset_of};
 ghost use Rattle.prism_lex.specs.declared.token.TokenKind.TheVariants as K;
 ghost use Rattle.prism_tree.specs.Lang.{gives, many};
-ghost use Rattle.prism_tree.specs.Syntax.{offset_of, moved};
+ghost use Rattle.prism_tree.specs.Syntax.{moved};
 ghost use Rattle.prism_exprs.specs.Kept.{seen, lexeme_at, kept_symbol, kept_word, kept_infix};
 ghost use Rattle.prism_exprs.specs.Reading.{Parses, Reads, none, starts, is_kind};
 ghost use Rattle.prism_tree.specs.Grammar.{symbol, applied, at_level, function_of};

@@ -1,8 +1,11 @@
 -- The form of an image, and its names.
 use Rattle.std.specs.Prelude.{◌≡◌, ℕ, List, ◌++◌, map}
-use Rattle.std.proofs.Common.{refl, sym, ap₂, ◌∙◌, arith}
+use Rattle.std.proofs.Common.{refl, sym, ap, ap₂, ◌∙◌, arith}
 use Rattle.std.proofs.lemmas.List.{map-append}
+use Rattle.bridge_io.specs.declared.reason.Named.{Named}
 use Rattle.op_trees.specs.Tree.{Tree, Truth, Number, Name, One, Two, Three, AllNames, AllNumbers}
+use Rattle.op_trees.specs.Names.{names_of}
+use Rattle.op_trees.specs.Standard.{standard_meaning}
 use Rattle.prism_tree.specs.declared.operator.PrismOp.{PrismOp}
 use Rattle.prism_tree.specs.declared.operator.PrismOp.TheVariants as P
 use Rattle.prism_tree.specs.Operators as PrismTable
@@ -13,24 +16,25 @@ use Rattle.jani_tree.specs.Canonical.{HasOperands}
 use Rattle.jani_tree.specs.Form.{ExprForm, HasItems, IsNormal}
 use Rattle.prism_images.specs.Image.{image, image_one, jani_op}
 use Rattle.prism_images.specs.Laws.{HasItsOperands, IsLiteral, names_in}
-use Rattle.prism_images.proofs.Values.{IsNotMinus}
+use Rattle.prism_images.proofs.Values.{IsPlain, same_op}
 
-arity_alike : (o : PrismOp) → IsNotMinus o → JaniTable.arity (jani_op o) ≡ PrismTable.arity o
-arity_alike P.Neg n = absurd n
-arity_alike o n = refl
+arity_alike : (o : PrismOp) → IsPlain o → JaniTable.arity (jani_op o) ≡ PrismTable.arity o
+arity_alike o n = ap standard_meaning.arity (same_op o n)
 
 two_operands : (o : PrismOp) → PrismTable.arity o ≡ 2 → JaniTable.arity (jani_op o) ≡ 2
 two_operands P.Neg h = refl
+two_operands P.Iff h = refl
 two_operands o h = arity_alike o tt ∙ h
 
 three_operands : (o : PrismOp) → PrismTable.arity o ≡ 3 → JaniTable.arity (jani_op o) ≡ 3
-three_operands P.Neg h = absurd (omega arith)
-three_operands o h = arity_alike o tt ∙ h
+three_operands P.Ite h = refl
+three_operands o h = absurd (omega arith)
 
 -- ---- operands
 one_operand : (at : ℕ) (o : PrismOp) (a : Tree JaniOp) → PrismTable.arity o ≡ 1 → HasOperands a →
     HasOperands (image_one at o a)
 one_operand at P.Neg a h k = (refl, tt, k)
+one_operand at P.Iff a h k = absurd (omega arith)
 one_operand at o a h k = (arity_alike o tt ∙ h, k)
 
 pub operands_kept : (new : List ℕ → List ℕ) (e : Expression) → HasItsOperands e → HasOperands (image new e)
@@ -59,6 +63,7 @@ literals_kept new (Three at o a b c) h = (literals_kept new a h.0, literals_kept
 -- ---- the form of trees that are read
 one_form : (at : ℕ) (o : PrismOp) (a : Tree JaniOp) → PrismTable.arity o ≡ 1 → ExprForm HasItems a → ExprForm HasItems (image_one at o a)
 one_form at P.Neg a h k = (refl, refl, k)
+one_form at P.Iff a h k = absurd (omega arith)
 one_form at o a h k = (arity_alike o tt ∙ h, k)
 
 pub form_kept : (new : List ℕ → List ℕ) (e : Expression) → HasItsOperands e → AllNumbers IsNormal e →
@@ -73,6 +78,9 @@ form_kept new (Three at o a b c) h d n =
     (three_operands o h.0, form_kept new a h.1 d.0 n.0, form_kept new b h.2 d.1 n.1, form_kept new c h.3 d.2 n.2)
 
 -- ---- names
+parted : (xs ys : List Named) → map (λ n. n.name) (xs ++ ys) ≡ map (λ n. n.name) xs ++ map (λ n. n.name) ys
+parted xs ys = map-append (λ n. n.name) xs ys
+
 one_names : (at : ℕ) (o : PrismOp) (a : Tree JaniOp) → names_in (image_one at o a) ≡ names_in a
 one_names at P.Neg a = refl
 one_names at o a = refl
@@ -83,8 +91,12 @@ names_kept new (Number at d) = refl
 names_kept new (Name at x) = refl
 names_kept new (One at o a) = one_names at o (image new a) ∙ names_kept new a
 names_kept new (Two at o a b) =
-    ap₂ (λ xs ys. xs ++ ys) (names_kept new a) (names_kept new b) ∙ sym (map-append new (names_in a) (names_in b))
+    parted (names_of (image new a)) (names_of (image new b)) ∙ ap₂ (λ xs ys. xs ++ ys) (names_kept new a) (names_kept new b)
+    ∙ sym (map-append new (names_in a) (names_in b)) ∙ ap (map new) (sym (parted (names_of a) (names_of b)))
 names_kept new (Three at o a b c) =
-    ap₂ (λ xs ys. xs ++ ys) (names_kept new a) (ap₂ (λ xs ys. xs ++ ys) (names_kept new b) (names_kept new c)
+    parted (names_of (image new a)) (names_of (image new b) ++ names_of (image new c))
+    ∙ ap₂ (λ xs ys. xs ++ ys) (names_kept new a)
+    (parted (names_of (image new b)) (names_of (image new c)) ∙ ap₂ (λ xs ys. xs ++ ys) (names_kept new b) (names_kept new c)
     ∙ sym (map-append new (names_in b) (names_in c)))
     ∙ sym (map-append new (names_in a) (names_in b ++ names_in c))
+    ∙ ap (map new) (ap (λ ys. names_in a ++ ys) (sym (parted (names_of b) (names_of c))) ∙ sym (parted (names_of a) (names_of b ++ names_of c)))

@@ -1,6 +1,6 @@
 -- An expression that has a type has its operands, and no `<=>` of it stands between two numbers.
 use Rattle.std.specs.Prelude.{◌≡◌, ℕ, List, Bool, true, false, Option, Some, None, IsTrue, is_some, if◌then◌else◌}
-use Rattle.std.proofs.Common.{refl, sym, ap}
+use Rattle.std.proofs.Common.{refl, ap}
 use Rattle.frac_core.specs.Fraction.{Fraction}
 use Rattle.op_trees.specs.declared.tree.Ty.{Ty}
 use Rattle.op_trees.specs.declared.tree.Ty.TheVariants as T
@@ -8,27 +8,27 @@ use Rattle.op_trees.specs.declared.tree.Value.{Value}
 use Rattle.op_trees.specs.declared.tree.Value.TheVariants as V
 use Rattle.op_trees.specs.Tree.{Truth, Number, Name, One, Two, Three, AllNames}
 use Rattle.op_trees.specs.Types.{AgreesWith, Types, sort_one, sort_two, sort_three, type_in}
-use Rattle.op_trees.specs.Operators.{given_count}
+use Rattle.op_trees.specs.Standard as Table
+use Rattle.op_trees.specs.TypeLaws.{some_one, some_two, some_three, typed_operands}
 use Rattle.op_trees.specs.Meaning.{of_both, of_lazy}
 use Rattle.op_trees.specs.Seen.{Seen, lazy_node, one_node, two_node, seen}
 use Rattle.prism_tree.specs.declared.operator.PrismOp.{PrismOp}
 use Rattle.prism_tree.specs.declared.operator.PrismOp.TheVariants as P
-use Rattle.prism_tree.specs.Operators.{prism_meaning}
-use Rattle.prism_tree.specs.Operators as PrismTable
+use Rattle.prism_tree.specs.Operators.{prism_meaning, standard}
 use Rattle.prism_tree.specs.OperatorLaws.{prism_lawful}
 use Rattle.prism_tree.specs.Syntax.{Expression}
 use Rattle.jani_table.specs.Operators.{jani_meaning}
 use Rattle.prism_images.specs.Image.{image}
-use Rattle.prism_images.specs.Laws.{HasItsOperands, IsNoNumber, IsNoNumberOf, AreNotNumbers, ComparesNoNumbers, ComparesTruths}
+use Rattle.prism_images.specs.Laws.{IsNoNumber, IsNoNumberOf, AreNotNumbers, ComparesNoNumbers, ComparesTruths}
 use Rattle.prism_images.proofs.Values.{seen_alike}
 
 -- ---- types that are not bool
-number_no_bool : (a : Ty) → PrismTable.is_number a ≡ Some T.Bool → ⊥
+number_no_bool : (a : Ty) → Table.is_number a ≡ Some T.Bool → ⊥
 number_no_bool T.Bool h = cc
 number_no_bool T.Int h = cc
 number_no_bool T.Real h = cc
 
-joined_no_bool : (a b : Ty) → PrismTable.joined a b ≡ Some T.Bool → ⊥
+joined_no_bool : (a b : Ty) → Table.joined a b ≡ Some T.Bool → ⊥
 joined_no_bool T.Bool b h = cc
 joined_no_bool T.Int T.Int h = cc
 joined_no_bool T.Int T.Real h = cc
@@ -36,35 +36,35 @@ joined_no_bool T.Real T.Int h = cc
 joined_no_bool T.Real T.Real h = cc
 joined_no_bool a T.Bool h = cc
 
-with_no_bool : (o : Option Ty) (t : Ty) → (t ≡ T.Bool → ⊥) → PrismTable.with_type t o ≡ Some T.Bool → ⊥
+with_no_bool : (o : Option Ty) (t : Ty) → (t ≡ T.Bool → ⊥) → Table.with_type t o ≡ Some T.Bool → ⊥
 with_no_bool None t n h = cc
 with_no_bool (Some a) t n h = n (let e : t ≡ T.Bool = cc in e)
 
-both_are_bool : (a b t : Ty) → PrismTable.both_bool a b ≡ Some t → (a ≡ T.Bool) × (b ≡ T.Bool)
+both_are_bool : (a b t : Ty) → Table.both_bool a b ≡ Some t → (a ≡ T.Bool) × (b ≡ T.Bool)
 both_are_bool T.Bool T.Bool t h = (refl, refl)
 both_are_bool a b t h = cc
 
-ints_no_bool : (a b : Ty) → PrismTable.both_int a b ≡ Some T.Bool → ⊥
+ints_no_bool : (a b : Ty) → Table.both_int a b ≡ Some T.Bool → ⊥
 ints_no_bool T.Int T.Int h = cc
 ints_no_bool a b h = cc
 
-alike_bools : (a b : Ty) → PrismTable.alike a b ≡ Some T.Bool → (a ≡ T.Bool) × (b ≡ T.Bool)
+alike_bools : (a b : Ty) → Table.alike a b ≡ Some T.Bool → (a ≡ T.Bool) × (b ≡ T.Bool)
 alike_bools T.Bool T.Bool h = (refl, refl)
 alike_bools a b h = absurd (joined_no_bool a b h)
 
 -- ---- a node of the type bool has no number for its value, where its operands of the type bool have none
-one_bool : (o : PrismOp) (a : Ty) (v : Option Value) (w : Bool) → PrismTable.sort_one o a ≡ Some T.Bool →
+one_bool : (o : PrismOp) (a : Ty) (v : Option Value) (w : Bool) → Table.sort_one (standard o) a ≡ Some T.Bool →
     IsNoNumber (one_node prism_meaning o (record { value = v; wide = w })).value
 one_bool P.Neg a v w h = absurd (number_no_bool a h)
-one_bool P.Floor a v w h = absurd (with_no_bool (PrismTable.is_number a) T.Int (λ e. cc) h)
-one_bool P.Ceil a v w h = absurd (with_no_bool (PrismTable.is_number a) T.Int (λ e. cc) h)
+one_bool P.Floor a v w h = absurd (with_no_bool (Table.is_number a) T.Int (λ e. cc) h)
+one_bool P.Ceil a v w h = absurd (with_no_bool (Table.is_number a) T.Int (λ e. cc) h)
 one_bool P.Not a None w h = tt
 one_bool P.Not a (Some (V.Truth p)) w h = tt
 one_bool P.Not a (Some (V.Number q)) w h = tt
 one_bool o a v w h = cc
 
-strict_truths : (o : PrismOp) → ((x y : Fraction) → IsNoNumber (PrismTable.of_numbers o x y)) →
-    ((p q : Bool) → IsNoNumber (PrismTable.of_truths o p q)) → (v w : Option Value) →
+strict_truths : (o : PrismOp) → ((x y : Fraction) → IsNoNumber (Table.of_numbers (standard o) x y)) →
+    ((p q : Bool) → IsNoNumber (Table.of_truths (standard o) p q)) → (v w : Option Value) →
     IsNoNumber (of_both prism_meaning o v w)
 strict_truths o h k None w = tt
 strict_truths o h k (Some x) None = tt
@@ -98,14 +98,14 @@ choice_truths (Some (V.Truth true)) w u h k = h
 choice_truths (Some (V.Truth false)) w u h k = k
 choice_truths (Some (V.Number q)) w u h k = k
 
-two_bool : (o : PrismOp) (a b : Ty) (v w : Seen) → PrismTable.sort_two o a b ≡ Some T.Bool →
+two_bool : (o : PrismOp) (a b : Ty) (v w : Seen) → Table.sort_two (standard o) a b ≡ Some T.Bool →
     (b ≡ T.Bool → IsNoNumber w.value) → IsNoNumber (two_node prism_meaning o v w).value
 two_bool P.Mul a b v w h k = absurd (joined_no_bool a b h)
 two_bool P.Add a b v w h k = absurd (joined_no_bool a b h)
 two_bool P.Sub a b v w h k = absurd (joined_no_bool a b h)
 two_bool P.Min a b v w h k = absurd (joined_no_bool a b h)
 two_bool P.Max a b v w h k = absurd (joined_no_bool a b h)
-two_bool P.Div a b v w h k = absurd (with_no_bool (PrismTable.joined a b) T.Real (λ e. cc) h)
+two_bool P.Div a b v w h k = absurd (with_no_bool (Table.joined a b) T.Real (λ e. cc) h)
 two_bool P.Less a b v w h k = strict_truths P.Less (λ x y. tt) (λ p q. tt) v.value w.value
 two_bool P.AtMost a b v w h k = strict_truths P.AtMost (λ x y. tt) (λ p q. tt) v.value w.value
 two_bool P.AtLeast a b v w h k = strict_truths P.AtLeast (λ x y. tt) (λ p q. tt) v.value w.value
@@ -119,7 +119,7 @@ two_bool P.Implies a b v w h k = implies_truths v.value w.value (k (both_are_boo
 two_bool P.Mod a b v w h k = absurd (ints_no_bool a b h)
 two_bool o a b v w h k = cc
 
-three_bool : (o : PrismOp) (a b c : Ty) (u v w : Seen) → PrismTable.sort_three o a b c ≡ Some T.Bool →
+three_bool : (o : PrismOp) (a b c : Ty) (u v w : Seen) → Table.sort_three (standard o) a b c ≡ Some T.Bool →
     (b ≡ T.Bool → IsNoNumber v.value) → (c ≡ T.Bool → IsNoNumber w.value) →
     IsNoNumber (lazy_node prism_meaning o u v w).value
 three_bool P.Ite T.Bool b c u v w h k l =
@@ -160,46 +160,6 @@ literal_no_bool : (real : Bool) → ◌≡◌ {A = Option Ty} (Some (if real the
 literal_no_bool true e = cc
 literal_no_bool false e = cc
 
--- ---- what a type gives of the operands
-is_some_one : (o : PrismOp) (a : Option Ty) → IsTrue (is_some (sort_one prism_meaning o a)) → IsTrue (is_some a)
-is_some_one o None h = h
-is_some_one o (Some a) h = refl
-
-is_some_two : (o : PrismOp) (a b : Option Ty) → IsTrue (is_some (sort_two prism_meaning o a b)) →
-    IsTrue (is_some a) × IsTrue (is_some b)
-is_some_two o None b h = cc
-is_some_two o (Some a) None h = cc
-is_some_two o (Some a) (Some b) h = (refl, refl)
-
-is_some_three : (o : PrismOp) (a b c : Option Ty) → IsTrue (is_some (sort_three prism_meaning o a b c)) →
-    IsTrue (is_some a) × IsTrue (is_some b) × IsTrue (is_some c)
-is_some_three o None b c h = cc
-is_some_three o (Some a) None c h = cc
-is_some_three o (Some a) (Some b) None h = cc
-is_some_three o (Some a) (Some b) (Some c) h = (refl, refl, refl)
-
-counted : (o : PrismOp) (a : Ty) (b c : Option Ty) (t : Option Ty) → PrismTable.sort o a b c ≡ t → IsTrue (is_some t) →
-    PrismTable.arity o ≡ given_count b c
-counted o a b c None e h = cc
-counted o a b c (Some t) e h = sym (prism_lawful.counted o a b c t e)
-
-one_counted : (o : PrismOp) (a : Option Ty) → IsTrue (is_some (sort_one prism_meaning o a)) → PrismTable.arity o ≡ 1
-one_counted o None h = cc
-one_counted o (Some a) h = counted o a None None _ refl h
-
-two_counted : (o : PrismOp) (a b : Option Ty) → IsTrue (is_some (sort_two prism_meaning o a b)) →
-    PrismTable.arity o ≡ 2
-two_counted o None b h = cc
-two_counted o (Some a) None h = cc
-two_counted o (Some a) (Some b) h = counted o a (Some b) None _ refl h
-
-three_counted : (o : PrismOp) (a b c : Option Ty) → IsTrue (is_some (sort_three prism_meaning o a b c)) →
-    PrismTable.arity o ≡ 3
-three_counted o None b c h = cc
-three_counted o (Some a) None c h = cc
-three_counted o (Some a) (Some b) None h = cc
-three_counted o (Some a) (Some b) (Some c) h = counted o a (Some b) (Some c) _ refl h
-
 -- the operands of `<=>` are bools
 iff_first : (a b : Option Ty) → IsTrue (is_some (sort_two prism_meaning P.Iff a b)) → a ≡ Some T.Bool
 iff_first None b h = cc
@@ -238,39 +198,23 @@ module _ (types : Types) (old : List ℕ → Seen) where
   compares_truths (Truth at b) n h = tt
   compares_truths (Number at d) n h = tt
   compares_truths (Name at x) n h = tt
-  compares_truths (One at o a) n h = compares_truths a n (is_some_one o _ h)
+  compares_truths (One at o a) n h = compares_truths a n (some_one prism_meaning o _ h)
   compares_truths (Two at o a b) n h =
-      let some = is_some_two o (type_in prism_meaning types a) (type_in prism_meaning types b) h in (
+      let some = some_two prism_meaning o (type_in prism_meaning types a) (type_in prism_meaning types b) h in (
         compares_truths a n.0 some.0,
         compares_truths b n.1 some.1,
         compares_none o (type_in prism_meaning types a) (type_in prism_meaning types b) _ _ h (no_number a n.0),
       )
   compares_truths (Three at o a b c) n h =
-      let some = is_some_three o (type_in prism_meaning types a) (type_in prism_meaning types b) (type_in prism_meaning types c) h in
+      let some = some_three prism_meaning o (type_in prism_meaning types a) (type_in prism_meaning types b) (type_in prism_meaning types c) h in
       (compares_truths a n.0 some.0, compares_truths b n.1 some.1, compares_truths c n.2 some.2)
-
-  pub has_operands : (e : Expression) → IsTrue (is_some (type_in prism_meaning types e)) → HasItsOperands e
-  has_operands (Truth at b) h = tt
-  has_operands (Number at d) h = tt
-  has_operands (Name at x) h = tt
-  has_operands (One at o a) h = (one_counted o (type_in prism_meaning types a) h, has_operands a (is_some_one o _ h))
-  has_operands (Two at o a b) h =
-      let some = is_some_two o (type_in prism_meaning types a) (type_in prism_meaning types b) h in
-      (two_counted o (type_in prism_meaning types a) (type_in prism_meaning types b) h, has_operands a some.0, has_operands b some.1)
-  has_operands (Three at o a b c) h =
-      let some = is_some_three o (type_in prism_meaning types a) (type_in prism_meaning types b) (type_in prism_meaning types c) h in (
-        three_counted o (type_in prism_meaning types a) (type_in prism_meaning types b) (type_in prism_meaning types c) h,
-        has_operands a some.0,
-        has_operands b some.1,
-        has_operands c some.2,
-      )
 
 -- ---- so the image of an expression that has a type is seen as it
 pub typed_seen_alike : (new : List ℕ → List ℕ) (e : Expression) (types : Types) (old env : List ℕ → Seen) →
     AllNames (λ x. env (new x) ≡ old x) e → AllNames (λ x. IsNoNumberOf (types x) (old x).value) e →
     IsTrue (is_some (type_in prism_meaning types e)) → seen jani_meaning (image new e) env ≡ seen prism_meaning e old
 typed_seen_alike new e types old env n k h =
-    seen_alike new old env e n (has_operands types old e h) (compares_truths types old e k h)
+    seen_alike new old env e n (typed_operands prism_meaning prism_lawful types e h) (compares_truths types old e k h)
 
 -- a value of the type bool is no number
 pub agreeing : (t : Option Ty) (v : Option Value) → AgreesWith t v → IsNoNumberOf t v

@@ -6,6 +6,8 @@ use Rattle.op_trees.specs.declared.tree.Ty.TheVariants as T
 use Rattle.op_trees.specs.Tree.{Tree, Truth, Number, Name, One, Two, Three, AllNames}
 use Rattle.op_trees.specs.Types.{Types, misfits, sort_one, sort_two, sort_three, type_in}
 use Rattle.op_trees.specs.TypeLaws.{misfits_none}
+use Rattle.op_trees.specs.Standard.{standard_meaning, alike, both_bool, is_number, joined, with_type}
+use Rattle.op_trees.specs.AlongLaws.{sort_one_alike, sort_two_alike, sort_three_alike}
 use Rattle.prism_tree.specs.declared.operator.PrismOp.{PrismOp}
 use Rattle.prism_tree.specs.declared.operator.PrismOp.TheVariants as P
 use Rattle.prism_tree.specs.Operators.{prism_meaning}
@@ -16,87 +18,29 @@ use Rattle.jani_table.specs.declared.operator.JaniOp.TheVariants as J
 use Rattle.jani_table.specs.Operators.{jani_meaning}
 use Rattle.jani_table.specs.Operators as JaniTable
 use Rattle.prism_images.specs.Image.{image, image_one, jani_op}
-use Rattle.prism_images.proofs.Values.{IsNotMinus}
+use Rattle.prism_images.proofs.Values.{same_op}
 
--- ---- the tables side by side
-number_alike : (a : Ty) → JaniTable.is_number a ≡ PrismTable.is_number a
-number_alike T.Bool = refl
-number_alike T.Int = refl
-number_alike T.Real = refl
-
-joined_alike : (a b : Ty) → JaniTable.joined a b ≡ PrismTable.joined a b
-joined_alike T.Bool b = refl
-joined_alike T.Int T.Bool = refl
-joined_alike T.Int T.Int = refl
-joined_alike T.Int T.Real = refl
-joined_alike T.Real T.Bool = refl
-joined_alike T.Real T.Int = refl
-joined_alike T.Real T.Real = refl
-
-with_alike : (t : Ty) (a b : Option Ty) → a ≡ b → JaniTable.with_type t a ≡ PrismTable.with_type t b
-with_alike t a b e = ap (JaniTable.with_type t) e ∙ same b
-  where
-    same : (b : Option Ty) → JaniTable.with_type t b ≡ PrismTable.with_type t b
-    same None = refl
-    same (Some b) = refl
-
-alike_alike : (a b : Ty) → JaniTable.alike a b ≡ PrismTable.alike a b
-alike_alike T.Bool T.Bool = refl
-alike_alike a b = joined_alike a b
-
-bools_alike : (a b : Ty) → JaniTable.both_bool a b ≡ PrismTable.both_bool a b
-bools_alike T.Bool T.Bool = refl
-bools_alike a b = refl
-
-ints_alike : (a b : Ty) → JaniTable.both_int a b ≡ PrismTable.both_int a b
-ints_alike T.Int T.Int = refl
-ints_alike a b = refl
-
-single_alike : (o : PrismOp) (a : Ty) → IsNotMinus o → JaniTable.sort_one (jani_op o) a ≡ PrismTable.sort_one o a
-single_alike P.Neg a n = absurd n
-single_alike P.Floor a n = with_alike T.Int _ _ (number_alike a)
-single_alike P.Ceil a n = with_alike T.Int _ _ (number_alike a)
-single_alike o T.Bool n = refl
-single_alike o T.Int n = refl
-single_alike o T.Real n = refl
-
--- `<=>` takes two truth values, and so does `=`
-iff_alike : (a b t : Ty) → PrismTable.both_bool a b ≡ Some t → JaniTable.with_type T.Bool (JaniTable.alike a b) ≡ Some t
+-- ---- `<=>` takes two truth values, and so does `=`; 0 is an int
+iff_alike : (a b t : Ty) → both_bool a b ≡ Some t → with_type T.Bool (alike a b) ≡ Some t
 iff_alike T.Bool T.Bool t h = h
 iff_alike a b t h = cc
 
-both_alike : (o : PrismOp) (a b t : Ty) → PrismTable.sort_two o a b ≡ Some t →
-    JaniTable.sort_two (jani_op o) a b ≡ Some t
-both_alike P.Mul a b t h = joined_alike a b ∙ h
-both_alike P.Add a b t h = joined_alike a b ∙ h
-both_alike P.Sub a b t h = joined_alike a b ∙ h
-both_alike P.Min a b t h = joined_alike a b ∙ h
-both_alike P.Max a b t h = joined_alike a b ∙ h
-both_alike P.Div a b t h = with_alike T.Real _ _ (joined_alike a b) ∙ h
-both_alike P.Less a b t h = with_alike T.Bool _ _ (joined_alike a b) ∙ h
-both_alike P.AtMost a b t h = with_alike T.Bool _ _ (joined_alike a b) ∙ h
-both_alike P.AtLeast a b t h = with_alike T.Bool _ _ (joined_alike a b) ∙ h
-both_alike P.Greater a b t h = with_alike T.Bool _ _ (joined_alike a b) ∙ h
-both_alike P.Equal a b t h = with_alike T.Bool _ _ (alike_alike a b) ∙ h
-both_alike P.Unequal a b t h = with_alike T.Bool _ _ (alike_alike a b) ∙ h
-both_alike P.And a b t h = bools_alike a b ∙ h
-both_alike P.Or a b t h = bools_alike a b ∙ h
-both_alike P.Implies a b t h = bools_alike a b ∙ h
-both_alike P.Iff a b t h = iff_alike a b t h
-both_alike P.Mod a b t h = ints_alike a b ∙ h
-both_alike o a b t h = cc
-
-three_alike : (o : PrismOp) (a b c : Ty) → JaniTable.sort_three (jani_op o) a b c ≡ PrismTable.sort_three o a b c
-three_alike P.Ite T.Bool b c = alike_alike b c
-three_alike P.Ite T.Int b c = refl
-three_alike P.Ite T.Real b c = refl
-three_alike o a b c = refl
-
--- 0 is an int
-minus_alike : (a t : Ty) → PrismTable.is_number a ≡ Some t → JaniTable.joined T.Int a ≡ Some t
+minus_alike : (a t : Ty) → is_number a ≡ Some t → joined T.Int a ≡ Some t
 minus_alike T.Bool t h = cc
 minus_alike T.Int t h = h
 minus_alike T.Real t h = h
+
+both_alike : (o : PrismOp) (a b t : Ty) → sort_two prism_meaning o (Some a) (Some b) ≡ Some t →
+    sort_two jani_meaning (jani_op o) (Some a) (Some b) ≡ Some t
+both_alike P.Neg a b t h = cc
+both_alike P.Iff a b t h = iff_alike a b t h
+both_alike o a b t h = sort_two_alike JaniTable.standard PrismTable.standard standard_meaning (jani_op o) o (same_op o tt) (Some a) (Some b) ∙ h
+
+all_alike : (o : PrismOp) (a b c t : Ty) → sort_three prism_meaning o (Some a) (Some b) (Some c) ≡ Some t →
+    sort_three jani_meaning (jani_op o) (Some a) (Some b) (Some c) ≡ Some t
+all_alike P.Neg a b c t h = cc
+all_alike P.Iff a b c t h = cc
+all_alike o a b c t h = sort_three_alike JaniTable.standard PrismTable.standard standard_meaning (jani_op o) o (same_op o tt) (Some a) (Some b) (Some c) ∙ h
 
 -- ---- nodes: the types of operands are those of the expression, where it has any
 one_typed : (at : ℕ) (o : PrismOp) (a : Tree JaniOp) (types : Types) (given : Option Ty) (t : Ty) →
@@ -105,8 +49,9 @@ one_typed : (at : ℕ) (o : PrismOp) (a : Tree JaniOp) (types : Types) (given : 
 one_typed at o a types None t ih h = cc
 one_typed at P.Neg a types (Some u) t ih h =
     ap (sort_two jani_meaning J.Sub (Some T.Int)) (ih u refl) ∙ minus_alike u t h
+one_typed at P.Iff a types (Some u) t ih h = cc
 one_typed at o a types (Some u) t ih h =
-    ap (sort_one jani_meaning (jani_op o)) (ih u refl) ∙ single_alike o u tt ∙ h
+    ap (sort_one jani_meaning (jani_op o)) (ih u refl) ∙ sort_one_alike JaniTable.standard PrismTable.standard standard_meaning (jani_op o) o (same_op o tt) (Some u) ∙ h
 
 two_typed : (o : PrismOp) (x y given other : Option Ty) (t : Ty) →
     ((u : Ty) → given ≡ Some u → x ≡ Some u) → ((u : Ty) → other ≡ Some u → y ≡ Some u) →
@@ -126,7 +71,7 @@ three_typed o x y z (Some a) (Some b) None t ih jh kh h = cc
 three_typed o x y z (Some a) (Some b) (Some c) t ih jh kh h =
     ap₂ {B = Option Ty →
     Option Ty} (λ r g. g r) (ih a refl) (ap₂ (λ s t r. sort_three jani_meaning (jani_op o) r s t) (jh b refl) (kh c refl))
-    ∙ three_alike o a b c ∙ h
+    ∙ all_alike o a b c t h
 
 -- ---- expressions
 module _ (new : List ℕ → List ℕ) (old types : Types) where

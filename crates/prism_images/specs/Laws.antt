@@ -7,6 +7,8 @@ use Rattle.op_trees.specs.declared.tree.Ty.TheVariants as T
 use Rattle.op_trees.specs.declared.tree.Value.{Value}
 use Rattle.op_trees.specs.declared.tree.Value.TheVariants as V
 use Rattle.op_trees.specs.Tree.{Tree, Truth, Number, Name, One, Two, Three, AllNames, AllNumbers}
+use Rattle.op_trees.specs.Names as Walks
+use Rattle.op_trees.specs.Names.{names_of}
 use Rattle.op_trees.specs.Types.{AgreesWith, Types, misfits, type_in}
 use Rattle.op_trees.specs.Seen.{Seen, seen}
 use Rattle.prism_tree.specs.declared.operator.PrismOp.{PrismOp}
@@ -22,12 +24,7 @@ use Rattle.prism_images.specs.Image.{image}
 
 -- each node has as many operands as its operator
 abbrev pub HasItsOperands : Expression → Type 0
-HasItsOperands (Truth at b) = Unit {0}
-HasItsOperands (Number at d) = Unit {0}
-HasItsOperands (Name at x) = Unit {0}
-HasItsOperands (One at o a) = (arity o ≡ 1) × HasItsOperands a
-HasItsOperands (Two at o a b) = (arity o ≡ 2) × HasItsOperands a × HasItsOperands b
-HasItsOperands (Three at o a b c) = (arity o ≡ 3) × HasItsOperands a × HasItsOperands b × HasItsOperands c
+HasItsOperands e = Walks.HasOperands arity e
 
 -- the value, if there is one, is no number
 abbrev pub IsNoNumber : Option Value → Type 0
@@ -119,12 +116,7 @@ ImageHasForm = (new : List ℕ → List ℕ) (e : Expression) →
 
 -- the names of an expression, in order, each as often as it stands there
 abbrev pub names_in : {O : Type 0} → Tree O → List (List ℕ)
-names_in (Truth at b) = []
-names_in (Number at d) = []
-names_in (Name at x) = x ∷ []
-names_in (One at o a) = names_in a
-names_in (Two at o a b) = names_in a ++ names_in b
-names_in (Three at o a b c) = names_in a ++ (names_in b ++ names_in c)
+names_in e = map (λ n. n.name) (names_of e)
 
 -- the names of the image are the new names of the expression's names
 abbrev pub ImageHasNewNames : Type 0

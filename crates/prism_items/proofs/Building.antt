@@ -1,7 +1,8 @@
 -- Commands and modules: each is read in one way, and has a word and a first token; and their alternatives.
 use Rattle.std.proofs.Common.{◌≡◌, Bool, true, false, List, [], ◌∷◌, Some, None, refl, ap}
-use Rattle.std.specs.Prelude.{◌⊎◌, ◌&&◌}
+use Rattle.std.specs.Prelude.{◌⊎◌}
 use Rattle.std.proofs.Common.{map}
+use Rattle.std.proofs.lemmas.Bool.{and_right}
 use Rattle.bridge_io.specs.declared.reason.Named.{Named}
 use Rattle.prism_lex.specs.declared.token.TokenKind.{TokenKind}
 use Rattle.prism_lex.specs.declared.token.TokenKind.TheVariants as K
@@ -20,13 +21,13 @@ use Rattle.prism_exprs.proofs.Furthest.{or_then}
 use Rattle.prism_exprs.proofs.Cut.{gives_or_one}
 use Rattle.prism_exprs.proofs.Loops.{Begun, kind_begun, begun_repeats, many-folding}
 use Rattle.prism_exprs.proofs.Exprs.{gives_follows, then_follows}
+use Rattle.prism_exprs.proofs.Grouping.{same_trans, same_sym, same_then, assoc, gives_then}
 use Rattle.prism_items.specs.Parts.{in_scope, closed_by, action_part, bracketed_action, equal_name, several_pairs, bracketed_pairs, further_pair, module_rest, all_but, vars_on}
 use Rattle.prism_items.proofs.Leading.{Leads, leads_on, same_leads, or_left, or_right}
-use Rattle.prism_items.proofs.Expressions.{expressions_word}
-use Rattle.prism_items.proofs.Closing.{same_one, same_trans, same_sym, same_then, assoc, gives_then, differ, either_way, opens_in, passes, closed_one, closed_word, closed-same, optional_word}
+use Rattle.prism_items.proofs.Closing.{same_one, differ, either_way, opens_in, passes, closed_one, closed_word, closed-same, optional_word}
 use Rattle.prism_items.proofs.Declaring.{name_one, name_word, name_opens, expression_closed, var_one, var_opens}
 use Rattle.prism_items.proofs.Choosing.{not_here, opens_off, same_opens}
-use Rattle.prism_items.proofs.Splitting.{ended_updates_one, updates_word}
+use Rattle.prism_items.proofs.Splitting.{ended_updates_one}
 
 -- ---- an action
 
@@ -63,11 +64,6 @@ unfolding command
 command_one s =
     step_one _ (token_one _) (λ t. same_one (closed-same _ _ _) (step_one _ (action_one s) (λ a. expression_closed s _ _ none refl (λ e u. same_one (closed-same _ _ _) (step_one _ (ended_updates_one s) (λ bs. gives_one _ none))))))
 
-pub command_word : (s : Scope) → HasWord (in_scope command s)
-unfolding command
-command_word s =
-    then_word (token_word _) (λ t. then_word (optional_word _) (λ a. then_word (token_word _) (λ u. then_word (expressions_word s) (λ e. then_word (token_word _) (λ v. then_word (updates_word s) (λ bs. then_word (token_word _) (λ w. gives_word _)))))))
-
 pub command_opens : (s : Scope) → Opens (in_scope command s) (λ k. k ≡ K.Symbol S.LeftBracket)
 unfolding command
 command_opens s = then_opens _ _ (token_opens _)
@@ -86,15 +82,11 @@ vars_one s = many_one (vars_begun s) (begun_repeats vars_on) (var_one s)
 pub commands_one : (s : Scope) → IsOne (many (in_scope command s)) (all_but (K.Word W.Endmodule))
 commands_one s = many_one (commands_begun s) (begun_repeats (all_but (K.Word W.Endmodule))) (command_one s)
 
-and_second : (a b : Bool) → b ≡ false → (a && b) ≡ false
-and_second true b e = e
-and_second false b e = refl
-
 commands_repeat : Repeats (λ k. k ≡ K.Symbol S.LeftBracket) vars_on (all_but (K.Word W.Endmodule))
 commands_repeat = record {
   again = passes (all_but (K.Word W.Endmodule)) _ true refl;
   apart = passes vars_on _ false refl;
-  within = λ k h. and_second (all_but (K.Symbol S.LeftBracket) k) _ h;
+  within = λ k h. and_right (all_but (K.Symbol S.LeftBracket) k) _ h;
 }
 
 same_follows : {A B : Type 0} (M N : A → Lang B) (m more : TokenKind → Bool) → ((x : A) → Same (M x) (N x)) → Follows m N more → Follows m M more
@@ -150,11 +142,6 @@ copy_one s x =
     step_one _ (token_one _) (λ t. step_one _ name_one (λ y. step_one _ (token_one _) (λ u. same_one (same_sym (assoc _ _ _)) (then_one (is_kind (K.Symbol S.Comma)) (several_pairs_one s) (λ ps. step_one _ (token_one _) (λ v. gives_one _ none))
     (token_follows (is_kind (K.Symbol S.Comma)) (K.Symbol S.RightBracket) _ none refl)))))
 
-pub copy_word : (s : Scope) (x : Named) → HasWord (in_scope (λ E V. copy E V x) s)
-unfolding copy
-copy_word s x =
-    then_word (token_word _) (λ t. then_word name_word (λ y. then_word (token_word _) (λ u. then_word (pair_word s) (λ p. then_word (folding_word _ _ _) (λ ps. then_word (token_word _) (λ v. gives_word _))))))
-
 copy_opens : (s : Scope) (x : Named) → Opens (closed_by (K.Word W.Endmodule) (in_scope (λ E V. copy E V x) s)) (λ k. k ≡ K.Symbol S.Equal)
 unfolding copy closed_by
 copy_opens s x = then_opens _ _ (then_opens _ _ (token_opens _))
@@ -195,10 +182,6 @@ rest_word s x = closed_word _ (or_word _ _ (body_word s x))
 pub module_one : (s : Scope) → IsOne (in_scope module_item s) none
 unfolding module_item closed_by
 module_one s = step_one _ (token_one _) (λ t. step_one _ name_one (λ x. rest_one s x))
-
-pub module_word : (s : Scope) → HasWord (in_scope module_item s)
-unfolding module_item closed_by
-module_word s = then_word (token_word _) (λ t. then_word name_word (λ x. rest_word s x))
 
 pub module_opens : (s : Scope) → Opens (in_scope module_item s) (λ k. k ≡ K.Word W.Module)
 unfolding module_item

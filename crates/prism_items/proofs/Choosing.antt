@@ -16,9 +16,10 @@ use Rattle.prism_exprs.proofs.Laws.{none_ends}
 use Rattle.prism_exprs.proofs.Choice.{Same, Opens, Barred, token_opens, then_opens, or_opens, or_word, or_barred, gives_barred}
 use Rattle.prism_exprs.proofs.Furthest.{or_then}
 use Rattle.prism_exprs.proofs.Loops.{starts_is}
+use Rattle.prism_exprs.proofs.Grouping.{same_trans, same_then, assoc, gives_then}
 use Rattle.prism_items.specs.Parts.{in_scope, closed_by, domain, type_of, behind_type, type_front}
 use Rattle.prism_items.proofs.Leading.{begin, step, Leads, leads_on, same_leads, or_left, or_right, opens_barred, barred_halts}
-use Rattle.prism_items.proofs.Closing.{same_trans, same_then, assoc, gives_then, differ, either_way, passes}
+use Rattle.prism_items.proofs.Closing.{differ, either_way, passes}
 use Rattle.prism_items.proofs.Declaring.{IsType, given, given_opens, given_one, bounds_opens, bounds_word, domain_word, truth_opens, also_opens}
 
 -- ---- by the first token

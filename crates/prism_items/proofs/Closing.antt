@@ -1,6 +1,8 @@
 -- Languages that are the same, kinds that differ, and what a token closes.
 use Rattle.std.proofs.Common.{◌≡◌, Bool, true, false, List, [], ◌++◌, Some, None, refl, sym, ap, subst, ◌∙◌, append_assoc, inl, inr}
-use Rattle.std.specs.Prelude.{◌⊎◌, ◌||◌}
+use Rattle.std.specs.Prelude.{◌⊎◌}
+use Rattle.std.proofs.lemmas.Bool.{or_left}
+use Rattle.basics.specs.Booleans.{second_false}
 use Rattle.prism_lex.specs.declared.token.TokenKind.{TokenKind}
 use Rattle.prism_lex.specs.declared.token.TokenKind.TheVariants as K
 use Rattle.prism_lex.specs.declared.symbols.Symbol.TheVariants as S
@@ -12,45 +14,16 @@ use Rattle.prism_exprs.specs.Scope.{Scope, expressions}
 use Rattle.prism_exprs.proofs.Laws.{IsOne, HasWord, token_follows, then_one, then_word, step_one, token_one, token_word, gives_one, gives_word}
 use Rattle.prism_exprs.proofs.Choice.{Same, Opens, token_opens, then_opens, or_word}
 use Rattle.prism_exprs.proofs.Cut.{gives_or_one}
-use Rattle.prism_exprs.proofs.Exprs.{one_within, gives_follows, second_false}
+use Rattle.prism_exprs.proofs.Exprs.{one_within, gives_follows}
+use Rattle.prism_exprs.proofs.Grouping.{same_trans, same_sym, assoc, same_then, gives_then}
+use Rattle.prism_exprs.proofs.Outer.{expressions_one}
 use Rattle.prism_items.specs.Parts.{in_scope, closed_by, definition, expression_from}
 use Rattle.prism_items.proofs.Leading.{Leads, leads_on, same_leads}
-use Rattle.prism_items.proofs.Expressions.{expressions_one}
 
 -- ---- the same languages
 
-pub same_trans : {A : Type 0} {L M N : Lang A} → Same L M → Same M N → Same L N
-same_trans p q = record { to = λ w x h. q.to w x (p.to w x h); from = λ w x h. p.from w x (q.from w x h) }
-
-pub same_sym : {A : Type 0} {L M : Lang A} → Same L M → Same M L
-same_sym p = record { to = p.from; from = p.to }
-
 pub same_one : {A : Type 0} {L M : Lang A} {more : TokenKind → Bool} → Same L M → IsOne M more → IsOne L more
 same_one p l = record { one = λ w z v y a b g h. l.one w z v y a b (p.to w a g) (p.to v b h) }
-
-pub assoc : {A B D : Type 0} (L : Lang A) (M : A → Lang B) (N : B → Lang D) → Same ((L >>= M) >>= N) (L >>= λ x. M x >>= N)
-unfolding ◌>>=◌
-assoc L M N = record {
-  to = λ w y h. let i = h.4 in (i.0, i.1, i.2 ++ h.2, h.3 ∙ ap (λ (u : List Lexeme). u ++ h.2) i.3 ∙ append_assoc i.1 i.2 h.2, i.4, (h.0, i.2, h.2, refl, i.5, h.5));
-  from = λ w y h. let i = h.5 in (i.0, h.1 ++ i.1, i.2, h.3 ∙ ap (λ (u : List Lexeme). h.1 ++ u) i.3 ∙ sym (append_assoc h.1 i.1 i.2), (h.0, h.1, i.1, refl, h.4, i.4), i.5);
-}
-
-pub same_then : {A B : Type 0} (L : Lang A) (M N : A → Lang B) → ((x : A) → Same (M x) (N x)) → Same (L >>= M) (L >>= N)
-unfolding ◌>>=◌
-same_then L M N s = record {
-  to = λ w y h. (h.0, h.1, h.2, h.3, h.4, (s h.0).to h.2 y h.5);
-  from = λ w y h. (h.0, h.1, h.2, h.3, h.4, (s h.0).from h.2 y h.5);
-}
-
-pub gives_then : {A B : Type 0} (a : A) (M : A → Lang B) → Same (gives a >>= M) (M a)
-unfolding ◌>>=◌ gives
-gives_then {A} a M = record {
-  to = λ w y h.
-      let F : List Lexeme → Type 0 = λ u. M a u y in
-      let G : A → Type 0 = λ x. M x h.2 y in
-      subst F (sym (h.3 ∙ ap (λ (u : List Lexeme). u ++ h.2) h.4.0)) (subst G h.4.1 h.5);
-  from = λ w y h. (a, [], w, refl, (refl, refl), h);
-}
 
 -- ---- kinds
 
@@ -114,10 +87,6 @@ pub definition_one : (s : Scope) → IsOne (in_scope definition s) none
 definition_one s = step_one _ (token_one _) (λ t. closed_expression_one s _ refl)
 
 -- ---- an expression that may be missing
-
-or_left : (a b : Bool) → a ≡ true → (a || b) ≡ true
-or_left true b h = refl
-or_left false b h = absurd cc
 
 pub optional_one : (s : Scope) (k : TokenKind) → same_kind k k ≡ true → IsOne (optional (token k >> expressions s)) (expression_from k)
 optional_one s k same =

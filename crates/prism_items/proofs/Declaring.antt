@@ -18,8 +18,8 @@ use Rattle.prism_exprs.specs.Scope.{Scope, expressions, also}
 use Rattle.prism_exprs.proofs.Laws.{IsOne, HasWord, Follows, token_follows, then_one, then_word, step_one, token_one, token_word, gives_one, gives_word}
 use Rattle.prism_exprs.proofs.Choice.{Opens, token_opens, then_opens, or_opens, or_one, or_word, opens_follows}
 use Rattle.prism_exprs.proofs.Cut.{gives_or_one}
+use Rattle.prism_exprs.proofs.Outer.{expressions_one, expressions_word}
 use Rattle.prism_items.specs.Parts.{in_scope, domain, domain_part, value_part, start_part}
-use Rattle.prism_items.proofs.Expressions.{expressions_one, expressions_word}
 use Rattle.prism_items.proofs.Closing.{same_one, differ, either_way, passes, closed-same, optional_word, ended_one}
 
 -- ---- names
@@ -107,10 +107,6 @@ unfolding const_item
 const_one s =
     step_one _ (token_one _) (λ t. then_one types_on (type_one s) (λ ty. step_one _ name_one (λ x. same_one (closed-same _ _ _) (step_one _ (value_one s) (λ v. gives_one _ none)))) (type_follows _))
 
-pub const_word : (s : Scope) → HasWord (in_scope const_item s)
-unfolding const_item
-const_word s = then_word (token_word _) (λ t. then_word (type_word s) (λ ty. then_word name_word (λ x. then_word (optional_word _) (λ v. then_word (token_word _) (λ u. gives_word _)))))
-
 pub const_opens : (s : Scope) → Opens (in_scope const_item s) (λ k. k ≡ K.Word W.Const)
 unfolding const_item
 const_opens s = then_opens _ _ (token_opens _)
@@ -121,10 +117,6 @@ pub formula_one : (s : Scope) → IsOne (in_scope formula_item s) none
 unfolding formula_item
 formula_one s = step_one _ (token_one _) (λ t. step_one _ name_one (λ x. step_one _ (token_one _) (λ u. expression_closed s _ _ none refl (λ e v. gives_one _ none))))
 
-pub formula_word : (s : Scope) → HasWord (in_scope formula_item s)
-unfolding formula_item
-formula_word s = then_word (token_word _) (λ t. then_word name_word (λ x. then_word (token_word _) (λ u. then_word (expressions_word s) (λ e. then_word (token_word _) (λ v. gives_word _)))))
-
 pub formula_opens : (s : Scope) → Opens (in_scope formula_item s) (λ k. k ≡ K.Word W.Formula)
 unfolding formula_item
 formula_opens s = then_opens _ _ (token_opens _)
@@ -132,10 +124,6 @@ formula_opens s = then_opens _ _ (token_opens _)
 pub label_one : (s : Scope) → IsOne (in_scope label_item s) none
 unfolding label_item
 label_one s = step_one _ (token_one _) (λ t. step_one _ quoted_one (λ x. step_one _ (token_one _) (λ u. expression_closed s _ _ none refl (λ e v. gives_one _ none))))
-
-pub label_word : (s : Scope) → HasWord (in_scope label_item s)
-unfolding label_item
-label_word s = then_word (token_word _) (λ t. then_word quoted_word (λ x. then_word (token_word _) (λ u. then_word (expressions_word s) (λ e. then_word (token_word _) (λ v. gives_word _)))))
 
 pub label_opens : (s : Scope) → Opens (in_scope label_item s) (λ k. k ≡ K.Word W.Label)
 unfolding label_item
@@ -206,10 +194,6 @@ var_opens s = then_opens _ _ name_opens
 pub global_one : (s : Scope) → IsOne (in_scope global_item s) none
 unfolding global_item
 global_one s = step_one _ (token_one _) (λ t. var_one s)
-
-pub global_word : (s : Scope) → HasWord (in_scope global_item s)
-unfolding global_item
-global_word s = then_word (token_word _) (λ t. var_word s)
 
 pub global_opens : (s : Scope) → Opens (in_scope global_item s) (λ k. k ≡ K.Word W.Global)
 unfolding global_item

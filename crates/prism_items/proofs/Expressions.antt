@@ -1,6 +1,5 @@
 -- The expressions that stand inside no other, in each scope.
 use Rattle.std.proofs.Common.{◌≡◌, ℕ, zero, suc, ◌≤◌, true, List, [], ◌∷◌, ◌++◌, Option, Some, None, refl, sym, ap, append-nil, arith, length, inl, inr}
-use Rattle.std.proofs.lemmas.List.{length-append}
 use Rattle.op_trees.specs.Tree.{Truth, Name}
 use Rattle.prism_lex.specs.declared.token.TokenKind.TheVariants as K
 use Rattle.prism_lex.specs.declared.words.Reserved.TheVariants as W
@@ -12,11 +11,9 @@ use Rattle.prism_tree.specs.Syntax.{Expression, moved}
 use Rattle.prism_tree.specs.Lang.{token, gives, folding, ◌>>=◌, ◌or◌, many}
 use Rattle.prism_tree.specs.Grammar.{truth, parenthesised, name_or_call, prefix_at, prefixed, chain, over_prefix, prim, level, conditional, expr}
 use Rattle.prism_tree.specs.Faults.{IsEarly, outer}
-use Rattle.prism_exprs.specs.Levels.{CanBegin, goes_on}
-use Rattle.prism_exprs.specs.Scope.{Scope, expressions_of, expressions}
-use Rattle.prism_exprs.proofs.Laws.{IsOne, HasWord}
-use Rattle.prism_exprs.proofs.Choice.{Opens, then_opens}
-use Rattle.prism_exprs.proofs.Exprs.{level_opens, expr_one, expr-conditional}
+use Rattle.prism_exprs.specs.Scope.{expressions_of}
+use Rattle.prism_exprs.proofs.Exprs.{expr-conditional}
+use Rattle.prism_exprs.proofs.Outer.{early_short}
 
 -- ---- words
 
@@ -49,10 +46,6 @@ parenthesis_word o c w e h k p = expr_of _ _ (inr (inr (inr (inr (inl (o, o ∷ 
 
 -- ---- in a scope
 
--- A word of at most 1,024 tokens is within the limit.
-pub early_short : (us w : List Lexeme) → length w ≤ 1024 → IsEarly us w
-early_short us w h a b t e c = omega (arith, ap length e, length-append a (t ∷ b))
-
 pub short_word : (c : Option (List Lexeme)) (w : List Lexeme) (e : Expression) → length w ≤ 1024 → expr w e → expressions_of c w e
 unfolding outer
 short_word None w e h p = p
@@ -62,20 +55,3 @@ pub expr_of_scope : (c : Option (List Lexeme)) (w : List Lexeme) (e : Expression
 unfolding outer
 expr_of_scope None w e p = p
 expr_of_scope (Some us) w e p = p.0
-
-pub expressions_one : (s : Scope) → IsOne (expressions s) goes_on
-expressions_one s = record {
-  one = λ w z v y a b p q. expr_one.one w z v y a b (expr_of_scope s.counted w a p) (expr_of_scope s.counted v b q);
-}
-
-pub expressions_word : (s : Scope) → HasWord (expressions s)
-expressions_word s =
-    let t : Lexeme = record { kind = K.Word W.True; text = []; at = 0 } in
-    (t ∷ [], Truth t.at true, short_word s.counted (t ∷ []) (Truth t.at true) (omega arith) (true_word t refl))
-
-pub expr_opens : Opens expr (CanBegin 10)
-unfolding conditional
-expr_opens w e p = then_opens _ (CanBegin 10) (level_opens expr 10) w e (expr-conditional.to w e p)
-
-pub expressions_opens : (s : Scope) → Opens (expressions s) (CanBegin 10)
-expressions_opens s w e p = expr_opens w e (expr_of_scope s.counted w e p)

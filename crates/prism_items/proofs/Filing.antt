@@ -3,7 +3,7 @@ use Rattle.std.proofs.Common.{◌≡◌, ◌≢◌, ℕ, Bool, true, false, List
 use Rattle.std.specs.Prelude.{Result, Err, IsErr, IsErrAnd}
 use Rattle.std.proofs.lemmas.Result.{err_from_is_err_and}
 use Rattle.prism_tree.specs.declared.syntax.PrismFile.{PrismFile}
-use Rattle.std.proofs.lemmas.List.{length-append, append_cancel_right}
+use Rattle.std.proofs.lemmas.List.{length-append, append_cancel_right, append_cancel_left}
 use Rattle.prism_lex.specs.declared.token.TokenKind.{TokenKind}
 use Rattle.prism_lex.specs.declared.token.TokenKind.TheVariants as K
 use Rattle.prism_lex.specs.declared.words.Reserved.TheVariants as W
@@ -20,7 +20,7 @@ use Rattle.prism_exprs.specs.declared.tokens.Tokens.{Tokens}
 use Rattle.prism_exprs.specs.declared.tokens.Found.{Found}
 use Rattle.prism_exprs.specs.Kept.{seen, lexeme_at}
 use Rattle.prism_exprs.specs.Scope.{Scope, IsStopped, IsPassed, GoesOn, Halts, StopsIn}
-use Rattle.prism_exprs.proofs.Laws.{IsOne, HasWord, Follows, token_follows, then_one, then_word, step_one, token_one, token_word, token_reads, none_ends, none_follows, Ends-next, cancel}
+use Rattle.prism_exprs.proofs.Laws.{IsOne, HasWord, Follows, token_follows, then_one, then_word, step_one, token_one, token_word, token_reads, none_ends, none_follows, Ends-next}
 use Rattle.prism_exprs.proofs.Choice.{Barred, folding_one, folding_word, token_opens, then_opens}
 use Rattle.prism_exprs.proofs.Loops.{begun_repeats, starts_cons, starts_is}
 use Rattle.prism_items.specs.Parts.{in_scope}
@@ -57,7 +57,7 @@ cut : (a b c d : List Lexeme) → a ++ b ≡ c ++ d → Cut a b c d
 cut [] b [] d e = shorter [] refl (sym e)
 cut [] b (p ∷ q) d e = longer p q refl e
 cut (t ∷ a) b [] d e = shorter (t ∷ a) refl (sym e)
-cut (t ∷ a) b (u ∷ c) d e = go (cut a b c d (cancel (t ∷ []) (a ++ b) (c ++ d) (e ∙ ap (λ (x : Lexeme). x ∷ (c ++ d)) (sym same))))
+cut (t ∷ a) b (u ∷ c) d e = go (cut a b c d (append_cancel_left (t ∷ []) (a ++ b) (c ++ d) (e ∙ ap (λ (x : Lexeme). x ∷ (c ++ d)) (sym same))))
   where
     same : t ≡ u
     same = cc
@@ -126,7 +126,7 @@ module _ (c : Cause) (us r : List Lexeme) (h : (s : Scope) → Halts s c (in_sco
       inside_word : (t : Lexeme) (b : List Lexeme) (p : Lexeme) (q : List Lexeme) → w ≡ (t ∷ b) ++ p ∷ q → p.kind ≡ K.Word W.Module → ⊥
       inside_word t b p q j l =
           let s = (section_b plain).split w x g in
-          let v : s.1 ≡ b ++ p ∷ q = cancel (t ∷ []) s.1 (b ++ p ∷ q) (ap (λ (u : Lexeme). u ∷ s.1) (head (sym j ∙ s.2)) ∙ sym s.2 ∙ j) in
+          let v : s.1 ≡ b ++ p ∷ q = append_cancel_left (t ∷ []) s.1 (b ++ p ∷ q) (ap (λ (u : Lexeme). u ∷ s.1) (head (sym j ∙ s.2)) ∙ sym s.2 ∙ j) in
           let F : List Lexeme → Type 0 = λ u. Free (K.Word W.Module) u in
           free_inside (K.Word W.Module) b q p (subst F v s.3) l
         where
@@ -437,7 +437,7 @@ back_missing end f x ts us rest t others l p e =
     no_longer s word other w z y g h a b i j =
         let z_none : z ≡ [] = end_of_any z i in
         let same : word ≡ w = ((file_one end s).one word other w z x y a b h j (ends_all is_item z i)).0 in
-        let other_none : other ≡ [] = cancel w other [] (ap (λ (u : List Lexeme). u ++ other) (sym same) ∙ h ∙ ap (λ (u : List Lexeme). w ++ u) z_none) in
+        let other_none : other ≡ [] = append_cancel_left w other [] (ap (λ (u : List Lexeme). u ++ other) (sym same) ∙ h ∙ ap (λ (u : List Lexeme). w ++ u) z_none) in
         let some : next other ≡ Some t = g ∙ ap next e in
         let none' : next other ≡ None = ap next other_none in
         absurd cc

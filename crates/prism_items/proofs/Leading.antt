@@ -1,7 +1,7 @@
 -- How far reading has come: what is left to be read, and from where, so that what this gives the whole gives too.
 use Rattle.std.proofs.Common.{map, ◌≡◌, Bool, true, false, List, [], ◌∷◌, ◌++◌, Some, refl, sym, ap, subst, ◌∙◌, append_assoc, inl, inr}
 use Rattle.std.specs.Prelude.{Result, Ok, Err, IsErr, IsErrAnd}
-use Rattle.std.proofs.lemmas.List.{map_push}
+use Rattle.std.proofs.lemmas.List.{map_push, append_cancel_left}
 use Rattle.std.proofs.lemmas.Result.{err_from_is_err_and}
 use Rattle.prism_lex.specs.declared.token.TokenKind.{TokenKind}
 use Rattle.prism_lex.specs.Tokens.{Lexeme}
@@ -14,7 +14,7 @@ use Rattle.prism_exprs.specs.declared.tokens.Stop.TheVariants.{Memory, At}
 use Rattle.prism_exprs.specs.Kept.{seen}
 use Rattle.prism_exprs.specs.Reading.{Ends, none, next, Dead, Reads, starts}
 use Rattle.prism_exprs.specs.Scope.{Scope, Halts, StopsIn, ParsesIn}
-use Rattle.prism_exprs.proofs.Laws.{IsOne, HasWord, Follows, none_follows, cancel, Ends-next, next-append, then_reads}
+use Rattle.prism_exprs.proofs.Laws.{IsOne, HasWord, Follows, none_follows, Ends-next, next-append, then_reads}
 use Rattle.prism_exprs.proofs.Choice.{Same, same_reads, Barred, or_dead, or_reads_left, or_reads_right, gives_barred, Opens, folding-unfold, folding_word}
 use Rattle.prism_exprs.proofs.Loops.{Begun, many-folding, starts_cons, starts_ends, folding_reads}
 
@@ -55,7 +55,7 @@ then_leads {A} {B} {L} M m more {ts} {us} {x} one fol p = record {
       let g1 : p.word ++ (v ++ other) ≡ h.1 ++ (h.2 ++ z) = sym (append_assoc p.word v other) ∙ f ∙ ap (λ (u : List Lexeme). u ++ z) h.3 ∙ append_assoc h.1 h.2 z in
       let e1 : Ends m (v ++ other) = Ends-next m us (v ++ other) (next-append v r other e ∙ i) p.ends in
       let k = one.one p.word (v ++ other) h.1 (h.2 ++ z) x h.0 p.spells h.4 g1 e1 (fol.ends h.0 h.2 z y h.5 g) in
-      let g2 : v ++ other ≡ h.2 ++ z = cancel p.word _ _ (g1 ∙ ap (λ (u : List Lexeme). u ++ (h.2 ++ z)) (sym k.0)) in
+      let g2 : v ++ other ≡ h.2 ++ z = append_cancel_left p.word _ _ (g1 ∙ ap (λ (u : List Lexeme). u ++ (h.2 ++ z)) (sym k.0)) in
       let Q : A → Type 0 = λ a. M a h.2 y in
       d other h.2 z y e g2 (subst Q (sym k.1) h.5) g;
 }

@@ -19,10 +19,11 @@ use Rattle.prism_exprs.proofs.Laws.{IsOne, HasWord, token_follows, then_one, the
 use Rattle.prism_exprs.proofs.Choice.{Same, Opens, token_opens, then_opens, or_opens, or_one, many_one, many_word, many_then_opens}
 use Rattle.prism_exprs.proofs.Furthest.{or_then}
 use Rattle.prism_exprs.proofs.Loops.{Begun, begun_repeats, same_is}
+use Rattle.prism_exprs.proofs.Grouping.{same_trans, same_then, assoc, gives_then}
+use Rattle.prism_exprs.proofs.Outer.{expressions_word, expressions_opens}
 use Rattle.prism_items.specs.Parts.{in_scope, closed_by, action_part, gain, gains, all_but}
 use Rattle.prism_items.proofs.Leading.{Leads, leads_on, same_leads, or_left, or_right}
-use Rattle.prism_items.proofs.Expressions.{expressions_word, expressions_opens}
-use Rattle.prism_items.proofs.Closing.{same_one, same_trans, same_then, assoc, gives_then, differ, opens_in, passes, closed-same, optional_word}
+use Rattle.prism_items.proofs.Closing.{same_one, differ, opens_in, passes, closed-same, optional_word}
 use Rattle.prism_items.proofs.Declaring.{quoted_one, quoted_opens, expression_closed}
 use Rattle.prism_items.proofs.Choosing.{not_here, opens_off, same_opens}
 use Rattle.prism_items.proofs.Building.{action_one}
@@ -169,10 +170,6 @@ rewards-titled s = record { to = λ w x h. h; from = λ w x h. h }
 
 pub item_one : (s : Scope) → IsOne (in_scope rewards_item s) none
 item_one s = same_one (rewards-titled s) (step_one _ (token_one _) (λ t. titled_one s))
-
-pub item_word : (s : Scope) → HasWord (in_scope rewards_item s)
-unfolding rewards_item gains
-item_word s = then_word (token_word _) (λ t. titled_word s)
 
 pub item_opens : (s : Scope) → Opens (in_scope rewards_item s) (λ k. k ≡ K.Word W.Rewards)
 unfolding rewards_item

@@ -1,6 +1,7 @@
 -- Items: each begins with a word of its own, and behind it no other item can stand.
 use Rattle.std.proofs.Common.{◌≡◌, Bool, true, false, List, [], ◌∷◌, ◌++◌, refl, sym, ap, ◌∙◌, append-nil, inl, inr}
 use Rattle.std.specs.Prelude.{◌⊎◌, ◌||◌}
+use Rattle.std.proofs.Math.Bool.{or-true}
 use Rattle.prism_lex.specs.declared.token.TokenKind.{TokenKind}
 use Rattle.prism_lex.specs.declared.token.TokenKind.TheVariants as K
 use Rattle.prism_lex.specs.declared.words.Reserved.TheVariants as W
@@ -13,13 +14,13 @@ use Rattle.prism_exprs.specs.Scope.{Scope, expressions}
 use Rattle.prism_exprs.proofs.Laws.{IsOne, HasWord, then_word, step_one, token_word, gives_one, gives_word}
 use Rattle.prism_exprs.proofs.Choice.{Opens, then_opens, or_opens, or_one, or_word, many_word}
 use Rattle.prism_exprs.proofs.Loops.{Begun, same_is}
+use Rattle.prism_exprs.proofs.Outer.{expressions_word}
 use Rattle.prism_items.specs.Parts.{in_scope}
 use Rattle.prism_items.specs.Sections.{label_on, module_on, formula_on, global_on, is_item}
 use Rattle.prism_items.proofs.Closing.{differ, passes, optional_word, opens_in}
 use Rattle.prism_items.proofs.Leading.{Leads, leads_on, or_left, or_right}
 use Rattle.prism_items.proofs.Choosing.{opens_off, not_here}
-use Rattle.prism_items.proofs.Expressions.{expressions_word}
-use Rattle.prism_items.proofs.Declaring.{name_word, quoted_word, type_word, const_one, const_word, const_opens, formula_one, formula_opens, label_one, label_opens, var_word, global_one, global_opens}
+use Rattle.prism_items.proofs.Declaring.{name_word, quoted_word, type_word, const_one, const_opens, formula_one, formula_opens, label_one, label_opens, var_word, global_one, global_opens}
 use Rattle.prism_items.proofs.Building.{module_one, module_opens}
 use Rattle.prism_items.proofs.Rewarding.{item_one as rewards_one, item_opens as rewards_opens}
 use Rattle.prism_items.proofs.Lacking.{Free, Lacks, token_lacks, gives_lacks, never_lacks, then_lacks, or_lacks, many_lacks, folding_lacks, optional_lacks, expressions_lack, module_strange}
@@ -29,13 +30,9 @@ use Rattle.prism_items.proofs.Lacking.{Free, Lacks, token_lacks, gives_lacks, ne
 either_opens : {A : Type 0} {L M : Lang A} (a : TokenKind) (r : TokenKind → Bool) → same_kind a a ≡ true → Opens L (λ k. k ≡ a) → Opens M (λ k. r k ≡ true) → Opens (L or M) (λ k. (is_kind a k || r k) ≡ true)
 either_opens {A} {L} {M} a r h o p = opens_in (λ k. (k ≡ a) ⊎ (r k ≡ true)) _ (or_opens _ _ o p) go
   where
-    or_true : (b : Bool) → (b || true) ≡ true
-    or_true true = refl
-    or_true false = refl
-
     go : (k : TokenKind) → (k ≡ a) ⊎ (r k ≡ true) → (is_kind a k || r k) ≡ true
     go k (inl e) = ap (λ (b : Bool). b || r k) (passes (is_kind a) a true h k e)
-    go k (inr e) = ap (λ (b : Bool). is_kind a k || b) e ∙ or_true (is_kind a k)
+    go k (inr e) = ap (λ (b : Bool). is_kind a k || b) e ∙ or-true (is_kind a k)
 
 one_opens : {A : Type 0} {L : Lang A} (a : TokenKind) → same_kind a a ≡ true → Opens L (λ k. k ≡ a) → Opens L (λ k. is_kind a k ≡ true)
 one_opens a h o = opens_in (λ k. k ≡ a) _ o (λ k e. passes (is_kind a) a true h k e)
@@ -103,10 +100,6 @@ section_one s =
     (or_one _ _ (then_opens _ _ (formula_opens s)) (module_rest_opens s) (not_among module_on (K.Word W.Formula) refl) (item_one _ (formula_one s))
     (or_one _ _ (then_opens _ _ (module_opens s)) (label_rest_opens s) (not_among label_on (K.Word W.Module) refl) (item_one _ (module_one s))
     (or_one _ _ (then_opens _ _ (label_opens s)) (then_opens _ _ (rewards_opens s)) (differ (K.Word W.Label) (K.Word W.Rewards) refl refl) (item_one _ (label_one s)) (item_one _ (rewards_one s))))))
-
-pub section_word : (s : Scope) → HasWord (in_scope section s)
-unfolding section
-section_word s = or_word _ _ (then_word (const_word s) (λ c. gives_word _))
 
 -- ---- which item stands next
 
@@ -316,9 +309,6 @@ begins_left L M u b = (b.0, b.1, inl b.2)
 begins_right : {A : Type 0} (L M : Lang A) (u : List Lexeme) → Begins M u → Begins (L or M) u
 unfolding ◌or◌
 begins_right L M u b = (b.0, b.1, inr b.2)
-
-name_w : HasWord name
-name_w = name_word
 
 const_begins : (s : Scope) (t : Lexeme) → t.kind ≡ K.Word W.Const → Begins (in_scope const_item s) (t ∷ [])
 unfolding const_item

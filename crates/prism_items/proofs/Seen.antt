@@ -22,7 +22,8 @@ use Rattle.prism_exprs.proofs.Laws.{none_follows, token_word, gives_word, then_w
 use Rattle.prism_exprs.proofs.Choice.{then_barred, token_barred}
 use Rattle.prism_exprs.proofs.Loops.{same_is, starts_not}
 use Rattle.prism_exprs.proofs.Symbols.{starts_empty}
-use Rattle.std.proofs.Common.{arith, [], Option}
+use Rattle.std.proofs.Common.{arith, Option}
+use Rattle.std.proofs.lemmas.Option.{cond_some}
 use Rattle.op_trees.specs.declared.tree.Ty.{Ty}
 use Rattle.op_trees.specs.declared.tree.Ty.TheVariants as T
 use Rattle.prism_lex.specs.declared.words.Reserved.TheVariants as W
@@ -59,10 +60,6 @@ pub quotation_kept : (bytes : List ℕ) (literals : List Literal) (x : Found) (b
 quotation_kept bytes literals x b e h =
     ap (λ (k : Kept). text_if K.Quoted (lexeme_by bytes literals k x.at x.size)) e ∙ named_text (is_utf8 (text_at bytes x.at x.size)) b K.Quoted (text_at bytes x.at x.size) x.at refl h
 
-some_kind : (b : Bool) (t : List ℕ) (x : List ℕ) → (if b then Some t else None) ≡ Some x → (b ≡ true) × (t ≡ x)
-some_kind true t x e = (refl, cc)
-some_kind false t x e = absurd cc
-
 none_kind : (b : Bool) (t : List ℕ) → (if b then Some t else None) ≡ None → b ≡ false
 none_kind true t e = absurd cc
 none_kind false t e = refl
@@ -71,7 +68,7 @@ none_kind false t e = refl
 pub text_read : (f : Found → Lexeme) (k : TokenKind) (g : List ℕ → List ℕ) (found xs : List Found) (x : Found) (r : List Lexeme) (w v : List ℕ) (at : ℕ) → found ≡ x ∷ xs → text_if k (f x) ≡ Some w → v ≡ g w → at ≡ (f x).at →
     r ≡ map f xs → Reads (token k >>= λ t. gives (named (g t.text) t.at)) none (map f found) (named v at) r
 text_read f k g found xs x r w v at e h p q i =
-    let n = some_kind (is_kind k (f x).kind) (f x).text w h in
+    let n = cond_some (is_kind k (f x).kind) (f x).text w h in
     let G : Named → Type 0 = λ u. Reads (token k >>= λ t. gives (named (g t.text) t.at)) none (map f found) u r in
     let same : named (g (f x).text) (f x).at ≡ named v at = ap (λ (u : List ℕ). named u (f x).at) (ap g n.1 ∙ sym p) ∙ ap (λ (m : ℕ). named v m) (sym q) in
     let starts_so : starts (is_kind k) (map f found) ≡ true = (let F : List Found → Type 0 = λ u. starts (is_kind k) (map f u) ≡ true in subst F (sym e) n.0) in
@@ -85,10 +82,6 @@ pub text_other : (f : Found → Lexeme) (k : TokenKind) (found xs : List Found) 
 text_other f k found xs x e h =
     let F : List Found → Type 0 = λ u. starts (is_kind k) (map f u) ≡ false in
     subst F (sym e) (none_kind (is_kind k (f x).kind) (f x).text h)
-
-pub not_true : (b : Bool) → (b ≡ true → ⊥) → b ≡ false
-not_true true h = absurd (h refl)
-not_true false h = refl
 
 -- ---- types
 

@@ -21,9 +21,9 @@ use Rattle.prism_exprs.proofs.Laws.{IsOne, HasWord, none_ends, none_follows, tok
 use Rattle.prism_exprs.proofs.Choice.{or_word, same_reads, then_opens, token_opens, or_reads_left, or_reads_right}
 use Rattle.prism_exprs.proofs.Furthest.{Splits, furthest_fails}
 use Rattle.prism_exprs.proofs.Loops.{same_is}
+use Rattle.prism_exprs.proofs.Outer.{expressions_word}
 use Rattle.prism_items.specs.Parts.{in_scope, ended_branches, ended_update, ended_updates, writes_on, branches_on, plain_front}
 use Rattle.prism_items.proofs.Leading.{Leads, begin, step, same_leads, then_begins, then_dead, stops_by}
-use Rattle.prism_items.proofs.Expressions.{expressions_word}
 use Rattle.prism_items.proofs.Closing.{same_one, closed_one, closed_word}
 use Rattle.prism_items.proofs.Declaring.{name_one, name_opens}
 use Rattle.prism_items.proofs.Choosing.{not_here}

@@ -1,6 +1,6 @@
 -- Writes, updates, and which of the two forms of updates stands in a list.
 use Rattle.std.proofs.Common.{◌≡◌, Bool, true, false, List, [], ◌∷◌, ◌++◌, Some, refl, sym, ap, subst, ◌∙◌, append-nil, arith}
-use Rattle.std.specs.Prelude.{◌||◌, drop}
+use Rattle.std.specs.Prelude.{drop}
 use Rattle.std.proofs.lemmas.List.{append_cancel_right}
 use Rattle.op_trees.specs.Tree.{Truth, Name}
 use Rattle.bridge_io.specs.declared.reason.Named.{Named}
@@ -10,6 +10,8 @@ use Rattle.prism_lex.specs.declared.words.Reserved.TheVariants as W
 use Rattle.prism_lex.specs.declared.symbols.Symbol.TheVariants as S
 use Rattle.prism_lex.specs.Tokens.{Lexeme}
 use Rattle.std.proofs.Common.{map}
+use Rattle.std.proofs.lemmas.Bool.{or_left as or_first, or_from}
+use Rattle.basics.specs.Booleans.{second_false}
 use Rattle.prism_tree.specs.declared.syntax.PrismBranch.{PrismBranch}
 use Rattle.prism_tree.specs.Syntax.{branch_of, Write, Branch, moved}
 use Rattle.prism_tree.specs.Lang.{Lang, gives, ◌>>=◌, ◌>>◌, ◌or◌, front, with_last, Begins}
@@ -22,11 +24,13 @@ use Rattle.prism_exprs.proofs.Laws.{IsOne, HasWord, Follows, token_follows, toke
 use Rattle.prism_exprs.proofs.Choice.{Same, Opens, Barred, Repeats, token_opens, then_opens, or_one, or_word, folding_one, folding_word, folding_follows}
 use Rattle.prism_exprs.proofs.Furthest.{or_then}
 use Rattle.prism_exprs.proofs.Loops.{Begun, kind_begun, begun_repeats}
-use Rattle.prism_exprs.proofs.Exprs.{gives_follows, second_false, expr_one}
+use Rattle.prism_exprs.proofs.Exprs.{gives_follows, expr_one}
+use Rattle.prism_exprs.proofs.Grouping.{same_trans, same_sym, same_then, assoc, gives_then}
+use Rattle.prism_exprs.proofs.Outer.{expressions_one, expressions_word, expr_opens}
 use Rattle.prism_items.specs.Parts.{plain_front, in_scope, closed_by, target, further_write, several_writes, further_branch, several_branches, writes_on, branches_on}
 use Rattle.prism_items.proofs.Leading.{another, halt_at, loop_done, Leads, leads_on, begin, step, step_to, same_leads, or_left, or_right, then_begins, then_dead}
-use Rattle.prism_items.proofs.Expressions.{expressions_one, expressions_word, expr_opens, short_word, expr_of_scope, true_word, name_word, parenthesis_word}
-use Rattle.prism_items.proofs.Closing.{same_trans, same_sym, same_then, assoc, gives_then, differ, passes, closed_word}
+use Rattle.prism_items.proofs.Expressions.{short_word, expr_of_scope, true_word, name_word, parenthesis_word}
+use Rattle.prism_items.proofs.Closing.{differ, passes}
 use Rattle.prism_items.proofs.Declaring.{name_one, name_word as a_name_word, expression_closed}
 use Rattle.prism_items.proofs.Choosing.{not_here, opens_off}
 use Rattle.prism_items.proofs.Lacking.{expr_lacks, prime_strange, free_inside}
@@ -238,9 +242,6 @@ first_true s t us h =
     step _ _ (leads_on (alone_leads s (t ∷ us)) (leads_on (or_left _ _ none (t ∷ us) b)
     (same_leads none (t ∷ us) (same_trans (assoc _ _ _) (same_then _ _ _ (λ u. gives_then [] _)))))) (token_one _) (token_reads t us refl h)
 
-pub alone_word : (s : Scope) → HasWord (Alone s)
-alone_word s = closed_word _ (then_word (update_word s) (λ ws. gives_word _))
-
 pub writes_word : (s : Scope) (w : Write) → HasWord (front (in_scope further_write s) (w ∷ []) >>= λ ws. symbol S.Semicolon >>= λ t. gives (one_branch ws))
 writes_word s w = then_word (folding_word with_last (in_scope further_write s) (w ∷ [])) (λ ws. then_word (token_word _) (λ t. gives_word _))
 
@@ -259,14 +260,6 @@ update_true s ts e = or_left _ _ writes_on ts (opens_off _ _ writes_on (K.Word W
 starts_within : (a b : TokenKind → Bool) (ts : List Lexeme) → ((k : TokenKind) → a k ≡ true → b k ≡ true) → starts a ts ≡ true → starts b ts ≡ true
 starts_within a b [] h e = absurd cc
 starts_within a b (t ∷ ts) h e = h t.kind e
-
-or_first : (a b : Bool) → a ≡ true → (a || b) ≡ true
-or_first true b h = refl
-or_first false b h = absurd cc
-
-or_neither : (a b : Bool) → a ≡ false → b ≡ false → (a || b) ≡ false
-or_neither true b g h = absurd cc
-or_neither false b g h = h
 
 plus_starts : (ts : List Lexeme) → starts (is_kind (K.Symbol S.Plus)) ts ≡ true → starts branches_on ts ≡ true
 plus_starts ts e = starts_within (is_kind (K.Symbol S.Plus)) branches_on ts (λ k h. or_first _ _ h) e
@@ -287,7 +280,7 @@ branches_done s {ts} {us} xs i e f = loop_done with_last (in_scope further_branc
   where
     neither : (us : List Lexeme) → starts (is_kind (K.Symbol S.Plus)) us ≡ false → Ends writes_on us → starts branches_on us ≡ false
     neither [] e f = refl
-    neither (t ∷ us) e f = or_neither _ _ e f
+    neither (t ∷ us) e f = or_from _ _ e f
 
 -- ---- three tokens of sight
 

@@ -11,3 +11,4 @@ mod sections;
 mod updates;
 
 pub use files::parse_sections;
+pub use readers::{read_symbol, read_word, symbol_next, word_next};

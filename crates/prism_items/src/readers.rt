@@ -14,7 +14,7 @@ use std::alloc::Global;
 use std::str::from_utf8;
 
 /// Whether this symbol stands next.
-pub(crate) fn symbol_next(tokens: Tokens, wanted: Symbol) -> bool
+pub fn symbol_next(tokens: Tokens, wanted: Symbol) -> bool
     ensures { result ≡ starts (is_kind (K.Symbol wanted)) (seen tokens.entry) }
 {
     match tokens.found.first() {
@@ -27,7 +27,7 @@ pub(crate) fn symbol_next(tokens: Tokens, wanted: Symbol) -> bool
 }
 
 /// Whether this word stands next.
-pub(crate) fn word_next(tokens: Tokens, wanted: Reserved) -> bool
+pub fn word_next(tokens: Tokens, wanted: Reserved) -> bool
     ensures { result ≡ starts (is_kind (K.Word wanted)) (seen tokens.entry) }
 {
     match tokens.found.first() {
@@ -108,10 +108,7 @@ fn quotation<'a>(tokens: Tokens<'a>, found: Found) -> Option<&'a str>
 }
 
 /// One symbol.
-pub(crate) fn read_symbol<'a>(
-    tokens: Tokens<'a>,
-    wanted: Symbol,
-) -> Result<(Found, Tokens<'a>), Stop<'a>>
+pub fn read_symbol<'a>(tokens: Tokens<'a>, wanted: Symbol) -> Result<(Found, Tokens<'a>), Stop<'a>>
     ensures { ParsesIn (lexeme_at tokens.entry.source.now.bytes.now tokens.entry.source.now.literals.now) (λ s. symbol wanted) none (seen tokens.entry) result }
 {
     let Some((first, rest)) = tokens.found.split_first() else {
@@ -124,10 +121,7 @@ pub(crate) fn read_symbol<'a>(
 }
 
 /// One word.
-pub(crate) fn read_word<'a>(
-    tokens: Tokens<'a>,
-    wanted: Reserved,
-) -> Result<(Found, Tokens<'a>), Stop<'a>>
+pub fn read_word<'a>(tokens: Tokens<'a>, wanted: Reserved) -> Result<(Found, Tokens<'a>), Stop<'a>>
     ensures { ParsesIn (lexeme_at tokens.entry.source.now.bytes.now tokens.entry.source.now.literals.now) (λ s. word wanted) none (seen tokens.entry) result }
 {
     let Some((first, rest)) = tokens.found.split_first() else {

@@ -5,7 +5,8 @@ use Rattle.std.specs.List.{list_all}
 use Rattle.std.proofs.lemmas.List.Elements.{All-contains}
 use Rattle.std.proofs.lemmas.List.Sums.{AllPass-from_list_all}
 use Rattle.std.specs.Str.{bytes_eq}
-use Rattle.std.proofs.lemmas.Slice.Eq.{bytes_eq-Decides}
+use Rattle.std.proofs.lemmas.Bool.{and_parts, or_cases}
+use Rattle.basics.specs.Texts.{bytes_eq-true}
 use Rattle.bridge_io.specs.declared.reason.Reason.{Reason}
 use Rattle.bridge_io.specs.declared.reason.Reason.TheVariants.{Syntax, OtherKind, LeftOut, InitialSet}
 use Rattle.prism_lex.specs.declared.token.TokenKind.{TokenKind}
@@ -73,10 +74,6 @@ ident_same : (k : TokenKind) → is_ident k ≡ true → k ≡ K.Ident
 ident_same K.Ident e = refl
 ident_same k e = absurd cc
 
-both : (a b : Bool) → (a && b) ≡ true → (a ≡ true) × (b ≡ true)
-both true b e = (refl, e)
-both false b e = absurd cc
-
 -- ---- the token before
 
 pub ends_last : (p : Lexeme → Bool) (a : List Lexeme) (s : Lexeme) → ends_with p (a ++ s ∷ []) ≡ p s
@@ -89,28 +86,20 @@ ends_some p [] e = absurd cc
 ends_some p (t ∷ []) e = ([], t, refl, e)
 ends_some p (t ∷ u ∷ ts) e = let r = ends_some p (u ∷ ts) e in (t ∷ r.0, r.1, ap (λ (l : List Lexeme). t ∷ l) r.2, r.3)
 
-either : (a b : Bool) → (a || b) ≡ true → (a ≡ true) ⊎ (b ≡ true)
-either true b e = inl refl
-either false b e = inr e
-
--- what the one list has, the other has
-pub same_text : (w v : List ℕ) → bytes_eq w v ≡ true → w ≡ v
-same_text w v e = (bytes_eq-Decides w v).0 e
-
 pub text_is : (w : List ℕ) → is_left_out_text w ≡ true → Contains left_out_functions w
-text_is w e = pow (either _ _ e)
+text_is w e = pow (or_cases _ _ e)
   where
     last : (bytes_eq w (codes "round") ≡ true) ⊎ (bytes_eq w (codes "multi") ≡ true) → Contains left_out_functions w
-    last (inl a) = (2, omega arith, sym (same_text w (codes "round") a))
-    last (inr b) = (3, omega arith, sym (same_text w (codes "multi") b))
+    last (inl a) = (2, omega arith, sym (bytes_eq-true w (codes "round") a))
+    last (inr b) = (3, omega arith, sym (bytes_eq-true w (codes "multi") b))
 
     log : (bytes_eq w (codes "log") ≡ true) ⊎ ((bytes_eq w (codes "round") || bytes_eq w (codes "multi")) ≡ true) → Contains left_out_functions w
-    log (inl a) = (1, omega arith, sym (same_text w (codes "log") a))
-    log (inr b) = last (either _ _ b)
+    log (inl a) = (1, omega arith, sym (bytes_eq-true w (codes "log") a))
+    log (inr b) = last (or_cases _ _ b)
 
     pow : (bytes_eq w (codes "pow") ≡ true) ⊎ ((bytes_eq w (codes "log") || (bytes_eq w (codes "round") || bytes_eq w (codes "multi"))) ≡ true) → Contains left_out_functions w
-    pow (inl a) = (0, omega arith, sym (same_text w (codes "pow") a))
-    pow (inr b) = log (either _ _ b)
+    pow (inl a) = (0, omega arith, sym (bytes_eq-true w (codes "pow") a))
+    pow (inr b) = log (or_cases _ _ b)
 
 text_test : (w : List ℕ) → Contains left_out_functions w → is_left_out_text w ≡ true
 text_test w c = all_contained is_left_out_text left_out_functions w refl c
@@ -183,9 +172,9 @@ module _ (end : ℕ) (us : List Lexeme) (t : Lexeme) where
 
   symbol_is : (s : PrismSymbol) → t.kind ≡ K.Symbol s → (Goes end us t → ⊥) → (b : Bool) → (is_open s && ends_with is_left_out_name us) ≡ b → IsReason end us t (left_out_reason b)
   symbol_is s h dead true e =
-      let a = both (is_open s) (ends_with is_left_out_name us) e in
+      let a = and_parts (is_open s) (ends_with is_left_out_name us) e in
       let l = ends_some is_left_out_name us a.1 in
-      let n = both (is_ident l.1.kind) (is_left_out_text l.1.text) l.3 in
+      let n = and_parts (is_ident l.1.kind) (is_left_out_text l.1.text) l.3 in
       not_read LeftOut dead (a_left_out_function (h ∙ ap K.Symbol (open_same s a.0)) l.0 l.1 l.2 (ident_same l.1.kind n.0) (text_is l.1.text n.1))
   symbol_is s h dead false e =
       no_form dead (no_other (ap (of_word is_kind_word) h) (ap (of_word is_left_out) h) (λ w f. let g : K.Word w ≡ K.Symbol s = sym f ∙ h in absurd cc)

@@ -1,6 +1,6 @@
 -- The trees of PRISM files without the addresses of their boxes (PRISM manual, "The PRISM Language"), and the tree that
 -- the code holds.
-use Rattle.std.specs.Prelude.{ℕ, List, [], map, Bool, Option, Some, None}
+use Rattle.std.specs.Prelude.{ℕ, List, map, Option}
 use Rattle.std.specs.Option.{option_map}
 use Rattle.bridge_io.specs.declared.reason.Named.{Named}
 use Rattle.op_trees.specs.declared.tree.Ty.{Ty}
@@ -25,15 +25,6 @@ use Rattle.prism_tree.specs.declared.syntax.ItemOn.{ItemOn}
 
 abbrev pub Expression : Type 0
 Expression = Tree PrismOp
-
--- the offset at which an expression begins
-abbrev pub offset_of : Expression → ℕ
-offset_of (Truth at b) = at
-offset_of (Number at d) = at
-offset_of (Name at x) = at
-offset_of (One at o a) = at
-offset_of (Two at o a b) = at
-offset_of (Three at o a b c) = at
 
 -- the expression, but that its node begins at another offset
 abbrev pub moved : ℕ → Expression → Expression

@@ -1,5 +1,5 @@
 use Rattle.std.proofs.Common.{sym, subst}
-use Rattle.op_trees.specs.Tree.{Tree, substituted, tree}
+use Rattle.op_trees.specs.Tree.{Tree, tree}
 use Rattle.op_trees.specs.Seen.{SeesBodies}
 use Rattle.op_trees.specs.SeenLaws.{seen-substituted_same}
 use Rattle.op_trees.proofs.Made.{if_ok}

@@ -1,6 +1,6 @@
 use Rattle.std.proofs.Common.{rules, ◌≡◌, ◌∙◌, ap, sym, refl, ℕ, ◌≤◌, arith}
 use Rattle.op_trees.specs.Tree.{tree, Two}
-use Rattle.prism_tree.specs.Syntax.{offset_of}
+use Rattle.op_trees.specs.Names.{offset_of}
 use Rattle.prism_tree.specs.Grammar.{expr}
 use Rattle.prism_exprs.specs.Levels.{more, goes_on}
 use Rattle.prism_exprs.proofs.Laws.{leaves}

@@ -2,9 +2,9 @@ use Rattle.prism_lex.specs.declared.token.TokenKind.TheVariants as K
 use Rattle.prism_exprs.specs.Reading.{none}
 use Rattle.prism_exprs.specs.Levels.{goes_on}
 use Rattle.prism_exprs.proofs.Laws.{token_one, token_word, token_follows, then_word, gives_word, gives_reads}
+use Rattle.prism_exprs.proofs.Outer.{expressions_one}
 use Rattle.prism_items.specs.Parts.{in_scope, closed_by, closed_expression}
 use Rattle.prism_items.proofs.Leading.{begin, step, step_to, halt, halt_at, leaves}
-use Rattle.prism_items.proofs.Expressions.{expressions_one}
 use Rattle.prism_items.proofs.closed.parse_closed.Goals as goal
 
 pub returns-in_err-value : goal.returns-in_err-value

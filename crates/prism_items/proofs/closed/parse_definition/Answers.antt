@@ -2,9 +2,9 @@ use Rattle.op_trees.specs.Tree.{tree}
 use Rattle.prism_lex.specs.declared.symbols.Symbol.TheVariants as S
 use Rattle.prism_exprs.specs.Reading.{none}
 use Rattle.prism_exprs.proofs.Laws.{token_one}
+use Rattle.prism_exprs.proofs.Outer.{expressions_word}
 use Rattle.prism_items.specs.Parts.{in_scope, closed_expression, definition}
 use Rattle.prism_items.proofs.Leading.{begin, step, halt, leaves, parses_by}
-use Rattle.prism_items.proofs.Expressions.{expressions_word}
 use Rattle.prism_items.proofs.Closing.{closed_word}
 use Rattle.prism_items.proofs.closed.parse_definition.Goals as goal
 

@@ -1,9 +1,9 @@
 use Rattle.prism_tree.specs.Grammar.{label_item}
 use Rattle.prism_exprs.specs.Reading.{none}
 use Rattle.prism_exprs.proofs.Laws.{token_one, token_word, then_word, gives_word, gives_reads}
+use Rattle.prism_exprs.proofs.Outer.{expressions_word}
 use Rattle.prism_items.specs.Parts.{in_scope}
 use Rattle.prism_items.proofs.Leading.{begin, step, halt, leaves}
-use Rattle.prism_items.proofs.Expressions.{expressions_word}
 use Rattle.prism_items.proofs.Closing.{defining, definition_one}
 use Rattle.prism_items.proofs.Declaring.{quoted_one, quoted_word}
 use Rattle.prism_items.proofs.declarations.parse_label.Goals as goal

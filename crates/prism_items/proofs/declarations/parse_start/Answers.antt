@@ -2,8 +2,8 @@ use Rattle.std.proofs.Common.{◌∙◌, sym, refl}
 use Rattle.prism_lex.specs.declared.token.TokenKind.TheVariants as K
 use Rattle.prism_lex.specs.declared.words.Reserved.TheVariants as W
 use Rattle.prism_exprs.proofs.Laws.{token_one, token_word, then_word, gives_word, gives_reads}
+use Rattle.prism_exprs.proofs.Outer.{expressions_word}
 use Rattle.prism_items.proofs.Leading.{step, halt, leaves}
-use Rattle.prism_items.proofs.Expressions.{expressions_word}
 use Rattle.prism_items.proofs.Closing.{closing, closed_expression_one}
 use Rattle.prism_items.proofs.Choosing.{ended_none, ended_some}
 use Rattle.prism_items.proofs.declarations.parse_start.Goals as goal

@@ -2,9 +2,9 @@ use Rattle.std.proofs.Common.{refl}
 use Rattle.prism_tree.specs.Grammar.{command}
 use Rattle.prism_exprs.specs.Reading.{none}
 use Rattle.prism_exprs.proofs.Laws.{token_word, then_word, gives_word, gives_reads}
+use Rattle.prism_exprs.proofs.Outer.{expressions_word}
 use Rattle.prism_items.specs.Parts.{in_scope}
 use Rattle.prism_items.proofs.Leading.{begin, step, halt, leaves}
-use Rattle.prism_items.proofs.Expressions.{expressions_word}
 use Rattle.prism_items.proofs.Closing.{closing, defining, closed_expression_one}
 use Rattle.prism_items.proofs.Building.{brackets_one}
 use Rattle.prism_items.proofs.Splitting.{ended_updates_one, updates_word}

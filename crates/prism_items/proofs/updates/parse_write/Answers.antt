@@ -2,9 +2,9 @@ use Rattle.std.proofs.Common.{refl}
 use Rattle.prism_tree.specs.Grammar.{write}
 use Rattle.prism_exprs.specs.Reading.{none}
 use Rattle.prism_exprs.proofs.Laws.{token_word, then_word, gives_word, gives_reads}
+use Rattle.prism_exprs.proofs.Outer.{expressions_word}
 use Rattle.prism_items.specs.Parts.{in_scope}
 use Rattle.prism_items.proofs.Leading.{begin, step, halt, leaves}
-use Rattle.prism_items.proofs.Expressions.{expressions_word}
 use Rattle.prism_items.proofs.Closing.{closing, closed_expression_one}
 use Rattle.prism_items.proofs.Updating.{target_one, targeting}
 use Rattle.prism_items.proofs.updates.parse_write.Goals as goal
