@@ -4,35 +4,18 @@ use Rattle.std.specs.List.{list_any}
 use Rattle.std.proofs.Common.{◌≡◌, refl, sym, ap, ap₂, ◌∙◌, get_or, arith}
 use Rattle.std.proofs.Math.Path.{fun_ext}
 use Rattle.std.proofs.lemmas.Bool.Decides.{nat_tests}
-use Rattle.std.proofs.lemmas.List.{at_drop_more, at_drop_all}
+use Rattle.std.proofs.lemmas.List.{at_drop_more, at_drop_all, get_or_default}
+use Rattle.std.proofs.Math.Bool.{or_assoc}
+use Rattle.basics.specs.Members.{any_two, any_never}
 use Rattle.bridge_io.specs.declared.reason.Named.{Named}
-use Rattle.jani_check.specs.Things.{Name}
+use Rattle.name_rules.specs.Names.{Name}
 use Rattle.jani_check.specs.TypeFaults.{meet}
 use Rattle.jani_check.specs.Participants.{parts_taken, part_taken, meets_with}
-use Rattle.jani_check.proofs.Append.{get_or_any}
-
-or_swap : (a b c d : Bool) → ((a || b) || (c || d)) ≡ ((a || c) || (b || d))
-or_swap true b c d = refl
-or_swap false true true d = refl
-or_swap false true false d = refl
-or_swap false false c d = refl
-
-or_assoc : (a b c : Bool) → ((a || b) || c) ≡ (a || (b || c))
-or_assoc true b c = refl
-or_assoc false b c = refl
-
-pub any_or : {A : Type 0} (f g : A → Bool) (xs : List A) → list_any (λ x. f x || g x) xs ≡ (list_any f xs || list_any g xs)
-any_or f g [] = refl
-any_or f g (x ∷ xs) = ap (λ b. (f x || g x) || b) (any_or f g xs) ∙ or_swap (f x) (g x) (list_any f xs) (list_any g xs)
-
-any_none : {A : Type 0} (xs : List A) → list_any (λ x. false) xs ≡ false
-any_none [] = refl
-any_none (x ∷ xs) = any_none xs
 
 -- some pair of two lists passes, whichever list is gone through first
 pub exchange : {A B : Type 0} (r : A → B → Bool) (xs : List A) (ys : List B) → list_any (λ y. list_any (λ x. r x y) xs) ys ≡ list_any (λ x. list_any (r x) ys) xs
-exchange r [] ys = any_none ys
-exchange r (x ∷ xs) ys = any_or (r x) (λ y. list_any (λ x. r x y) xs) ys ∙ ap (λ b. list_any (r x) ys || b) (exchange r xs ys)
+exchange r [] ys = any_never ys
+exchange r (x ∷ xs) ys = any_two (r x) (λ y. list_any (λ x. r x y) xs) ys ∙ ap (λ b. list_any (r x) ys || b) (exchange r xs ys)
 
 -- ---- names that were seen before
 pub seen_more : (seen new : Name → Bool) (xs : List Name) (lists : List (List Name)) → list_any seen xs ≡ false →
@@ -43,15 +26,15 @@ seen_more seen new xs lists none more =
     ∙ ap (λ b. b || meet lists)
     (ap (λ b. list_any (list_any seen) lists || b) (sym (exchange (λ x l. list_any (bytes_eq x) l) xs lists)
     ∙ ap (λ f. list_any f lists) (fun_ext (λ l. sym (exchange bytes_eq xs l))))
-    ∙ sym (any_or (list_any seen) (λ l. list_any (λ y. list_any (λ x. bytes_eq x y) xs) l) lists)
-    ∙ ap (λ f. list_any f lists) (fun_ext (λ l. sym (any_or seen (λ y. list_any (λ x. bytes_eq x y) xs) l)))
+    ∙ sym (any_two (list_any seen) (λ l. list_any (λ y. list_any (λ x. bytes_eq x y) xs) l) lists)
+    ∙ ap (λ f. list_any f lists) (fun_ext (λ l. sym (any_two seen (λ y. list_any (λ x. bytes_eq x y) xs) l)))
     ∙ ap (λ f. list_any (list_any f) lists) (sym (fun_ext more)))
   where
     common : Bool
     common = list_any (λ x. list_any (list_any (bytes_eq x)) lists) xs
 
 pub meets_none : (lists : List (List Name)) → meets_with (λ y. false) lists ≡ meet lists
-meets_none lists = ap (λ b. b || meet lists) (ap (λ f. list_any f lists) (fun_ext (λ l. any_none l)) ∙ any_none lists)
+meets_none lists = ap (λ b. b || meet lists) (ap (λ f. list_any f lists) (fun_ext (λ l. any_never l)) ∙ any_never lists)
 
 -- ---- one element more, and its part of the vector
 one_part : {X : Type 0} (none : X) (f : Name → X) (p : Option Named) (fs : List (Name → X)) (ps : List (Option Named)) →
@@ -93,8 +76,8 @@ pub meets_next : {A : Type 0} (view : A → Name → List Name) (ts : List A) (p
 meets_next view ts ps i count t u p q seen new whole h e it iu ip iq none more so_far =
     let in_ts : i < length ts = omega (arith, h, e) in
     let in_ps : i < length ps = omega (arith, h, e) in
-    let same_t : u ≡ t = iu ∙ get_or_any ts i u t in_ts ∙ sym it in
-    let same_p : q ≡ p = iq ∙ get_or_any ps i q p in_ps ∙ sym ip in
+    let same_t : u ≡ t = iu ∙ get_or_default ts i u t in_ts ∙ sym it in
+    let same_p : q ≡ p = iq ∙ get_or_default ps i q p in_ps ∙ sym ip in
     sym (seen_more seen new (part_taken [] (view t) p) (parts_taken [] (map view (drop (i + 1) ts)) (drop (i + 1) ps)) none
     (λ y. more y ∙ ap₂ (λ a b. seen y || list_any (λ x. bytes_eq x y) (part_taken [] (view a) b)) same_t same_p))
     ∙ ap₂ (λ a b. meets_with seen (part_taken [] (view a) b ∷ parts_taken [] (map view (drop (i + 1) ts)) (drop (i + 1) ps))) it ip

@@ -5,6 +5,7 @@ use Rattle.std.specs.Option.{option_map}
 use Rattle.std.proofs.Common.{refl, sym, ap, ap₂, subst, ◌∙◌}
 use Rattle.std.proofs.lemmas.List.{length-map}
 use Rattle.std.proofs.Math.Path.{fun_ext}
+use Rattle.basics.specs.Members.{any_agree}
 use Rattle.bridge_io.specs.declared.reason.Named.{Named}
 use Rattle.bridge_io.specs.declared.reason.Reason.{Reason}
 use Rattle.bridge_io.specs.declared.reason.Reason.TheVariants.{TwiceNamed, Unknown, RepeatedAutomaton, WrongType, WrittenTwice, NotConstant, ForeignWrite, TransientRead, TransientTwoAutomata, LabelOnEdge, TransientInitial, Cycle, BadVector, Nothing, BranchReward, TwoRewardWriters}
@@ -14,6 +15,8 @@ use Rattle.op_trees.specs.declared.tree.Ty.TheVariants as T
 use Rattle.op_trees.specs.Tree.{Truth, Number, Name as At, One, Two, Three, bare}
 use Rattle.op_trees.specs.Types.{Types, type_in, misfits, misfit_at}
 use Rattle.op_trees.specs.TypeLaws.{type-bare}
+use Rattle.op_trees.specs.Names.{names_of, offset_of}
+use Rattle.op_trees.specs.NameLaws.{offset-bare, some_name-bare, names-bare}
 use Rattle.jani_table.specs.Operators.{jani_meaning, op_text}
 use Rattle.jani_tree.specs.Syntax.{Expression, Const, VarKind, boolean, integer, number, real_bounded, one_sided, bounded, Var, Write, Location, Destination, Edge, Automaton, Vector, File}
 use Rattle.jani_tree.specs.Places.{bare_name, bare_const, bare_kind, bare_var, bare_write, bare_location, bare_destination, bare_edge, bare_automaton, bare_part, bare_vector, bare_file}
@@ -22,11 +25,13 @@ use Rattle.jani_check.specs.declared.things.Thing.{Thing}
 use Rattle.jani_check.specs.declared.things.Thing.TheVariants.{Variable, Transient}
 use Rattle.jani_check.specs.declared.demands.Wanted.{Wanted}
 use Rattle.jani_check.specs.declared.demands.Wanted.TheVariants as W
-use Rattle.jani_check.specs.Least.{fault, fault_if}
-use Rattle.jani_check.specs.Things.{Name, is_called, offset_of, kind_type, const_thing, var_thing, const_called, var_called, automaton_called, or_else, global_thing, beside, types_by, is_constant, is_lasting, is_transient, is_label, is_reward}
+use Rattle.name_rules.specs.Least.{fault, fault_if}
+use Rattle.jani_check.specs.Things.{kind_type, const_thing, var_thing, const_called, var_called, automaton_called, or_else, global_thing, beside, types_by, is_constant, is_lasting, is_transient, is_label, is_reward}
+use Rattle.name_rules.specs.Names.{Name, is_called, is_among}
 use Rattle.jani_check.specs.Demands.{Demand, fixed, varying, assigned, given, wanted_by, if_some, const_demands, bound_demands, var_demands, location_demands, destination_demands, edge_demands, automaton_demands, outer_demands}
-use Rattle.jani_check.specs.NameFaults.{is_among, clash, doubled_after, doubled, var_names, global_names, location_names, automaton_names, doubled_in, doubled_names, names_of, names_used, unless_known, unknown_by, edge_locations, locations_used, actions_used, unknown_in, vector_actions, unknown_names, uses, uses_of, leads_to, is_circular, circular, circles, repeated_elements, no_element, bad_vector, composition_faults, name_faults}
-use Rattle.jani_check.specs.TypeFaults.{kind_fault, var_faults, is_unwanted, type_faults_of, some_name, is_variable, has_variable, wanted_at, demand_faults, targets, repeated, edge_repeats, repeated_writes, automaton_faults, has_action, edge_writes, with_automaton, taken_part, participants, assigned_by, edge_shared, shared_by, meet, clashing_writes, type_faults}
+use Rattle.jani_check.specs.NameFaults.{var_names, global_names, location_names, automaton_names, doubled_in, doubled_names, names_used, unless_known, unknown_by, edge_locations, locations_used, actions_used, unknown_in, vector_actions, unknown_names, uses, uses_of, leads_to, is_circular, circular, circles, repeated_elements, no_element, bad_vector, composition_faults, name_faults}
+use Rattle.name_rules.specs.Doubled.{clash, doubled_after, doubled}
+use Rattle.jani_check.specs.TypeFaults.{kind_fault, var_faults, is_unwanted, type_faults_of, is_variable, has_variable, wanted_at, demand_faults, targets, repeated, edge_repeats, repeated_writes, automaton_faults, has_action, edge_writes, with_automaton, taken_part, participants, assigned_by, edge_shared, shared_by, meet, clashing_writes, type_faults}
 use Rattle.jani_check.specs.ProfileFaults.{read_fault, reads, demand_profile, is_first, first_fault, start_faults, given_by, given_again, given_after, same_number, same_tree, value_for, rewards_by, lacks, differ, some_differ, branch_rewards, automaton_profile, assigns_reward, rewards_with, two_hold, two_writers, profile_faults}
 use Rattle.jani_check.specs.Faults as checked
 use Rattle.jani_check.specs.Faults.{faults}
@@ -161,16 +166,6 @@ demanded : (g h : Demand → List Fault) → ((d : Demand) → g (bare_demand d)
 demanded g h e us ds k = ap (flat_map g) k ∙ gathered placeless bare_demand g h e ds
 
 -- ---- names that are not declared
-names-bare : (e : Expression) → names_of (bare e) ≡ map bare_name (names_of e)
-names-bare (Truth at b) = refl
-names-bare (Number at d) = refl
-names-bare (At at x) = refl
-names-bare (One at o a) = names-bare a
-names-bare (Two at o a b) = joined bare_name (names_of (bare a)) (names_of (bare b)) (names_of a) (names_of b) (names-bare a) (names-bare b)
-names-bare (Three at o a b c) =
-    joined bare_name (names_of (bare a)) (names_of (bare b) ++ names_of (bare c)) (names_of a) (names_of b ++ names_of c) (names-bare a)
-    (joined bare_name (names_of (bare b)) (names_of (bare c)) (names_of b) (names_of c) (names-bare b) (names-bare c))
-
 used-bare : (d : Demand) → names_used (bare_demand d) ≡ map bare_name (names_used d)
 used-bare (fixed w e) = names-bare e
 used-bare (varying w e) = names-bare e
@@ -248,10 +243,6 @@ uses_of-bare : (cs : List Const) (x : Name) → uses_of (map bare_const cs) x �
 uses_of-bare cs x =
     ap (flat_map uses) (kept_mapped bare_const (λ c. is_called x c.name) (λ c. is_called x c.name) (λ c. refl) cs)
     ∙ walked bare_const uses uses uses-bare (filter (λ c. is_called x c.name) cs)
-
-any_agree : {A : Type 0} (p q : A → Bool) → ((x : A) → p x ≡ q x) → (xs : List A) → list_any p xs ≡ list_any q xs
-any_agree p q h [] = refl
-any_agree p q h (x ∷ xs) = ap₂ (λ a b. a || b) (h x) (any_agree p q h xs)
 
 leads-bare : (cs : List Const) (n : ℕ) (x y : Name) → leads_to (map bare_const cs) n x y ≡ leads_to cs n x y
 leads-bare cs zero x y = refl
@@ -342,14 +333,6 @@ var_faults-bare x = ap (λ o. map (fault 0) (if_some o)) (kind_fault-bare x.tran
     of_reason None = refl
     of_reason (Some r) = refl
 
-offset-bare : (e : Expression) → offset_of (bare e) ≡ 0
-offset-bare (Truth at b) = refl
-offset-bare (Number at d) = refl
-offset-bare (At at x) = refl
-offset-bare (One at o a) = refl
-offset-bare (Two at o a b) = refl
-offset-bare (Three at o a b c) = refl
-
 -- every offset is 0
 abbrev noughts : List ℕ → List ℕ
 noughts ns = map (λ n. 0) ns
@@ -393,14 +376,6 @@ module _ (ty : Types) where
       joined placeless (map (λ at. fault at WrongType) (misfits jani_meaning ty (bare e))) _ (map (λ at. fault at WrongType) (misfits jani_meaning ty e)) _
       (ap (map (λ at. fault at WrongType)) (misfits-bare e) ∙ turned placeless (λ n. 0) (λ at. fault at WrongType) (λ at. fault at WrongType) (λ n. refl) (misfits jani_meaning ty e))
       (here-bare _ _ WrongType e (ap (is_unwanted w) (type-bare jani_meaning e ty)))
-
-some_name-bare : (p : Name → Bool) (e : Expression) → some_name p (bare e) ≡ some_name p e
-some_name-bare p (Truth at b) = refl
-some_name-bare p (Number at d) = refl
-some_name-bare p (At at x) = refl
-some_name-bare p (One at o a) = some_name-bare p a
-some_name-bare p (Two at o a b) = ap₂ (λ x y. x || y) (some_name-bare p a) (some_name-bare p b)
-some_name-bare p (Three at o a b c) = ap₂ (λ x y. x || y) (some_name-bare p a) (ap₂ (λ x y. x || y) (some_name-bare p b) (some_name-bare p c))
 
 demand_faults-bare : (things : Name → Option Thing) (d : Demand) → demand_faults things (bare_demand d) ≡ map placeless (demand_faults things d)
 demand_faults-bare things (fixed w e) =

@@ -7,11 +7,10 @@ use Rattle.bridge_io.specs.declared.reason.Fault.{Fault}
 use Rattle.op_trees.specs.declared.tree.Ty.TheVariants as T
 use Rattle.op_trees.specs.Tree.{Truth, Number, Name as At, Two}
 use Rattle.jani_table.specs.declared.operator.JaniOp.TheVariants as O
-use Rattle.jani_table.specs.Least.{soonest}
+use Rattle.name_rules.specs.Least.{soonest, fault}
 use Rattle.jani_table.specs.Node.{array, no_nodes}
 use Rattle.jani_tree.specs.Syntax.{Expression, Const, VarKind, boolean, integer, number as real, real_bounded, one_sided, bounded, Var, Write, Location, Destination, Edge, Automaton, Vector, File}
-use Rattle.jani_check.specs.Least.{fault}
-use Rattle.jani_check.specs.Things.{Name}
+use Rattle.name_rules.specs.Names.{Name}
 use Rattle.jani_check.specs.Faults.{faults}
 
 -- ---- short forms

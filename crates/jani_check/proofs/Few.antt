@@ -2,7 +2,7 @@
 use Rattle.std.specs.Prelude.{◌<◌, List, [], ◌∷◌, map, length, Option}
 use Rattle.std.proofs.Common.{◌≡◌, refl, arith}
 use Rattle.bridge_io.specs.declared.reason.Fault.{Fault}
-use Rattle.jani_table.specs.Least.{soonest}
+use Rattle.name_rules.specs.Least.{soonest}
 use Rattle.jani_tree.specs.declared.syntax.JaniWrite.{JaniWrite}
 use Rattle.jani_tree.specs.Syntax.{write_of}
 use Rattle.jani_check.specs.TypeFaults.{repeated}

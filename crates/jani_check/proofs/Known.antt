@@ -1,42 +1,64 @@
--- Sets of names beside others.
-use Rattle.std.specs.Prelude.{List, ◌++◌, Bool, true, false, ◌||◌, Option}
-use Rattle.std.specs.List.{flat_map}
-use Rattle.std.proofs.Common.{◌≡◌, refl, ap, ◌∙◌}
+-- Names that are known, by what names stand for.
+use Rattle.std.specs.Prelude.{List, [], ◌∷◌, ◌++◌, map, Bool, true, false, ◌||◌, Option, Some, None, is_some, if◌then◌else◌}
+use Rattle.std.specs.List.{find, flat_map, list_any}
+use Rattle.std.specs.Option.{option_map}
+use Rattle.std.proofs.Common.{◌≡◌, refl, sym, ap, ap₂, ◌∙◌}
 use Rattle.std.proofs.Math.Path.{fun_ext}
-use Rattle.bridge_io.specs.declared.reason.Named.{Named}
-use Rattle.bridge_io.specs.declared.reason.Fault.{Fault}
-use Rattle.jani_table.specs.Least.{soonest}
-use Rattle.jani_tree.specs.Syntax.{Automaton}
-use Rattle.jani_check.specs.Things.{Name}
-use Rattle.jani_check.specs.Demands.{Demand, automaton_demands}
-use Rattle.jani_check.specs.NameFaults.{is_among, var_names, location_names, locations_used, actions_used, unless_known, unknown_by, unknown_in}
-use Rattle.jani_check.proofs.Append.{soonest_both, three_parts}
+use Rattle.std.proofs.lemmas.List.Folds.{list_any-append}
+use Rattle.basics.specs.Options.{is_some-map}
+use Rattle.jani_tree.specs.Syntax.{Var, Automaton, File}
+use Rattle.jani_tree.proofs.Mapped.{any_mapped}
+use Rattle.jani_check.specs.Demands.{automaton_demands, outer_demands}
+use Rattle.jani_check.specs.Things.{or_else, const_thing, var_thing, var_called, const_called, global_thing, beside}
+use Rattle.name_rules.specs.Names.{Name, is_called, is_among}
+use Rattle.jani_check.specs.declared.things.Thing.{Thing}
+use Rattle.jani_check.specs.NameFaults.{var_names, global_names, unknown_by, unknown_in, unknown_within}
+use Rattle.jani_check.specs.Phases.{automaton_by, file_by}
+use Rattle.jani_check.specs.Scopes.{is_known}
 
-or_none : (b c : Bool) → c ≡ false → (b || c) ≡ b
-or_none true c h = refl
-or_none false c h = h
+pub found : {A : Type 0} (p : A → Bool) (xs : List A) → is_some (find p xs) ≡ list_any p xs
+found p [] = refl
+found p (x ∷ xs) = by_test (p x) (found p xs)
+  where
+    by_test : (b : Bool) → is_some (find p xs) ≡ list_any p xs → is_some (if b then Some x else find p xs) ≡ (b || list_any p xs)
+    by_test true h = refl
+    by_test false h = h
 
--- beside no others
-pub beside_none : (global own : Name → Bool) (ds : List Demand) → ((x : Name) → own x ≡ false) →
-    flat_map (unknown_by (λ x. global x || own x)) ds ≡ flat_map (unknown_by global) ds
-beside_none global own ds h = ap (λ k. flat_map (unknown_by k) ds) (fun_ext (λ x. or_none (global x) (own x) (h x)))
+either : {A : Type 0} (o p : Option A) → is_some (or_else o p) ≡ (is_some o || is_some p)
+either None p = refl
+either (Some x) p = refl
 
--- an automaton, part by part
-pub automaton_is : (a : Automaton) (global own locations actions : Name → Bool) (ds : List Demand) (initial edges acts : List Named)
-    (b0 b1 b2 b3 b4 : Option Fault) →
-    ((x : Name) → own x ≡ is_among (var_names a.variables) x) → ((x : Name) → locations x ≡ is_among (location_names a) x) →
-    ds ≡ automaton_demands a → initial ++ edges ≡ locations_used a → acts ≡ actions_used a →
-    b1 ≡ soonest b0 (flat_map (unknown_by (λ x. global x || own x)) ds) →
-    b2 ≡ soonest b1 (flat_map (unless_known locations) initial) → b3 ≡ soonest b2 (flat_map (unless_known locations) edges) →
-    b4 ≡ soonest b3 (flat_map (unless_known actions) acts) → b4 ≡ soonest b0 (unknown_in global actions a)
-automaton_is a global own locations actions ds initial edges acts b0 b1 b2 b3 b4 ho hl hd hu ha p1 p2 p3 p4 =
-    p4 ∙ ap (λ ns. soonest b3 (flat_map (unless_known actions) ns)) ha
-    ∙ three_parts
-    (flat_map (unknown_by (λ x. global x || is_among (var_names a.variables) x)) (automaton_demands a))
-    (flat_map (unless_known (is_among (location_names a))) (locations_used a))
-    (flat_map (unless_known actions) (actions_used a)) b0 b1 b3
-    (p1 ∙ ap (soonest b0)
-    (ap (λ o. flat_map (unknown_by (λ x. global x || o x)) ds) (fun_ext ho)
-    ∙ ap (flat_map (unknown_by (λ x. global x || is_among (var_names a.variables) x))) hd))
-    (soonest_both (unless_known locations) initial edges b1 b2 b3 p2 p3
-    ∙ ap (soonest b1) (ap (λ k. flat_map (unless_known k) (initial ++ edges)) (fun_ext hl) ∙ ap (flat_map (unless_known (is_among (location_names a)))) hu))
+vars_known : (xs : List Var) (x : Name) → is_some (option_map var_thing (var_called xs x)) ≡ is_among (var_names xs) x
+vars_known xs x =
+    is_some-map var_thing (var_called xs x)
+    ∙ found (λ v. is_called x v.name) xs
+    ∙ sym (any_mapped (λ v. v.name) (is_called x) (λ v. is_called x v.name) (λ v. refl) xs)
+
+global_known : (file : File) (x : Name) → is_known (global_thing file) x ≡ is_among (global_names file) x
+global_known file x =
+    either (option_map const_thing (const_called file x)) (option_map var_thing (var_called file.variables x))
+    ∙ ap₂ (λ a b. a || b)
+    (is_some-map const_thing (const_called file x)
+    ∙ found (λ c. is_called x c.name) file.constants
+    ∙ sym (any_mapped (λ c. c.name) (is_called x) (λ c. is_called x c.name) (λ c. refl) file.constants))
+    (vars_known file.variables x)
+    ∙ sym (list_any-append (is_called x) (map (λ c. c.name) file.constants) (var_names file.variables))
+
+nothing_each : {A B : Type 0} (xs : List A) (rest : List B) → flat_map (λ x. []) xs ++ rest ≡ rest
+nothing_each [] rest = refl
+nothing_each (x ∷ xs) rest = nothing_each xs rest
+
+module _ (file : File) (actions : Name → Bool) where
+  automaton_known : (a : Automaton) →
+      automaton_by (λ x. []) (λ things. unknown_by (is_known things)) (λ things. unknown_within actions) (global_thing file) a ≡ unknown_in (is_among (global_names file)) actions a
+  automaton_known a =
+      nothing_each a.variables _
+      ∙ ap (λ k. flat_map (unknown_by k) (automaton_demands a) ++ unknown_within actions a)
+      (fun_ext (λ x. either (global_thing file x) (option_map var_thing (var_called a.variables x)) ∙ ap₂ (λ b c. b || c) (global_known file x) (vars_known a.variables x)))
+
+  -- what is not known outside of automata, and in each of them
+  pub file_known : file_by (λ x. []) (λ things. unknown_by (is_known things)) (λ things. unknown_within actions) file
+      ≡ flat_map (unknown_by (is_among (global_names file))) (outer_demands file) ++ flat_map (unknown_in (is_among (global_names file)) actions) file.automata
+  file_known =
+      nothing_each file.variables _
+      ∙ ap₂ (λ k f. flat_map (unknown_by k) (outer_demands file) ++ flat_map f file.automata) (fun_ext (global_known file)) (fun_ext automaton_known)

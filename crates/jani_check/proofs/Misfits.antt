@@ -9,15 +9,14 @@ use Rattle.bridge_io.specs.declared.reason.Fault.{Fault}
 use Rattle.op_trees.specs.declared.tree.Ty.{Ty}
 use Rattle.op_trees.specs.Types.{Types, type_in, misfits, IsLeast}
 use Rattle.op_trees.specs.TypeLaws.{misfits_none}
-use Rattle.jani_table.specs.Least.{sooner, soonest}
+use Rattle.name_rules.specs.Least.{sooner, soonest, fault, fault_if}
 use Rattle.jani_table.specs.Operators.{jani_meaning}
 use Rattle.jani_tree.specs.Syntax.{Expression}
-use Rattle.jani_check.specs.Least.{fault, fault_if}
-use Rattle.jani_check.specs.Things.{offset_of}
+use Rattle.op_trees.specs.Names.{offset_of}
 use Rattle.jani_check.specs.declared.demands.Wanted.{Wanted}
 use Rattle.jani_check.specs.TypeFaults.{type_faults_of, is_wanted, is_unwanted}
-use Rattle.jani_check.proofs.OneReason.{sooner_twice}
-use Rattle.jani_check.proofs.Append.{soonest_then}
+use Rattle.name_rules.proofs.Soonest.{sooner_twice}
+use Rattle.name_rules.proofs.Append.{soonest_then}
 
 from_one : (n m : ℕ) (ms : List ℕ) (best : Option Fault) → n ≤ m → All (λ i. n ≤ i) ms → (m ≡ n) ⊎ Contains ms n →
     soonest (sooner best (fault m WrongType)) (map (λ at. fault at WrongType) ms) ≡ sooner best (fault n WrongType)

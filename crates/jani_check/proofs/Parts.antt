@@ -1,12 +1,12 @@
 -- Lists that are made part by part.
-use Rattle.std.specs.Prelude.{ℕ, ◌<◌, ◌≤◌, ◌+◌, List, [], ◌∷◌, ◌++◌, map, length, drop, Bool, true, false, if◌then◌else◌}
+use Rattle.std.specs.Prelude.{ℕ, ◌<◌, ◌≤◌, ◌+◌, List, [], ◌∷◌, ◌++◌, map, length, drop, Bool}
 use Rattle.std.specs.List.{filter, flat_map, sum_by}
-use Rattle.std.proofs.Common.{◌≡◌, refl, sym, ap, ◌∙◌, append_assoc, get_or, arith}
-use Rattle.std.proofs.lemmas.List.{at_drop_all, at_drop_more}
+use Rattle.std.proofs.Common.{◌≡◌, refl, sym, ap, ◌∙◌, append_assoc, get_or, arith, append-nil}
+use Rattle.std.proofs.lemmas.List.{at_drop_all, at_drop_more, map-append}
 use Rattle.std.proofs.lemmas.List.Concat.{flat_map_single}
-use Rattle.std.proofs.lemmas.List.Folds.{flat_map-map}
 use Rattle.std.proofs.lemmas.List.Sums.{sum_by-cons}
 use Rattle.std.proofs.lemmas.Simd.{map-map}
+use Rattle.std.proofs.lemmas.List.Elements.{filter-append}
 
 pub two_added : {A : Type 0} (a b l0 l1 l2 : List A) → l1 ≡ l0 ++ a → l2 ≡ l1 ++ b → l2 ≡ l0 ++ (a ++ b)
 two_added a b l0 l1 l2 p q = q ∙ ap (λ l. l ++ b) p ∙ append_assoc l0 a b
@@ -16,10 +16,6 @@ two_from_none a b l0 l1 l2 n p q = two_added a b l0 l1 l2 p q ∙ ap (λ l. l ++
 
 pub three_from_none : {A : Type 0} (a b c l0 l1 l2 l3 : List A) → l0 ≡ [] → l1 ≡ l0 ++ a → l2 ≡ l1 ++ b → l3 ≡ l2 ++ c → l3 ≡ a ++ (b ++ c)
 three_from_none a b c l0 l1 l2 l3 n p q r = r ∙ ap (λ l. l ++ c) (two_from_none a b l0 l1 l2 n p q) ∙ append_assoc a b c
-
--- the parts that a function reads are those of the whole
-pub each_of : {A B C : Type 0} (f : B → List C) (g : A → B) (xs ys : List A) → xs ≡ ys → flat_map (λ x. f (g x)) xs ≡ flat_map f (map g ys)
-each_of f g xs ys e = ap (flat_map (λ x. f (g x))) e ∙ sym (flat_map-map f g ys)
 
 -- one name each
 pub each_name : {A B C : Type 0} (f : B → C) (g : A → B) (xs ys : List A) → xs ≡ ys → flat_map (λ x. f (g x) ∷ []) xs ≡ map f (map g ys)
@@ -48,32 +44,28 @@ list_next view f xs i x l0 l1 whole h is added so_far =
     ∙ so_far
 
 pub list_done : {A B C : Type 0} (view : A → B) (f : B → List C) (xs : List A) (i : ℕ) (l whole : List C) → length xs ≤ i → l ++ flat_map f (map view (drop i xs)) ≡ whole → l ≡ whole
-list_done view f xs i l whole h so_far = sym (append_none l) ∙ sym (at_drop_all (λ ys. l ++ flat_map f (map view ys)) xs i h) ∙ so_far
-  where
-    append_none : {A : Type 0} (xs : List A) → xs ++ [] ≡ xs
-    append_none [] = refl
-    append_none (x ∷ xs) = ap (λ r. x ∷ r) (append_none xs)
+list_done view f xs i l whole h so_far = sym (append-nil l) ∙ sym (at_drop_all (λ ys. l ++ flat_map f (map view ys)) xs i h) ∙ so_far
+
+-- one element of a list more that is made element by element
+pub map_next : {A B C : Type 0} (view : A → B) (f : B → C) (xs : List A) (i : ℕ) (x : A) (l0 l1 whole : List C) → i < length xs → x ≡ get_or xs i x →
+    l1 ≡ l0 ++ f (view x) ∷ [] → l0 ++ map f (map view (drop i xs)) ≡ whole → l1 ++ map f (map view (drop (i + 1) xs)) ≡ whole
+map_next view f xs i x l0 l1 whole h is added so_far =
+    let rest = map f (map view (drop (i + 1) xs)) in
+    ap (λ l. l ++ rest) added
+    ∙ append_assoc l0 (f (view x) ∷ []) rest
+    ∙ sym (at_drop_more (λ ys. l0 ++ map f (map view ys)) xs i x h ∙ ap (λ y. l0 ++ map f (map view (y ∷ drop (i + 1) xs))) (sym is))
+    ∙ so_far
+
+pub map_done : {A B C : Type 0} (view : A → B) (f : B → C) (xs : List A) (i : ℕ) (l whole : List C) → length xs ≤ i → l ++ map f (map view (drop i xs)) ≡ whole → l ≡ whole
+map_done view f xs i l whole h so_far = sym (append-nil l) ∙ sym (at_drop_all (λ ys. l ++ map f (map view ys)) xs i h) ∙ so_far
 
 pub from_none : {A : Type 0} (l rest : List A) → l ≡ [] → l ++ rest ≡ rest
 from_none l rest e = ap (λ k. k ++ rest) e
 
-filter_append : {A : Type 0} (f : A → Bool) (xs ys : List A) → filter f (xs ++ ys) ≡ filter f xs ++ filter f ys
-filter_append f [] ys = refl
-filter_append f (x ∷ xs) ys = by_test (f x) (filter_append f xs ys)
-  where
-    by_test : (b : Bool) → filter f (xs ++ ys) ≡ filter f xs ++ filter f ys →
-        (if b then x ∷ filter f (xs ++ ys) else filter f (xs ++ ys)) ≡ (if b then x ∷ filter f xs else filter f xs) ++ filter f ys
-    by_test true h = ap (λ r. x ∷ r) h
-    by_test false h = h
-
-pub map_append : {A B : Type 0} (g : A → B) (xs ys : List A) → map g (xs ++ ys) ≡ map g xs ++ map g ys
-map_append g [] ys = refl
-map_append g (x ∷ xs) ys = ap (λ r. g x ∷ r) (map_append g xs ys)
-
 pub filter_flat : {A B C : Type 0} (f : C → Bool) (g : B → C) (h : A → List B) (xs : List A) → filter f (map g (flat_map h xs)) ≡ flat_map (λ x. filter f (map g (h x))) xs
 filter_flat f g h [] = refl
 filter_flat f g h (x ∷ xs) =
-    ap (filter f) (map_append g (h x) (flat_map h xs)) ∙ filter_append f (map g (h x)) (map g (flat_map h xs)) ∙ ap (λ r. filter f (map g (h x)) ++ r) (filter_flat f g h xs)
+    ap (filter f) (map-append g (h x) (flat_map h xs)) ∙ filter-append f (map g (h x)) (map g (flat_map h xs)) ∙ ap (λ r. filter f (map g (h x)) ++ r) (filter_flat f g h xs)
 
 -- one number of a sum more
 pub sum_next : {A : Type 0} (f : A → ℕ) (xs : List A) (i : ℕ) (x : A) (sum n whole : ℕ) → i < length xs → x ≡ get_or xs i x → n ≡ f x →
@@ -84,10 +76,3 @@ sum_next f xs i x sum n whole h is e so_far =
     let all : sum + sum_by f (x ∷ drop (i + 1) xs) ≡ whole =
     sym (at_drop_more (λ ys. sum + sum_by f ys) xs i x h ∙ ap (λ y. sum + sum_by f (y ∷ drop (i + 1) xs)) (sym is)) ∙ so_far in
     omega (arith, parts, all, e)
-
--- the names of one part after those of another
-pub names_both : {A B : Type 0} (g : A → B) (xs ys : List A) (l0 l1 l2 : List B) → l1 ≡ l0 ++ map g xs → l2 ≡ l1 ++ map g ys → l2 ≡ l0 ++ map g (xs ++ ys)
-names_both g xs ys l0 l1 l2 p q = two_added (map g xs) (map g ys) l0 l1 l2 p q ∙ ap (λ l. l0 ++ l) (sym (map_append g xs ys))
-
-pub names_three : {A B : Type 0} (g : A → B) (xs ys zs : List A) (l0 l1 l2 l3 : List B) → l1 ≡ l0 ++ map g xs → l2 ≡ l1 ++ map g ys → l3 ≡ l2 ++ map g zs → l3 ≡ l0 ++ map g (xs ++ (ys ++ zs))
-names_three g xs ys zs l0 l1 l2 l3 p q r = names_both g xs (ys ++ zs) l0 l1 l3 p (names_both g ys zs l1 l2 l3 q r)

@@ -2,16 +2,19 @@
 use Rattle.std.specs.Prelude.{◌≡◌, List, [], ◌∷◌, ◌++◌, map, Bool, true, false, Option, Some, None}
 use Rattle.std.specs.List.{flat_map}
 use Rattle.std.proofs.Common.{refl, sym, ap, subst, ◌∙◌}
+use Rattle.basics.specs.Each.{empty_each, each_with, each_then}
+use Rattle.basics.specs.Lists.{append_right}
 use Rattle.bridge_io.specs.declared.reason.Reason.{Reason}
 use Rattle.bridge_io.specs.declared.reason.Fault.{Fault}
 use Rattle.op_trees.specs.Tree.{Truth, Number, Name, One, Two, Three}
-use Rattle.jani_table.specs.Laws.{append_left, append_right}
+use Rattle.jani_table.specs.Laws.{append_left}
 use Rattle.jani_tree.specs.Syntax.{Expression, Const, VarKind, boolean, integer, number, real_bounded, one_sided, bounded, Var, Write, Location, Destination, Edge, Automaton, File}
 use Rattle.jani_tree.specs.Canonical.{OfSome, OfAll, HasOperands, HasBounds, VarForm, WriteForm, DestinationForm, EdgeForm, ConstForm, LocationForm, AutomatonForm, FileForm}
 use Rattle.jani_tree.specs.Form.{HasItems, ExprForm, KindForm, ConstRead, VarRead, WriteRead, LocationRead, DestinationRead, EdgeRead, AutomatonRead}
 use Rattle.jani_tree.specs.Back.{IsWritable}
 use Rattle.jani_tree.proofs.BareForm.{form_too, once_too}
-use Rattle.jani_check.specs.Least.{fault}
+use Rattle.name_rules.specs.Least.{fault}
+use Rattle.jani_tree.proofs.Wider.{some_wider}
 use Rattle.jani_check.specs.Things.{global_thing}
 use Rattle.jani_check.specs.Demands.{if_some, outer_demands, automaton_demands}
 use Rattle.jani_check.specs.NameFaults.{name_faults}
@@ -25,33 +28,16 @@ pub places_aside : PlacesAside
 places_aside f g e h = record { clean = none_too f g e h.clean; form = form_too HasItems f g e h.form; once = once_too f g e h.once }
 
 -- ---- no fault of a kind
-first_none : (xs ys : List Fault) → or_else xs ys ≡ [] → xs ≡ []
+pub first_none : (xs ys : List Fault) → or_else xs ys ≡ [] → xs ≡ []
 first_none [] ys e = refl
 first_none (x ∷ xs) ys e = absurd cc
 
-rest_none : (xs ys : List Fault) → or_else xs ys ≡ [] → ys ≡ []
+pub rest_none : (xs ys : List Fault) → or_else xs ys ≡ [] → ys ≡ []
 rest_none [] ys e = e
 rest_none (x ∷ xs) ys e = absurd cc
 
--- what each of a list gives is nothing
-each_none : {A : Type 0} (g : A → List Fault) (xs : List A) → flat_map g xs ≡ [] → OfAll (λ x. g x ≡ []) xs
-each_none g [] e = tt
-each_none g (x ∷ xs) e = (append_left (g x) (flat_map g xs) e, each_none g xs (append_right (g x) (flat_map g xs) e))
-
-both_of : {A : Type 0} (P Q R : A → Type 0) → ((x : A) → P x → Q x → R x) → (xs : List A) → OfAll P xs → OfAll Q xs → OfAll R xs
-both_of P Q R h [] p q = tt
-both_of P Q R h (x ∷ xs) p q = (h x p.0 q.0, both_of P Q R h xs p.1 q.1)
-
-all_of : {A : Type 0} (P R : A → Type 0) → ((x : A) → P x → R x) → (xs : List A) → OfAll P xs → OfAll R xs
-all_of P R h [] p = tt
-all_of P R h (x ∷ xs) p = (h x p.0, all_of P R h xs p.1)
-
-some_of : {A : Type 0} (P R : A → Type 0) → ((x : A) → P x → R x) → (o : Option A) → OfSome P o → OfSome R o
-some_of P R h None p = tt
-some_of P R h (Some x) p = h x p
-
 -- ---- operands
-operands : (e : Expression) → ExprForm HasItems e → HasOperands e
+pub operands : (e : Expression) → ExprForm HasItems e → HasOperands e
 operands (Truth at b) p = tt
 operands (Number at d) p = tt
 operands (Name at x) p = tt
@@ -60,7 +46,7 @@ operands (Two at o a b) p = (p.0, operands a p.1, operands b p.2)
 operands (Three at o a b c) p = (p.0, operands a p.1, operands b p.2, operands c p.3)
 
 some_operands : (e : Option Expression) → OfSome (ExprForm HasItems) e → OfSome HasOperands e
-some_operands e p = some_of (ExprForm HasItems) HasOperands operands e p
+some_operands e p = some_wider (ExprForm HasItems) HasOperands operands e p
 
 -- ---- kinds: a real with bounds and an int with one bound have a fault, whatever the variable is
 no_reason : (o : Option Reason) (at : _) → map (fault at) (if_some o) ≡ [] → o ≡ None
@@ -81,20 +67,20 @@ var_form : (x : Var) → VarRead HasItems x → var_faults x ≡ [] → VarForm 
 var_form x p e = record { kind = bounds_of x.transient x.kind (no_reason (kind_fault x.transient x.kind) x.kind_at e) p.kind; start = some_operands x.start p.start }
 
 vars_form : (xs : List Var) → OfAll (VarRead HasItems) xs → flat_map var_faults xs ≡ [] → OfAll VarForm xs
-vars_form xs p e = both_of (VarRead HasItems) (λ x. var_faults x ≡ []) VarForm var_form xs p (each_none var_faults xs e)
+vars_form xs p e = each_with (VarRead HasItems) (λ x. var_faults x ≡ []) VarForm var_form xs p (empty_each var_faults xs e)
 
 -- ---- automata
 write_form : (w : Write) → WriteRead HasItems w → WriteForm w
 write_form w p = operands w.value p.value
 
 location_form : (l : Location) → LocationRead HasItems l → LocationForm l
-location_form l p = all_of (WriteRead HasItems) WriteForm write_form l.values p.values
+location_form l p = each_then (WriteRead HasItems) WriteForm write_form l.values p.values
 
 destination_form : (d : Destination) → DestinationRead HasItems d → DestinationForm d
-destination_form d p = record { weight = some_operands d.weight p.weight; writes = all_of (WriteRead HasItems) WriteForm write_form d.writes p.writes }
+destination_form d p = record { weight = some_operands d.weight p.weight; writes = each_then (WriteRead HasItems) WriteForm write_form d.writes p.writes }
 
 edge_form : (e : Edge) → EdgeRead HasItems e → EdgeForm e
-edge_form e p = record { guard = some_operands e.guard p.guard; destinations = all_of (DestinationRead HasItems) DestinationForm destination_form e.destinations p.destinations }
+edge_form e p = record { guard = some_operands e.guard p.guard; destinations = each_then (DestinationRead HasItems) DestinationForm destination_form e.destinations p.destinations }
 
 const_form : (c : Const) → ConstRead HasItems c → ConstForm c
 const_form c p = some_operands c.value p.value
@@ -111,8 +97,8 @@ module _ (file : File) (none : type_faults file ≡ []) where
   automaton_form : (a : Automaton) → AutomatonRead HasItems a → automaton_faults (global_thing file) a ≡ [] → AutomatonForm a
   automaton_form a p e = record {
     variables = vars_form a.variables p.variables (append_left (flat_map var_faults a.variables) _ e);
-    locations = all_of (LocationRead HasItems) LocationForm location_form a.locations p.locations;
-    edges = all_of (EdgeRead HasItems) EdgeForm edge_form a.edges p.edges;
+    locations = each_then (LocationRead HasItems) LocationForm location_form a.locations p.locations;
+    edges = each_then (EdgeRead HasItems) EdgeForm edge_form a.edges p.edges;
   }
 
 pub checked_is_writable : CheckedIsWritable
@@ -121,11 +107,11 @@ checked_is_writable f h =
     record {
       read = h.form;
       types = record {
-        constants = all_of (ConstRead HasItems) ConstForm const_form f.constants h.form.constants;
+        constants = each_then (ConstRead HasItems) ConstForm const_form f.constants h.form.constants;
         variables = vars_form f.variables h.form.variables (append_left (flat_map var_faults f.variables) _ types);
         automata =
-            both_of (AutomatonRead HasItems) (λ a. automaton_faults (global_thing f) a ≡ []) AutomatonForm (automaton_form f types) f.automata h.form.automata
-            (each_none (automaton_faults (global_thing f)) f.automata (automata_none f types));
+            each_with (AutomatonRead HasItems) (λ a. automaton_faults (global_thing f) a ≡ []) AutomatonForm (automaton_form f types) f.automata h.form.automata
+            (empty_each (automaton_faults (global_thing f)) f.automata (automata_none f types));
       };
       once = h.once;
     }

@@ -6,72 +6,31 @@ use Rattle.std.specs.Option.{option_map}
 use Rattle.std.proofs.Common.{◌≡◌, refl, sym, ap, ap₂, ◌∙◌, arith}
 use Rattle.std.proofs.lemmas.Bool.Decides.{Decides-int_eq, nat_tests}
 use Rattle.std.proofs.lemmas.Slice.Eq.{bytes_eq-Decides}
+use Rattle.std.proofs.lemmas.Bool.{and_parts, and_from, or_from}
+use Rattle.std.proofs.lemmas.Option.{same_Some}
+use Rattle.basics.specs.Booleans.{first_false, second_false}
 use Rattle.frac_core.specs.declared.decimal.Decimal.{Decimal}
 use Rattle.op_trees.specs.Tree.{Truth, Number, Name as At, One, Two, Three, bare}
+use Rattle.op_trees.specs.Standard.{same_truth}
 use Rattle.jani_table.specs.declared.operator.JaniOp.{JaniOp}
 use Rattle.jani_table.specs.declared.operator.JaniOp.TheVariants.{Ite, Or, And, Not, Equal, Unequal, Less, AtMost, Greater, AtLeast, Add, Sub, Mul, Rem, Div, Floor, Ceil, Implies, Min, Max}
-use Rattle.jani_table.specs.Operators.{op_of, op_text, same_truth}
+use Rattle.jani_table.specs.Operators.{op_of, op_text}
 use Rattle.jani_tree.specs.Syntax.{Expression, Write, Destination}
-use Rattle.jani_check.specs.Things.{Name, is_called, is_reward}
+use Rattle.jani_tree.proofs.Again.{op_again}
+use Rattle.jani_check.specs.Things.{is_reward}
+use Rattle.name_rules.specs.Names.{Name, is_called}
 use Rattle.jani_check.specs.declared.things.Thing.{Thing}
 use Rattle.jani_check.specs.Demands.{if_some}
 use Rattle.jani_check.specs.ProfileFaults.{same_number, same_tree, value_for, rewards_by, lacks, differ, some_differ}
 
--- ---- tests
-both : (a b : Bool) → (a && b) ≡ true → (a ≡ true) × (b ≡ true)
-both true b h = (refl, h)
-both false b h = absurd cc
-
-and_true : (a b : Bool) → a ≡ true → b ≡ true → (a && b) ≡ true
-and_true true b h k = k
-and_true false b h k = absurd cc
-
-first_false : (a b : Bool) → (a || b) ≡ false → a ≡ false
-first_false true b h = absurd cc
-first_false false b h = refl
-
-second_false : (a b : Bool) → (a || b) ≡ false → b ≡ false
-second_false true b h = absurd cc
-second_false false b h = h
-
-or_false : (a b : Bool) → a ≡ false → b ≡ false → (a || b) ≡ false
-or_false true b h k = absurd cc
-or_false false b h k = k
-
 -- ---- equal trees
-op_again : (o : JaniOp) → op_of (op_text o) ≡ Some o
-unfolding op_of
-op_again Ite = refl
-op_again Or = refl
-op_again And = refl
-op_again Not = refl
-op_again Equal = refl
-op_again Unequal = refl
-op_again Less = refl
-op_again AtMost = refl
-op_again Greater = refl
-op_again AtLeast = refl
-op_again Add = refl
-op_again Sub = refl
-op_again Mul = refl
-op_again Rem = refl
-op_again Div = refl
-op_again Floor = refl
-op_again Ceil = refl
-op_again Implies = refl
-op_again Min = refl
-op_again Max = refl
-
-some_same : {A : Type 0} (x y : A) → Some x ≡ Some y → x ≡ y
-some_same x y e = cc
-
-same_op : (o p : JaniOp) → bytes_eq (op_text o) (op_text p) ≡ true → o ≡ p
-same_op o p h = some_same o p (sym (op_again o) ∙ ap op_of ((bytes_eq-Decides (op_text o) (op_text p)).0 h) ∙ op_again p)
+pub same_op : (o p : JaniOp) → bytes_eq (op_text o) (op_text p) ≡ true → o ≡ p
+same_op o p h = same_Some o p (sym (op_again o) ∙ ap op_of ((bytes_eq-Decides (op_text o) (op_text p)).0 h) ∙ op_again p)
 
 op_itself : (o : JaniOp) → bytes_eq (op_text o) (op_text o) ≡ true
 op_itself o = (bytes_eq-Decides (op_text o) (op_text o)).1 refl
 
-truth_same : (a b : Bool) → same_truth a b ≡ true → a ≡ b
+pub truth_same : (a b : Bool) → same_truth a b ≡ true → a ≡ b
 truth_same true true h = refl
 truth_same false false h = refl
 truth_same true false h = absurd cc
@@ -81,11 +40,11 @@ truth_itself : (a : Bool) → same_truth a a ≡ true
 truth_itself true = refl
 truth_itself false = refl
 
-number_same : (d e : Decimal) → same_number d e ≡ true → d ≡ e
+pub number_same : (d e : Decimal) → same_number d e ≡ true → d ≡ e
 number_same d e h =
-    let r = both (same_truth d.real e.real) _ h in
-    let n = both (same_truth d.negative e.negative) _ r.1 in
-    let k = both (nat_eq d.digits e.digits) (int_eq d.exponent e.exponent) n.1 in
+    let r = and_parts (same_truth d.real e.real) _ h in
+    let n = and_parts (same_truth d.negative e.negative) _ r.1 in
+    let k = and_parts (nat_eq d.digits e.digits) (int_eq d.exponent e.exponent) n.1 in
     let real = truth_same d.real e.real r.0 in
     let negative = truth_same d.negative e.negative n.0 in
     let digits : d.digits ≡ e.digits = grind (arith, nat_tests, k.0) in
@@ -96,22 +55,22 @@ number_same d e h =
 number_itself : (d : Decimal) → same_number d d ≡ true
 number_itself d =
     let digits : nat_eq d.digits d.digits ≡ true = grind (arith, nat_tests) in
-    and_true _ _ (truth_itself d.real) (and_true _ _ (truth_itself d.negative) (and_true _ _ digits ((Decides-int_eq d.exponent d.exponent).1 refl)))
+    and_from _ _ (truth_itself d.real) (and_from _ _ (truth_itself d.negative) (and_from _ _ digits ((Decides-int_eq d.exponent d.exponent).1 refl)))
 
-same_forth : (a b : Expression) → same_tree a b ≡ true → bare a ≡ bare b
+pub same_forth : (a b : Expression) → same_tree a b ≡ true → bare a ≡ bare b
 same_forth (Truth at b) (Truth from c) h = ap (Truth 0) (truth_same b c h)
 same_forth (Number at d) (Number from e) h = ap (Number 0) (number_same d e h)
 same_forth (At at x) (At from y) h = ap (At 0) ((bytes_eq-Decides x y).0 h)
 same_forth (One at o a) (One from p d) h =
-    let t = both _ (same_tree a d) h in ap₂ (One 0) (same_op o p t.0) (same_forth a d t.1)
+    let t = and_parts _ (same_tree a d) h in ap₂ (One 0) (same_op o p t.0) (same_forth a d t.1)
 same_forth (Two at o a b) (Two from p d e) h =
-    let t = both _ (same_tree a d && same_tree b e) h in
-    let s = both (same_tree a d) (same_tree b e) t.1 in
+    let t = and_parts _ (same_tree a d && same_tree b e) h in
+    let s = and_parts (same_tree a d) (same_tree b e) t.1 in
     ap (λ q. Two 0 q (bare a) (bare b)) (same_op o p t.0) ∙ ap₂ (Two 0 p) (same_forth a d s.0) (same_forth b e s.1)
 same_forth (Three at o a b c) (Three from p d e f) h =
-    let t = both _ (same_tree a d && (same_tree b e && same_tree c f)) h in
-    let s = both (same_tree a d) (same_tree b e && same_tree c f) t.1 in
-    let r = both (same_tree b e) (same_tree c f) s.1 in
+    let t = and_parts _ (same_tree a d && (same_tree b e && same_tree c f)) h in
+    let s = and_parts (same_tree a d) (same_tree b e && same_tree c f) t.1 in
+    let r = and_parts (same_tree b e) (same_tree c f) s.1 in
     ap (λ q. Three 0 q (bare a) (bare b) (bare c)) (same_op o p t.0)
     ∙ ap (λ x. Three 0 p x (bare b) (bare c)) (same_forth a d s.0)
     ∙ ap₂ (Three 0 p (bare d)) (same_forth b e r.0) (same_forth c f r.1)
@@ -122,9 +81,9 @@ same_bare : (a : Expression) → same_tree a a ≡ true
 same_bare (Truth at b) = truth_itself b
 same_bare (Number at d) = number_itself d
 same_bare (At at x) = (bytes_eq-Decides x x).1 refl
-same_bare (One at o a) = and_true _ _ (op_itself o) (same_bare a)
-same_bare (Two at o a b) = and_true _ _ (op_itself o) (and_true _ _ (same_bare a) (same_bare b))
-same_bare (Three at o a b c) = and_true _ _ (op_itself o) (and_true _ _ (same_bare a) (and_true _ _ (same_bare b) (same_bare c)))
+same_bare (One at o a) = and_from _ _ (op_itself o) (same_bare a)
+same_bare (Two at o a b) = and_from _ _ (op_itself o) (and_from _ _ (same_bare a) (same_bare b))
+same_bare (Three at o a b c) = and_from _ _ (op_itself o) (and_from _ _ (same_bare a) (and_from _ _ (same_bare b) (same_bare c)))
 
 left_bare : (a b : Expression) → same_tree (bare a) b ≡ same_tree a b
 left_bare (Truth at b) (Truth from c) = refl
@@ -197,7 +156,7 @@ module _ (things : Name → Option Thing) where
           (u : Write) × (u.value ≡ v) × (u.target.name ≡ x) × (q u ≡ false)
       by_test true c k ih =
           let same = (bytes_eq-Decides w.target.name x).0 c in
-          (w, some_same w.value v k, same, here (is_reward (things w.target.name)) (ap (λ y. is_reward (things y)) same ∙ r) h)
+          (w, same_Some w.value v k, same, here (is_reward (things w.target.name)) (ap (λ y. is_reward (things y)) same ∙ r) h)
       by_test false c k ih = ih k
 
   each_reward : (p q : Write → Bool) → ((w : Write) → is_reward (things w.target.name) ≡ true → p w ≡ false → q w ≡ false) → (ws : List Write) →
@@ -209,7 +168,7 @@ module _ (things : Name → Option Thing) where
           (list_any p (rewards_by things ws) ≡ false → list_any q (rewards_by things ws) ≡ false) →
           list_any q (if b then w ∷ rewards_by things ws else rewards_by things ws) ≡ false
       by_test true e k ih =
-          or_false (q w) (list_any q (rewards_by things ws)) (f w e (first_false (p w) (list_any p (rewards_by things ws)) k))
+          or_from (q w) (list_any q (rewards_by things ws)) (f w e (first_false (p w) (list_any p (rewards_by things ws)) k))
           (ih (second_false (p w) (list_any p (rewards_by things ws)) k))
       by_test false e k ih = ih k
 
@@ -227,14 +186,14 @@ module _ (things : Name → Option Thing) where
 
   through_first : (f d e : Destination) → differ things f d ≡ false → differ things f e ≡ false → differ things d e ≡ false
   through_first f d e h k =
-      or_false _ _
+      or_from _ _
       (one_way d.writes f.writes e.writes (second_false _ _ h) (first_false _ _ k))
       (one_way e.writes f.writes d.writes (second_false _ _ k) (first_false _ _ h))
 
   none_from : (f d : Destination) → differ things f d ≡ false → (es : List Destination) → list_any (differ things f) es ≡ false → list_any (differ things d) es ≡ false
   none_from f d h [] k = refl
   none_from f d h (e ∷ es) k =
-      or_false (differ things d e) (list_any (differ things d) es) (through_first f d e h (first_false (differ things f e) (list_any (differ things f) es) k))
+      or_from (differ things d e) (list_any (differ things d) es) (through_first f d e h (first_false (differ things f e) (list_any (differ things f) es) k))
       (none_from f d h es (second_false (differ things f e) (list_any (differ things f) es) k))
 
   none_differ : (f : Destination) (ds : List Destination) → list_any (differ things f) ds ≡ false → some_differ things ds ≡ false
@@ -242,7 +201,7 @@ module _ (things : Name → Option Thing) where
   none_differ f (d ∷ ds) h =
       let own = first_false (differ things f d) (list_any (differ things f) ds) h in
       let rest = second_false (differ things f d) (list_any (differ things f) ds) h in
-      or_false (list_any (differ things d) ds) (some_differ things ds) (none_from f d own ds rest) (none_differ f ds rest)
+      or_from (list_any (differ things d) ds) (some_differ things ds) (none_from f d own ds rest) (none_differ f ds rest)
 
   -- some two differ exactly where one differs from the first
   pub first_decides : (f : Destination) (ds : List Destination) → list_any (differ things f) ds ≡ some_differ things (f ∷ ds)

@@ -6,8 +6,9 @@ use Rattle.std.proofs.lemmas.List.{at_drop_more}
 use Rattle.bridge_io.specs.declared.reason.Named.{Named}
 use Rattle.bridge_io.specs.declared.reason.Reason.TheVariants.{WrittenTwice, TwoRewardWriters}
 use Rattle.jani_tree.specs.Syntax.{Automaton, File}
-use Rattle.jani_check.specs.Least.{fault_if}
-use Rattle.jani_check.specs.Things.{Name, or_else, global_thing, automaton_called}
+use Rattle.name_rules.specs.Least.{fault_if}
+use Rattle.jani_check.specs.Things.{or_else, global_thing, automaton_called}
+use Rattle.name_rules.specs.Names.{Name}
 use Rattle.jani_check.specs.declared.things.Thing.{Thing}
 use Rattle.jani_check.specs.TypeFaults.{with_automaton, participants, meet, shared_by, clashing_writes}
 use Rattle.jani_check.specs.ProfileFaults.{rewards_with, two_hold, two_writers}

@@ -5,13 +5,13 @@ pub mod NameFaults
 pub mod TypeFaults
 pub mod ProfileFaults
 pub mod Faults
+pub mod Phases
 pub mod Views
-pub mod Lowest
 pub mod Tables
 pub mod Scopes
+pub mod Circles
 pub mod NameLists
 pub mod Participants
 pub mod Assigned
 pub mod Rewarding
-pub mod Ranks
 pub mod Laws

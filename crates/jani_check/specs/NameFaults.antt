@@ -1,33 +1,20 @@
 -- The faults of the names of a JANI file (jani-model specification, version 1: "Constants", "Variables", "Automata",
 -- "Compositions").
-use Rattle.std.specs.Prelude.{ℕ, zero, suc, max, List, [], ◌∷◌, ◌++◌, map, length, Bool, not, ◌||◌, bytes_eq, is_some, nat_eq}
+use Rattle.std.specs.Prelude.{ℕ, zero, suc, List, ◌∷◌, ◌++◌, map, length, Bool, not, ◌||◌, bytes_eq, is_some, nat_eq}
 use Rattle.std.specs.List.{flat_map, filter, list_any}
 use Rattle.bridge_io.specs.declared.reason.Named.{Named}
-use Rattle.bridge_io.specs.declared.reason.Reason.{Reason}
-use Rattle.bridge_io.specs.declared.reason.Reason.TheVariants.{TwiceNamed, Unknown, Cycle, Nothing, BadVector, RepeatedAutomaton}
+use Rattle.bridge_io.specs.declared.reason.Reason.TheVariants.{TwiceNamed, Cycle, Nothing, BadVector, RepeatedAutomaton}
 use Rattle.bridge_io.specs.declared.reason.Fault.{Fault}
-use Rattle.op_trees.specs.Tree.{Tree, Truth, Number, Name as At, One, Two, Three}
 use Rattle.jani_tree.specs.Syntax.{Const, Var, Edge, Automaton, Vector, File}
-use Rattle.jani_check.specs.Least.{fault_if}
-use Rattle.jani_check.specs.Things.{Name, is_called}
+use Rattle.name_rules.specs.Least.{fault_if}
+use Rattle.name_rules.specs.Names.{Name, is_called}
+pub use Rattle.name_rules.specs.Names.{is_among}
+pub use Rattle.name_rules.specs.Unknown.{unless_known}
+pub use Rattle.name_rules.specs.Doubled.{clash, doubled_after, doubled}
+use Rattle.op_trees.specs.Names.{names_of}
 use Rattle.jani_check.specs.Demands.{Demand, fixed, varying, assigned, given, if_some, automaton_demands, outer_demands}
 
-abbrev pub is_among : List Named → Name → Bool
-is_among ns x = list_any (is_called x) ns
-
 -- ---- names that are declared twice
-
--- the later of a name and an earlier one in the list that is the same, wherever they stand
-abbrev pub clash : Reason → Named → Named → List Fault
-clash reason n m = fault_if (bytes_eq m.name n.name) (max m.at n.at) reason
-
--- of each two names that are the same the later, by offset
-abbrev pub doubled_after : Reason → List Named → List Named → List Fault
-doubled_after reason earlier [] = []
-doubled_after reason earlier (n ∷ ns) = flat_map (clash reason n) earlier ++ doubled_after reason (n ∷ earlier) ns
-
-abbrev pub doubled : Reason → List Named → List Fault
-doubled reason ns = doubled_after reason [] ns
 
 abbrev pub var_names : List Var → List Named
 var_names vars = map (λ x. x.name) vars
@@ -56,25 +43,12 @@ doubled_names file =
 
 -- ---- names that are not declared
 
--- the names in an expression, where they stand
-abbrev pub names_of : {O : Type 0} → Tree O → List Named
-names_of (Truth at b) = []
-names_of (Number at d) = []
-names_of (At at x) = record { name = x; at = at } ∷ []
-names_of (One at o a) = names_of a
-names_of (Two at o a b) = names_of a ++ names_of b
-names_of (Three at o a b c) = names_of a ++ (names_of b ++ names_of c)
-
 -- the names that a demand uses
 abbrev pub names_used : Demand → List Named
 names_used (fixed w e) = names_of e
 names_used (varying w e) = names_of e
 names_used (assigned w) = w.target ∷ names_of w.value
 names_used (given w) = w.target ∷ names_of w.value
-
--- the fault of a name that is not known
-abbrev pub unless_known : (Name → Bool) → Named → List Fault
-unless_known known n = fault_if (not (known n.name)) n.at Unknown
 
 abbrev pub unknown_by : (Name → Bool) → Demand → List Fault
 unknown_by known d = flat_map (unless_known known) (names_used d)
@@ -90,12 +64,15 @@ locations_used a = a.initial ++ flat_map edge_locations a.edges
 abbrev pub actions_used : Automaton → List Named
 actions_used a = flat_map (λ e. if_some e.action) a.edges
 
+-- the locations and the actions that an automaton names
+abbrev pub unknown_within : (Name → Bool) → Automaton → List Fault
+unknown_within actions a =
+    flat_map (unless_known (is_among (location_names a))) (locations_used a) ++ flat_map (unless_known actions) (actions_used a)
+
 -- in an automaton, whose own variables are known beside the global names
 abbrev pub unknown_in : (Name → Bool) → (Name → Bool) → Automaton → List Fault
 unknown_in global actions a =
-    flat_map (unknown_by (λ x. global x || is_among (var_names a.variables) x)) (automaton_demands a)
-    ++ (flat_map (unless_known (is_among (location_names a))) (locations_used a)
-    ++ flat_map (unless_known actions) (actions_used a))
+    flat_map (unknown_by (λ x. global x || is_among (var_names a.variables) x)) (automaton_demands a) ++ unknown_within actions a
 
 -- the actions that a vector names
 abbrev pub vector_actions : Vector → List Named

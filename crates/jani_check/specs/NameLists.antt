@@ -1,7 +1,7 @@
 -- What the code's lists of names have.
 use Rattle.std.specs.Prelude.{ℕ, List, [], map, Option, Some, None, bytes_eq, if◌then◌else◌}
 use Rattle.jani_check.specs.Tables.{under}
-use Rattle.jani_check.specs.Things.{Name}
+use Rattle.name_rules.specs.Names.{Name}
 use Rattle.jani_check.specs.declared.lists.Names.{Names}
 use Rattle.jani_check.specs.declared.lists.NameLists.{NameLists}
 

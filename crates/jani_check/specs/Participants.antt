@@ -6,9 +6,10 @@ use Rattle.bridge_io.specs.declared.reason.Named.{Named}
 use Rattle.bridge_io.specs.declared.reason.Reason.TheVariants.{WrittenTwice}
 use Rattle.bridge_io.specs.declared.reason.Fault.{Fault}
 use Rattle.jani_tree.specs.Syntax.{Automaton, Vector, File, automaton_of}
-use Rattle.jani_check.specs.Least.{fault_if}
+use Rattle.name_rules.specs.Least.{fault_if}
 use Rattle.jani_check.specs.Tables.{under}
-use Rattle.jani_check.specs.Things.{Name, is_called, automaton_called, global_thing}
+use Rattle.jani_check.specs.Things.{automaton_called, global_thing}
+use Rattle.name_rules.specs.Names.{Name, is_called}
 use Rattle.jani_check.specs.declared.elements.Automata.{Automata}
 use Rattle.jani_check.specs.TypeFaults.{meet, shared_by, with_automaton}
 

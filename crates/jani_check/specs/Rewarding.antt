@@ -5,9 +5,10 @@ use Rattle.bridge_io.specs.declared.reason.Named.{Named}
 use Rattle.bridge_io.specs.declared.reason.Reason.TheVariants.{TwoRewardWriters}
 use Rattle.bridge_io.specs.declared.reason.Fault.{Fault}
 use Rattle.jani_tree.specs.Syntax.{Edge, Vector, File}
-use Rattle.jani_check.specs.Least.{fault_if}
-use Rattle.jani_check.specs.Tables.{has_name}
-use Rattle.jani_check.specs.Things.{Name, automaton_called, global_thing}
+use Rattle.name_rules.specs.Least.{fault_if}
+use Rattle.name_rules.specs.Names.{has_name}
+use Rattle.jani_check.specs.Things.{automaton_called, global_thing}
+use Rattle.name_rules.specs.Names.{Name}
 use Rattle.jani_check.specs.declared.things.Thing.{Thing}
 use Rattle.jani_check.specs.declared.writers.Rewarding.{Rewarding}
 use Rattle.jani_check.specs.TypeFaults.{has_action, with_automaton}

@@ -1,32 +1,15 @@
 -- What the names of a JANI file stand for (jani-model specification, version 1: "Constants", "Variables", "Types",
 -- "Automata").
-use Rattle.std.specs.Prelude.{ℕ, List, Bool, true, false, Option, Some, None, bytes_eq, if◌then◌else◌}
+use Rattle.std.specs.Prelude.{List, Bool, true, false, Option, Some, None, if◌then◌else◌}
 use Rattle.std.specs.List.{find}
 use Rattle.std.specs.Option.{option_map}
-use Rattle.bridge_io.specs.declared.reason.Named.{Named}
+pub use Rattle.name_rules.specs.Names.{Name, is_called}
 use Rattle.op_trees.specs.declared.tree.Ty.{Ty}
 use Rattle.op_trees.specs.declared.tree.Ty.TheVariants as T
-use Rattle.op_trees.specs.Tree.{Truth, Number, Name as At, One, Two, Three}
 use Rattle.op_trees.specs.Types.{Types}
-use Rattle.jani_tree.specs.Syntax.{Expression, Const, VarKind, boolean, integer, number, real_bounded, one_sided, bounded, Var, Automaton, File}
+use Rattle.jani_tree.specs.Syntax.{Const, VarKind, boolean, integer, number, real_bounded, one_sided, bounded, Var, Automaton, File}
 use Rattle.jani_check.specs.declared.things.Thing.{Thing}
 use Rattle.jani_check.specs.declared.things.Thing.TheVariants.{Constant, Variable, Transient}
-
--- a name: its bytes
-abbrev pub Name : Type 0
-Name = List ℕ
-
-abbrev pub is_called : Name → Named → Bool
-is_called x n = bytes_eq n.name x
-
--- the offset of the value that spells it
-abbrev pub offset_of : Expression → ℕ
-offset_of (Truth at b) = at
-offset_of (Number at d) = at
-offset_of (At at x) = at
-offset_of (One at o a) = at
-offset_of (Two at o a b) = at
-offset_of (Three at o a b c) = at
 
 -- the type of a variable's values
 abbrev pub kind_type : VarKind → Ty

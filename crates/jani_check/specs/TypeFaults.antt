@@ -8,17 +8,18 @@ use Rattle.bridge_io.specs.declared.reason.Reason.TheVariants.{LeftOut, WrongTyp
 use Rattle.bridge_io.specs.declared.reason.Fault.{Fault}
 use Rattle.op_trees.specs.declared.tree.Ty.{Ty}
 use Rattle.op_trees.specs.declared.tree.Ty.TheVariants as T
-use Rattle.op_trees.specs.Tree.{Tree, Truth, Number, Name as At, One, Two, Three}
 use Rattle.op_trees.specs.Types.{Types, type_in, misfits}
+use Rattle.op_trees.specs.Names.{some_name, offset_of}
 use Rattle.jani_table.specs.Operators.{jani_meaning}
 use Rattle.jani_tree.specs.Syntax.{Expression, VarKind, integer, number, real_bounded, one_sided, bounded, Var, Write, Edge, Automaton, Vector, File}
-use Rattle.jani_check.specs.Least.{fault, fault_if}
-use Rattle.jani_check.specs.Things.{Name, is_called, offset_of, automaton_called, global_thing, beside, thing_type, types_by, is_constant, is_lasting, is_transient}
+use Rattle.name_rules.specs.Least.{fault, fault_if}
+use Rattle.jani_check.specs.Things.{automaton_called, global_thing, beside, thing_type, types_by, is_constant, is_lasting, is_transient}
+use Rattle.name_rules.specs.Names.{Name, is_called}
 use Rattle.jani_check.specs.declared.things.Thing.{Thing}
 use Rattle.jani_check.specs.declared.demands.Wanted.{Wanted}
 use Rattle.jani_check.specs.declared.demands.Wanted.TheVariants as W
 use Rattle.jani_check.specs.Demands.{Demand, fixed, varying, assigned, given, if_some, wanted_by, automaton_demands, outer_demands}
-use Rattle.jani_check.specs.NameFaults.{doubled}
+use Rattle.name_rules.specs.Doubled.{doubled}
 
 -- ---- kinds of variables: a variable that is not transient is a bool or an int with both bounds, a transient one has no
 -- bounds
@@ -58,15 +59,6 @@ type_faults_of ty w e =
     ++ fault_if (is_unwanted w (type_in jani_meaning ty e)) (offset_of e) WrongType
 
 -- ---- expressions that have to be constant
-
--- some name in an expression is such a one
-abbrev pub some_name : {O : Type 0} → (Name → Bool) → Tree O → Bool
-some_name is_such (Truth at b) = false
-some_name is_such (Number at d) = false
-some_name is_such (At at x) = is_such x
-some_name is_such (One at o a) = some_name is_such a
-some_name is_such (Two at o a b) = some_name is_such a || some_name is_such b
-some_name is_such (Three at o a b c) = some_name is_such a || (some_name is_such b || some_name is_such c)
 
 abbrev pub is_variable : Option Thing → Bool
 is_variable t = is_lasting t || is_transient t

@@ -1,14 +1,9 @@
 -- What the code's lists stand for.
-use Rattle.bridge_io.specs.declared.reason.Named.{Named}
 use Rattle.op_trees.specs.Tree.{tree}
 use Rattle.jani_tree.specs.Syntax.{write_of}
-use Rattle.jani_check.specs.declared.named.Entry.{Entry}
 use Rattle.jani_check.specs.declared.demands.Demand as D
 use Rattle.jani_check.specs.declared.demands.Demand.TheVariants as V
 use Rattle.jani_check.specs.Demands.{Demand, fixed, varying, assigned, given}
-
-abbrev pub named_by : Entry → Named
-named_by e = record { name = e.name.now; at = e.at }
 
 abbrev pub demand_by : D.Demand → Demand
 demand_by (V.Fixed w e) = fixed w (tree e.now)

@@ -8,7 +8,7 @@ ghost use Rattle.jani_tree.specs.Faults.{FailsFor};
 ghost use Rattle.jani_check.specs.Faults.{IsChecked, edge_count, faults, or_else};
 ghost use Rattle.jani_check.specs.TypeFaults.{type_faults};
 ghost use Rattle.jani_check.specs.ProfileFaults.{profile_faults};
-ghost use Rattle.jani_table.specs.Least.{soonest};
+ghost use Rattle.name_rules.specs.Least.{soonest};
 
 use crate::elements::count_edges;
 use crate::names::judge_names;
@@ -16,6 +16,7 @@ use crate::profile::judge_profile;
 use crate::types::judge_types;
 use bridge_io::{Fault, Refused};
 use jani_tree::JaniFile;
+use name_rules::Judged;
 use std::alloc::{AllocError, Global};
 use std::marker::Model;
 
@@ -116,7 +117,7 @@ pub fn check_jani(alloc: Global, file: JaniFile) -> Result<CheckedJani, Refused>
 }
 
 // The least fault of the first kind that the file has any of.
-fn first_fault(alloc: Global, file: &JaniFile) -> Result<Option<Fault>, AllocError>
+fn first_fault(alloc: Global, file: &JaniFile) -> Judged
     ensures { IfOk result (λ best. best ≡ soonest None (faults (file_of file.now))) }
 {
     match judge_names(alloc, file, None)? {
@@ -126,7 +127,7 @@ fn first_fault(alloc: Global, file: &JaniFile) -> Result<Option<Fault>, AllocErr
 }
 
 // The same of types and the profile.
-fn later_fault(alloc: Global, file: &JaniFile) -> Result<Option<Fault>, AllocError>
+fn later_fault(alloc: Global, file: &JaniFile) -> Judged
     ensures { IfOk result
         (λ best. best ≡ soonest None (or_else (type_faults (file_of file.now)) (profile_faults (file_of file.now)))) }
 {

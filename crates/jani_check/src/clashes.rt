@@ -1,49 +1,40 @@
 // Vectors two of whose participants assign one variable.
 
 ghost use Rattle.std.specs.Prelude.{◌≡◌, List, ℕ, [], ◌||◌, map, bytes_eq, IfOk, OnOk};
-ghost use Rattle.std.specs.List.{flat_map, list_any};
-ghost use Rattle.jani_table.specs.Least.{soonest};
-ghost use Rattle.jani_tree.specs.Syntax.{vector_of};
-ghost use Rattle.jani_check.specs.Participants.{clash_by, part_taken, parts_taken};
+ghost use Rattle.std.specs.List.{list_any};
+ghost use Rattle.jani_check.specs.Participants.{part_taken, parts_taken};
 ghost use Rattle.jani_check.specs.NameLists.{names_under};
-ghost use Rattle.jani_check.specs.Tables.{has_name};
+ghost use Rattle.name_rules.specs.Names.{has_name, with_all};
 ghost use Rattle.jani_check.specs.TypeFaults.{meet};
 
-use crate::least::sooner_if;
 use crate::lists::NameLists;
-use crate::named::NameSet;
 use bridge_io::{Fault, Named, Reason};
 use jani_tree::JaniVector;
+use name_rules::{Judged, NameSet, Rule, sooner_if};
 use std::alloc::{AllocError, Global};
 
-/// The least of a fault that was found before and those of vectors two of whose participants assign one variable, by what
-/// the elements assign.
-pub(crate) fn judge_clashes(
-    alloc: Global,
-    elements: &[NameLists],
-    vectors: &[JaniVector],
-    before: Option<Fault>,
-) -> Result<Option<Fault>, AllocError>
-    ensures { IfOk result
-        (λ best. best ≡ soonest before (flat_map (clash_by (map names_under elements.now)) (map vector_of vectors.now))) }
-{
-    let mut best = before;
-    for v in vectors {
-        best = judge_vector(alloc, elements, v, best)?;
-    }
-    Ok(best)
+/// Vectors two of whose participants assign one variable, by what the elements assign.
+#[derive(Drop)]
+pub(crate) struct Clashes<'s, 'a> {
+    pub(crate) elements: &'s [NameLists<'a>],
 }
 
-fn judge_vector(
-    alloc: Global,
-    elements: &[NameLists],
-    v: &JaniVector,
-    best: Option<Fault>,
-) -> Result<Option<Fault>, AllocError>
-    ensures { IfOk result (λ next. next ≡ soonest best (clash_by (map names_under elements.now) (vector_of v.now))) }
-{
-    let clash = meets(alloc, elements, v.parts.as_slice())?;
-    Ok(sooner_if(clash, v.at, Reason::WrittenTwice, best))
+impl<'s, 'a> Rule<JaniVector> for Clashes<'s, 'a> {
+    ghost use Rattle.std.specs.Prelude.{map};
+    ghost use Rattle.jani_tree.specs.Syntax.{Vector, vector_of};
+    ghost use Rattle.jani_check.specs.NameLists.{names_under};
+    ghost use Rattle.jani_check.specs.Participants.{clash_by};
+
+    ghost Seen = { Vector };
+
+    ghost view = { vector_of };
+
+    ghost faults = { λ r. clash_by (map names_under r.elements.now) };
+
+    fn judge(&self, alloc: Global, v: &JaniVector, best: Option<Fault>) -> Judged {
+        let clash = meets(alloc, self.elements, v.parts.as_slice())?;
+        Ok(sooner_if(clash, v.at, Reason::WrittenTwice, best))
+    }
 }
 
 // Whether two participants assign one variable: each list of names is looked for among those before it.
@@ -80,14 +71,13 @@ fn see<'a>(
     lists: &NameLists<'a>,
     part: &Option<Named>,
 ) -> Result<(), AllocError>
-    ensures { OnOk result
-        ((x : List ℕ) → has_name seen.new x ≡ (has_name seen.old x || list_any (λ y. bytes_eq y x) (part_taken [] (names_under lists.now) part.now))) }
+    ensures { OnOk result (has_name seen.new ≡ with_all (has_name seen.old) (part_taken [] (names_under lists.now) part.now)) }
 {
     match part {
         Some(action) => match lists.get(action.name.as_str()) {
             Some(list) => seen.add_all(list.names.as_slice()),
-            None => Ok(()),
+            None => seen.add_all(&[]),
         },
-        None => Ok(()),
+        None => seen.add_all(&[]),
     }
 }

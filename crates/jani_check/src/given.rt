@@ -1,23 +1,21 @@
 // Transient variables to which locations of several automata give values.
 
-ghost use Rattle.std.specs.Prelude.{◌≡◌, List, ℕ, false, ◌++◌, ◌||◌, map, IfOk, OnOk};
+ghost use Rattle.std.specs.Prelude.{◌≡◌, false, ◌++◌, ◌||◌, map, IfOk, OnOk};
 ghost use Rattle.std.specs.List.{flat_map};
-ghost use Rattle.jani_table.specs.Least.{soonest};
+ghost use Rattle.name_rules.specs.Least.{soonest};
 ghost use Rattle.jani_tree.specs.Syntax.{automaton_of, location_of};
-ghost use Rattle.jani_check.specs.NameFaults.{is_among};
-ghost use Rattle.jani_check.specs.ProfileFaults.{given_after, given_again, given_by};
+ghost use Rattle.name_rules.specs.Names.{is_among, named_by};
+ghost use Rattle.jani_check.specs.ProfileFaults.{given_after, given_by};
 ghost use Rattle.jani_check.specs.Scopes.{thing_under};
-ghost use Rattle.jani_check.specs.Tables.{has_name};
+ghost use Rattle.name_rules.specs.Names.{has_name};
 ghost use Rattle.jani_check.specs.TypeFaults.{targets};
-ghost use Rattle.jani_check.specs.Views.{named_by};
 
-use crate::least::sooner_if;
-use crate::named::{Entry, NameSet};
 use crate::naming::add_names_of;
 use crate::things::Things;
 use crate::typing::is_transient;
 use bridge_io::{Fault, Reason};
 use jani_tree::{JaniAutomaton, JaniLocation};
+use name_rules::{Entry, Judged, NameSet, Rule, judge_each, sooner_if};
 use std::alloc::{AllocError, Global};
 
 /// The least of a fault that was found before and those of global transient variables to which locations of an earlier
@@ -27,7 +25,7 @@ pub(crate) fn judge_given(
     global: &Things,
     automata: &[JaniAutomaton],
     before: Option<Fault>,
-) -> Result<Option<Fault>, AllocError>
+) -> Judged
     ensures { IfOk result
         (λ best. best ≡ soonest before (given_after (thing_under global.now) (λ x. false) (map automaton_of automata.now))) }
 {
@@ -35,7 +33,11 @@ pub(crate) fn judge_given(
     let mut best = before;
     for a in automata {
         let given = given_by(alloc, a)?;
-        best = judge_again(global, &earlier, &given, best);
+        let again = Again {
+            global,
+            earlier: &earlier,
+        };
+        best = judge_each(alloc, &again, &given, best)?;
         add_names(&mut earlier, &given)?;
     }
     Ok(best)
@@ -60,32 +62,35 @@ fn add_given<'a>(locations: &'a [JaniLocation], list: &mut Vec<Entry<'a>>) -> Re
     Ok(())
 }
 
-fn judge_again(
-    global: &Things,
-    earlier: &NameSet,
-    given: &[Entry],
-    before: Option<Fault>,
-) -> Option<Fault>
-    ensures { result
-        ≡ soonest before (flat_map (given_again (thing_under global.now) (has_name earlier.now)) (map named_by given.now)) }
-{
-    let mut best = before;
-    for n in given {
-        best = judge_one(global, earlier, n, best);
-    }
-    best
+// What locations of earlier automata give values to already.
+#[derive(Drop)]
+struct Again<'s, 'a, 'b> {
+    global: &'s Things<'a>,
+    earlier: &'s NameSet<'b>,
 }
 
-fn judge_one(global: &Things, earlier: &NameSet, n: &Entry, best: Option<Fault>) -> Option<Fault>
-    ensures { result ≡ soonest best (given_again (thing_under global.now) (has_name earlier.now) (named_by n.now)) }
-{
-    let again = is_transient(global.get(n.name)) && earlier.has(n.name);
-    sooner_if(again, n.at, Reason::TransientTwoAutomata, best)
+impl<'s, 'a, 'b, 'c> Rule<Entry<'c>> for Again<'s, 'a, 'b> {
+    ghost use Rattle.bridge_io.specs.declared.reason.Named.{Named};
+    ghost use Rattle.jani_check.specs.ProfileFaults.{given_again};
+    ghost use Rattle.jani_check.specs.Scopes.{thing_under};
+    ghost use Rattle.name_rules.specs.Names.{has_name};
+    ghost use Rattle.name_rules.specs.Names.{named_by};
+
+    ghost Seen = { Named };
+
+    ghost view = { named_by };
+
+    ghost faults = { λ r. given_again (thing_under r.global.now) (has_name r.earlier.now) };
+
+    fn judge(&self, _alloc: Global, n: &Entry<'c>, best: Option<Fault>) -> Judged {
+        let again = is_transient(self.global.get(n.name)) && self.earlier.has(n.name);
+        Ok(sooner_if(again, n.at, Reason::TransientTwoAutomata, best))
+    }
 }
 
 fn add_names<'a>(earlier: &mut NameSet<'a>, given: &[Entry<'a>]) -> Result<(), AllocError>
     ensures { OnOk result
-        ((x : List ℕ) → has_name earlier.new x ≡ (has_name earlier.old x || is_among (map named_by given.now) x)) }
+        (has_name earlier.new ≡ (λ x. has_name earlier.old x || is_among (map named_by given.now) x)) }
 {
     for n in given {
         earlier.add(n.name)?;

@@ -1,27 +1,16 @@
 // The kinds of variables.
 
-ghost use Rattle.std.specs.Prelude.{◌≡◌, map};
-ghost use Rattle.std.specs.List.{flat_map};
-ghost use Rattle.jani_table.specs.Least.{soonest};
+ghost use Rattle.std.specs.Prelude.{◌≡◌};
+ghost use Rattle.name_rules.specs.Least.{soonest};
 ghost use Rattle.jani_tree.specs.Syntax.{kind_of, var_of};
 ghost use Rattle.jani_check.specs.TypeFaults.{kind_fault, var_faults};
 
 use bridge_io::{Fault, Reason};
-use jani_table::sooner;
 use jani_tree::{JaniKind, JaniVar};
+use name_rules::sooner;
 
-/// The least of a fault that was found before and those of the kinds of these variables.
-pub(crate) fn judge_kinds(vars: &[JaniVar], before: Option<Fault>) -> Option<Fault>
-    ensures { result ≡ soonest before (flat_map var_faults (map var_of vars.now)) }
-{
-    let mut best = before;
-    for var in vars {
-        best = judge_kind(var, best);
-    }
-    best
-}
-
-fn judge_kind(var: &JaniVar, best: Option<Fault>) -> Option<Fault>
+/// The least of a fault that was found before and that of the kind of a variable.
+pub(crate) fn judge_kind(var: &JaniVar, best: Option<Fault>) -> Option<Fault>
     ensures { result ≡ soonest best (var_faults (var_of var.now)) }
 {
     match kind_fault(var.transient, &var.kind) {

@@ -6,14 +6,14 @@ ghost use Rattle.bridge_io.specs.declared.reason.Named.{Named as Name};
 ghost use Rattle.jani_tree.specs.Syntax.{edge_of, file_of};
 ghost use Rattle.jani_check.specs.NameFaults.{global_names};
 ghost use Rattle.jani_check.specs.Demands.{if_some};
-ghost use Rattle.jani_check.specs.Views.{named_by};
+ghost use Rattle.name_rules.specs.Names.{named_by};
 
-use crate::named::Entry;
 use bridge_io::Named;
 use jani_tree::{
     JaniAutomaton, JaniConst, JaniDestination, JaniEdge, JaniFile, JaniLocation, JaniVar,
     JaniVector, JaniWrite,
 };
+use name_rules::Entry;
 use std::alloc::{AllocError, Global};
 
 /// A part of a file that declares names or uses them: a destination and an edge the names of locations, a vector those of

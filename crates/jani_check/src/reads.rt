@@ -1,37 +1,27 @@
 // Transient variables that are read, and labels that edges assign.
 
-ghost use Rattle.std.specs.Prelude.{◌≡◌, ◌++◌, map};
+ghost use Rattle.std.specs.Prelude.{◌≡◌};
 ghost use Rattle.std.specs.List.{flat_map};
 ghost use Rattle.op_trees.specs.Tree.{tree};
-ghost use Rattle.jani_table.specs.Least.{soonest};
+ghost use Rattle.name_rules.specs.Least.{soonest};
 ghost use Rattle.jani_tree.specs.Syntax.{write_of};
 ghost use Rattle.jani_check.specs.Demands.{assigned};
-ghost use Rattle.jani_check.specs.NameFaults.{names_of};
+ghost use Rattle.op_trees.specs.Names.{names_of};
 ghost use Rattle.jani_check.specs.ProfileFaults.{demand_profile, read_fault, reads};
 ghost use Rattle.jani_check.specs.Scopes.{scope_thing};
 ghost use Rattle.jani_check.specs.Things.{is_label};
 ghost use Rattle.jani_check.specs.Views.{demand_by};
 
 use crate::demands::Demand;
-use crate::least::sooner_if;
 use crate::things::{Scope, Thing};
 use crate::typing::is_transient;
 use bridge_io::{Fault, Reason};
 use jani_tree::{JaniWrite, Je};
+use name_rules::sooner_if;
 use op_trees::{Expr, Ty};
 
-/// The least of a fault that was found before and those of what these expressions read and these edges assign.
-pub(crate) fn judge_reads(scope: &Scope, demands: &[Demand], before: Option<Fault>) -> Option<Fault>
-    ensures { result ≡ soonest before (flat_map (demand_profile (scope_thing scope.now)) (map demand_by demands.now)) }
-{
-    let mut best = before;
-    for demand in demands {
-        best = judge_demand(scope, demand, best);
-    }
-    best
-}
-
-fn judge_demand(scope: &Scope, demand: &Demand, best: Option<Fault>) -> Option<Fault>
+/// The least of a fault that was found before and those of what an expression reads and an edge assigns.
+pub(crate) fn judge_read(scope: &Scope, demand: &Demand, best: Option<Fault>) -> Option<Fault>
     ensures { result ≡ soonest best (demand_profile (scope_thing scope.now) (demand_by demand.now)) }
 {
     match demand {
@@ -56,7 +46,7 @@ fn is_label(thing: Option<Thing>) -> bool
     matches!(thing, Some(Thing::Transient(Ty::Bool)))
 }
 
-#[tactic(auto, using(crate::proofs::Append::soonest_both, crate::proofs::Append::soonest_three))]
+#[tactic(auto, using(name_rules::proofs::Append::soonest_both, name_rules::proofs::Append::soonest_three))]
 fn judge_expression(scope: &Scope, e: &Je, best: Option<Fault>) -> Option<Fault>
     ensures { result ≡ soonest best (flat_map (read_fault (scope_thing scope.now)) (names_of (tree e.now))) }
 {

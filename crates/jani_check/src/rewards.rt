@@ -1,49 +1,43 @@
 // Rewards that differ between the destinations of one edge.
 
 ghost use Rattle.std.specs.Prelude.{◌≡◌, List, ℕ, map, IfOk};
-ghost use Rattle.std.specs.List.{flat_map, list_any};
+ghost use Rattle.std.specs.List.{list_any};
 ghost use Rattle.op_trees.specs.Tree.{tree};
-ghost use Rattle.jani_table.specs.Least.{soonest};
-ghost use Rattle.jani_tree.specs.Syntax.{destination_of, edge_of, write_of};
-ghost use Rattle.jani_check.specs.ProfileFaults.{branch_rewards, differ, lacks, rewards_by, same_tree, some_differ, value_for};
+ghost use Rattle.jani_tree.specs.Syntax.{destination_of, write_of};
+ghost use Rattle.jani_check.specs.ProfileFaults.{differ, lacks, rewards_by, same_tree, some_differ, value_for};
 ghost use Rattle.jani_check.specs.Scopes.{scope_thing};
 ghost use Rattle.jani_check.specs.Things.{is_reward};
 ghost use Rattle.jani_check.specs.Assigned.{value_under};
 
-use crate::least::sooner_if;
 use crate::things::{Scope, Thing, add_first};
 use bridge_io::{Fault, Reason};
 use indexmap::IndexMap;
 use jani_tree::{JaniDestination, JaniEdge, JaniWrite, Je};
+use name_rules::{Judged, Rule, sooner_if};
 use op_trees::{Ty, same};
 use std::alloc::{AllocError, Global};
 
-/// The least of a fault that was found before and those of edges whose destinations assign different rewards.
-pub(crate) fn judge_rewards(
-    alloc: Global,
-    scope: &Scope,
-    edges: &[JaniEdge],
-    before: Option<Fault>,
-) -> Result<Option<Fault>, AllocError>
-    ensures { IfOk result (λ best. best ≡ soonest before (flat_map (branch_rewards (scope_thing scope.now)) (map edge_of edges.now))) }
-{
-    let mut best = before;
-    for e in edges {
-        best = judge_edge(alloc, scope, e, best)?;
-    }
-    Ok(best)
+/// Edges whose destinations assign different rewards.
+#[derive(Drop)]
+pub(crate) struct BranchRewards<'s, 'g, 'a> {
+    pub(crate) scope: &'s Scope<'g, 'a>,
 }
 
-fn judge_edge(
-    alloc: Global,
-    scope: &Scope,
-    e: &JaniEdge,
-    best: Option<Fault>,
-) -> Result<Option<Fault>, AllocError>
-    ensures { IfOk result (λ next. next ≡ soonest best (branch_rewards (scope_thing scope.now) (edge_of e.now))) }
-{
-    let differ = some_differ(alloc, scope, e.destinations.as_slice())?;
-    Ok(sooner_if(differ, e.at, Reason::BranchReward, best))
+impl<'s, 'g, 'a> Rule<JaniEdge> for BranchRewards<'s, 'g, 'a> {
+    ghost use Rattle.jani_tree.specs.Syntax.{Edge, edge_of};
+    ghost use Rattle.jani_check.specs.ProfileFaults.{branch_rewards};
+    ghost use Rattle.jani_check.specs.Scopes.{scope_thing};
+
+    ghost Seen = { Edge };
+
+    ghost view = { edge_of };
+
+    ghost faults = { λ r. branch_rewards (scope_thing r.scope.now) };
+
+    fn judge(&self, alloc: Global, e: &JaniEdge, best: Option<Fault>) -> Judged {
+        let differ = some_differ(alloc, self.scope, e.destinations.as_slice())?;
+        Ok(sooner_if(differ, e.at, Reason::BranchReward, best))
+    }
 }
 
 // Whether some two destinations assign different rewards: each is compared with the first.

@@ -1,32 +1,21 @@
 // The first values of transient variables.
 
-ghost use Rattle.std.specs.Prelude.{◌≡◌, map};
-ghost use Rattle.std.specs.List.{flat_map};
+ghost use Rattle.std.specs.Prelude.{◌≡◌};
 ghost use Rattle.op_trees.specs.Tree.{tree};
 ghost use Rattle.op_trees.specs.declared.tree.Ty.TheVariants.{Int};
-ghost use Rattle.jani_table.specs.Least.{soonest};
+ghost use Rattle.name_rules.specs.Least.{soonest};
 ghost use Rattle.jani_tree.specs.Syntax.{var_of};
 ghost use Rattle.jani_check.specs.ProfileFaults.{first_fault, is_first, start_faults};
 
-use crate::least::sooner_if;
 use crate::things::kind_type;
 use crate::typing::offset;
 use bridge_io::{Fault, Reason};
 use jani_tree::{JaniVar, Je};
+use name_rules::sooner_if;
 use op_trees::{Expr, Ty};
 
-/// The least of a fault that was found before and those of the first values of these variables.
-pub(crate) fn judge_starts(vars: &[JaniVar], before: Option<Fault>) -> Option<Fault>
-    ensures { result ≡ soonest before (flat_map start_faults (map var_of vars.now)) }
-{
-    let mut best = before;
-    for var in vars {
-        best = judge_start(var, best);
-    }
-    best
-}
-
-fn judge_start(var: &JaniVar, best: Option<Fault>) -> Option<Fault>
+/// The least of a fault that was found before and that of the first value of a variable.
+pub(crate) fn judge_start(var: &JaniVar, best: Option<Fault>) -> Option<Fault>
     ensures { result ≡ soonest best (start_faults (var_of var.now)) }
 {
     if !var.transient {

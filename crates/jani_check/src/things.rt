@@ -9,6 +9,7 @@ ghost use Rattle.jani_check.specs.Tables.{under};
 
 use indexmap::IndexMap;
 use jani_tree::{JaniConst, JaniFile, JaniKind, JaniVar};
+use name_rules::Telling;
 use op_trees::{Names, Ty, Value};
 use std::alloc::{AllocError, Global};
 
@@ -136,6 +137,16 @@ impl<'s, 'a> Scope<'s, 'a> {
             Some(thing) => Some(thing),
             None => self.own.get(name),
         }
+    }
+}
+
+impl<'s, 'a> Telling for Scope<'s, 'a> {
+    ghost use Rattle.jani_check.specs.Scopes.{is_known, scope_thing};
+
+    ghost tells = { λ s. is_known (scope_thing s) };
+
+    fn tells(&self, name: &str) -> bool {
+        self.thing(name).is_some()
     }
 }
 

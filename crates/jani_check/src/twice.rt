@@ -4,18 +4,17 @@ ghost use Rattle.std.specs.Prelude.{◌≡◌, List, map, IfOk};
 ghost use Rattle.std.specs.List.{flat_map};
 ghost use Rattle.bridge_io.specs.declared.reason.Named.{Named};
 ghost use Rattle.bridge_io.specs.declared.reason.Reason.TheVariants.{TwiceNamed};
-ghost use Rattle.jani_table.specs.Least.{soonest};
+ghost use Rattle.name_rules.specs.Least.{soonest};
 ghost use Rattle.jani_tree.specs.Syntax.{automaton_of, file_of};
-ghost use Rattle.jani_check.specs.NameFaults.{doubled, doubled_in, doubled_names, global_names};
-ghost use Rattle.jani_check.specs.Lowest.{IsLowest};
-ghost use Rattle.jani_check.specs.Views.{named_by};
+ghost use Rattle.jani_check.specs.NameFaults.{doubled_in, doubled_names, global_names};
+ghost use Rattle.name_rules.specs.Doubled.{doubled, IsLowest};
+ghost use Rattle.name_rules.specs.Names.{named_by};
 
-use crate::doubled::{Lowest, judge_doubled, judge_doubled_after};
-use crate::named::Entry;
 use crate::naming::{Naming, names_of};
 use bridge_io::{Fault, Reason};
 use jani_tree::{JaniAutomaton, JaniFile};
-use std::alloc::{AllocError, Global};
+use name_rules::{Entry, Judged, Lowest, judge_doubled, judge_doubled_after};
+use std::alloc::Global;
 
 /// The least of a fault that was found before and those of names that are declared twice, where these are the constants
 /// and global variables.
@@ -24,7 +23,7 @@ pub(crate) fn judge_twice(
     file: &JaniFile,
     global: &[Entry],
     before: Option<Fault>,
-) -> Result<Option<Fault>, AllocError>
+) -> Judged
     requires { map named_by global.now ≡ global_names (file_of file.now) }
     ensures { IfOk result (λ best. best ≡ soonest before (doubled_names (file_of file.now))) }
 {
@@ -43,7 +42,7 @@ pub(crate) fn judge_names_of<T: Naming>(
     reason: Reason,
     parts: &[T],
     before: Option<Fault>,
-) -> Result<Option<Fault>, AllocError>
+) -> Judged
     ensures { IfOk result (λ best. best ≡ soonest before (doubled reason (flat_map T.names parts.now))) }
 {
     let list = names_of(alloc, parts)?;
@@ -55,7 +54,7 @@ fn judge_automata(
     global: &Lowest,
     automata: &[JaniAutomaton],
     before: Option<Fault>,
-) -> Result<Option<Fault>, AllocError>
+) -> Judged
     ensures { IfOk result
         (λ best. (ns : List Named) → IsLowest global.now ns → best ≡ soonest before (flat_map (doubled_in ns) (map automaton_of automata.now))) }
 {
@@ -72,7 +71,7 @@ fn judge_automaton(
     global: &Lowest,
     a: &JaniAutomaton,
     before: Option<Fault>,
-) -> Result<Option<Fault>, AllocError>
+) -> Judged
     ensures { IfOk result
         (λ best. (ns : List Named) → IsLowest global.now ns → best ≡ soonest before (doubled_in ns (automaton_of a.now))) }
 {

@@ -1,83 +1,64 @@
 // The faults of types.
 
-ghost use Rattle.std.specs.Prelude.{◌≡◌, map, IfOk};
-ghost use Rattle.std.specs.List.{flat_map};
-ghost use Rattle.jani_table.specs.Least.{soonest};
-ghost use Rattle.jani_tree.specs.Syntax.{automaton_of, file_of};
-ghost use Rattle.jani_check.specs.Demands.{outer_demands};
-ghost use Rattle.jani_check.specs.Scopes.{thing_under};
-ghost use Rattle.jani_check.specs.TypeFaults.{automaton_faults, demand_faults, type_faults};
+ghost use Rattle.std.specs.Prelude.{◌≡◌, IfOk};
+ghost use Rattle.name_rules.specs.Least.{soonest};
+ghost use Rattle.jani_tree.specs.Syntax.{file_of};
+ghost use Rattle.jani_check.specs.TypeFaults.{type_faults};
 
-use crate::clashes::judge_clashes;
-use crate::demands::{automaton_demands, outer_demands};
+use crate::clashes::Clashes;
+use crate::demands::Demand;
 use crate::elements::shared_of;
-use crate::kinds::judge_kinds;
+use crate::kinds::judge_kind;
+use crate::phase::{Phase, judge_phase};
 use crate::things::{Scope, Things};
-use crate::typing::judge_demands;
+use crate::typing::judge_type_of;
 use crate::writes::judge_repeats;
 use bridge_io::Fault;
-use jani_tree::{JaniAutomaton, JaniFile};
-use std::alloc::{AllocError, Global};
+use jani_tree::{JaniAutomaton, JaniFile, JaniVar};
+use name_rules::{Judged, judge_each};
+use std::alloc::Global;
 
 /// The least of a fault that was found before and those of types and of what is assigned.
-pub(crate) fn judge_types(
-    alloc: Global,
-    file: &JaniFile,
-    before: Option<Fault>,
-) -> Result<Option<Fault>, AllocError>
+pub(crate) fn judge_types(alloc: Global, file: &JaniFile, before: Option<Fault>) -> Judged
     ensures { IfOk result (λ best. best ≡ soonest before (type_faults (file_of file.now))) }
 {
     let global = Things::global(alloc, file)?;
-    let kinds = judge_kinds(file.variables.as_slice(), before);
-    let outside = judge_outside(alloc, file, &global, kinds)?;
-    let inside = judge_automata(alloc, file.automata.as_slice(), &global, outside)?;
+    let typed = judge_phase(alloc, &Types, file, &global, before)?;
     let elements = shared_of(alloc, file, &global)?;
-    judge_clashes(alloc, &elements, file.vectors.as_slice(), inside)
+    let clashes = Clashes {
+        elements: &elements,
+    };
+    judge_each(alloc, &clashes, file.vectors.as_slice(), typed)
 }
 
-fn judge_outside(
-    alloc: Global,
-    file: &JaniFile,
-    global: &Things,
-    before: Option<Fault>,
-) -> Result<Option<Fault>, AllocError>
-    ensures { IfOk result
-        (λ best. best ≡ soonest before (flat_map (demand_faults (thing_under global.now)) (outer_demands (file_of file.now)))) }
-{
-    let own = Things::own(alloc, &[])?;
-    let scope = Scope { global, own };
-    let demands = outer_demands(alloc, file)?;
-    Ok(judge_demands(&scope, &demands, before))
-}
+// The kinds of variables, the types of expressions, and what is assigned twice.
+#[derive(Drop)]
+struct Types;
 
-fn judge_automata(
-    alloc: Global,
-    automata: &[JaniAutomaton],
-    global: &Things,
-    before: Option<Fault>,
-) -> Result<Option<Fault>, AllocError>
-    ensures { IfOk result
-        (λ best. best ≡ soonest before (flat_map (automaton_faults (thing_under global.now)) (map automaton_of automata.now))) }
-{
-    let mut best = before;
-    for a in automata {
-        best = judge_automaton(alloc, a, global, best)?;
+impl Phase for Types {
+    ghost use Rattle.jani_check.specs.TypeFaults.{demand_faults, repeated_writes, var_faults};
+
+    ghost of_var = { var_faults };
+
+    ghost of_demand = { demand_faults };
+
+    ghost of_rest = { λ p things a. repeated_writes a };
+
+    fn judge_var(&self, var: &JaniVar, best: Option<Fault>) -> Option<Fault> {
+        judge_kind(var, best)
     }
-    Ok(best)
-}
 
-fn judge_automaton(
-    alloc: Global,
-    a: &JaniAutomaton,
-    global: &Things,
-    before: Option<Fault>,
-) -> Result<Option<Fault>, AllocError>
-    ensures { IfOk result (λ best. best ≡ soonest before (automaton_faults (thing_under global.now) (automaton_of a.now))) }
-{
-    let kinds = judge_kinds(a.variables.as_slice(), before);
-    let own = Things::own(alloc, a.variables.as_slice())?;
-    let scope = Scope { global, own };
-    let demands = automaton_demands(alloc, a)?;
-    let typed = judge_demands(&scope, &demands, kinds);
-    judge_repeats(alloc, a, typed)
+    fn judge_demand(&self, scope: &Scope, demand: &Demand, best: Option<Fault>) -> Option<Fault> {
+        judge_type_of(scope, demand, best)
+    }
+
+    fn judge_rest(
+        &self,
+        alloc: Global,
+        _scope: &Scope,
+        a: &JaniAutomaton,
+        best: Option<Fault>,
+    ) -> Judged {
+        judge_repeats(alloc, a, best)
+    }
 }

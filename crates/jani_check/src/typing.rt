@@ -1,40 +1,25 @@
 // The types of expressions, and what is assigned.
 
-ghost use Rattle.std.specs.Prelude.{◌≡◌, map};
-ghost use Rattle.std.specs.List.{flat_map};
+ghost use Rattle.std.specs.Prelude.{◌≡◌};
 ghost use Rattle.op_trees.specs.Tree.{tree};
-ghost use Rattle.jani_table.specs.Least.{soonest};
+ghost use Rattle.op_trees.specs.Names.{offset_of};
+ghost use Rattle.name_rules.specs.Least.{soonest};
 ghost use Rattle.jani_tree.specs.Syntax.{write_of};
 ghost use Rattle.jani_check.specs.Demands.{assigned, fixed, given};
 ghost use Rattle.jani_check.specs.Scopes.{scope_thing};
-ghost use Rattle.jani_check.specs.Things.{is_constant, is_lasting, is_transient, offset_of, types_by};
+ghost use Rattle.jani_check.specs.Things.{is_constant, is_lasting, is_transient, types_by};
 ghost use Rattle.jani_check.specs.TypeFaults.{demand_faults, has_variable, is_variable, is_wanted, type_faults_of, wanted_at};
 ghost use Rattle.jani_check.specs.Views.{demand_by};
 
 use crate::demands::{Demand, Wanted, wanted_by};
-use crate::least::sooner_if;
 use crate::things::{Scope, Thing, thing_type};
 use bridge_io::{Fault, Reason};
-use jani_table::sooner;
 use jani_tree::{JaniWrite, Je};
+use name_rules::{sooner, sooner_if};
 use op_trees::{Expr, Ty, type_of};
 
-/// The least of a fault that was found before and those of the types of these expressions and of what is assigned.
-pub(crate) fn judge_demands(
-    scope: &Scope,
-    demands: &[Demand],
-    before: Option<Fault>,
-) -> Option<Fault>
-    ensures { result ≡ soonest before (flat_map (demand_faults (scope_thing scope.now)) (map demand_by demands.now)) }
-{
-    let mut best = before;
-    for demand in demands {
-        best = judge_demand(scope, demand, best);
-    }
-    best
-}
-
-fn judge_demand(scope: &Scope, demand: &Demand, best: Option<Fault>) -> Option<Fault>
+/// The least of a fault that was found before and those of the type of an expression and of what is assigned.
+pub(crate) fn judge_type_of(scope: &Scope, demand: &Demand, best: Option<Fault>) -> Option<Fault>
     ensures { result ≡ soonest best (demand_faults (scope_thing scope.now) (demand_by demand.now)) }
 {
     match demand {

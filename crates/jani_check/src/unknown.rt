@@ -1,120 +1,144 @@
 // Names that are not declared.
 
-ghost use Rattle.std.specs.Prelude.{◌≡◌, ◌++◌, map};
+ghost use Rattle.std.specs.Prelude.{◌≡◌, List, ℕ, ◌++◌, IfOk, map};
 ghost use Rattle.std.specs.List.{flat_map};
 ghost use Rattle.op_trees.specs.Tree.{tree};
-ghost use Rattle.jani_table.specs.Least.{soonest};
-ghost use Rattle.jani_check.specs.NameFaults.{names_of, unknown_by, unless_known};
-ghost use Rattle.jani_check.specs.Tables.{has_either, has_name};
-ghost use Rattle.jani_check.specs.Views.{demand_by, named_by};
+ghost use Rattle.name_rules.specs.Least.{soonest};
+ghost use Rattle.jani_tree.specs.Syntax.{automaton_of, edge_of, file_of};
+ghost use Rattle.jani_check.specs.Demands.{if_some};
+ghost use Rattle.jani_check.specs.NameFaults.{unknown_by, unknown_names, unknown_within, unless_known};
+ghost use Rattle.name_rules.specs.Names.{is_among};
+ghost use Rattle.op_trees.specs.Names.{names_of};
+ghost use Rattle.jani_check.specs.Scopes.{is_known, scope_thing};
+ghost use Rattle.name_rules.specs.Names.{has_name};
+ghost use Rattle.jani_check.specs.Views.{demand_by};
 
 use crate::demands::Demand;
-use crate::named::{Entry, NameSet};
-use bridge_io::{Fault, Reason};
-use jani_table::sooner;
-use jani_tree::{JaniWrite, Je};
-use op_trees::Expr;
+use crate::naming::{Naming, add_actions, names_of};
+use crate::phase::{Phase, judge_phase};
+use crate::things::{Scope, Things};
+use bridge_io::Fault;
+use jani_tree::{JaniAutomaton, JaniEdge, JaniFile, JaniVar, JaniWrite};
+use name_rules::{Judged, NameSet, judge_expression, judge_name, judge_uses};
+use std::alloc::{AllocError, Global};
 
-/// The least of a fault that was found before and those of the names in this list that are not in the set.
-pub(crate) fn judge_uses(known: &NameSet, names: &[Entry], before: Option<Fault>) -> Option<Fault>
-    ensures { result ≡ soonest before (flat_map (unless_known (has_name known.now)) (map named_by names.now)) }
+/// The least of a fault that was found before and those of names that are not declared.
+pub(crate) fn judge_unknown_names(alloc: Global, file: &JaniFile, before: Option<Fault>) -> Judged
+    ensures { IfOk result (λ best. best ≡ soonest before (unknown_names (file_of file.now))) }
 {
-    let mut best = before;
-    for n in names {
-        best = judge_use(known, n, best);
-    }
-    best
+    let global = Things::global(alloc, file)?;
+    let actions = set_of(alloc, file.actions.as_slice())?;
+    let declared = Declared { actions: &actions };
+    let inside = judge_phase(alloc, &declared, file, &global, before)?;
+    let automata = set_of(alloc, file.automata.as_slice())?;
+    let elements = judge_uses_of(alloc, &automata, file.elements.as_slice(), inside)?;
+    judge_uses_of(alloc, &actions, file.vectors.as_slice(), elements)
 }
 
-fn judge_use(known: &NameSet, n: &Entry, best: Option<Fault>) -> Option<Fault>
-    ensures { result ≡ soonest best (unless_known (has_name known.now) (named_by n.now)) }
-{
-    if known.has(n.name) {
+// The names in demands, and the locations and actions that an automaton names.
+#[derive(Drop)]
+struct Declared<'s, 'a> {
+    actions: &'s NameSet<'a>,
+}
+
+impl<'s, 'a> Phase for Declared<'s, 'a> {
+    ghost use Rattle.std.specs.Prelude.{[]};
+    ghost use Rattle.jani_check.specs.NameFaults.{unknown_by, unknown_within};
+    ghost use Rattle.jani_check.specs.Scopes.{is_known};
+    ghost use Rattle.name_rules.specs.Names.{has_name};
+
+    ghost of_var = { λ x. [] };
+
+    ghost of_demand = { λ things. unknown_by (is_known things) };
+
+    ghost of_rest = { λ p things. unknown_within (has_name p.actions.now) };
+
+    fn judge_var(&self, _var: &JaniVar, best: Option<Fault>) -> Option<Fault> {
         best
-    } else {
-        sooner(best, n.at, Reason::Unknown)
+    }
+
+    fn judge_demand(&self, scope: &Scope, demand: &Demand, best: Option<Fault>) -> Option<Fault> {
+        judge_names_in(scope, demand, best)
+    }
+
+    fn judge_rest(
+        &self,
+        alloc: Global,
+        _scope: &Scope,
+        a: &JaniAutomaton,
+        best: Option<Fault>,
+    ) -> Judged {
+        judge_within(alloc, self.actions, a, best)
     }
 }
 
-/// The least of a fault that was found before and those of the names in these demands that are in neither set.
-pub(crate) fn judge_unknown(
-    global: &NameSet,
-    own: &NameSet,
-    demands: &[Demand],
+// The locations and the actions that an automaton names.
+fn judge_within(
+    alloc: Global,
+    actions: &NameSet,
+    a: &JaniAutomaton,
     before: Option<Fault>,
-) -> Option<Fault>
-    ensures { result ≡ soonest before (flat_map (unknown_by (has_either global.now own.now)) (map demand_by demands.now)) }
+) -> Judged
+    ensures { IfOk result (λ best. best ≡ soonest before (unknown_within (has_name actions.now) (automaton_of a.now))) }
 {
-    let mut best = before;
-    for demand in demands {
-        best = judge_demand(global, own, demand, best);
-    }
-    best
+    let locations = set_of(alloc, a.locations.as_slice())?;
+    let in_initial = judge_uses_of(alloc, &locations, a.initial.as_slice(), before)?;
+    let in_edges = judge_uses_of(alloc, &locations, a.edges.as_slice(), in_initial)?;
+    judge_actions(alloc, actions, a.edges.as_slice(), in_edges)
 }
 
-fn judge_demand(
-    global: &NameSet,
-    own: &NameSet,
-    demand: &Demand,
-    best: Option<Fault>,
-) -> Option<Fault>
-    ensures { result ≡ soonest best (unknown_by (has_either global.now own.now) (demand_by demand.now)) }
+fn judge_actions(
+    alloc: Global,
+    actions: &NameSet,
+    edges: &[JaniEdge],
+    before: Option<Fault>,
+) -> Judged
+    ensures { IfOk result
+        (λ best. best ≡ soonest before (flat_map (unless_known (has_name actions.now)) (flat_map (λ e. if_some e.action) (map edge_of edges.now)))) }
+{
+    let mut list = Vec::new(alloc);
+    add_actions(edges, &mut list)?;
+    Ok(judge_uses(actions, &list, before))
+}
+
+// The names of these parts as a set.
+fn set_of<'a, T: Naming>(alloc: Global, parts: &'a [T]) -> Result<NameSet<'a>, AllocError>
+    ensures { IfOk result (λ set. has_name set ≡ is_among (flat_map T.names parts.now)) }
+{
+    let list = names_of(alloc, parts)?;
+    NameSet::of(alloc, &list)
+}
+
+// The names that these parts use, judged by a set of names.
+fn judge_uses_of<T: Naming>(
+    alloc: Global,
+    known: &NameSet,
+    parts: &[T],
+    before: Option<Fault>,
+) -> Judged
+    ensures { IfOk result (λ best. best ≡ soonest before (flat_map (unless_known (has_name known.now)) (flat_map T.names parts.now))) }
+{
+    let list = names_of(alloc, parts)?;
+    Ok(judge_uses(known, &list, before))
+}
+
+// The names in a demand.
+fn judge_names_in(scope: &Scope, demand: &Demand, best: Option<Fault>) -> Option<Fault>
+    ensures { result ≡ soonest best (unknown_by (is_known (scope_thing scope.now)) (demand_by demand.now)) }
 {
     match demand {
-        Demand::Fixed(_, e) => judge_names(global, own, e, best),
-        Demand::Varying(_, e) => judge_names(global, own, e, best),
-        Demand::Assigned(write) => judge_write(global, own, write, best),
-        Demand::Given(write) => judge_write(global, own, write, best),
+        Demand::Fixed(_, e) => judge_expression(scope, e, best),
+        Demand::Varying(_, e) => judge_expression(scope, e, best),
+        Demand::Assigned(write) => judge_write(scope, write, best),
+        Demand::Given(write) => judge_write(scope, write, best),
     }
 }
 
-fn judge_write(
-    global: &NameSet,
-    own: &NameSet,
-    write: &JaniWrite,
-    best: Option<Fault>,
-) -> Option<Fault>
-    ensures { let known = has_either global.now own.now in
+fn judge_write(scope: &Scope, write: &JaniWrite, best: Option<Fault>) -> Option<Fault>
+    ensures { let known = is_known (scope_thing scope.now) in
         result ≡ soonest best (unless_known known write.now.target ++ flat_map (unless_known known) (names_of (tree write.now.value))) }
 {
     let target = &write.target;
-    let first = judge_name(global, own, target.name.as_str(), target.at, best);
-    judge_names(global, own, &write.value, first)
-}
-
-#[tactic(auto, using(crate::proofs::Append::soonest_both, crate::proofs::Append::soonest_three))]
-fn judge_names(global: &NameSet, own: &NameSet, e: &Je, best: Option<Fault>) -> Option<Fault>
-    ensures { result ≡ soonest best (flat_map (unless_known (has_either global.now own.now)) (names_of (tree e.now))) }
-{
-    match e {
-        Expr::Truth(_, _) => best,
-        Expr::Number(_, _) => best,
-        Expr::Name(at, name) => judge_name(global, own, name.as_str(), *at, best),
-        Expr::One(_, _, a) => judge_names(global, own, a, best),
-        Expr::Two(_, _, a, b) => {
-            let first = judge_names(global, own, a, best);
-            judge_names(global, own, b, first)
-        }
-        Expr::Three(_, _, a, b, c) => {
-            let first = judge_names(global, own, a, best);
-            let second = judge_names(global, own, b, first);
-            judge_names(global, own, c, second)
-        }
-    }
-}
-
-fn judge_name(
-    global: &NameSet,
-    own: &NameSet,
-    name: &str,
-    at: usize,
-    best: Option<Fault>,
-) -> Option<Fault>
-    ensures { result ≡ soonest best (unless_known (has_either global.now own.now) (record { name = name.now; at = at })) }
-{
-    if global.has(name) || own.has(name) {
-        best
-    } else {
-        sooner(best, at, Reason::Unknown)
-    }
+    let first = judge_name(scope, target.name.as_str(), target.at, best);
+    judge_expression(scope, &write.value, first)
 }

@@ -1,21 +1,19 @@
 // Vectors two of whose participants assign rewards.
 
-ghost use Rattle.std.specs.Prelude.{◌≡◌, List, ℕ, false, ◌||◌, map, IfOk, OnOk};
+ghost use Rattle.std.specs.Prelude.{◌≡◌, List, ℕ, false, ◌||◌, map, bytes_eq, IfOk, OnOk};
 ghost use Rattle.std.specs.List.{flat_map, list_any};
-ghost use Rattle.jani_table.specs.Least.{soonest};
-ghost use Rattle.jani_tree.specs.Syntax.{automaton_of, destination_of, edge_of, vector_of, write_of};
+ghost use Rattle.jani_tree.specs.Syntax.{automaton_of, destination_of, edge_of, write_of};
 ghost use Rattle.jani_check.specs.Participants.{part_taken, parts_taken};
 ghost use Rattle.jani_check.specs.ProfileFaults.{rewards_with, two_hold};
-ghost use Rattle.jani_check.specs.Rewarding.{edge_rewards, rewarded_in, writers_by};
+ghost use Rattle.jani_check.specs.Rewarding.{edge_rewards, rewarded_in};
 ghost use Rattle.jani_check.specs.Scopes.{scope_thing, thing_under};
 ghost use Rattle.jani_check.specs.Things.{is_reward};
 
-use crate::least::sooner_if;
-use crate::named::NameSet;
 use crate::rewards::is_reward;
 use crate::things::{Scope, Things};
 use bridge_io::{Fault, Named, Reason};
 use jani_tree::{JaniAutomaton, JaniDestination, JaniEdge, JaniVector, JaniWrite};
+use name_rules::{Judged, NameSet, Rule, sooner_if};
 use std::alloc::{AllocError, Global};
 
 /// The actions of the edges of an automaton that assign a reward.
@@ -68,10 +66,16 @@ impl<'a> Rewarding<'a> {
     {
         if let Some(action) = &e.action {
             if assigns_reward(scope, e.destinations.as_slice()) {
-                return self.actions.add(action.name.as_str());
+                return self.add(action.name.as_str());
             }
         }
         Ok(())
+    }
+
+    fn add(&mut self, action: &'a str) -> Result<(), AllocError>
+        ensures { OnOk result ((x : List ℕ) → rewarded_in self.new x ≡ (bytes_eq action.now x || rewarded_in self.old x)) }
+    {
+        self.actions.add(action)
     }
 
     /// Whether an element assigns a reward in a vector.
@@ -107,27 +111,27 @@ fn has_reward(scope: &Scope, writes: &[JaniWrite]) -> bool
     false
 }
 
-/// The least of a fault that was found before and those of vectors two of whose participants assign rewards, by the actions
-/// with which the elements do.
-pub(crate) fn judge_writers(
-    elements: &[Rewarding],
-    vectors: &[JaniVector],
-    before: Option<Fault>,
-) -> Option<Fault>
-    ensures { result ≡ soonest before (flat_map (writers_by (map rewarded_in elements.now)) (map vector_of vectors.now)) }
-{
-    let mut best = before;
-    for v in vectors {
-        best = judge_vector(elements, v, best);
-    }
-    best
+/// Vectors two of whose participants assign rewards, by the actions with which the elements do.
+#[derive(Drop)]
+pub(crate) struct Writers<'s, 'a> {
+    pub(crate) elements: &'s [Rewarding<'a>],
 }
 
-fn judge_vector(elements: &[Rewarding], v: &JaniVector, best: Option<Fault>) -> Option<Fault>
-    ensures { result ≡ soonest best (writers_by (map rewarded_in elements.now) (vector_of v.now)) }
-{
-    let two = two_assign(elements, v.parts.as_slice());
-    sooner_if(two, v.at, Reason::TwoRewardWriters, best)
+impl<'s, 'a> Rule<JaniVector> for Writers<'s, 'a> {
+    ghost use Rattle.std.specs.Prelude.{map};
+    ghost use Rattle.jani_tree.specs.Syntax.{Vector, vector_of};
+    ghost use Rattle.jani_check.specs.Rewarding.{rewarded_in, writers_by};
+
+    ghost Seen = { Vector };
+
+    ghost view = { vector_of };
+
+    ghost faults = { λ r. writers_by (map rewarded_in r.elements.now) };
+
+    fn judge(&self, _alloc: Global, v: &JaniVector, best: Option<Fault>) -> Judged {
+        let two = two_assign(self.elements, v.parts.as_slice());
+        Ok(sooner_if(two, v.at, Reason::TwoRewardWriters, best))
+    }
 }
 
 // Whether two participants assign rewards.

@@ -8,12 +8,13 @@ use Rattle.std.proofs.Math.Path.{fun_ext}
 use Rattle.std.proofs.lemmas.List.{append-nil, at_drop_all, length-map, map-append}
 use Rattle.std.proofs.lemmas.List.Folds.{flat_map-map}
 use Rattle.std.proofs.lemmas.Slice.Eq.{bytes_eq-Decides}
+use Rattle.basics.specs.Members.{any-map}
 use Rattle.indexmap.specs.IndexSet.{insert_all, insert_key}
 use Rattle.op_trees.specs.Tree.{capped}
 use Rattle.process_core.specs.Equal.{IsEquality}
 use Rattle.process_core.specs.Often.{sum_by-map}
 use Rattle.process_core.specs.Ready.{Name, firsts, if_some}
-use Rattle.process_core.proofs.Targets.{any-map, firsts_more}
+use Rattle.process_core.proofs.Targets.{firsts_more}
 use Rattle.prism_tree.specs.declared.syntax.NamePair.{NamePair}
 use Rattle.prism_tree.specs.declared.syntax.PrismFile.{PrismFile}
 use Rattle.prism_tree.specs.declared.syntax.PrismModule.{PrismModule}

@@ -3,12 +3,12 @@ use Rattle.std.specs.Prelude.{◌≡◌, List, [], ◌∷◌, Some, None}
 use Rattle.std.proofs.Common.{sym, ap, subst, ◌∙◌}
 use Rattle.bridge_io.specs.declared.reason.Fault.{Fault}
 use Rattle.prism_tree.specs.Syntax.{File}
-use Rattle.prism_check.specs.Least.{soonest, IsLeast}
+use Rattle.name_rules.specs.Least.{soonest, IsLeast}
 use Rattle.prism_check.specs.NameFaults.{name_faults}
 use Rattle.prism_check.specs.SizeFaults.{size_faults}
 use Rattle.prism_check.specs.TypeFaults.{type_faults}
 use Rattle.prism_check.specs.Faults.{or_else, faults}
-use Rattle.prism_check.proofs.Soonest.{soonest_some, soonest_none}
+use Rattle.name_rules.proofs.Soonest.{soonest_some, soonest_none}
 
 -- the least of some is the least of all
 least_of : (fs others : List Fault) (f : Fault) → soonest None fs ≡ Some f → IsLeast (or_else fs others) f

@@ -3,6 +3,7 @@ use Rattle.std.specs.Prelude.{List, [], ◌++◌, map}
 use Rattle.std.specs.List.{flat_map}
 use Rattle.std.proofs.Common.{◌≡◌, sym, ap, ◌∙◌}
 use Rattle.std.proofs.lemmas.List.Folds.{flat_map-map}
+use Rattle.basics.specs.Lists.{flat_map_of}
 use Rattle.prism_tree.specs.declared.syntax.PrismFile.{PrismFile}
 use Rattle.prism_tree.specs.declared.syntax.PrismConst.{PrismConst}
 use Rattle.prism_tree.specs.declared.syntax.PrismVar.{PrismVar}
@@ -13,10 +14,6 @@ use Rattle.prism_tree.specs.Syntax.{const_of, var_of, label_of, rewards_of, comm
 use Rattle.prism_check.specs.Demands.{Demand, const_demands, var_demands, label_demands, rewards_demands, command_demands, outer_demands}
 use Rattle.prism_check.proofs.Declared.{joined}
 
--- the parts that a function reads are those of the file
-pub each_of : {A B C : Type 0} (f : B → List C) (g : A → B) (xs ys : List A) → xs ≡ ys → flat_map (λ x. f (g x)) xs ≡ flat_map f (map g ys)
-each_of f g xs ys e = ap (flat_map (λ x. f (g x))) e ∙ sym (flat_map-map f g ys)
-
 pub outer_is : (f : PrismFile) (cs : List PrismConst) (xs : List PrismVar) (ls : List PrismLabel) (rs : List PrismRewards) (l0 l1 l2 l3 l4 : List Demand) →
     cs ≡ f.constants → xs ≡ f.globals → ls ≡ f.labels → rs ≡ f.rewards → l0 ≡ [] → l1 ≡ l0 ++ flat_map (λ c. const_demands (const_of c)) cs →
     l2 ≡ l1 ++ flat_map (λ x. var_demands (var_of x)) xs → l3 ≡ l2 ++ flat_map (λ l. label_demands (label_of l)) ls →
@@ -24,10 +21,10 @@ pub outer_is : (f : PrismFile) (cs : List PrismConst) (xs : List PrismVar) (ls :
 outer_is f cs xs ls rs l0 l1 l2 l3 l4 ec ex el er p0 p1 p2 p3 p4 =
     joined (flat_map const_demands (map const_of f.constants)) (flat_map var_demands (map var_of f.globals)) (flat_map label_demands (map label_of f.labels))
     (flat_map rewards_demands (map rewards_of f.rewards)) l0 l1 l2 l3 l4 p0
-    (p1 ∙ ap (λ zs. l0 ++ zs) (each_of const_demands const_of cs f.constants ec))
-    (p2 ∙ ap (λ zs. l1 ++ zs) (each_of var_demands var_of xs f.globals ex))
-    (p3 ∙ ap (λ zs. l2 ++ zs) (each_of label_demands label_of ls f.labels el))
-    (p4 ∙ ap (λ zs. l3 ++ zs) (each_of rewards_demands rewards_of rs f.rewards er))
+    (p1 ∙ ap (λ zs. l0 ++ zs) (flat_map_of const_demands const_of cs f.constants ec))
+    (p2 ∙ ap (λ zs. l1 ++ zs) (flat_map_of var_demands var_of xs f.globals ex))
+    (p3 ∙ ap (λ zs. l2 ++ zs) (flat_map_of label_demands label_of ls f.labels el))
+    (p4 ∙ ap (λ zs. l3 ++ zs) (flat_map_of rewards_demands rewards_of rs f.rewards er))
 
 pub contents_are : (xs : List PrismVar) (cs : List PrismCommand) (l0 l1 l2 : List Demand) → l0 ≡ [] → l1 ≡ l0 ++ flat_map (λ x. var_demands (var_of x)) xs →
     l2 ≡ l1 ++ flat_map (λ c. command_demands (command_of c)) cs → l2 ≡ flat_map var_demands (map var_of xs) ++ flat_map command_demands (map command_of cs)

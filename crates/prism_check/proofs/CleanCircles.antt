@@ -7,18 +7,25 @@ use Rattle.std.proofs.Math.Path.{fun_ext}
 use native.Mathlib.Decide.{ℕ_discrete}
 use Rattle.std.proofs.lemmas.Slice.Eq.{bytes_eq-Decides}
 use Rattle.std.proofs.lemmas.List.Folds.{list_any-append}
+use Rattle.std.proofs.Math.Bool.{or-false}
+use Rattle.std.proofs.lemmas.Bool.{or_parts}
+use Rattle.basics.specs.Members.{any_weaker}
+use Rattle.basics.specs.Each.{each_then, each_map, map_each, each_join, each_parts, empty_each, each_empty, none_each, each_none}
 use Rattle.bridge_io.specs.declared.reason.Reason.TheVariants.{Cycle}
 use Rattle.op_trees.specs.Tree.{AllNames}
-use Rattle.op_trees.specs.SeenLaws.{or_false}
+use Rattle.op_trees.specs.Names.{names_of}
+use Rattle.op_trees.specs.NameLaws.{names_renamed}
 use Rattle.process_core.specs.Ready.{Name, if_some}
 use Rattle.prism_tree.specs.Syntax.{Expression, Const, Formula, File}
 use Rattle.prism_names.specs.Names.{is_called, formula_body, unchanged}
 use Rattle.prism_names.specs.Flat.{flat_expression, flat_constant, flat}
 use Rattle.prism_names.specs.Order.{whole}
 use Rattle.prism_print.specs.Printable.{Each, IfAny}
-use Rattle.prism_check.specs.NameFaults.{names_of, Declared, declarations, uses, uses_of, leads_to, is_circular, circular, circles}
-use Rattle.prism_check.proofs.Each.{each_then, each_map, map_each, each_join, each_parts, any_map, empty_each, each_empty, either_none, none_each, each_none, no_fault, fault_none}
-use Rattle.prism_check.proofs.NamesIn.{listed_names, names_listed, names_renamed, names_written_out}
+use Rattle.name_rules.specs.Uses.{used}
+use Rattle.name_rules.specs.Circles.{Declared, uses_of, leads_to, is_circular, circular}
+use Rattle.prism_check.specs.NameFaults.{declared_const, declared_formula, declarations, circles}
+use Rattle.prism_check.proofs.Each.{any_map, no_fault, fault_none}
+use Rattle.prism_check.proofs.NamesIn.{listed_names, names_listed, names_written_out}
 
 -- ---- how many of what is declared have names that pass a test
 abbrev flags : (Name → Bool) → List Declared → ℕ
@@ -66,25 +73,13 @@ module _ (p q : Name → Bool) (more : (x : Name) → p x ≡ true → q x ≡ t
       by_test false false e f m k ih = (f ∙ sym e, ih (omega arith))
 
 -- ---- what leads to a name does so in as many steps as there are declarations
-any_more : (p q : Name → Bool) → ((x : Name) → p x ≡ true → q x ≡ true) → (xs : List Name) → list_any p xs ≡ true → list_any q xs ≡ true
-any_more p q h [] e = e
-any_more p q h (x ∷ xs) e = by_test (p x) refl e (any_more p q h xs)
-  where
-    or_true : (c : Bool) → (c || true) ≡ true
-    or_true true = refl
-    or_true false = refl
-
-    by_test : (b : Bool) → p x ≡ b → (b || list_any p xs) ≡ true → (list_any p xs ≡ true → list_any q xs ≡ true) → (q x || list_any q xs) ≡ true
-    by_test true f k ih = ap (λ c. c || list_any q xs) (h x f)
-    by_test false f k ih = ap (λ c. q x || c) (ih k) ∙ or_true (q x)
-
 -- what holds of each name that is declared holds of each under which anything is
 declared_all : (P : Name → Type 0) (ds : List Declared) → Each (λ d. P d.name.name) ds → (x : Name) → (uses_of ds x ≡ []) ⊎ P x
 declared_all P [] h x = inl refl
 declared_all P (d ∷ ds) h x = by_test (bytes_eq d.name.name x) refl (declared_all P ds h.1 x)
   where
     by_test : (b : Bool) → bytes_eq d.name.name x ≡ b → (uses_of ds x ≡ []) ⊎ P x →
-        (flat_map uses (cond b (d ∷ filter (λ e. is_called x e.name) ds) (filter (λ e. is_called x e.name) ds)) ≡ []) ⊎ P x
+        (flat_map (λ e. e.uses) (cond b (d ∷ filter (λ e. is_called x e.name) ds) (filter (λ e. is_called x e.name) ds)) ≡ []) ⊎ P x
     by_test true e r = inr (subst P ((bytes_eq-Decides d.name.name x).0 e) h.0)
     by_test false e r = r
 
@@ -94,11 +89,11 @@ module _ (ds : List Declared) (y : Name) where
 
   leads_itself : (x : Name) → uses_of ds x ≡ [] → (n : ℕ) → leads n x ≡ bytes_eq x y
   leads_itself x e zero = refl
-  leads_itself x e (suc n) = ap (λ zs. bytes_eq x y || list_any (leads n) zs) e ∙ or_false (bytes_eq x y)
+  leads_itself x e (suc n) = ap (λ zs. bytes_eq x y || list_any (leads n) zs) e ∙ or-false (bytes_eq x y)
 
   rises : (n : ℕ) (x : Name) → leads n x ≡ true → leads (suc n) x ≡ true
   rises zero x e = ap (λ b. b || list_any (leads zero) (uses_of ds x)) e
-  rises (suc n) x e = by_test (bytes_eq x y) (any_more (leads n) (leads (suc n)) (rises n) (uses_of ds x)) e
+  rises (suc n) x e = by_test (bytes_eq x y) (any_weaker (leads n) (leads (suc n)) (rises n) (uses_of ds x)) e
     where
       by_test : (b : Bool) → (list_any (leads n) (uses_of ds x) ≡ true → list_any (leads (suc n)) (uses_of ds x) ≡ true) →
           (b || list_any (leads n) (uses_of ds x)) ≡ true → (b || list_any (leads (suc n)) (uses_of ds x)) ≡ true
@@ -140,31 +135,31 @@ module _ (ds : List Declared) (y : Name) where
 
   -- a name that does not lead there differs, and nothing that is declared under it leads there
   not_there : (x : Name) → leads (length ds) x ≡ false → (bytes_eq x y ≡ false) × (list_any (leads (length ds)) (uses_of ds x) ≡ false)
-  not_there x e = either_none (bytes_eq x y) (list_any (leads (length ds)) (uses_of ds x)) (settled x ∙ e)
+  not_there x e = or_parts (bytes_eq x y) (list_any (leads (length ds)) (uses_of ds x)) (settled x ∙ e)
 
 -- ---- a test that no name under a name passes which does not pass it itself
 module _ (test : Name → Bool) where
   abbrev IsClosed : Declared → Type 0
-  IsClosed d = test d.name.name ≡ false → list_any test (uses d) ≡ false
+  IsClosed d = test d.name.name ≡ false → list_any test d.uses ≡ false
 
   abbrev under : List Declared → Name → List Declared
   under ds x = filter (λ e. is_called x e.name) ds
 
-  both_none : (d : Declared) (ds : List Declared) → list_any test (flat_map uses (d ∷ ds)) ≡ false →
-      (list_any test (uses d) ≡ false) × (list_any test (flat_map uses ds) ≡ false)
+  both_none : (d : Declared) (ds : List Declared) → list_any test (flat_map (λ e. e.uses) (d ∷ ds)) ≡ false →
+      (list_any test d.uses ≡ false) × (list_any test (flat_map (λ e. e.uses) ds) ≡ false)
   both_none d ds e =
-      either_none (list_any test (uses d)) (list_any test (flat_map uses ds)) (sym (list_any-append test (uses d) (flat_map uses ds)) ∙ e)
+      or_parts (list_any test d.uses) (list_any test (flat_map (λ e. e.uses) ds)) (sym (list_any-append test d.uses (flat_map (λ e. e.uses) ds)) ∙ e)
 
   closed_each : (ds : List Declared) → ((x : Name) → test x ≡ false → list_any test (uses_of ds x) ≡ false) → Each IsClosed ds
   closed_each [] h = tt
   closed_each (d ∷ ds) h = (λ s. head s, closed_each ds (λ x s. tail x (bytes_eq d.name.name x) (h x s)))
     where
-      head : test d.name.name ≡ false → list_any test (uses d) ≡ false
+      head : test d.name.name ≡ false → list_any test d.uses ≡ false
       head s =
           (both_none d (under ds d.name.name)
-          (ap (λ b. list_any test (flat_map uses (cond b (d ∷ under ds d.name.name) (under ds d.name.name)))) (sym ((bytes_eq-Decides d.name.name d.name.name).1 refl)) ∙ h d.name.name s)).0
+          (ap (λ b. list_any test (flat_map (λ e. e.uses) (cond b (d ∷ under ds d.name.name) (under ds d.name.name)))) (sym ((bytes_eq-Decides d.name.name d.name.name).1 refl)) ∙ h d.name.name s)).0
 
-      tail : (x : Name) (b : Bool) → list_any test (flat_map uses (cond b (d ∷ under ds x) (under ds x))) ≡ false → list_any test (uses_of ds x) ≡ false
+      tail : (x : Name) (b : Bool) → list_any test (flat_map (λ e. e.uses) (cond b (d ∷ under ds x) (under ds x))) ≡ false → list_any test (uses_of ds x) ≡ false
       tail x true e = (both_none d (under ds x) e).1
       tail x false e = e
 
@@ -173,38 +168,27 @@ module _ (test : Name → Bool) where
   each_closed (d ∷ ds) h x s = by_test (bytes_eq d.name.name x) refl (each_closed ds h.1 x s)
     where
       by_test : (b : Bool) → bytes_eq d.name.name x ≡ b → list_any test (uses_of ds x) ≡ false →
-          list_any test (flat_map uses (cond b (d ∷ under ds x) (under ds x))) ≡ false
+          list_any test (flat_map (λ e. e.uses) (cond b (d ∷ under ds x) (under ds x))) ≡ false
       by_test true e r =
-          list_any-append test (uses d) (flat_map uses (under ds x))
+          list_any-append test d.uses (flat_map (λ e. e.uses) (under ds x))
           ∙ ap₂ (λ a b. a || b) (h.0 (ap test ((bytes_eq-Decides d.name.name x).0 e) ∙ s)) r
       by_test false e r = r
 
   abbrev Fails : Name → Type 0
   Fails x = test x ≡ false
 
-  body_names : (o : Option Expression) → list_any test (map (λ n. n.name) (flat_map names_of (if_some o))) ≡ false → IfAny (AllNames Fails) o
+  body_names : (o : Option Expression) → list_any test (used o) ≡ false → IfAny (AllNames Fails) o
   body_names None e = tt
-  body_names (Some b) e =
-      listed_names Fails b
-      (each_parts (λ n. Fails n.name) (names_of b) []
-      (map_each Fails (λ n. n.name) (names_of b ++ []) (none_each test (map (λ n. n.name) (names_of b ++ [])) e))).0
+  body_names (Some b) e = listed_names Fails b (map_each Fails (λ n. n.name) (names_of b) (none_each test (map (λ n. n.name) (names_of b)) e))
 
-  names_body : (o : Option Expression) → IfAny (AllNames Fails) o → list_any test (map (λ n. n.name) (flat_map names_of (if_some o))) ≡ false
+  names_body : (o : Option Expression) → IfAny (AllNames Fails) o → list_any test (used o) ≡ false
   names_body None h = refl
   names_body (Some b) h =
-      each_none test (map (λ n. n.name) (names_of b ++ []))
-      (each_map (λ n. Fails n.name) Fails (λ n. n.name) (λ n k. k) (names_of b ++ [])
-      (each_join (λ n. Fails n.name) (names_of b) [] (names_listed Fails b h) tt))
-
-abbrev constant_declared : Const → Declared
-constant_declared c = record { name = c.name; body = c.value }
-
-abbrev formula_declared : Formula → Declared
-formula_declared f = record { name = f.name; body = Some f.body }
+      each_none test (map (λ n. n.name) (names_of b)) (each_map (λ n. Fails n.name) Fails (λ n. n.name) (λ n k. k) (names_of b) (names_listed Fails b h))
 
 -- ---- so written out, what does not lead to a name does not lead there
 module _ (file : File) (test : Name → Bool) (closed : Each (IsClosed test) (declarations file)) where
-  formula_closed : (fs : List Formula) → Each (λ f. IsClosed test (formula_declared f)) fs → (x : Name) → test x ≡ false →
+  formula_closed : (fs : List Formula) → Each (λ f. IsClosed test (declared_formula f)) fs → (x : Name) → test x ≡ false →
       IfAny (AllNames (Fails test)) (option_map (λ f. f.body) (find (λ f. is_called x f.name) fs))
   formula_closed [] h x s = tt
   formula_closed (f ∷ fs) h x s = by_test (bytes_eq f.name.name x) refl (formula_closed fs h.1 x s)
@@ -214,13 +198,13 @@ module _ (file : File) (test : Name → Bool) (closed : Each (IsClosed test) (de
       by_test true e r = body_names test (Some f.body) (h.0 (ap test ((bytes_eq-Decides f.name.name x).0 e) ∙ s))
       by_test false e r = r
 
-  halves : Each (IsClosed test) (map constant_declared file.constants) × Each (IsClosed test) (map formula_declared file.formulas)
-  halves = each_parts (IsClosed test) (map constant_declared file.constants) (map formula_declared file.formulas) closed
+  halves : Each (IsClosed test) (map declared_const file.constants) × Each (IsClosed test) (map declared_formula file.formulas)
+  halves = each_parts (IsClosed test) (map declared_const file.constants) (map declared_formula file.formulas) closed
 
   body_fails : (x : Name) → test x ≡ false → IfAny (AllNames (Fails test)) (formula_body file x)
-  body_fails = formula_closed file.formulas (map_each (IsClosed test) formula_declared file.formulas halves.1)
+  body_fails = formula_closed file.formulas (map_each (IsClosed test) declared_formula file.formulas halves.1)
 
-  flat_fails : (c : Const) → list_any test (uses (constant_declared c)) ≡ false → list_any test (uses (constant_declared (flat_constant file c))) ≡ false
+  flat_fails : (c : Const) → list_any test (declared_const c).uses ≡ false → list_any test (declared_const (flat_constant file c)).uses ≡ false
   flat_fails c e =
       names_body test (option_map (flat_expression file unchanged) c.value)
       (any_map (AllNames (Fails test)) (AllNames (Fails test)) (flat_expression file unchanged)
@@ -229,10 +213,10 @@ module _ (file : File) (test : Name → Bool) (closed : Each (IsClosed test) (de
 
   flat_closed : Each (IsClosed test) (declarations (flat file))
   flat_closed =
-      each_join (IsClosed test) (map constant_declared (map (flat_constant file) file.constants)) []
-      (each_map (λ c. IsClosed test (constant_declared c)) (IsClosed test) constant_declared (λ c h. h) (map (flat_constant file) file.constants)
-      (each_map (λ c. IsClosed test (constant_declared c)) (λ c. IsClosed test (constant_declared c)) (flat_constant file) (λ c h s. flat_fails c (h s)) file.constants
-      (map_each (IsClosed test) constant_declared file.constants halves.0)))
+      each_join (IsClosed test) (map declared_const (map (flat_constant file) file.constants)) []
+      (each_map (λ c. IsClosed test (declared_const c)) (IsClosed test) declared_const (λ c h. h) (map (flat_constant file) file.constants)
+      (each_map (λ c. IsClosed test (declared_const c)) (λ c. IsClosed test (declared_const c)) (flat_constant file) (λ c h s. flat_fails c (h s)) file.constants
+      (map_each (IsClosed test) declared_const file.constants halves.0)))
       tt
 
 module _ (file : File) (y : Name) where
@@ -251,26 +235,26 @@ module _ (file : File) (y : Name) where
       (none_each leads_there (uses_of (declarations (flat file)) x)
       (each_closed leads_there (declarations (flat file)) (flat_closed file leads_there old_closed) x s))))
 
-not_circular : (file : File) (c : Const) → circular (declarations file) (constant_declared c) ≡ [] →
-    circular (declarations (flat file)) (constant_declared (flat_constant file c)) ≡ []
+not_circular : (file : File) (c : Const) → circular (declarations file) (declared_const c) ≡ [] →
+    circular (declarations (flat file)) (declared_const (flat_constant file c)) ≡ []
 not_circular file c e =
     let y = c.name.name in
-    let new = constant_declared (flat_constant file c) in
+    let new = declared_const (flat_constant file c) in
     fault_none (is_circular (declarations (flat file)) new) c.name.at Cycle
-    (each_none (λ x. leads_to (declarations (flat file)) (length (declarations (flat file))) x y) (uses new)
+    (each_none (λ x. leads_to (declarations (flat file)) (length (declarations (flat file))) x y) new.uses
     (each_then (λ x. leads_there file y x ≡ false) (λ x. leads_to (declarations (flat file)) (length (declarations (flat file))) x y ≡ false)
-    (never file y (length (declarations (flat file)))) (uses new)
-    (none_each (leads_there file y) (uses new)
-    (flat_fails file (leads_there file y) (old_closed file y) c (no_fault (is_circular (declarations file) (constant_declared c)) c.name.at Cycle e)))))
+    (never file y (length (declarations (flat file)))) new.uses
+    (none_each (leads_there file y) new.uses
+    (flat_fails file (leads_there file y) (old_closed file y) c (no_fault (is_circular (declarations file) (declared_const c)) c.name.at Cycle e)))))
 
 pub no_circles : (file : File) → circles file ≡ [] → circles (flat file) ≡ []
 no_circles file e =
     let IsNone : Declared → Type 0 = λ d. circular (declarations (flat file)) d ≡ [] in
     each_empty (circular (declarations (flat file))) (declarations (flat file))
-    (each_join IsNone (map constant_declared (map (flat_constant file) file.constants)) []
-    (each_map (λ c. IsNone (constant_declared c)) IsNone constant_declared (λ c h. h) (map (flat_constant file) file.constants)
-    (each_map (λ c. circular (declarations file) (constant_declared c) ≡ []) (λ c. IsNone (constant_declared c)) (flat_constant file) (not_circular file) file.constants
-    (map_each (λ d. circular (declarations file) d ≡ []) constant_declared file.constants
-    (each_parts (λ d. circular (declarations file) d ≡ []) (map constant_declared file.constants) (map formula_declared file.formulas)
+    (each_join IsNone (map declared_const (map (flat_constant file) file.constants)) []
+    (each_map (λ c. IsNone (declared_const c)) IsNone declared_const (λ c h. h) (map (flat_constant file) file.constants)
+    (each_map (λ c. circular (declarations file) (declared_const c) ≡ []) (λ c. IsNone (declared_const c)) (flat_constant file) (not_circular file) file.constants
+    (map_each (λ d. circular (declarations file) d ≡ []) declared_const file.constants
+    (each_parts (λ d. circular (declarations file) d ≡ []) (map declared_const file.constants) (map declared_formula file.formulas)
     (empty_each (circular (declarations file)) (declarations file) e)).0)))
     tt)

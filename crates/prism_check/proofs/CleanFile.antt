@@ -1,14 +1,20 @@
 -- A file without faults has none once it is written out.
-use Rattle.std.specs.Prelude.{◌≡◌, ℕ, ◌+◌, ◌<◌, List, [], ◌∷◌, ◌++◌, map, length, Bool, true, false, not, ◌&&◌, ◌||◌, Option, Some, None, is_some, nat_eq, if◌then◌else◌}
+use Rattle.std.specs.Prelude.{◌≡◌, ℕ, ◌+◌, ◌<◌, List, [], ◌∷◌, ◌++◌, map, length, true, false, not, ◌&&◌, ◌||◌, Option, Some, None, is_some, nat_eq, if◌then◌else◌}
 use Rattle.std.specs.List.{flat_map, find}
 use Rattle.std.proofs.Common.{refl, sym, ap, ap₂, ◌∙◌, subst, arith}
 use Rattle.std.proofs.lemmas.List.{length-map}
 use Rattle.std.proofs.lemmas.List.Elements.{All-nil}
+use Rattle.std.proofs.lemmas.Bool.{or_parts, not-false}
+use Rattle.basics.specs.Options.{none_of}
+use Rattle.basics.specs.Lists.{append_parts, append_both}
+use Rattle.basics.specs.Each.{each_then, each_with, each_map, map_each, each_of, empty_each, each_empty, none_each}
 use Rattle.bridge_io.specs.declared.reason.Named.{Named}
 use Rattle.bridge_io.specs.declared.reason.Reason.TheVariants.{Unknown, Nothing, WrongType, WrittenTwice, TooLarge}
 use Rattle.bridge_io.specs.declared.reason.Fault.{Fault}
 use Rattle.op_trees.specs.Tree.{AllNames}
 use Rattle.op_trees.specs.SeenLaws.{names_then}
+use Rattle.op_trees.specs.Names.{names_of, some_name}
+use Rattle.op_trees.specs.NameLaws.{names_with, none_named, names_renamed}
 use Rattle.process_core.specs.Ready.{Name}
 use Rattle.prism_tree.specs.Syntax.{Expression, Command, Module, plain, copied, File}
 use Rattle.prism_names.specs.Names.{is_called, formula_body, is_formula, unchanged, written_name, module_called, part_of}
@@ -17,15 +23,18 @@ use Rattle.prism_names.specs.Laws.{flat_part}
 use Rattle.prism_names.specs.Places.{IsPlaceOrder, at_places, formula_names, places_order}
 use Rattle.prism_names.specs.Order.{IsOrder, whole, whole_plain}
 use Rattle.prism_print.specs.Printable.{Each, IfAny}
-use Rattle.prism_check.specs.Least.{fault, fault_if, moved_to}
+use Rattle.name_rules.specs.Least.{fault, fault_if, moved_to}
 use Rattle.prism_check.specs.Demands.{Demand, fixed, varying, written, formula_demands, part_demands, outer_demands}
-use Rattle.prism_check.specs.NameFaults.{is_among, doubled, values, names_of, unless_known, unknown, some_name, some_used, is_lost, loses_name, unknown_in, unknown_names, circles, doubled_names, copy_faults, no_module, name_faults}
+use Rattle.name_rules.specs.Names.{is_among}
+use Rattle.name_rules.specs.Doubled.{doubled}
+use Rattle.prism_check.specs.NameFaults.{values, unknown, some_used, is_lost, loses_name, unknown_in, unknown_names, circles, doubled_names, copy_faults, no_module, name_faults}
+use Rattle.name_rules.specs.Unknown.{unless_known}
 use Rattle.prism_check.specs.TypeFaults.{types, misfits, demand_faults, write_faults, target, repeated_writes, part_faults, module_faults, numbered_faults, type_faults}
 use Rattle.prism_check.specs.SizeFaults.{passes_limit, size_faults}
 use Rattle.prism_check.specs.Faults.{or_else}
 use Rattle.prism_check.specs.Clean.{FlatIsClean, FlatHasNoFault, FlatIsChecked}
-use Rattle.prism_check.proofs.Each.{map_same, flat_map_same, each_of, each_then, each_with, each_map, map_each, each_found, any_map, empty_parts, empty_join, empty_each, each_empty, empty_map, none_each, no_fault, fault_none, either_none}
-use Rattle.prism_check.proofs.NamesIn.{names_with, listed_names, names_listed, none_named, names_renamed, names_written_out}
+use Rattle.prism_check.proofs.Each.{map_same, flat_map_same, each_found, any_map, empty_map, no_fault, fault_none}
+use Rattle.prism_check.proofs.NamesIn.{listed_names, names_listed, names_written_out}
 use Rattle.prism_check.proofs.FlatDemands.{flat_demand, part-flat, outer-flat}
 use Rattle.prism_check.proofs.CleanPrintable.{flat_printable}
 use Rattle.prism_check.proofs.CleanValues.{known_still, none_doubled}
@@ -34,14 +43,6 @@ use Rattle.prism_check.proofs.FlatTwice.{flat_twice}
 use Rattle.prism_check.proofs.CleanTypes.{AllUsed, IsFree, judged_alike, same_written, written_free, written_out_judged}
 
 -- ---- names that are known
-not_false : (b : Bool) → not b ≡ false → b ≡ true
-not_false true e = refl
-not_false false e = absurd cc
-
-none_of : {A : Type 0} (o : Option A) → is_some o ≡ false → o ≡ None
-none_of None e = refl
-none_of (Some x) e = absurd cc
-
 abbrev IsKnown : File → Name → Type 0
 IsKnown file x = is_among (values file) x ≡ true
 
@@ -52,7 +53,7 @@ used_then P Q h (written acts w) p = (h w.name.name p.0, names_then P Q h w.valu
 
 module _ (file : File) where
   known_one : (n : Named) → unless_known (is_among (values file)) n ≡ [] → IsKnown file n.name
-  known_one n e = not_false (is_among (values file) n.name) (no_fault (not (is_among (values file) n.name)) n.at Unknown e)
+  known_one n e = not-false (is_among (values file) n.name) (no_fault (not (is_among (values file) n.name)) n.at Unknown e)
 
   one_known : (n : Named) → IsKnown file n.name → unless_known (is_among (values file)) n ≡ []
   one_known n k = fault_none (not (is_among (values file) n.name)) n.at Unknown (ap not k)
@@ -71,14 +72,14 @@ module _ (file : File) where
   known_used (fixed w e) k = known_names e k
   known_used (varying w e) k = known_names e k
   known_used (written acts w) k =
-      let r = empty_parts (unless_known (is_among (values file)) w.name) (flat_map (unless_known (is_among (values file))) (names_of w.value)) k in
+      let r = append_parts (unless_known (is_among (values file)) w.name) (flat_map (unless_known (is_among (values file))) (names_of w.value)) k in
       (known_one w.name r.0, known_names w.value r.1)
 
   used_known : (d : Demand) → AllUsed (IsKnown file) d → unknown file d ≡ []
   used_known (fixed w e) k = names_known e k
   used_known (varying w e) k = names_known e k
   used_known (written acts w) k =
-      empty_join (unless_known (is_among (values file)) w.name) (flat_map (unless_known (is_among (values file))) (names_of w.value))
+      append_both (unless_known (is_among (values file)) w.name) (flat_map (unless_known (is_among (values file))) (names_of w.value))
       (one_known w.name k.0) (names_known w.value k.1)
 
 -- ---- bodies
@@ -104,31 +105,31 @@ module _ (file : File) (order : List Name) (ordered : IsOrder file order) (clean
     known : IsKnown file x
 
   doubled_part : (doubled_names file ≡ []) × ((unknown_names file ++ (circles file ++ (flat_map (copy_faults file) file.modules ++ no_module file))) ≡ [])
-  doubled_part = empty_parts (doubled_names file) (unknown_names file ++ (circles file ++ (flat_map (copy_faults file) file.modules ++ no_module file))) clean_names
+  doubled_part = append_parts (doubled_names file) (unknown_names file ++ (circles file ++ (flat_map (copy_faults file) file.modules ++ no_module file))) clean_names
 
   unknown_part : (unknown_names file ≡ []) × ((circles file ++ (flat_map (copy_faults file) file.modules ++ no_module file)) ≡ [])
-  unknown_part = empty_parts (unknown_names file) (circles file ++ (flat_map (copy_faults file) file.modules ++ no_module file)) doubled_part.1
+  unknown_part = append_parts (unknown_names file) (circles file ++ (flat_map (copy_faults file) file.modules ++ no_module file)) doubled_part.1
 
   circle_part : (circles file ≡ []) × ((flat_map (copy_faults file) file.modules ++ no_module file) ≡ [])
-  circle_part = empty_parts (circles file) (flat_map (copy_faults file) file.modules ++ no_module file) unknown_part.1
+  circle_part = append_parts (circles file) (flat_map (copy_faults file) file.modules ++ no_module file) unknown_part.1
 
   copy_part : (flat_map (copy_faults file) file.modules ≡ []) × (no_module file ≡ [])
-  copy_part = empty_parts (flat_map (copy_faults file) file.modules) (no_module file) circle_part.1
+  copy_part = append_parts (flat_map (copy_faults file) file.modules) (no_module file) circle_part.1
 
   abbrev bodies : List Demand
   bodies = flat_map formula_demands file.formulas
 
   unknown_outer : (flat_map (unknown file) (outer_demands file) ≡ []) × ((flat_map (unknown file) bodies ++ flat_map (unknown_in file) file.modules) ≡ [])
-  unknown_outer = empty_parts (flat_map (unknown file) (outer_demands file)) (flat_map (unknown file) bodies ++ flat_map (unknown_in file) file.modules) unknown_part.0
+  unknown_outer = append_parts (flat_map (unknown file) (outer_demands file)) (flat_map (unknown file) bodies ++ flat_map (unknown_in file) file.modules) unknown_part.0
 
   unknown_rest : (flat_map (unknown file) bodies ≡ []) × (flat_map (unknown_in file) file.modules ≡ [])
-  unknown_rest = empty_parts (flat_map (unknown file) bodies) (flat_map (unknown_in file) file.modules) unknown_outer.1
+  unknown_rest = append_parts (flat_map (unknown file) bodies) (flat_map (unknown_in file) file.modules) unknown_outer.1
 
   judged_outer : (flat_map (demand_faults file 0) (outer_demands file) ≡ []) × ((flat_map (demand_faults file 0) bodies ++ numbered_faults file 0 file.modules) ≡ [])
-  judged_outer = empty_parts (flat_map (demand_faults file 0) (outer_demands file)) (flat_map (demand_faults file 0) bodies ++ numbered_faults file 0 file.modules) clean_types
+  judged_outer = append_parts (flat_map (demand_faults file 0) (outer_demands file)) (flat_map (demand_faults file 0) bodies ++ numbered_faults file 0 file.modules) clean_types
 
   judged_rest : (flat_map (demand_faults file 0) bodies ≡ []) × (numbered_faults file 0 file.modules ≡ [])
-  judged_rest = empty_parts (flat_map (demand_faults file 0) bodies) (numbered_faults file 0 file.modules) judged_outer.1
+  judged_rest = append_parts (flat_map (demand_faults file 0) bodies) (numbered_faults file 0 file.modules) judged_outer.1
 
   body_known : (x : Name) → IfAny (AllNames (IsKnown file)) (formula_body file x)
   body_known =
@@ -140,7 +141,7 @@ module _ (file : File) (order : List Name) (ordered : IsOrder file order) (clean
   body_fits =
       each_body file (λ e. misfits (types file) e ≡ [])
       (each_then (λ f. Each (λ d. demand_faults file 0 d ≡ []) (formula_demands f)) (λ f. misfits (types file) f.body ≡ [])
-      (λ f h. empty_map (λ at. fault at WrongType) (misfits (types file) f.body) (empty_parts (map (λ at. fault at WrongType) (misfits (types file) f.body)) _ h.0).0) file.formulas
+      (λ f h. empty_map (λ at. fault at WrongType) (misfits (types file) f.body) (append_parts (map (λ at. fault at WrongType) (misfits (types file) f.body)) _ h.0).0) file.formulas
       (each_of (λ d. demand_faults file 0 d ≡ []) formula_demands file.formulas (empty_each (demand_faults file 0) bodies judged_rest.0)))
 
   -- ---- names
@@ -158,15 +159,15 @@ module _ (file : File) (order : List Name) (ordered : IsOrder file order) (clean
   plain_kept i (varying w e) u j = expression_kept e (known_used file (varying w e) u)
   plain_kept i (written acts w) u j =
       let k = known_used file (written acts w) u in
-      let f = written_free file i w.name.name acts w.name.at (empty_parts (write_faults (target file i w.name.name) acts w.name.at) _ j).0 in
+      let f = written_free file i w.name.name acts w.name.at (append_parts (write_faults (target file i w.name.name) acts w.name.at) _ j).0 in
       (subst IsKept (sym (written_is unchanged w.name.name f)) (record { free = f; known = k.0 }), expression_kept w.value k.1)
 
   module _ (rename : Name → Name) where
     found_kept : (x : Name) → IsFree file x → is_lost file rename x ≡ false → IsKept (rename x)
     found_kept x f e =
-        let r = either_none (is_formula file (rename x)) (not (is_among (values file) (rename x)))
+        let r = or_parts (is_formula file (rename x)) (not (is_among (values file) (rename x)))
         (ap (λ o. not (is_some o) && (is_formula file (rename x) || not (is_among (values file) (rename x)))) (sym f) ∙ e) in
-        record { free = none_of (formula_body file (rename x)) r.0; known = not_false (is_among (values file) (rename x)) r.1 }
+        record { free = none_of (formula_body file (rename x)) r.0; known = not-false (is_among (values file) (rename x)) r.1 }
 
     renamed_kept : (e : Expression) → some_name (is_lost file rename) (whole file e) ≡ false → AllNames IsKept (flat_expression file rename e)
     renamed_kept e h =
@@ -187,9 +188,9 @@ module _ (file : File) (order : List Name) (ordered : IsOrder file order) (clean
     copy_kept i (fixed w e) u j = renamed_kept e u
     copy_kept i (varying w e) u j = renamed_kept e u
     copy_kept i (written acts w) u j =
-        let r = either_none (is_lost file rename w.name.name) (some_name (is_lost file rename) (whole file w.value)) u in
+        let r = or_parts (is_lost file rename w.name.name) (some_name (is_lost file rename) (whole file w.value)) u in
         let new = written_name file rename w.name.name in
-        let f = free_before w.name.name (written_free file i new acts w.name.at (empty_parts (write_faults (target file i new) acts w.name.at) _ j).0) in
+        let f = free_before w.name.name (written_free file i new acts w.name.at (append_parts (write_faults (target file i new) acts w.name.at) _ j).0) in
         (subst IsKept (sym (written_is rename w.name.name f)) (found_kept w.name.name f r.0), renamed_kept w.value r.1)
 
   -- ---- demands without faults
@@ -225,7 +226,7 @@ module _ (file : File) (order : List Name) (ordered : IsOrder file order) (clean
   module_fine : (i : ℕ) (m : Module) → unknown_in file m ≡ [] → module_faults file i m ≡ [] → IsFineModule i m
   module_fine i (plain m) u j =
       let p = part_of file (plain m) in
-      let r = empty_parts (flat_map (demand_faults file i) (part_demands p)) (flat_map repeated_writes m.commands) j in
+      let r = append_parts (flat_map (demand_faults file i) (part_demands p)) (flat_map repeated_writes m.commands) j in
       record {
         demands =
             subst (Each (IsFine i)) (sym (part-flat file p))
@@ -235,8 +236,8 @@ module _ (file : File) (order : List Name) (ordered : IsOrder file order) (clean
   module_fine i (copied m) u j =
       let p = part_of file (copied m) in
       let q = flat_part file p in
-      let r = empty_parts (flat_map (demand_faults file i) (part_demands q)) (flat_map repeated_writes q.commands) (empty_map (moved_to m.name.at) (part_faults file i q) j) in
-      let kept = no_fault (loses_name file p) m.name.at Unknown (empty_parts (fault_if (not (is_some (module_called file m.from.name))) m.from.at Unknown) _ u).1 in
+      let r = append_parts (flat_map (demand_faults file i) (part_demands q)) (flat_map repeated_writes q.commands) (empty_map (moved_to m.name.at) (part_faults file i q) j) in
+      let kept = no_fault (loses_name file p) m.name.at Unknown (append_parts (fault_if (not (is_some (module_called file m.from.name))) m.from.at Unknown) _ u).1 in
       record {
         demands =
             subst (Each (IsFine i)) (sym (part-flat file p))
@@ -252,7 +253,7 @@ module _ (file : File) (order : List Name) (ordered : IsOrder file order) (clean
 
   fine_judged : (i : ℕ) (m : Module) → IsFineModule i m → module_faults (flat file) i (flat_module file m) ≡ []
   fine_judged i m h =
-      empty_join (flat_map (demand_faults (flat file) i) (part_demands (flat_part file (part_of file m)))) _
+      append_both (flat_map (demand_faults (flat file) i) (part_demands (flat_part file (part_of file m)))) _
       (each_empty (demand_faults (flat file) i) (part_demands (flat_part file (part_of file m)))
       (each_then (IsFine i) (λ d. demand_faults (flat file) i d ≡ []) (λ d k. k.judged) (part_demands (flat_part file (part_of file m))) h.demands))
       h.writes
@@ -261,11 +262,11 @@ module _ (file : File) (order : List Name) (ordered : IsOrder file order) (clean
       (flat_map (unknown_in (flat file)) (map (flat_module file) ms) ≡ []) × (numbered_faults (flat file) i (map (flat_module file) ms) ≡ [])
   modules_fine i [] u j = (refl, refl)
   modules_fine i (m ∷ ms) u j =
-      let r = empty_parts (module_faults file i m) (numbered_faults file (i + 1) ms) j in
+      let r = append_parts (module_faults file i m) (numbered_faults file (i + 1) ms) j in
       let fine = module_fine i m u.0 r.0 in
       let rest = modules_fine (i + 1) ms u.1 r.1 in (
-        empty_join (unknown_in (flat file) (flat_module file m)) _ (fine_known i m fine) rest.0,
-        empty_join (module_faults (flat file) i (flat_module file m)) _ (fine_judged i m fine) rest.1,
+        append_both (unknown_in (flat file) (flat_module file m)) _ (fine_known i m fine) rest.0,
+        append_both (module_faults (flat file) i (flat_module file m)) _ (fine_judged i m fine) rest.1,
       )
 
   -- ---- the file
@@ -283,18 +284,18 @@ module _ (file : File) (order : List Name) (ordered : IsOrder file order) (clean
 
   flat_names : name_faults (flat file) ≡ []
   flat_names =
-      empty_join (doubled_names (flat file)) _ (none_doubled file copy_part.0 doubled_part.0)
-      (empty_join (unknown_names (flat file)) _
-      (empty_join (flat_map (unknown (flat file)) (outer_demands (flat file))) _
+      append_both (doubled_names (flat file)) _ (none_doubled file copy_part.0 doubled_part.0)
+      (append_both (unknown_names (flat file)) _
+      (append_both (flat_map (unknown (flat file)) (outer_demands (flat file))) _
       (each_empty (unknown (flat file)) (outer_demands (flat file)) (each_then (IsFine 0) (λ d. unknown (flat file) d ≡ []) (λ d k. k.names) (outer_demands (flat file)) outer_fine))
       all_modules.0)
-      (empty_join (circles (flat file)) _ (no_circles file circle_part.0)
-      (empty_join (flat_map (copy_faults (flat file)) (map (flat_module file) file.modules)) _ (no_copies file.modules)
+      (append_both (circles (flat file)) _ (no_circles file circle_part.0)
+      (append_both (flat_map (copy_faults (flat file)) (map (flat_module file) file.modules)) _ (no_copies file.modules)
       (ap (λ n. fault_if (nat_eq n 0) file.end Nothing) (length-map file.modules (flat_module file)) ∙ copy_part.1))))
 
   flat_types : type_faults (flat file) ≡ []
   flat_types =
-      empty_join (flat_map (demand_faults (flat file) 0) (outer_demands (flat file))) _
+      append_both (flat_map (demand_faults (flat file) 0) (outer_demands (flat file))) _
       (each_empty (demand_faults (flat file) 0) (outer_demands (flat file))
       (each_then (IsFine 0) (λ d. demand_faults (flat file) 0 d ≡ []) (λ d k. k.judged) (outer_demands (flat file)) outer_fine))
       all_modules.1

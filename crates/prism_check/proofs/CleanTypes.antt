@@ -4,16 +4,19 @@ use Rattle.std.specs.List.{find}
 use Rattle.std.specs.Option.{option_map}
 use Rattle.std.proofs.Common.{refl, sym, ap, ap₂, ◌∙◌, subst}
 use Rattle.std.proofs.Math.Path.{fun_ext}
+use Rattle.basics.specs.Lists.{append_parts, append_both}
 use Rattle.bridge_io.specs.declared.reason.Reason.TheVariants.{WrongType, NotConstant}
 use Rattle.op_trees.specs.declared.tree.Ty.{Ty}
-use Rattle.op_trees.specs.Tree.{Tree, Truth, Number, Name as At, One, Two, Three, AllNames, replaced, substituted, written_out, renamed}
+use Rattle.op_trees.specs.Tree.{Truth, Number, Name as At, One, Two, Three, AllNames, replaced, substituted, written_out}
 use Rattle.op_trees.specs.Types.{Types, type_in, sort_one, sort_two, sort_three, type_through, misfit_at}
-use Rattle.op_trees.specs.TypeLaws.{type-substituted, type-written_out}
+use Rattle.op_trees.specs.TypeLaws.{type-substituted, type-written_out, type_agree_on}
 use Rattle.op_trees.specs.Seen.{FallsTo}
 use Rattle.op_trees.specs.SeenLaws.{names_all, names_then}
+use Rattle.op_trees.specs.Names.{offset_of, some_name}
+use Rattle.op_trees.specs.NameLaws.{some_agree_on}
 use Rattle.process_core.specs.Ready.{Name}
 use Rattle.prism_tree.specs.Operators.{prism_meaning}
-use Rattle.prism_tree.specs.Syntax.{Expression, offset_of, Const, Var, File}
+use Rattle.prism_tree.specs.Syntax.{Expression, Const, Var, File}
 use Rattle.prism_names.specs.Names.{is_called, formula_body, is_formula, unchanged, written_name, Part, parts}
 use Rattle.prism_names.specs.Flat.{flat_expression, flat_var, flat_constant, flat}
 use Rattle.prism_names.specs.WrittenOut.{substituted_none, lower, lowest}
@@ -21,13 +24,13 @@ use Rattle.prism_names.specs.Laws.{flat_part, parts-flat}
 use Rattle.prism_names.specs.Order.{place_in, IsOrder, whole, whole_plain, fills}
 use Rattle.prism_print.specs.Printable.{IfAny}
 use Rattle.prism_check.specs.declared.demands.Wanted.{Wanted}
-use Rattle.prism_check.specs.Least.{fault, fault_if}
+use Rattle.name_rules.specs.Least.{fault, fault_if}
+use Rattle.prism_flat.specs.ConstantLaws.{renamed_unchanged}
 use Rattle.prism_check.specs.Demands.{Demand, fixed, varying, written, var_type}
-use Rattle.prism_check.specs.NameFaults.{some_name}
 use Rattle.prism_check.specs.TypeFaults.{Variable, numbered_variables, variables, variable_called, or_else, declared_types, types, misfits, is_unwanted, type_faults_of, is_variable, has_variable, target_of, target, write_faults, wanted_at, demand_faults}
-use Rattle.prism_check.proofs.Each.{map_same, empty_parts, empty_join, empty_map, no_fault, fault_none}
+use Rattle.prism_check.proofs.Each.{map_same, empty_map, no_fault, fault_none}
 use Rattle.prism_check.proofs.FlatDemands.{flat_demand, same_type}
-use Rattle.prism_check.proofs.TypeOrder.{type_agree_on, types_of_plain, in_depth, types_read}
+use Rattle.prism_check.proofs.TypeOrder.{types_of_plain, in_depth, types_read}
 
 -- each name that a demand uses is such
 abbrev pub AllUsed : (Name → Type 0) → Demand → Type 0
@@ -73,24 +76,24 @@ misfits_substituted bodies ty (At at x) h k = at_name (bodies x) h
     at_name (Some b) r = r
 misfits_substituted bodies ty (One at o a) h k =
     let old : Types = λ x. type_through prism_meaning (bodies x) ty (ty x) in
-    let r = empty_parts (misfits old a) (misfit_at at (is_some (type_in prism_meaning old a)) (sort_one prism_meaning o (type_in prism_meaning old a))) k in
-    empty_join (misfits ty (substituted bodies a)) _ (misfits_substituted bodies ty a h r.0)
+    let r = append_parts (misfits old a) (misfit_at at (is_some (type_in prism_meaning old a)) (sort_one prism_meaning o (type_in prism_meaning old a))) k in
+    append_both (misfits ty (substituted bodies a)) _ (misfits_substituted bodies ty a h r.0)
     (ap (λ t. misfit_at at (is_some t) (sort_one prism_meaning o t)) (type-substituted prism_meaning bodies a ty) ∙ r.1)
 misfits_substituted bodies ty (Two at o a b) h k =
     let old : Types = λ x. type_through prism_meaning (bodies x) ty (ty x) in
-    let r = empty_parts (misfits old a) _ k in
-    let s = empty_parts (misfits old b) _ r.1 in
-    empty_join (misfits ty (substituted bodies a)) _ (misfits_substituted bodies ty a h.0 r.0)
-    (empty_join (misfits ty (substituted bodies b)) _ (misfits_substituted bodies ty b h.1 s.0)
+    let r = append_parts (misfits old a) _ k in
+    let s = append_parts (misfits old b) _ r.1 in
+    append_both (misfits ty (substituted bodies a)) _ (misfits_substituted bodies ty a h.0 r.0)
+    (append_both (misfits ty (substituted bodies b)) _ (misfits_substituted bodies ty b h.1 s.0)
     (ap₂ (λ t u. misfit_at at (is_some t && is_some u) (sort_two prism_meaning o t u)) (type-substituted prism_meaning bodies a ty) (type-substituted prism_meaning bodies b ty) ∙ s.1))
 misfits_substituted bodies ty (Three at o a b c) h k =
     let old : Types = λ x. type_through prism_meaning (bodies x) ty (ty x) in
-    let r = empty_parts (misfits old a) _ k in
-    let s = empty_parts (misfits old b) _ r.1 in
-    let t = empty_parts (misfits old c) _ s.1 in
-    empty_join (misfits ty (substituted bodies a)) _ (misfits_substituted bodies ty a h.0 r.0)
-    (empty_join (misfits ty (substituted bodies b)) _ (misfits_substituted bodies ty b h.1 s.0)
-    (empty_join (misfits ty (substituted bodies c)) _ (misfits_substituted bodies ty c h.2 t.0)
+    let r = append_parts (misfits old a) _ k in
+    let s = append_parts (misfits old b) _ r.1 in
+    let t = append_parts (misfits old c) _ s.1 in
+    append_both (misfits ty (substituted bodies a)) _ (misfits_substituted bodies ty a h.0 r.0)
+    (append_both (misfits ty (substituted bodies b)) _ (misfits_substituted bodies ty b h.1 s.0)
+    (append_both (misfits ty (substituted bodies c)) _ (misfits_substituted bodies ty c h.2 t.0)
     (ap₂ {B = Option Ty → List ℕ} (λ u g. g u) (type-substituted prism_meaning bodies a ty)
     (ap₂ (λ v w u. misfit_at at (is_some u && (is_some v && is_some w)) (sort_three prism_meaning o u v w))
     (type-substituted prism_meaning bodies b ty) (type-substituted prism_meaning bodies c ty)) ∙ t.1)))
@@ -105,15 +108,6 @@ free_whole file e h = at_depth (length file.formulas)
         substituted_none (λ x. option_map (written_out (formula_body file) n) (formula_body file x)) e
         (names_then (IsFree file) (λ x. option_map (written_out (formula_body file) n) (formula_body file x) ≡ None)
         (λ x k. ap (option_map (written_out (formula_body file) n)) k) e h)
-
-pub renamed_same : {O : Type 0} (t : Tree O) → renamed unchanged t ≡ t
-renamed_same (Truth at b) = refl
-renamed_same (Number at d) = refl
-renamed_same (At at x) = refl
-renamed_same (One at o a) = ap (One at o) (renamed_same a)
-renamed_same (Two at o a b) = ap₂ (Two at o) (renamed_same a) (renamed_same b)
-renamed_same {O = O} (Three at o a b c) =
-    ap₂ {B = Tree O → Tree O} (λ r g. g r) (renamed_same a) (ap₂ (λ s t r. Three at o r s t) (renamed_same b) (renamed_same c))
 
 -- a plain module writes what it names
 pub same_written : (file : File) (x : Name) → written_name file unchanged x ≡ x
@@ -173,15 +167,6 @@ module _ (file : File) where
   types_alike w e h =
       ap₂ (λ ms t. map (λ at. fault at WrongType) ms ++ fault_if (is_unwanted w t) (offset_of e) WrongType)
       (misfits_agree_on e (types (flat file)) (types file) (free_types e h)) (type_agree_on prism_meaning e (types (flat file)) (types file) (free_types e h))
-
-  some_agree_on : (f g : Name → Bool) (e : Expression) → AllNames (λ x. f x ≡ g x) e → some_name f e ≡ some_name g e
-  some_agree_on f g (Truth at b) h = refl
-  some_agree_on f g (Number at d) h = refl
-  some_agree_on f g (At at x) h = h
-  some_agree_on f g (One at o a) h = some_agree_on f g a h
-  some_agree_on f g (Two at o a b) h = ap₂ (λ p q. p || q) (some_agree_on f g a h.0) (some_agree_on f g b h.1)
-  some_agree_on f g (Three at o a b c) h =
-      ap₂ (λ p q. p || q) (some_agree_on f g a h.0) (ap₂ (λ p q. p || q) (some_agree_on f g b h.1) (some_agree_on f g c h.2))
 
   free_variable : (x : Name) → IsFree file x → is_variable (flat file) x ≡ is_variable file x
   free_variable x h = ap is_some (variable_kept x) ∙ ap (λ o. not (is_some o) && is_some (variable_called file x)) (sym h)
@@ -257,9 +242,9 @@ module _ (file : File) (order : List Name) (ordered : IsOrder file order) (bodie
 
   written_out_types : (w : Wanted) (e : Expression) → type_faults_of (types file) w e ≡ [] → type_faults_of (types file) w (whole file e) ≡ []
   written_out_types w e k =
-      let r = empty_parts (map (λ at. fault at WrongType) (misfits (types file) e)) (fault_if (is_unwanted w (type_in prism_meaning (types file) e)) (offset_of e) WrongType) k in
+      let r = append_parts (map (λ at. fault at WrongType) (misfits (types file) e)) (fault_if (is_unwanted w (type_in prism_meaning (types file) e)) (offset_of e) WrongType) k in
       let free = names_then (IsFree file) (λ x. types file x ≡ declared_types file x) free_declared (whole file e) (whole_plain file order ordered e) in
-      empty_join (map (λ at. fault at WrongType) (misfits (types file) (whole file e))) _
+      append_both (map (λ at. fault at WrongType) (misfits (types file) (whole file e))) _
       (ap (map (λ at. fault at WrongType))
       (misfits_agree_on (whole file e) (types file) (declared_types file) free ∙ whole_fits e (empty_map (λ at. fault at WrongType) (misfits (types file) e) r.0)))
       (fault_none (is_unwanted w (type_in prism_meaning (types file) (whole file e))) (offset_of (whole file e)) WrongType
@@ -269,7 +254,7 @@ module _ (file : File) (order : List Name) (ordered : IsOrder file order) (bodie
       ∙ no_fault (is_unwanted w (type_in prism_meaning (types file) e)) (offset_of e) WrongType r.1))
 
   flat_is_whole : (e : Expression) → flat_expression file unchanged e ≡ whole file e
-  flat_is_whole e = renamed_same (whole file e)
+  flat_is_whole e = renamed_unchanged (whole file e)
 
   flat_types : (w : Wanted) (e : Expression) → type_faults_of (types file) w e ≡ [] → type_faults_of (types file) w (flat_expression file unchanged e) ≡ []
   flat_types w e k = ap (type_faults_of (types file) w) (flat_is_whole e) ∙ written_out_types w e k
@@ -281,13 +266,13 @@ module _ (file : File) (order : List Name) (ordered : IsOrder file order) (bodie
   -- a demand outside of copies that has no fault has none written out
   pub written_out_judged : (i : ℕ) (d : Demand) → demand_faults file i d ≡ [] → demand_faults file i (flat_demand file unchanged d) ≡ []
   written_out_judged i (fixed w e) k =
-      let r = empty_parts (type_faults_of (types file) w e) (fault_if (has_variable file e) (offset_of e) NotConstant) k in
+      let r = append_parts (type_faults_of (types file) w e) (fault_if (has_variable file e) (offset_of e) NotConstant) k in
       let new = flat_expression file unchanged e in
-      empty_join (type_faults_of (types file) w new) _ (flat_types w e r.0)
+      append_both (type_faults_of (types file) w new) _ (flat_types w e r.0)
       (fault_none (has_variable file new) (offset_of new) NotConstant (flat_constant_still e (no_fault (has_variable file e) (offset_of e) NotConstant r.1)))
   written_out_judged i (varying w e) k = flat_types w e k
   written_out_judged i (written acts w) k =
       ap (λ x. write_faults (target file i x) acts w.name.at ++ type_faults_of (types file) (wanted_at (target file i x)) (flat_expression file unchanged w.value)) (same_written file w.name.name)
       ∙ (let t = target file i w.name.name in
-      let r = empty_parts (write_faults t acts w.name.at) (type_faults_of (types file) (wanted_at t) w.value) k in
-      empty_join (write_faults t acts w.name.at) (type_faults_of (types file) (wanted_at t) (flat_expression file unchanged w.value)) r.0 (flat_types (wanted_at t) w.value r.1))
+      let r = append_parts (write_faults t acts w.name.at) (type_faults_of (types file) (wanted_at t) w.value) k in
+      append_both (write_faults t acts w.name.at) (type_faults_of (types file) (wanted_at t) (flat_expression file unchanged w.value)) r.0 (flat_types (wanted_at t) w.value r.1))

@@ -6,6 +6,9 @@ use Rattle.std.specs.Option.{option_map}
 use Rattle.std.proofs.Common.{refl, sym, ap, ap₂, ◌∙◌, subst}
 use Rattle.std.proofs.lemmas.List.{map-append}
 use Rattle.std.proofs.lemmas.List.Folds.{list_any-append, flat_map-map}
+use Rattle.std.proofs.lemmas.Bool.{or_parts}
+use Rattle.basics.specs.Lists.{append_parts, append_both}
+use Rattle.basics.specs.Each.{each_then, each_map, map_each, empty_each, each_empty, none_each, each_none}
 use Rattle.bridge_io.specs.declared.reason.Named.{Named}
 use Rattle.bridge_io.specs.declared.reason.Reason.{Reason}
 use Rattle.bridge_io.specs.declared.reason.Reason.TheVariants.{TwiceNamed, RenameMissing, RenameOfRenamed}
@@ -17,9 +20,11 @@ use Rattle.prism_names.specs.Names.{is_called, formula_body, unchanged, renaming
 use Rattle.prism_names.specs.Flat.{flat_var, flat_module, flat_constant, flat_label, flat_rewards, flat}
 use Rattle.prism_names.specs.Places.{stands}
 use Rattle.prism_print.specs.Printable.{Each}
-use Rattle.prism_check.specs.Least.{fault_if}
-use Rattle.prism_check.specs.NameFaults.{is_among, clash, doubled_after, doubled, has_pair, renamed_var, module_vars, values, given_labels, doubled_pairs, doubled_names, copy_faults, is_copy}
-use Rattle.prism_check.proofs.Each.{each_then, each_map, map_each, empty_parts, empty_join, empty_each, each_empty, either_none, none_each, each_none, no_fault, fault_none}
+use Rattle.name_rules.specs.Least.{fault_if}
+use Rattle.name_rules.specs.Names.{is_among}
+use Rattle.name_rules.specs.Doubled.{clash, doubled_after, doubled}
+use Rattle.prism_check.specs.NameFaults.{has_pair, renamed_var, module_vars, values, given_labels, doubled_pairs, doubled_names, copy_faults, is_copy}
+use Rattle.prism_check.proofs.Each.{no_fault, fault_none}
 
 abbrev pub names : List Named → List Name
 names ns = map (λ n. n.name) ns
@@ -34,7 +39,7 @@ Apart earlier (x ∷ xs) = (stands earlier x ≡ false) × Apart (x ∷ earlier)
 apart : (reason : Reason) (earlier ns : List Named) → doubled_after reason earlier ns ≡ [] → Apart (names earlier) (names ns)
 apart reason earlier [] e = tt
 apart reason earlier (n ∷ ns) e =
-    let r = empty_parts (flat_map (clash reason n) earlier) (doubled_after reason (n ∷ earlier) ns) e in (
+    let r = append_parts (flat_map (clash reason n) earlier) (doubled_after reason (n ∷ earlier) ns) e in (
       each_none (λ y. bytes_eq y n.name) (names earlier)
           (each_map (λ m. clash reason n m ≡ []) (λ y. bytes_eq y n.name ≡ false) (λ m. m.name) (λ m k. no_fault (bytes_eq m.name n.name) (max m.at n.at) reason k) earlier
           (empty_each (clash reason n) earlier r.0)),
@@ -44,7 +49,7 @@ apart reason earlier (n ∷ ns) e =
 not_doubled : (reason : Reason) (earlier ns : List Named) → Apart (names earlier) (names ns) → doubled_after reason earlier ns ≡ []
 not_doubled reason earlier [] h = refl
 not_doubled reason earlier (n ∷ ns) h =
-    empty_join (flat_map (clash reason n) earlier) (doubled_after reason (n ∷ earlier) ns)
+    append_both (flat_map (clash reason n) earlier) (doubled_after reason (n ∷ earlier) ns)
     (each_empty (clash reason n) earlier
     (each_then (λ m. bytes_eq m.name n.name ≡ false) (λ m. clash reason n m ≡ []) (λ m k. fault_none (bytes_eq m.name n.name) (max m.at n.at) reason k) earlier
     (map_each (λ y. bytes_eq y n.name ≡ false) (λ m. m.name) earlier (none_each (λ y. bytes_eq y n.name) (names earlier) h.0))))
@@ -55,12 +60,12 @@ fewer less more h [] a = tt
 fewer less more h (x ∷ xs) a = (
   h x a.0,
   fewer (x ∷ less) (x ∷ more)
-      (λ y e. let r = either_none (bytes_eq x y) (stands more y) e in ap₂ (λ p q. p || q) r.0 (h y r.1)) xs a.1,
+      (λ y e. let r = or_parts (bytes_eq x y) (stands more y) e in ap₂ (λ p q. p || q) r.0 (h y r.1)) xs a.1,
 )
 
 skipped : (earlier fs rest : List Name) → Apart earlier (fs ++ rest) → Apart earlier rest
 skipped earlier [] rest a = a
-skipped earlier (f ∷ fs) rest a = fewer earlier (f ∷ earlier) (λ x e. (either_none (bytes_eq f x) (stands earlier x) e).1) rest (skipped (f ∷ earlier) fs rest a.1)
+skipped earlier (f ∷ fs) rest a = fewer earlier (f ∷ earlier) (λ x e. (or_parts (bytes_eq f x) (stands earlier x) e).1) rest (skipped (f ∷ earlier) fs rest a.1)
 
 left_out : (earlier cs fs rest : List Name) → Apart earlier (cs ++ (fs ++ rest)) → Apart earlier (cs ++ rest)
 left_out earlier [] fs rest a = skipped earlier fs rest a
@@ -92,7 +97,7 @@ module_names file (plain m) e = same_names (λ x. x.name) (flat_var file unchang
 module_names file (copied m) e =
     let p = part_of file (copied m) in
     let lacks = list_any (λ x. not (has_pair m.pairs x.name.name)) p.vars in
-    let r = empty_parts (fault_if lacks m.name.at RenameMissing) (fault_if (is_copy (module_called file m.from.name)) m.from.at RenameOfRenamed) e in
+    let r = append_parts (fault_if lacks m.name.at RenameMissing) (fault_if (is_copy (module_called file m.from.name)) m.from.at RenameOfRenamed) e in
     ap (λ f. names (map (λ x. x.name) (map (flat_var file f) p.vars))) (copy_rename (renaming m.pairs) (module_called file m.from.name))
     ∙ renamed_names file m p.vars (none_each (λ x. not (has_pair m.pairs x.name.name)) p.vars (no_fault lacks m.name.at RenameMissing r.0))
 
@@ -166,15 +171,15 @@ module _ (file : File) (copies : flat_map (copy_faults file) file.modules ≡ []
 
   pub none_doubled : doubled_names file ≡ [] → doubled_names (flat file) ≡ []
   none_doubled e =
-      let r0 = empty_parts (doubled TwiceNamed (values file)) _ e in
-      let r1 = empty_parts (doubled TwiceNamed (map module_name file.modules)) _ r0.1 in
-      let r2 = empty_parts (doubled TwiceNamed (given_labels ++ map (λ l. l.name) file.labels)) _ r1.1 in
-      let r3 = empty_parts (doubled TwiceNamed (flat_map (λ r. if_some r.name) file.rewards)) (flat_map doubled_pairs file.modules) r2.1 in
-      empty_join (doubled TwiceNamed (values (flat file))) _ (values_apart r0.0)
-      (empty_join (doubled TwiceNamed (map module_name (map (flat_module file) file.modules))) _
+      let r0 = append_parts (doubled TwiceNamed (values file)) _ e in
+      let r1 = append_parts (doubled TwiceNamed (map module_name file.modules)) _ r0.1 in
+      let r2 = append_parts (doubled TwiceNamed (given_labels ++ map (λ l. l.name) file.labels)) _ r1.1 in
+      let r3 = append_parts (doubled TwiceNamed (flat_map (λ r. if_some r.name) file.rewards)) (flat_map doubled_pairs file.modules) r2.1 in
+      append_both (doubled TwiceNamed (values (flat file))) _ (values_apart r0.0)
+      (append_both (doubled TwiceNamed (map module_name (map (flat_module file) file.modules))) _
       (ap (doubled TwiceNamed) (map-map module_name (flat_module file) file.modules) ∙ r1.0)
-      (empty_join (doubled TwiceNamed (given_labels ++ map (λ l. l.name) (map (flat_label file) file.labels))) _
+      (append_both (doubled TwiceNamed (given_labels ++ map (λ l. l.name) (map (flat_label file) file.labels))) _
       (ap (λ ns. doubled TwiceNamed (given_labels ++ ns)) (map-map (λ l. l.name) (flat_label file) file.labels) ∙ r2.0)
-      (empty_join (doubled TwiceNamed (flat_map (λ r. if_some r.name) (map (flat_rewards file) file.rewards))) (flat_map doubled_pairs (map (flat_module file) file.modules))
+      (append_both (doubled TwiceNamed (flat_map (λ r. if_some r.name) (map (flat_rewards file) file.rewards))) (flat_map doubled_pairs (map (flat_module file) file.modules))
       (ap (doubled TwiceNamed) (flat_map-map (λ r. if_some r.name) (flat_rewards file) file.rewards) ∙ r3.0)
       (plain_pairs file.modules))))

@@ -10,10 +10,10 @@ use Rattle.prism_tree.specs.declared.syntax.CopiedModule.{CopiedModule}
 use Rattle.prism_tree.specs.Syntax.{Var, Module, plain, copied, File}
 use Rattle.prism_tree.specs.declared.syntax.NamePair.{NamePair}
 use Rattle.prism_names.specs.Names.{renaming, module_called, part_of}
-use Rattle.prism_check.specs.Least.{fault_if, soonest}
+use Rattle.name_rules.specs.Least.{fault_if, soonest}
 use Rattle.prism_check.specs.NameFaults.{is_copy, has_pair, copy_faults}
 use Rattle.prism_check.specs.Tables.{pair_for, vars_in, lacks_pair_by, copy_faults_by}
-use Rattle.prism_check.proofs.Append.{soonest_then}
+use Rattle.name_rules.proofs.Append.{soonest_then}
 use Rattle.prism_check.proofs.Declared.{has_pair_is, vars_in_is}
 
 pub copy_judged : (called : Name → Option Module) (m : CopiedModule) (before first last : Option Fault) (lacks copies : Bool) →

@@ -11,7 +11,7 @@ use Rattle.prism_tree.specs.declared.operator.PrismOp.TheVariants as O
 use Rattle.prism_tree.specs.declared.syntax.NamePair.{NamePair}
 use Rattle.prism_tree.specs.Syntax.{Expression, Const, Var, Formula, Write, Command, Module, plain, copied, File}
 use Rattle.prism_names.specs.Flat.{flat}
-use Rattle.prism_check.specs.Least.{fault, soonest}
+use Rattle.name_rules.specs.Least.{fault, soonest}
 use Rattle.prism_check.specs.NameFaults.{name_faults}
 use Rattle.prism_check.specs.SizeFaults.{nodes, height, command_count, action_count}
 use Rattle.prism_check.specs.TypeFaults.{type_faults}

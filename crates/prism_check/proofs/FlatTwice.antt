@@ -6,7 +6,7 @@ use Rattle.prism_tree.specs.Syntax.{Expression, Const, Range, Var, Label, Write,
 use Rattle.prism_names.specs.Names.{unchanged, module_name, part_of}
 use Rattle.prism_names.specs.Flat.{flat_expression, flat_range, flat_var, flat_write, flat_branch, flat_command, flat_module, flat_constant, flat_label, flat_item, flat_rewards, flat}
 use Rattle.prism_names.specs.Laws.{flat_part}
-use Rattle.prism_check.proofs.CleanTypes.{renamed_same}
+use Rattle.prism_flat.specs.ConstantLaws.{renamed_unchanged}
 
 map_same : {A : Type 0} (f : A → A) → ((x : A) → f x ≡ x) → (xs : List A) → map f xs ≡ xs
 map_same f h [] = refl
@@ -18,7 +18,7 @@ option_same f h (Some x) = ap Some (h x)
 
 module _ (file : File) where
   expression_same : (e : Expression) → flat_expression (flat file) unchanged e ≡ e
-  expression_same e = renamed_same e
+  expression_same e = renamed_unchanged e
 
   optional_same : (o : Option Expression) → option_map (flat_expression (flat file) unchanged) o ≡ o
   optional_same o = option_same (flat_expression (flat file) unchanged) expression_same o

@@ -1,21 +1,13 @@
 mod CleanExample
 mod Examples
-pub mod Soonest
-pub mod Clashes
-pub mod Append
 pub mod First
+pub mod Pairs
 pub mod Declared
 pub mod Asked
 pub mod CopyParts
 pub mod Rounds
 pub mod LostNames
 pub mod Measured
-pub mod Sets
-pub mod Leads
-pub mod Waited
-pub mod Placed
-pub mod Walk
-pub mod Turns
 pub mod PlaceOrder
 pub mod NamesJudged
 pub mod Capping
@@ -40,4 +32,3 @@ pub mod CleanValues
 pub mod CleanCircles
 pub mod CleanTypes
 pub mod CleanFile
-pub mod Ranked

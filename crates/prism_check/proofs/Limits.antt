@@ -4,22 +4,22 @@ use Rattle.std.specs.List.{flat_map, list_any, sum_by}
 use Rattle.std.specs.Option.{option_map}
 use Rattle.std.proofs.Common.{◌≡◌, refl, sym, ap, ap₂, ◌∙◌, arith}
 use Rattle.std.proofs.Math.Path.{fun_ext}
-use Rattle.std.proofs.lemmas.Bool.{lt-ltb, le-ltb}
+use Rattle.std.proofs.lemmas.Bool.{lt-ltb, le-ltb, or_left, or_right, or_from}
 use Rattle.std.proofs.lemmas.List.{length-map}
 use Rattle.std.proofs.lemmas.List.Folds.{flat_map-map}
+use Rattle.basics.specs.Members.{any-map}
 use Rattle.bridge_io.specs.declared.reason.Named.{Named}
 use Rattle.bridge_io.specs.declared.reason.Reason.TheVariants.{TooLarge as Oversized}
 use Rattle.op_trees.specs.Tree.{capped}
 use Rattle.process_core.specs.Often.{sum_by-map}
 use Rattle.process_core.specs.Ready.{Name, firsts, if_some}
-use Rattle.process_core.proofs.Targets.{any-map}
 use Rattle.prism_tree.specs.Syntax.{Command, Rewards, File}
 use Rattle.prism_names.specs.Names.{Part, parts}
 use Rattle.prism_names.specs.Flat.{flat, flat_name, flat_command, flat_rewards, flat_item, flat_module}
 use Rattle.prism_names.specs.Laws.{flat_part, parts-flat}
 use Rattle.prism_check.specs.SizeFaults.{command_count, part_actions, action_count, passes_limit, counted_nodes, counted_height, has_long_rewards, has_many_vectors, size_faults, LimitsCounted}
 use Rattle.prism_check.specs.declared.sizes.Sizes.TheVariants.{TooLarge, Within}
-use Rattle.prism_check.specs.Least.{fault, fault_if}
+use Rattle.name_rules.specs.Least.{fault, fault_if}
 use Rattle.prism_check.specs.Counted.{sizes_of}
 use Rattle.prism_check.proofs.Measured.{nodes_counted, height_counted}
 
@@ -61,16 +61,6 @@ limits_counted file =
     (commands_counted file) (ap₂ (λ r v. r || v) (rewards_counted file) (vectors_counted file))
 
 -- ---- what follows from one limit that is passed, and from none
-or_left : (a b : Bool) → a ≡ true → (a || b) ≡ true
-or_left a b h = ap (λ c. c || b) h
-
-or_right : (a b : Bool) → b ≡ true → (a || b) ≡ true
-or_right true b h = refl
-or_right false b h = h
-
-neither : (a b : Bool) → a ≡ false → b ≡ false → (a || b) ≡ false
-neither a b h k = ap (λ c. c || b) h ∙ k
-
 passed : (limit count n : ℕ) → count ≡ capped n → limit < count → nat_lt limit n ≡ true
 passed limit count n e h = lt-ltb limit n (omega (arith, e))
 
@@ -111,10 +101,10 @@ module _ (file : File) where
       let same : command_count file ≡ k = omega (arith, ek, lk) in
       ap₂ (λ b c. if b then TooLarge else Within c)
       (sym (limits_counted file
-      ∙ neither many_nodes _ (kept 2000000 n (counted_nodes file) en (omega arith) ln)
-      (neither high _ (kept 1024 h (counted_height file) eh (omega arith) lh)
-      (neither many_commands _ (kept 200000 k (command_count file) ek (omega arith) lk)
-      (neither (has_long_rewards file) (has_many_vectors file) r v)))))
+      ∙ or_from many_nodes _ (kept 2000000 n (counted_nodes file) en (omega arith) ln)
+      (or_from high _ (kept 1024 h (counted_height file) eh (omega arith) lh)
+      (or_from many_commands _ (kept 200000 k (command_count file) ek (omega arith) lk)
+      (or_from (has_long_rewards file) (has_many_vectors file) r v)))))
       (sym same)
 
 -- ---- what the answer says of the faults

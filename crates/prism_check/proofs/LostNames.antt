@@ -14,13 +14,14 @@ use Rattle.prism_tree.specs.Syntax.{Expression, Body, Module, plain, copied, Fil
 use Rattle.prism_names.specs.Names.{renaming, copy_of, module_called, part_of, formula_body}
 use Rattle.prism_names.specs.Order.{whole}
 use Rattle.prism_check.specs.Demands.{Demand, var_demands, command_demands, part_demands}
-use Rattle.prism_check.specs.NameFaults.{some_used, is_lost, loses_name, unknown_by, unknown, unknown_in, is_among, values}
+use Rattle.prism_check.specs.NameFaults.{some_used, is_lost, loses_name, unknown_by, unknown, unknown_in, values}
+use Rattle.name_rules.specs.Names.{is_among}
 use Rattle.prism_check.specs.Tables.{pair_for, vars_in, commands_in, body_in}
 use Rattle.prism_check.specs.Levels.{lost_by, lost_to}
 use Rattle.bridge_io.specs.declared.reason.Reason.TheVariants.{Unknown}
 use Rattle.bridge_io.specs.declared.reason.Fault.{Fault}
-use Rattle.prism_check.specs.Least.{fault_if, soonest}
-use Rattle.prism_check.proofs.Append.{soonest_then}
+use Rattle.name_rules.specs.Least.{fault_if, soonest}
+use Rattle.name_rules.proofs.Append.{soonest_then}
 use Rattle.prism_check.proofs.Declared.{renaming_is}
 
 copy_demands : (rename : Name → Name) (o : Option Module) →
@@ -55,12 +56,12 @@ loses_is f m bodies known new lost fs o ds b k n l s c d =
     (copy_rename (renaming m.pairs) (module_called (file_of f) m.from.name))
 
 -- by a table of what is known
-pub unknown_is : (file : File) (known : Name → Bool) (ds : List Demand) → ((x : Name) → known x ≡ is_among (values file) x) →
+pub unknown_is : (file : File) (known : Name → Bool) (ds : List Demand) → known ≡ is_among (values file) →
     flat_map (unknown_by known) ds ≡ flat_map (unknown file) ds
-unknown_is file known ds h = ap (λ k. flat_map (unknown_by k) ds) (fun_ext h)
+unknown_is file known ds h = ap (λ k. flat_map (unknown_by k) ds) h
 
 -- a plain module by a table of what is known
-pub plain_is : (file : File) (m : Body) (known : Name → Bool) (ds : List Demand) → ((x : Name) → known x ≡ is_among (values file) x) →
+pub plain_is : (file : File) (m : Body) (known : Name → Bool) (ds : List Demand) → known ≡ is_among (values file) →
     ds ≡ flat_map var_demands m.vars ++ flat_map command_demands m.commands → flat_map (unknown_by known) ds ≡ unknown_in file (plain m)
 plain_is file m known ds h e = ap (flat_map (unknown_by known)) e ∙ unknown_is file known (flat_map var_demands m.vars ++ flat_map command_demands m.commands) h
 

@@ -3,6 +3,7 @@ use Rattle.std.specs.Prelude.{ℕ, max, List, [], ◌∷◌, ◌++◌, map, Bool
 use Rattle.std.specs.List.{flat_map, fold, sum}
 use Rattle.std.specs.Option.{option_map}
 use Rattle.std.proofs.Common.{◌≡◌, refl, sym, ap, ap₂, ◌∙◌}
+use Rattle.std.proofs.lemmas.List.{map-append}
 use Rattle.process_core.specs.Ready.{Name, if_some}
 use Rattle.prism_tree.specs.Syntax.{Expression, Const, Range, Var, Label, Write, Branch, Command, Item, Rewards, File}
 use Rattle.prism_names.specs.Names.{unchanged, Part, parts}
@@ -14,10 +15,6 @@ use Rattle.prism_names.specs.Laws.{flat_part, parts-flat}
 use Rattle.prism_check.specs.declared.demands.Wanted.{Wanted}
 use Rattle.prism_check.specs.declared.demands.Wanted.TheVariants as W
 use Rattle.prism_check.specs.Demands.{Demand, fixed, varying, written, expression_of, wanted_by, var_type, const_demands, range_demands, var_demands, branch_demands, command_demands, part_demands, label_demands, item_demands, rewards_demands, outer_demands, all_demands}
-
-map-append : {A B : Type 0} (f : A → B) (xs ys : List A) → map f (xs ++ ys) ≡ map f xs ++ map f ys
-map-append f [] ys = refl
-map-append f (x ∷ xs) ys = ap (λ r. f x ∷ r) (map-append f xs ys)
 
 module _ (file : File) (new old : Expression → ℕ) (same : (rename : Name → Name) (e : Expression) → new (flat_expression file rename e) ≡ old e) where
   abbrev of_new : List Demand → List ℕ

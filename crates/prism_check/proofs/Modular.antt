@@ -14,7 +14,8 @@ use Rattle.prism_names.specs.Sizes.{name_nodes, name_height}
 use Rattle.prism_names.specs.Order.{whole_nodes, whole_height}
 use Rattle.prism_check.specs.declared.tree_size.Size.{Size}
 use Rattle.prism_check.specs.Demands.{Demand, expression_of, outer_demands, all_demands, var_demands, command_demands, part_demands}
-use Rattle.prism_check.specs.Tables.{first_some, named_module, vars_in, commands_in}
+use Rattle.name_rules.specs.Names.{first_some}
+use Rattle.prism_check.specs.Tables.{named_module, vars_in, commands_in}
 use Rattle.prism_check.specs.SizeFaults.{counted_nodes, counted_height}
 use Rattle.prism_check.specs.Counted.{AreSizes, nodes_of, highest, own_demands, own_size, copied_size, copied_demands, all_nodes, tallest, nothing}
 use Rattle.prism_check.proofs.Capping.{sum_capped, nodes_of-append, highest-append, nodes_of_capped, highest_capped}

@@ -15,7 +15,8 @@ use Rattle.prism_tree.specs.Syntax.{Var, Module, plain, copied, File, file_of, m
 use Rattle.prism_names.specs.Names.{renaming, copy_of, module_called, part_of, parts}
 use Rattle.prism_check.specs.declared.variables.Owned.{Owned}
 use Rattle.prism_check.specs.Demands.{var_type}
-use Rattle.prism_check.specs.Tables.{first_some, pair_for, vars_in}
+use Rattle.name_rules.specs.Names.{first_some}
+use Rattle.prism_check.specs.Tables.{pair_for, vars_in}
 use Rattle.prism_check.specs.TypeFaults.{Variable, part_variables, numbered_variables, variable_called}
 use Rattle.prism_check.specs.Typing.{owned, owned_in, variables_by, module_variables_by, numbered_by}
 use Rattle.prism_check.proofs.Declared.{renaming_is}

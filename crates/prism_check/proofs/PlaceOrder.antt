@@ -9,40 +9,34 @@ use Rattle.std.proofs.lemmas.List.Concat.{flat_map-append}
 use Rattle.std.proofs.lemmas.List.Elements.{All-head, All-tail, All-nil, All-cons}
 use Rattle.std.proofs.lemmas.List.Folds.{list_any-append}
 use Rattle.std.proofs.lemmas.Option.{slice_get-get_or}
+use Rattle.basics.specs.Lists.{append_left, append_right}
+use Rattle.basics.specs.Texts.{bytes_eq-self}
 use Rattle.bridge_io.specs.declared.reason.Named.{Named}
 use Rattle.bridge_io.specs.declared.reason.Reason.{Reason}
 use Rattle.bridge_io.specs.declared.reason.Reason.TheVariants.{TwiceNamed}
 use Rattle.op_trees.specs.Tree.{Truth, Number, Name as At, One, Two, Three, AllNames}
 use Rattle.op_trees.specs.SeenLaws.{names_then}
+use Rattle.op_trees.specs.Names.{names_of}
 use Rattle.process_core.specs.Ready.{Name, if_some}
 use Rattle.prism_tree.specs.Syntax.{Expression, Formula, File}
 use Rattle.prism_names.specs.Names.{is_called, formula_body}
 use Rattle.prism_names.specs.Places.{formula_names, at_places, stands, IsEarlier, IsListed, IsPlaceOrder}
-use Rattle.prism_check.specs.Least.{fault_if}
-use Rattle.prism_check.specs.NameFaults.{names_of, clash, doubled_after, doubled, doubled_names, values, Declared, declarations, uses}
-use Rattle.prism_check.specs.Circles.{declared_const, declared_formula, nothing, declared_at, is_placed, HasTurned, AreInTurn, turns_from, IsPlacing}
-use Rattle.prism_check.proofs.Leads.{called_own}
-
--- ---- lists of faults that are empty
-pub left_nil : {A : Type 0} (xs ys : List A) → xs ++ ys ≡ [] → xs ≡ []
-left_nil [] ys e = refl
-left_nil (x ∷ xs) ys e = absurd (cc)
-
-pub right_nil : {A : Type 0} (xs ys : List A) → xs ++ ys ≡ [] → ys ≡ []
-right_nil [] ys e = e
-right_nil (x ∷ xs) ys e = absurd (cc)
+use Rattle.name_rules.specs.Least.{fault_if}
+use Rattle.name_rules.specs.Doubled.{clash, doubled_after, doubled}
+use Rattle.name_rules.specs.Circles.{Declared, nothing_declared, declared_at, HasTurned, AreInTurn, turns_from, AreTurns}
+use Rattle.prism_check.specs.NameFaults.{doubled_names, values, declared_const, declared_formula, declarations}
 
 -- ---- names that are not doubled
 module _ (r : Reason) where
   doubled_later : (e xs ys : List Named) → doubled_after r e (xs ++ ys) ≡ [] → (before : List Named) × (doubled_after r before ys ≡ [])
   doubled_later e [] ys h = (e, h)
-  doubled_later e (x ∷ xs) ys h = doubled_later (x ∷ e) xs ys (right_nil (flat_map (clash r x) e) (doubled_after r (x ∷ e) (xs ++ ys)) h)
+  doubled_later e (x ∷ xs) ys h = doubled_later (x ∷ e) xs ys (append_right (flat_map (clash r x) e) (doubled_after r (x ∷ e) (xs ++ ys)) h)
 
   doubled_first : (e xs ys : List Named) → doubled_after r e (xs ++ ys) ≡ [] → doubled_after r e xs ≡ []
   doubled_first e [] ys h = refl
   doubled_first e (x ∷ xs) ys h =
-      ap₂ (λ a b. a ++ b) (left_nil (flat_map (clash r x) e) (doubled_after r (x ∷ e) (xs ++ ys)) h)
-      (doubled_first (x ∷ e) xs ys (right_nil (flat_map (clash r x) e) (doubled_after r (x ∷ e) (xs ++ ys)) h))
+      ap₂ (λ a b. a ++ b) (append_left (flat_map (clash r x) e) (doubled_after r (x ∷ e) (xs ++ ys)) h)
+      (doubled_first (x ∷ e) xs ys (append_right (flat_map (clash r x) e) (doubled_after r (x ∷ e) (xs ++ ys)) h))
 
   no_clash : (n m : Named) → clash r n m ≡ [] → bytes_eq m.name n.name ≡ false
   no_clash n m h = by_test (bytes_eq m.name n.name) refl h
@@ -56,28 +50,28 @@ module _ (r : Reason) where
   apart e before m [] i d h l = absurd (omega arith)
   apart e before m (n ∷ ns) zero d h l =
       no_clash n m
-      (left_nil (clash r n m) (flat_map (clash r n) e)
-      (right_nil (flat_map (clash r n) before) (flat_map (clash r n) (m ∷ e))
-      (sym (flat_map-append (clash r n) before (m ∷ e)) ∙ left_nil (flat_map (clash r n) (before ++ m ∷ e)) (doubled_after r (n ∷ before ++ m ∷ e) ns) h)))
+      (append_left (clash r n m) (flat_map (clash r n) e)
+      (append_right (flat_map (clash r n) before) (flat_map (clash r n) (m ∷ e))
+      (sym (flat_map-append (clash r n) before (m ∷ e)) ∙ append_left (flat_map (clash r n) (before ++ m ∷ e)) (doubled_after r (n ∷ before ++ m ∷ e) ns) h)))
   apart e before m (n ∷ ns) (suc i) d h l =
-      apart e (n ∷ before) m ns i d (right_nil (flat_map (clash r n) (before ++ m ∷ e)) (doubled_after r (n ∷ before ++ m ∷ e) ns) h) (omega arith)
+      apart e (n ∷ before) m ns i d (append_right (flat_map (clash r n) (before ++ m ∷ e)) (doubled_after r (n ∷ before ++ m ∷ e) ns) h) (omega arith)
 
 -- what is read past the end of the formulas
 abbrev pub no_formula : Formula
-no_formula = record { name = nothing.name; body = Truth 0 false }
+no_formula = record { name = nothing_declared.name; body = Truth 0 false }
 
 -- where no name is doubled each formula is the first of its name
 find_first : (r : Reason) (e : List Named) (fs : List Formula) (k : ℕ) → doubled_after r e (map (λ f. f.name) fs) ≡ [] → k < length fs →
     find (λ f. is_called (get_or fs k no_formula).name.name f.name) fs ≡ Some (get_or fs k no_formula)
 find_first r e [] k h l = absurd (omega arith)
 find_first r e (f ∷ fs) zero h l =
-    ap (λ (b : Bool). if b then Some f else find (λ g. is_called f.name.name g.name) fs) (called_own f.name.name)
+    ap (λ (b : Bool). if b then Some f else find (λ g. is_called f.name.name g.name) fs) (bytes_eq-self f.name.name)
 find_first r e (f ∷ fs) (suc k) h l =
-    let rest = right_nil (flat_map (clash r f.name) e) (doubled_after r (f.name ∷ e) (map (λ g. g.name) fs)) h in
+    let rest = append_right (flat_map (clash r f.name) e) (doubled_after r (f.name ∷ e) (map (λ g. g.name) fs)) h in
     let within : k < length (map (λ g. g.name) fs) = (let s = length-map fs (λ g. g.name) in omega (arith, s)) in
     let g = get_or fs k no_formula in
-    let other = apart r e [] f.name (map (λ h. h.name) fs) k nothing.name rest within in
-    let same = get_or-map (λ h. h.name) fs k no_formula nothing.name (omega arith) in
+    let other = apart r e [] f.name (map (λ h. h.name) fs) k nothing_declared.name rest within in
+    let same = get_or-map (λ h. h.name) fs k no_formula nothing_declared.name (omega arith) in
     ap (λ (b : Bool). if b then Some f else find (λ h. is_called g.name.name h.name) fs) (ap (λ n. bytes_eq f.name.name n.name) (sym same) ∙ other)
     ∙ find_first r (f.name ∷ e) fs k rest (omega arith)
 
@@ -143,9 +137,9 @@ module _ (file : File) where
   is_formula_at : (k : ℕ) → k < length file.formulas → declared_at ds (first + k) ≡ declared_formula (formula_at k)
   is_formula_at k l =
       let e : first + k - first ≡ k = omega arith in
-      get_or-append_right (map declared_const file.constants) (map declared_formula file.formulas) first (first + k) nothing (length-map file.constants declared_const) (omega arith)
-      ∙ ap (λ i. get_or (map declared_formula file.formulas) i nothing) e
-      ∙ get_or-map declared_formula file.formulas k no_formula nothing l
+      get_or-append_right (map declared_const file.constants) (map declared_formula file.formulas) first (first + k) nothing_declared (length-map file.constants declared_const) (omega arith)
+      ∙ ap (λ i. get_or (map declared_formula file.formulas) i nothing_declared) e
+      ∙ get_or-map declared_formula file.formulas k no_formula nothing_declared l
 
   -- the names of the formulas that had their turns
   abbrev pub names_after : List ℕ → List Name
@@ -203,7 +197,7 @@ module _ (file : File) where
     first_of_name k l =
         let constants = map (λ c. c.name) file.constants in
         let formulas = map (λ f. f.name) file.formulas in
-        let all = left_nil (doubled TwiceNamed (values file)) _ once in
+        let all = append_left (doubled TwiceNamed (values file)) _ once in
         let later = doubled_later TwiceNamed [] constants _ all in
         ap (option_map (λ f. f.body)) (find_first TwiceNamed later.0 file.formulas k (doubled_first TwiceNamed later.0 formulas _ later.1) l)
 
@@ -215,7 +209,7 @@ module _ (file : File) where
         rest : List Formula
         rest = at_places file.formulas (turns_from first ts)
 
-        by_test : (b : Bool) → nat_lt t first ≡ b → t < length ds → All (HasTurned ds before) (uses (declared_at ds t)) → IsListed file (names_after (before ++ t ∷ [])) rest →
+        by_test : (b : Bool) → nat_lt t first ≡ b → t < length ds → All (HasTurned ds before) (declared_at ds t).uses → IsListed file (names_after (before ++ t ∷ [])) rest →
             IsListed file (names_after before) (at_places file.formulas (if b then turns_from first ts else (t - first) ∷ turns_from first ts))
         by_test true e l u ih =
             subst (λ ns. IsListed file ns rest)
@@ -226,13 +220,13 @@ module _ (file : File) where
             let m : k < length file.formulas = (let s = size in omega (arith, s, n, l)) in
             let f = formula_at k in
             let d : declared_at ds t ≡ declared_formula f = ap (declared_at ds) (sym n) ∙ is_formula_at k m in
-            let used = subst (λ (e : Declared). All (HasTurned ds before) (uses e)) d u in
+            let used = subst (λ (e : Declared). All (HasTurned ds before) e.uses) d u in
             let names : names_after (before ++ t ∷ []) ≡ names_after before ++ f.name.name ∷ [] =
             names_after-append before (t ∷ []) ∙ ap (λ i. names_after before ++ names_after (i ∷ [])) (sym n) ∙ ap (λ ns. names_after before ++ ns) (names_of_turn k m) in
             subst (λ o. IsListed file (names_after before) (if_some o ++ rest)) (sym (slice_get-get_or file.formulas k no_formula m)) (
               first_of_name k m,
               names_then (HasTurned ds before) (IsEarlier file (names_after before)) (is_earlier before) f.body
-                  (each_name (HasTurned ds before) f.body (subst (λ ns. All (HasTurned ds before) (map (λ n. n.name) ns)) (append-nil (names_of f.body)) used)),
+                  (each_name (HasTurned ds before) f.body used),
               subst (λ ns. IsListed file ns rest) names ih,
             )
 
@@ -248,10 +242,9 @@ module _ (file : File) where
             let n : first ≤ t = grind (arith, nat_tests) in
             All-cons (λ i. i < length file.formulas) (t - first) (turns_from first ts) (omega (arith, s, n, l)) ih
 
-    -- where all have their places, the formulas' turns are such an order
-    pub turns_order : (left : Name → ℕ) (placed : List Bool) (turns : List ℕ) → IsPlacing ds left placed turns → ((i : ℕ) → i < length ds → is_placed placed i ≡ true) →
-        IsPlaceOrder file (turns_from first turns)
-    turns_order left placed turns h all = record {
+    -- where all had their turns, those of the formulas are such an order
+    pub turns_order : (turns : List ℕ) → AreTurns ds turns → IsPlaceOrder file (turns_from first turns)
+    turns_order turns h = record {
       within = turns_within turns h.within;
       count = let c = h.counted first in let s = size in omega (arith, c, s);
       listed = listed [] turns h.within h.order;
@@ -259,5 +252,5 @@ module _ (file : File) where
           λ x b e.
           let r = found_at file.formulas x b e in
           let l : first + r.0 < length ds = (let s = size in let m = r.1 in omega (arith, s, m)) in
-          turned_stands turns r.0 x r.1 r.2 (h.turned (first + r.0) (all (first + r.0) l));
+          turned_stands turns r.0 x r.1 r.2 (h.turned (first + r.0) l);
     }

@@ -3,28 +3,31 @@ use Rattle.std.specs.Prelude.{ℕ, List, [], ◌∷◌, ◌++◌, map, length, B
 use Rattle.std.specs.Borrow.{Bor}
 use Rattle.std.specs.List.{flat_map, find}
 use Rattle.std.specs.Option.{option_map}
-use Rattle.std.proofs.Common.{◌≡◌, refl, sym, ap, ap₂, ◌∙◌, arith}
+use Rattle.std.proofs.Common.{◌≡◌, refl, sym, ap, ap₂, ◌∙◌}
 use Rattle.std.proofs.Math.Path.{fun_ext}
+use Rattle.std.proofs.lemmas.List.{nil_from_length}
 use Rattle.bridge_io.specs.declared.reason.Reason.TheVariants.{WrongType, NotConstant, WrittenTwice}
 use Rattle.bridge_io.specs.declared.reason.Fault.{Fault}
 use Rattle.op_trees.specs.declared.tree.Ty.{Ty}
 use Rattle.op_trees.specs.Tree.{Truth, Number, Name as At, One, Two, Three, renamed, written_out}
 use Rattle.op_trees.specs.Types.{Types, sort_one, sort_two, sort_three, misfit_at}
 use Rattle.op_trees.specs.TypeLaws.{type-renamed}
+use Rattle.op_trees.specs.Names.{offset_of, some_name}
+use Rattle.op_trees.specs.NameLaws.{offset-renamed, some_name-renamed}
 use Rattle.process_core.specs.Ready.{Name}
 use Rattle.process_core.specs.Product.{map-map}
 use Rattle.prism_tree.specs.declared.syntax.CopiedModule.{CopiedModule}
 use Rattle.prism_tree.specs.Operators.{prism_meaning}
-use Rattle.prism_tree.specs.Syntax.{Expression, offset_of, Formula, Var, Branch, Command, Module, plain, copied, File}
+use Rattle.prism_tree.specs.Syntax.{Expression, Formula, Var, Branch, Command, Module, plain, copied, File}
 use Rattle.prism_names.specs.Names.{is_called, formula_body, renaming, written_name, module_called, Part, copy_of}
 use Rattle.prism_names.specs.Flat.{flat_expression, flat_write, flat_branch, flat_command}
 use Rattle.prism_names.specs.Laws.{flat_part}
 use Rattle.prism_check.specs.declared.demands.Wanted.{Wanted}
 use Rattle.prism_check.specs.declared.tables.Renaming.{Renaming}
 use Rattle.prism_check.specs.declared.typing.Names.{Names}
-use Rattle.prism_check.specs.Least.{fault, fault_if, soonest}
+use Rattle.name_rules.specs.Least.{fault, fault_if, soonest}
 use Rattle.prism_check.specs.Demands.{Demand, fixed, varying, written, part_demands}
-use Rattle.prism_check.specs.NameFaults.{some_name, doubled}
+use Rattle.name_rules.specs.Doubled.{doubled}
 use Rattle.prism_check.specs.Tables.{pair_for, vars_in, commands_in, new_name}
 use Rattle.prism_check.specs.TypeFaults.{types, misfits, is_unwanted, type_faults_of, has_variable, Target, target, wanted_at, write_faults, demand_faults, repeated_writes, part_faults, module_faults}
 use Rattle.prism_check.specs.Typing.{AreNames, read_in, type_under, varies_under, target_under, type_of, varies_in, target_in, faults_in, repeated_in, repeated_by, contents_in, soonest_at}
@@ -32,24 +35,6 @@ use Rattle.prism_check.proofs.Declared.{renaming_is}
 use Rattle.prism_check.proofs.FlatDemands.{flat_demand, part-flat}
 
 -- ---- expressions
-offset-renamed : (new : Name → Name) (e : Expression) → offset_of (renamed new e) ≡ offset_of e
-offset-renamed new (Truth at b) = refl
-offset-renamed new (Number at d) = refl
-offset-renamed new (At at x) = refl
-offset-renamed new (One at o a) = refl
-offset-renamed new (Two at o a b) = refl
-offset-renamed new (Three at o a b c) = refl
-
-some_name-renamed : (new : Name → Name) (is_such : Name → Bool) (e : Expression) → some_name is_such (renamed new e) ≡ some_name (λ x. is_such (new x)) e
-some_name-renamed new is_such (Truth at b) = refl
-some_name-renamed new is_such (Number at d) = refl
-some_name-renamed new is_such (At at x) = refl
-some_name-renamed new is_such (One at o a) = some_name-renamed new is_such a
-some_name-renamed new is_such (Two at o a b) = ap₂ (λ s t. s || t) (some_name-renamed new is_such a) (some_name-renamed new is_such b)
-some_name-renamed new is_such (Three at o a b c) =
-    ap₂ (λ s t. s || t) (some_name-renamed new is_such a)
-    (ap₂ (λ s t. s || t) (some_name-renamed new is_such b) (some_name-renamed new is_such c))
-
 misfits-renamed : (new : Name → Name) (ty : Types) (e : Expression) → misfits ty (renamed new e) ≡ misfits (λ x. ty (new x)) e
 misfits-renamed new ty (Truth at b) = refl
 misfits-renamed new ty (Number at d) = refl
@@ -77,10 +62,6 @@ type_faults-renamed new ty w e =
 abbrev part_with : (Name → Name) → List Var → List Command → Part
 part_with rename vars commands = record { rename = rename; vars = vars; commands = commands }
 
-no_items : {A : Type 0} (xs : List A) → length xs ≡ 0 → xs ≡ []
-no_items [] h = refl
-no_items (x ∷ xs) h = absurd (omega arith)
-
 by_function : {A B : Type 0} (p : A → List Fault) (q : B → List Fault) (f : A → B) → ((x : A) → p x ≡ q (f x)) → (xs : List A) →
     flat_map p xs ≡ flat_map q (map f xs)
 by_function p q f h [] = refl
@@ -92,7 +73,7 @@ module _ (file : File) (none : length file.formulas ≡ 0) (new : Name → Name)
 
   name_is : (x : Name) → new x ≡ written_name file new x
   name_is x =
-      ap (λ (fs : List Formula). if is_some (option_map (λ f. f.body) (find (λ f. is_called x f.name) fs)) then x else new x) (sym (no_items file.formulas none))
+      ap (λ (fs : List Formula). if is_some (option_map (λ f. f.body) (find (λ f. is_called x f.name) fs)) then x else new x) (sym (nil_from_length file.formulas none))
 
   module _ (n : Names) (names : AreNames n file) (i : ℕ) (reads : (x : Name) → read_in n x ≡ new x) where
     types_are : type_of n ≡ (λ x. types file (new x))

@@ -7,23 +7,13 @@ use Rattle.op_trees.specs.Tree.{Tree, Truth, Number, Name as At, One, Two, Three
 use Rattle.op_trees.specs.Types.{Types, type_in, sort_one, sort_two, sort_three, type_through, types_looked_up}
 use Rattle.op_trees.specs.Seen.{FallsTo, IsFalling}
 use Rattle.op_trees.specs.SeenLaws.{names_then}
+use Rattle.op_trees.specs.TypeLaws.{type_agree_on}
 use Rattle.process_core.specs.Ready.{Name}
 use Rattle.prism_tree.specs.Operators.{prism_meaning}
 use Rattle.prism_tree.specs.Syntax.{File}
 use Rattle.prism_names.specs.Names.{formula_body}
 use Rattle.prism_names.specs.Order.{place_in, IsOrder}
 use Rattle.prism_check.specs.TypeFaults.{types, declared_types}
-
--- the type of a tree rests on its own names alone
-pub type_agree_on : {O : Type 0} (m : Meaning O) (t : Tree O) (old new : Types) → AllNames (λ x. old x ≡ new x) t → type_in m old t ≡ type_in m new t
-type_agree_on m (Truth at b) old new h = refl
-type_agree_on m (Number at d) old new h = refl
-type_agree_on m (At at x) old new h = h
-type_agree_on m (One at o a) old new h = ap (sort_one m o) (type_agree_on m a old new h)
-type_agree_on m (Two at o a b) old new h = ap₂ (sort_two m o) (type_agree_on m a old new h.0) (type_agree_on m b old new h.1)
-type_agree_on m (Three at o a b c) old new h =
-    ap₂ {B = Option Ty → Option Ty} (λ r g. g r) (type_agree_on m a old new h.0)
-    (ap₂ (λ s t r. sort_three m o r s t) (type_agree_on m b old new h.1) (type_agree_on m c old new h.2))
 
 module _ {O : Type 0} (m : Meaning O) (bodies : Name → Option (Tree O)) (rank : Name → ℕ) (falling : IsFalling bodies rank) (given : Types) where
   abbrev at_depth : ℕ → Types

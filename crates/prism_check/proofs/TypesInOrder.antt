@@ -12,6 +12,9 @@ use Rattle.op_trees.specs.Tree.{tree, Truth, Number, Name as At, One, Two, Three
 use Rattle.op_trees.specs.Types.{Types, type_in, type_through, types_looked_up, sort_one, sort_two, sort_three}
 use Rattle.op_trees.specs.Seen.{FallsTo}
 use Rattle.op_trees.specs.SeenLaws.{names_then}
+use Rattle.op_trees.specs.Names.{some_name}
+use Rattle.op_trees.specs.NameLaws.{some_agree_on}
+use Rattle.op_trees.specs.TypeLaws.{type_agree_on}
 use Rattle.process_core.specs.Ready.{Name}
 use Rattle.prism_tree.specs.declared.syntax.PrismFormula.{PrismFormula}
 use Rattle.prism_tree.specs.Operators.{prism_meaning}
@@ -23,30 +26,10 @@ use Rattle.prism_names.specs.Places.{at_places, formula_names, stands, IsEarlier
 use Rattle.prism_flat.proofs.Steps.{place_more}
 use Rattle.prism_check.specs.declared.typing.Known.{Known}
 use Rattle.prism_check.specs.Levels.{through, level}
-use Rattle.prism_check.specs.NameFaults.{some_name}
 use Rattle.prism_check.specs.TypeFaults.{variable_called, declared_types, types, is_variable}
 use Rattle.prism_check.specs.Typing.{type_said, varies_said, known_by, with_known, nothing_known, known_after}
 
 -- ---- names that agree on those of an expression
-type_agree_on : (t : Expression) (f g : Types) → AllNames (λ x. f x ≡ g x) t → type_in prism_meaning f t ≡ type_in prism_meaning g t
-type_agree_on (Truth at b) f g h = refl
-type_agree_on (Number at d) f g h = refl
-type_agree_on (At at x) f g h = h
-type_agree_on (One at o a) f g h = ap (sort_one prism_meaning o) (type_agree_on a f g h)
-type_agree_on (Two at o a b) f g h = ap₂ (sort_two prism_meaning o) (type_agree_on a f g h.0) (type_agree_on b f g h.1)
-type_agree_on (Three at o a b c) f g h =
-    ap₂ {B = Option Ty → Option Ty} (λ r k. k r) (type_agree_on a f g h.0)
-    (ap₂ (λ s t r. sort_three prism_meaning o r s t) (type_agree_on b f g h.1) (type_agree_on c f g h.2))
-
-some_agree_on : (t : Expression) (f g : Name → Bool) → AllNames (λ x. f x ≡ g x) t → some_name f t ≡ some_name g t
-some_agree_on (Truth at b) f g h = refl
-some_agree_on (Number at d) f g h = refl
-some_agree_on (At at x) f g h = h
-some_agree_on (One at o a) f g h = some_agree_on a f g h
-some_agree_on (Two at o a b) f g h = ap₂ (λ p q. p || q) (some_agree_on a f g h.0) (some_agree_on b f g h.1)
-some_agree_on (Three at o a b c) f g h =
-    ap₂ (λ p q. p || q) (some_agree_on a f g h.0) (ap₂ (λ p q. p || q) (some_agree_on b f g h.1) (some_agree_on c f g h.2))
-
 -- ---- at a depth above its rank a name has the type of its body, and a variable occurs in it where one does in its body
 module _ (file : File) (order : List Name) (ordered : IsOrder file order) where
   abbrev Below : ℕ → Name → Type 0
@@ -69,7 +52,7 @@ module _ (file : File) (order : List Name) (ordered : IsOrder file order) where
         type_through prism_meaning o (looked_up n) (ty x) ≡ type_through prism_meaning o (looked_up (suc n)) (ty x)
     type_settles n ih x None e f = refl
     type_settles n ih x (Some b) e f =
-        type_agree_on b (looked_up n) (looked_up (suc n)) (names_then (Below n) (λ y. looked_up n y ≡ looked_up (suc n) y) ih b (lower (formula_body file) (place_in order) ordered.falling n x b e f))
+        type_agree_on prism_meaning b (looked_up n) (looked_up (suc n)) (names_then (Below n) (λ y. looked_up n y ≡ looked_up (suc n) y) ih b (lower (formula_body file) (place_in order) ordered.falling n x b e f))
 
     type_settled : (n : ℕ) (x : Name) → Below n x → looked_up n x ≡ looked_up (suc n) x
     type_settled zero x f = ap (λ o. type_through prism_meaning o (looked_up zero) (ty x)) (sym (lowest (formula_body file) (place_in order) ordered.falling x (formula_body file x) refl f))
@@ -83,7 +66,7 @@ module _ (file : File) (order : List Name) (ordered : IsOrder file order) where
         through o (levels n) (is_such x) ≡ through o (levels (suc n)) (is_such x)
     level_settles n ih x None e f = refl
     level_settles n ih x (Some b) e f =
-        some_agree_on b (levels n) (levels (suc n)) (names_then (Below n) (λ y. levels n y ≡ levels (suc n) y) ih b (lower (formula_body file) (place_in order) ordered.falling n x b e f))
+        some_agree_on (levels n) (levels (suc n)) b (names_then (Below n) (λ y. levels n y ≡ levels (suc n) y) ih b (lower (formula_body file) (place_in order) ordered.falling n x b e f))
 
     level_settled : (n : ℕ) (x : Name) → Below n x → levels n x ≡ levels (suc n) x
     level_settled zero x f = ap (λ o. through o (levels zero) (is_such x)) (sym (lowest (formula_body file) (place_in order) ordered.falling x (formula_body file x) refl f))
@@ -146,9 +129,9 @@ module _ (file : File) (places : List ℕ) (places_ordered : IsPlaceOrder file p
       same : known_by ty is_such said f.body ≡ whole_known file f.body
       same =
           ap₂ {C = Known} (λ t v. record { ty = t; varies = v })
-          (type_agree_on f.body (λ y. type_said (said y) (ty y)) (types file)
+          (type_agree_on prism_meaning f.body (λ y. type_said (said y) (ty y)) (types file)
           (names_then (IsEarlier file earlier) (λ y. type_said (said y) (ty y) ≡ types file y) (λ y k. reads_type y (said y) (right y k)) f.body low))
-          (some_agree_on f.body (λ y. varies_said (said y) (is_such y)) (varies file)
+          (some_agree_on (λ y. varies_said (said y) (is_such y)) (varies file) f.body
           (names_then (IsEarlier file earlier) (λ y. varies_said (said y) (is_such y) ≡ varies file y) (λ y k. reads_varies y (said y) (right y k)) f.body low))
 
       by_test : (b : Bool) → bytes_eq f.name.name x ≡ b → ((stands earlier x || (b || false)) ≡ true) ⊎ (formula_body file x ≡ None) →

@@ -11,7 +11,8 @@ use Rattle.process_core.specs.Ready.{Name}
 use Rattle.prism_tree.specs.declared.syntax.PrismFile.{PrismFile}
 use Rattle.prism_tree.specs.declared.syntax.PrismModule.{PrismModule}
 use Rattle.prism_tree.specs.declared.syntax.CopiedModule.{CopiedModule}
-use Rattle.prism_tree.specs.Syntax.{Expression, offset_of, Body, Module, plain, copied, File, file_of, module_of, formula_of}
+use Rattle.op_trees.specs.Names.{offset_of, some_name}
+use Rattle.prism_tree.specs.Syntax.{Expression, Body, Module, plain, copied, File, file_of, module_of, formula_of}
 use Rattle.prism_names.specs.Names.{formula_body}
 use Rattle.prism_names.specs.Flat.{flat_module}
 use Rattle.prism_names.specs.Places.{at_places, IsPlaceOrder}
@@ -20,12 +21,11 @@ use Rattle.prism_check.specs.declared.variables.Declared.{Declared}
 use Rattle.prism_check.specs.declared.typing.Known.{Known}
 use Rattle.prism_check.specs.declared.typing.Names.{Names}
 use Rattle.prism_check.specs.Demands.{Demand, fixed, varying, written, formula_demands, outer_demands}
-use Rattle.prism_check.specs.Least.{fault_if, soonest}
-use Rattle.prism_check.specs.NameFaults.{some_name}
-use Rattle.prism_check.specs.Tables.{under}
+use Rattle.name_rules.specs.Least.{fault_if, soonest}
+use Rattle.name_rules.specs.Names.{under}
 use Rattle.prism_check.specs.TypeFaults.{Variable, variable_called, or_else, declared_types, types, type_faults_of, is_variable, has_variable, Target, target_of, target, wanted_at, write_faults, demand_faults, repeated_writes, module_faults, numbered_faults, type_faults}
 use Rattle.prism_check.specs.Typing.{owned, IsDeclared, declared_type, is_declared_variable, known_after, type_under, varies_under, target_found, target_under, type_of, varies_in, target_in, read_by, read_in, AreNames, soonest_at, faults_in, repeated_by, contents_by, contents_faults}
-use Rattle.prism_check.proofs.Append.{soonest_then, three_parts}
+use Rattle.name_rules.proofs.Append.{soonest_then, three_parts}
 use Rattle.prism_check.proofs.TypesInOrder.{formula_known, whole_known, reads_type, reads_varies, known_whole}
 use Rattle.prism_check.proofs.TypesPlaced.{unplaced}
 use Rattle.prism_check.proofs.Rounds.{in_written_out}

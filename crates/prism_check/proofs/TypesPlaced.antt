@@ -6,11 +6,12 @@ use Rattle.std.proofs.lemmas.List.{map-append}
 use Rattle.bridge_io.specs.declared.reason.Named.{Named}
 use Rattle.bridge_io.specs.declared.reason.Reason.{Reason}
 use Rattle.bridge_io.specs.declared.reason.Fault.{Fault}
-use Rattle.prism_check.specs.Least.{fault_if, soonest}
-use Rattle.prism_check.specs.NameFaults.{clash, doubled_after, doubled}
+use Rattle.name_rules.specs.Least.{fault_if, soonest}
+use Rattle.name_rules.specs.Doubled.{clash, doubled_after, doubled}
 use Rattle.prism_check.specs.Typing.{placed, soonest_at, wrong, moved_name}
-use Rattle.prism_check.proofs.Soonest.{soonest-append}
-use Rattle.prism_check.proofs.Append.{soonest_next}
+use Rattle.name_rules.proofs.Soonest.{soonest-append}
+use Rattle.name_rules.proofs.Append.{soonest_next}
+use Rattle.process_core.specs.Product.{map-flat_map}
 
 pub placed_if : (place : Option ℕ) (b : Bool) (at : ℕ) (r : Reason) → map (placed place) (fault_if b at r) ≡ fault_if b (unwrap_or place at) r
 placed_if place true at r = refl
@@ -47,17 +48,13 @@ wrong_four place xs ys zs us best first second third last p q r s =
     wrong_two place xs (ys ++ (zs ++ us)) best first last p (wrong_three place ys zs us first second third last q r s)
 
 -- ---- one element of a list more
-map_flat : {A : Type 0} (g : Fault → Fault) (f : A → List Fault) (xs : List A) → map g (flat_map f xs) ≡ flat_map (λ x. map g (f x)) xs
-map_flat g f [] = refl
-map_flat g f (x ∷ xs) = map-append g (f x) (flat_map f xs) ∙ ap (λ gs. map g (f x) ++ gs) (map_flat g f xs)
-
 pub at_next : {A B : Type 0} (place : Option ℕ) (view : A → B) (f : B → List Fault) (xs : List A) (i : ℕ) (x : A) (best next whole : Option Fault) → i < length xs →
     x ≡ get_or xs i x → next ≡ soonest_at place best (f (view x)) → soonest_at place best (flat_map f (map view (drop i xs))) ≡ whole →
     soonest_at place next (flat_map f (map view (drop (i + 1) xs))) ≡ whole
 at_next place view f xs i x best next whole h is judged so_far =
-    ap (soonest next) (map_flat (placed place) f (map view (drop (i + 1) xs)))
+    ap (soonest next) (map-flat_map (placed place) f (map view (drop (i + 1) xs)))
     ∙ soonest_next view (λ y. map (placed place) (f y)) xs i x best next whole h is judged
-    (ap (soonest best) (sym (map_flat (placed place) f (map view (drop i xs)))) ∙ so_far)
+    (ap (soonest best) (sym (map-flat_map (placed place) f (map view (drop i xs)))) ∙ so_far)
 
 -- ---- names that stand twice
 later_at : (place : Option ℕ) (i j : ℕ) → unwrap_or place (max i j) ≡ max (unwrap_or place i) (unwrap_or place j)

@@ -3,7 +3,7 @@ use Rattle.std.specs.Prelude.{◌≡◌, ℕ, ◌+◌, max, List, [], ◌∷◌,
 use Rattle.std.specs.List.{flat_map}
 use Rattle.std.specs.Option.{option_map}
 use Rattle.std.specs.Borrow.{Bor}
-use Rattle.indexmap.specs.IndexMap.{IndexMap}
+use Rattle.name_rules.specs.declared.map.NameMap.{NameMap}
 use Rattle.indexmap.specs.IndexSet.{IndexSet}
 use Rattle.op_trees.specs.Tree.{capped}
 use Rattle.process_core.specs.Ready.{Name, if_some}
@@ -14,7 +14,8 @@ use Rattle.prism_names.specs.Flat.{flat}
 use Rattle.prism_names.specs.Sizes.{nodes_by, height_by, name_nodes, name_height}
 use Rattle.prism_check.specs.Demands.{Demand, expression_of, var_demands, command_demands}
 use Rattle.prism_check.specs.SizeFaults.{passes_limit, command_count}
-use Rattle.prism_check.specs.Tables.{under, vars_in, commands_in, pair_for}
+use Rattle.name_rules.specs.Names.{under}
+use Rattle.prism_check.specs.Tables.{vars_in, commands_in, pair_for}
 use Rattle.prism_check.specs.declared.tree_size.Size.{Size}
 use Rattle.prism_check.specs.declared.sizes.Sizes.{Sizes}
 use Rattle.prism_check.specs.declared.sizes.Sizes.TheVariants.{TooLarge, Within}
@@ -24,13 +25,13 @@ use Rattle.prism_check.specs.declared.sizes.Sizes.TheVariants.{TooLarge, Within}
 abbrev pub leaf : Size
 leaf = record { nodes = 1; height = 1 }
 
-abbrev pub size_in : {S : Type 0} → IndexMap (Bor (List ℕ)) Size S → Name → Size
+abbrev pub size_in : NameMap Size → Name → Size
 size_in table x = unwrap_or (under table x) leaf
 
-abbrev pub nodes_in : {S : Type 0} → IndexMap (Bor (List ℕ)) Size S → Name → ℕ
+abbrev pub nodes_in : NameMap Size → Name → ℕ
 nodes_in table x = (size_in table x).nodes
 
-abbrev pub height_in : {S : Type 0} → IndexMap (Bor (List ℕ)) Size S → Name → ℕ
+abbrev pub height_in : NameMap Size → Name → ℕ
 height_in table x = (size_in table x).height
 
 -- a formula's name has the nodes of its body, written out, and its height

@@ -6,7 +6,7 @@ use Rattle.prism_check.specs.declared.names.Names.{Names}
 use Rattle.prism_check.specs.declared.names.Names.TheVariants.{Faulty, Ordered}
 use Rattle.prism_check.specs.declared.judge.Verdict.{Verdict}
 use Rattle.prism_check.specs.declared.judge.Verdict.TheVariants as V
-use Rattle.prism_check.specs.Least.{soonest, IsLeast}
+use Rattle.name_rules.specs.Least.{soonest, IsLeast}
 use Rattle.prism_check.specs.NameFaults.{name_faults}
 use Rattle.prism_check.specs.SizeFaults.{command_count}
 use Rattle.prism_check.specs.Faults.{faults}

@@ -1,13 +1,14 @@
 -- Whether some name of an expression is such a one where formulas are written out, looked up formula by formula.
 use Rattle.std.specs.Prelude.{ℕ, zero, suc, List, Bool, not, ◌&&◌, ◌||◌, Option, Some, None, is_some, unwrap_or}
 use Rattle.std.specs.Borrow.{Bor}
-use Rattle.indexmap.specs.IndexMap.{IndexMap}
+use Rattle.name_rules.specs.declared.map.NameMap.{NameMap}
 use Rattle.process_core.specs.Ready.{Name}
 use Rattle.prism_tree.specs.Syntax.{Expression}
 use Rattle.prism_check.specs.declared.lost.Reading.{Reading}
 use Rattle.prism_check.specs.Demands.{Demand, fixed, varying, written}
-use Rattle.prism_check.specs.NameFaults.{some_name}
-use Rattle.prism_check.specs.Tables.{under, has_name, body_under, new_name}
+use Rattle.op_trees.specs.Names.{some_name}
+use Rattle.prism_check.specs.Tables.{body_under, new_name}
+use Rattle.name_rules.specs.Names.{has_name, under}
 
 abbrev pub through : Option Expression → (Name → Bool) → Bool → Bool
 through None is_such b = b
@@ -30,7 +31,7 @@ unfoldable pub lost_in : Reading → Name → Bool
 lost_in r x = lost_by (body_under r.formulas.now) (has_name r.known.now) (new_name r.renaming.now) x
 
 -- what a table says of a name
-unfoldable pub flag_in : {S : Type 0} → IndexMap (Bor (List ℕ)) Bool S → Reading → Name → Bool
+unfoldable pub flag_in : NameMap Bool → Reading → Name → Bool
 flag_in flags r x = unwrap_or (under flags x) (lost_in r x)
 
 -- a demand has a written name that is such a one, or another name of which this is said

@@ -1,17 +1,14 @@
-pub mod Least
 pub mod Demands
 pub mod Views
 pub mod NameFaults
 pub mod SizeFaults
 pub mod TypeFaults
 pub mod Faults
-pub mod Lowest
 pub mod Tables
 pub mod Levels
 pub mod Checked
 pub mod Codes
 pub mod Clean
-pub mod Circles
 pub mod Judged
 pub mod Counted
 pub mod Typing

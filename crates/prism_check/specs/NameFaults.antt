@@ -1,38 +1,28 @@
 -- The faults of the names of a PRISM file (PRISM manual, "The PRISM Language": "Constants", "Modules and Variables",
 -- "Formulas and Labels", "Module Renaming").
-use Rattle.std.specs.Prelude.{ℕ, zero, suc, max, List, [], ◌∷◌, ◌++◌, map, length, Option, Some, None, Bool, true, false, not, ◌&&◌, ◌||◌, if◌then◌else◌, bytes_eq, codes, is_some, nat_eq}
-use Rattle.std.specs.List.{flat_map, filter, list_any}
+use Rattle.std.specs.Prelude.{ℕ, List, [], ◌∷◌, ◌++◌, map, length, Option, Some, None, Bool, true, false, not, ◌&&◌, ◌||◌, if◌then◌else◌, codes, is_some, nat_eq}
+use Rattle.std.specs.List.{flat_map, list_any}
 use Rattle.bridge_io.specs.declared.reason.Named.{Named}
-use Rattle.bridge_io.specs.declared.reason.Reason.{Reason}
-use Rattle.bridge_io.specs.declared.reason.Reason.TheVariants.{TwiceNamed, Unknown, Cycle, RenameMissing, RenameOfRenamed, Nothing}
+use Rattle.bridge_io.specs.declared.reason.Reason.TheVariants.{TwiceNamed, Unknown, RenameMissing, RenameOfRenamed, Nothing}
 use Rattle.bridge_io.specs.declared.reason.Fault.{Fault}
-use Rattle.op_trees.specs.Tree.{Tree, Truth, Number, Name as At, One, Two, Three}
-use Rattle.process_core.specs.Ready.{Name, if_some}
+use Rattle.name_rules.specs.Least.{fault_if}
+use Rattle.name_rules.specs.Names.{Name, is_called}
+pub use Rattle.name_rules.specs.Names.{is_among}
+pub use Rattle.name_rules.specs.Doubled.{clash, doubled_after, doubled}
+use Rattle.name_rules.specs.Uses.{used}
+pub use Rattle.op_trees.specs.Names.{names_of, some_name}
+pub use Rattle.name_rules.specs.Unknown.{unless_known}
+use Rattle.name_rules.specs.Circles.{circles as circles_of}
+pub use Rattle.name_rules.specs.Circles.{Declared, uses_of, leads_to, is_circular, circular}
+use Rattle.process_core.specs.Ready.{if_some}
 use Rattle.prism_tree.specs.declared.syntax.NamePair.{NamePair}
 use Rattle.prism_tree.specs.declared.syntax.CopiedModule.{CopiedModule}
-use Rattle.prism_tree.specs.Syntax.{Expression, Var, Module, plain, copied, File}
+use Rattle.prism_tree.specs.Syntax.{Expression, Const, Formula, Var, Module, plain, copied, File}
 use Rattle.prism_names.specs.Order.{whole}
-use Rattle.prism_names.specs.Names.{is_called, is_formula, renaming, module_name, module_called, Part, part_of}
-use Rattle.prism_check.specs.Least.{fault_if}
+use Rattle.prism_names.specs.Names.{is_formula, renaming, module_name, module_called, Part, part_of}
 use Rattle.prism_check.specs.Demands.{Demand, fixed, varying, written, formula_demands, part_demands, outer_demands}
 
-abbrev pub is_among : List Named → Name → Bool
-is_among ns x = list_any (is_called x) ns
-
 -- ---- names that are declared twice
-
--- the later of a name and an earlier one in the list that is the same, wherever they stand
-abbrev pub clash : Reason → Named → Named → List Fault
-clash reason n m = fault_if (bytes_eq m.name n.name) (max m.at n.at) reason
-
--- of each two names that are the same the later, by offset
-abbrev pub doubled_after : Reason → List Named → List Named → List Fault
-doubled_after reason earlier [] = []
-doubled_after reason earlier (n ∷ ns) = flat_map (clash reason n) earlier ++ doubled_after reason (n ∷ earlier) ns
-
-abbrev pub doubled : Reason → List Named → List Fault
-doubled reason ns = doubled_after reason [] ns
-
 abbrev pub has_pair : List NamePair → Name → Bool
 has_pair pairs x = list_any (λ p. is_called x p.old) pairs
 
@@ -71,39 +61,17 @@ doubled_names file =
 
 -- ---- names that are not declared
 
--- the names in an expression, where they stand
-abbrev pub names_of : {O : Type 0} → Tree O → List Named
-names_of (Truth at b) = []
-names_of (Number at d) = []
-names_of (At at x) = record { name = x; at = at } ∷ []
-names_of (One at o a) = names_of a
-names_of (Two at o a b) = names_of a ++ names_of b
-names_of (Three at o a b c) = names_of a ++ (names_of b ++ names_of c)
-
 -- the names that a demand uses
 abbrev pub names_used : Demand → List Named
 names_used (fixed w e) = names_of e
 names_used (varying w e) = names_of e
 names_used (written acts w) = w.name ∷ names_of w.value
 
--- the fault of a name that is not known
-abbrev pub unless_known : (Name → Bool) → Named → List Fault
-unless_known known n = fault_if (not (known n.name)) n.at Unknown
-
 abbrev pub unknown_by : (Name → Bool) → Demand → List Fault
 unknown_by known d = flat_map (unless_known known) (names_used d)
 
 abbrev pub unknown : File → Demand → List Fault
 unknown file d = unknown_by (is_among (values file)) d
-
--- some name in an expression is such a one
-abbrev pub some_name : {O : Type 0} → (Name → Bool) → Tree O → Bool
-some_name is_such (Truth at b) = false
-some_name is_such (Number at d) = false
-some_name is_such (At at x) = is_such x
-some_name is_such (One at o a) = some_name is_such a
-some_name is_such (Two at o a b) = some_name is_such a || some_name is_such b
-some_name is_such (Three at o a b c) = some_name is_such a || (some_name is_such b || some_name is_such c)
 
 -- some name that a demand uses, where its expression is changed first, is such a one
 abbrev pub some_used : (Name → Bool) → (Expression → Expression) → Demand → Bool
@@ -132,37 +100,17 @@ unknown_names file =
 
 -- ---- constants and formulas that depend on themselves
 
--- a constant or a formula
-pub record Declared : Type 0 where
-  pub name : Named
-  pub body : Option Expression
+abbrev pub declared_const : Const → Declared
+declared_const c = record { name = c.name; uses = used c.value }
+
+abbrev pub declared_formula : Formula → Declared
+declared_formula f = record { name = f.name; uses = used (Some f.body) }
 
 abbrev pub declarations : File → List Declared
-declarations file =
-    map (λ c. record { name = c.name; body = c.value }) file.constants
-    ++ map (λ f. record { name = f.name; body = Some f.body }) file.formulas
-
--- the names in what is declared
-abbrev pub uses : Declared → List Name
-uses d = map (λ n. n.name) (flat_map names_of (if_some d.body))
-
--- the names in everything that is declared under a name
-abbrev pub uses_of : List Declared → Name → List Name
-uses_of ds x = flat_map uses (filter (λ d. is_called x d.name) ds)
-
--- one name is the other, or leads to it in at most so many steps
-abbrev pub leads_to : List Declared → ℕ → Name → Name → Bool
-leads_to ds zero x y = bytes_eq x y
-leads_to ds (suc n) x y = bytes_eq x y || list_any (λ z. leads_to ds n z y) (uses_of ds x)
-
-abbrev pub is_circular : List Declared → Declared → Bool
-is_circular ds d = list_any (λ x. leads_to ds (length ds) x d.name.name) (uses d)
-
-abbrev pub circular : List Declared → Declared → List Fault
-circular ds d = fault_if (is_circular ds d) d.name.at Cycle
+declarations file = map declared_const file.constants ++ map declared_formula file.formulas
 
 abbrev pub circles : File → List Fault
-circles file = flat_map (circular (declarations file)) (declarations file)
+circles file = circles_of (declarations file)
 
 -- ---- copies, and the modules
 

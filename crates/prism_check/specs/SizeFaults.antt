@@ -11,7 +11,7 @@ use Rattle.prism_tree.specs.Syntax.{File}
 use Rattle.prism_names.specs.Names.{Part, parts}
 use Rattle.prism_names.specs.Flat.{flat}
 use Rattle.prism_names.specs.Order.{whole_nodes, whole_height}
-use Rattle.prism_check.specs.Least.{fault_if}
+use Rattle.name_rules.specs.Least.{fault_if}
 use Rattle.prism_check.specs.Demands.{expression_of, all_demands}
 
 -- the nodes of all expressions

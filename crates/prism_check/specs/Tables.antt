@@ -3,7 +3,7 @@ use Rattle.std.specs.Prelude.{◌≡◌, ℕ, List, [], ◌∷◌, ◌++◌, map
 use Rattle.std.specs.List.{find, flat_map, list_any}
 use Rattle.std.specs.Option.{option_map}
 use Rattle.std.specs.Borrow.{Bor}
-use Rattle.indexmap.specs.IndexMap.{IndexMap, get_by}
+use Rattle.name_rules.specs.declared.map.NameMap.{NameMap}
 use Rattle.process_core.specs.Ready.{Name}
 use Rattle.prism_tree.specs.declared.syntax.NamePair.{NamePair}
 use Rattle.prism_tree.specs.declared.syntax.PrismModule.{PrismModule}
@@ -13,37 +13,25 @@ use Rattle.op_trees.specs.Tree.{tree}
 use Rattle.op_trees.specs.declared.tree.Expr.{Expr}
 use Rattle.bridge_io.specs.declared.reason.Reason.TheVariants.{RenameMissing, RenameOfRenamed}
 use Rattle.bridge_io.specs.declared.reason.Fault.{Fault}
-use Rattle.prism_check.specs.Least.{fault_if}
+use Rattle.name_rules.specs.Least.{fault_if}
 use Rattle.prism_names.specs.Names.{formula_body, module_called}
-use Rattle.prism_check.specs.NameFaults.{is_copy, is_among, values}
+use Rattle.prism_check.specs.NameFaults.{is_copy, values}
+use Rattle.name_rules.specs.Names.{is_among, has_name, under}
 use Rattle.prism_check.specs.declared.scope.Scope.{Scope}
 use Rattle.bridge_io.specs.declared.reason.Named.{Named}
 use Rattle.prism_tree.specs.Syntax.{Expression, Module, module_of, formula_of, Var, Command, File, plain, copied}
 use Rattle.prism_names.specs.Names.{is_called, module_name}
-use Rattle.prism_check.specs.declared.named.NameSet.{NameSet}
 use Rattle.prism_check.specs.declared.tables.Renaming.{Renaming}
 use Rattle.prism_check.specs.declared.tables.Renaming.TheVariants.{Few, Many}
 use Rattle.prism_check.specs.declared.tables.Modules.{Modules}
 use Rattle.prism_check.specs.declared.tables.Formulas.{Formulas}
-
--- what stands under a name
-abbrev pub under : {X S : Type 0} → IndexMap (Bor (List ℕ)) X S → List ℕ → Option X
-under table x = get_by (λ k. bytes_eq x k.now) table
-
--- the first, or else the second
-abbrev pub first_some : {X : Type 0} → Option X → Option X → Option X
-first_some None o = o
-first_some (Some x) o = Some x
-
-abbrev pub has_name : NameSet → List ℕ → Bool
-has_name set x = is_some (under set.places x)
 
 -- ---- renamings
 abbrev pub pair_for : List NamePair → Name → Option Name
 pair_for [] x = None
 pair_for (p ∷ ps) x = if is_called x p.old then Some p.new.name else pair_for ps x
 
-abbrev pub name_under : {S : Type 0} → IndexMap (Bor (List ℕ)) (Bor (List ℕ)) S → List ℕ → Option Name
+abbrev pub name_under : NameMap (Bor (List ℕ)) → List ℕ → Option Name
 name_under table x = option_map (λ s. s.now) (under table x)
 
 abbrev pub new_name : Renaming → List ℕ → Option Name
@@ -55,7 +43,7 @@ new_name (Many table) x = name_under table x
 abbrev pub named_module : List PrismModule → Name → Option Module
 named_module ms x = find (λ m. is_called x (module_name m)) (map module_of ms)
 
-abbrev pub module_at : {S : Type 0} → IndexMap (Bor (List ℕ)) (Bor PrismModule) S → List ℕ → Option Module
+abbrev pub module_at : NameMap (Bor PrismModule) → List ℕ → Option Module
 module_at table x = option_map (λ m. module_of m.now) (under table x)
 
 abbrev pub module_under : Modules → List ℕ → Option Module
@@ -97,7 +85,7 @@ copy_faults_by called (copied m) =
 abbrev pub body_in : List PrismFormula → Name → Option Expression
 body_in fs x = option_map (λ f. f.body) (find (λ f. is_called x f.name) (map formula_of fs))
 
-abbrev pub body_at : {S : Type 0} → IndexMap (Bor (List ℕ)) (Bor (Expr PrismOp)) S → List ℕ → Option Expression
+abbrev pub body_at : NameMap (Bor (Expr PrismOp)) → List ℕ → Option Expression
 body_at table x = option_map (λ e. tree e.now) (under table x)
 
 abbrev pub body_under : Formulas → List ℕ → Option Expression
@@ -107,4 +95,4 @@ body_under t x = body_at t.bodies x
 pub record IsScope (s : Scope) (file : File) : Type 0 where
   pub modules : (x : Name) → module_under s.modules x ≡ module_called file x
   pub formulas : (x : Name) → body_under s.formulas x ≡ formula_body file x
-  pub known : (x : Name) → has_name s.known x ≡ is_among (values file) x
+  pub known : has_name s.known ≡ is_among (values file)

@@ -9,17 +9,18 @@ use Rattle.op_trees.specs.declared.tree.Ty.{Ty}
 use Rattle.op_trees.specs.declared.tree.Ty.TheVariants as T
 use Rattle.op_trees.specs.Tree.{Truth, Number, Name as At, One, Two, Three}
 use Rattle.op_trees.specs.Types.{Types, type_in, types_looked_up, misfit_at}
+use Rattle.op_trees.specs.Names.{offset_of, some_name}
 use Rattle.process_core.specs.Ready.{Name}
 use Rattle.prism_tree.specs.Operators.{prism_meaning}
-use Rattle.prism_tree.specs.Syntax.{Expression, offset_of, Command, Module, plain, copied, File}
+use Rattle.prism_tree.specs.Syntax.{Expression, Command, Module, plain, copied, File}
 use Rattle.prism_names.specs.Names.{is_called, formula_body, is_formula, Part, part_of, parts}
 use Rattle.prism_names.specs.Laws.{flat_part}
 use Rattle.prism_names.specs.Order.{whole}
-use Rattle.prism_check.specs.Least.{fault, fault_if, moved_to}
+use Rattle.name_rules.specs.Least.{fault, fault_if, moved_to}
 use Rattle.prism_check.specs.declared.demands.Wanted.{Wanted}
 use Rattle.prism_check.specs.declared.demands.Wanted.TheVariants as W
 use Rattle.prism_check.specs.Demands.{Demand, fixed, varying, written, wanted_by, var_type, formula_demands, part_demands, outer_demands}
-use Rattle.prism_check.specs.NameFaults.{some_name, doubled}
+use Rattle.name_rules.specs.Doubled.{doubled}
 
 -- ---- what the names are
 

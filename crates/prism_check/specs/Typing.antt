@@ -8,9 +8,10 @@ use Rattle.bridge_io.specs.declared.reason.Fault.{Fault}
 use Rattle.bridge_io.specs.declared.reason.Named.{Named}
 use Rattle.op_trees.specs.declared.tree.Ty.{Ty}
 use Rattle.op_trees.specs.Types.{Types, type_in}
+use Rattle.op_trees.specs.Names.{offset_of, some_name}
 use Rattle.process_core.specs.Ready.{Name}
 use Rattle.prism_tree.specs.Operators.{prism_meaning}
-use Rattle.prism_tree.specs.Syntax.{Expression, offset_of, Var, Formula, Branch, Command, Module, plain, copied, File}
+use Rattle.prism_tree.specs.Syntax.{Expression, Var, Formula, Branch, Command, Module, plain, copied, File}
 use Rattle.prism_names.specs.Names.{is_called}
 use Rattle.prism_check.specs.declared.demands.Wanted.TheVariants as W
 use Rattle.prism_check.specs.declared.tables.Renaming.{Renaming}
@@ -20,10 +21,11 @@ use Rattle.prism_check.specs.declared.typing.Known.{Known}
 use Rattle.prism_check.specs.declared.typing.Names.{Names}
 use Rattle.prism_check.specs.declared.writes.Target as C
 use Rattle.prism_check.specs.declared.writes.Target.TheVariants as V
-use Rattle.prism_check.specs.Least.{fault, fault_if, soonest}
+use Rattle.name_rules.specs.Least.{fault, fault_if, soonest}
 use Rattle.prism_check.specs.Demands.{Demand, fixed, varying, written, var_type, var_demands, command_demands}
-use Rattle.prism_check.specs.NameFaults.{some_name, doubled}
-use Rattle.prism_check.specs.Tables.{under, pair_for, vars_in, new_name}
+use Rattle.name_rules.specs.Names.{under}
+use Rattle.name_rules.specs.Doubled.{doubled}
+use Rattle.prism_check.specs.Tables.{pair_for, vars_in, new_name}
 use Rattle.prism_check.specs.TypeFaults.{Variable, variable_called, or_else, types, has_variable, Target, own, global, foreign, target_by, target, wanted_at, type_faults_of, write_faults}
 
 -- ---- variables

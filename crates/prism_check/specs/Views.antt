@@ -1,14 +1,9 @@
--- What the code's lists stand for.
-use Rattle.bridge_io.specs.declared.reason.Named.{Named}
+-- What the code's demands stand for.
 use Rattle.op_trees.specs.Tree.{tree}
 use Rattle.prism_tree.specs.Syntax.{write_of}
-use Rattle.prism_check.specs.declared.named.Entry.{Entry}
 use Rattle.prism_check.specs.declared.demands.Demand as D
 use Rattle.prism_check.specs.declared.demands.Demand.TheVariants as V
 use Rattle.prism_check.specs.Demands.{Demand, fixed, varying, written}
-
-abbrev pub named_by : Entry → Named
-named_by e = record { name = e.name.now; at = e.at }
 
 abbrev pub demand_by : D.Demand → Demand
 demand_by (V.Fixed w e) = fixed w (tree e.now)

@@ -4,14 +4,14 @@ ghost use Rattle.std.specs.Prelude.{◌≡◌, List, ℕ, map, IfOk};
 ghost use Rattle.std.specs.List.{flat_map};
 ghost use Rattle.std.specs.Option.{option_map};
 ghost use Rattle.prism_tree.specs.Syntax.{module_of, var_of};
-ghost use Rattle.prism_check.specs.Least.{soonest};
+ghost use Rattle.name_rules.specs.Least.{soonest};
 ghost use Rattle.prism_check.specs.NameFaults.{is_copy};
 ghost use Rattle.prism_check.specs.Tables.{copy_faults_by, lacks_pair_by, module_under, new_name};
 
-use crate::least::sooner_if;
 use crate::tables::{Modules, Renaming};
 use crate::values::vars_in;
 use bridge_io::{Fault, Reason};
+use name_rules::sooner_if;
 use prism_tree::{PrismModule, PrismVar};
 use std::alloc::{AllocError, Global};
 

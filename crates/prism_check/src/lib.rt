@@ -3,24 +3,17 @@
 
 mod actions;
 mod check;
-mod circles;
 mod copies;
 mod declarations;
 mod demands;
-mod doubled;
 mod formula_sizes;
 mod judge;
 mod laws;
-mod least;
 mod lost;
 mod module_sizes;
-mod named;
 mod names;
 mod naming;
-mod placing;
-mod ranks;
 mod scope;
-mod search;
 mod sizes;
 mod tables;
 mod tree_size;
@@ -28,10 +21,8 @@ mod twice;
 mod types;
 mod typing;
 mod unknown;
-mod users;
 mod values;
 mod variables;
-mod waiting;
 mod writes;
 mod writing;
 

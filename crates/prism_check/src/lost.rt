@@ -4,15 +4,16 @@ ghost use Rattle.std.specs.Prelude.{◌≡◌, List, ℕ, true, length, map, All
 ghost use Rattle.std.specs.List.{list_any};
 ghost use Rattle.std.specs.Option.{option_map};
 ghost use Rattle.op_trees.specs.Tree.{tree, written_out};
+ghost use Rattle.op_trees.specs.Names.{some_name};
 ghost use Rattle.prism_check.specs.Levels.{flag_in, level, lost_in, lost_to, used_in};
-ghost use Rattle.prism_check.specs.NameFaults.{some_name, some_used};
-ghost use Rattle.prism_check.specs.Tables.{body_in, body_under, has_name, under};
+ghost use Rattle.prism_check.specs.NameFaults.{some_used};
+ghost use Rattle.prism_check.specs.Tables.{body_in, body_under};
+ghost use Rattle.name_rules.specs.Names.{under, has_name};
 ghost use Rattle.prism_check.specs.Views.{demand_by};
 
 use crate::demands::Demand;
-use crate::named::NameSet;
-use crate::tables::{Formulas, Renaming, add_first};
-use indexmap::IndexMap;
+use crate::tables::{Formulas, Renaming};
+use name_rules::{NameMap, NameSet};
 use op_trees::Expr;
 use prism_tree::{Pe, PrismFormula};
 use std::alloc::{AllocError, Global};
@@ -49,16 +50,16 @@ impl<'a, 'b> Reading<'a, 'b> {
 
 // What the table says of a name, or whether it is lost.
 #[tactic(auto, unfolding(crate::specs::Levels::flag_in))]
-fn flag(flags: &IndexMap<&str, bool>, reading: &Reading, name: &str) -> bool
+fn flag(flags: &NameMap<bool>, reading: &Reading, name: &str) -> bool
     ensures { result ≡ flag_in flags.now reading.now name.now }
 {
     match flags.get(name) {
-        Some(known) => *known,
+        Some(known) => known,
         None => reading.is_lost(name),
     }
 }
 
-fn some_flag(flags: &IndexMap<&str, bool>, reading: &Reading, e: &Pe) -> bool
+fn some_flag(flags: &NameMap<bool>, reading: &Reading, e: &Pe) -> bool
     ensures { result ≡ some_name (flag_in flags.now reading.now) (tree e.now) }
 {
     match e {
@@ -79,32 +80,32 @@ fn some_flag(flags: &IndexMap<&str, bool>, reading: &Reading, e: &Pe) -> bool
 fn next_flags<'b>(
     alloc: Global,
     formulas: &'b [PrismFormula],
-    flags: &IndexMap<&'b str, bool>,
+    flags: &NameMap<'b, bool>,
     reading: &Reading,
-) -> Result<IndexMap<&'b str, bool>, AllocError>
+) -> Result<NameMap<'b, bool>, AllocError>
     ensures { IfOk result
         (λ next. (x : List ℕ) → under next x ≡ option_map (some_name (flag_in flags.now reading.now)) (body_in formulas.now x)) }
 {
-    let mut next = IndexMap::new(alloc);
+    let mut next = NameMap::new(alloc);
     for formula in formulas {
         let value = some_flag(flags, reading, &formula.body);
-        add_first(&mut next, formula.name.name.as_str(), value)?;
+        next.put_first(formula.name.name.as_str(), value)?;
     }
     Ok(next)
 }
 
-fn same_flag(a: &IndexMap<&str, bool>, b: &IndexMap<&str, bool>, name: &str) -> bool
+fn same_flag(a: &NameMap<bool>, b: &NameMap<bool>, name: &str) -> bool
     ensures { result ≡ true → under a.now name.now ≡ under b.now name.now }
 {
     match (a.get(name), b.get(name)) {
-        (Some(x), Some(y)) => *x == *y,
+        (Some(x), Some(y)) => x == y,
         (None, None) => true,
         _ => false,
     }
 }
 
 // Whether both tables say the same of all formulas.
-fn same_flags(formulas: &[PrismFormula], a: &IndexMap<&str, bool>, b: &IndexMap<&str, bool>) -> bool
+fn same_flags(formulas: &[PrismFormula], a: &NameMap<bool>, b: &NameMap<bool>) -> bool
     ensures { result ≡ true → All (λ f. under a.now f.name.name ≡ under b.now f.name.name) formulas.now }
 {
     for formula in formulas {
@@ -121,12 +122,12 @@ fn lost_flags<'b>(
     alloc: Global,
     formulas: &'b [PrismFormula],
     reading: &Reading,
-) -> Result<IndexMap<&'b str, bool>, AllocError>
+) -> Result<NameMap<'b, bool>, AllocError>
     ensures { IfOk result
         (λ flags. (x : List ℕ) →
         flag_in flags reading.now x ≡ level (body_in formulas.now) (lost_in reading.now) (length formulas.now) x) }
 {
-    let mut flags = IndexMap::new(alloc);
+    let mut flags = NameMap::new(alloc);
     for _turn in 0..formulas.len() {
         let next = next_flags(alloc, formulas, &flags, reading)?;
         if same_flags(formulas, &next, &flags) {
@@ -153,7 +154,7 @@ pub(crate) fn loses_name<'b>(
     Ok(some_demand(&flags, reading, demands))
 }
 
-fn some_demand(flags: &IndexMap<&str, bool>, reading: &Reading, demands: &[Demand]) -> bool
+fn some_demand(flags: &NameMap<bool>, reading: &Reading, demands: &[Demand]) -> bool
     ensures { result ≡ list_any (used_in (lost_in reading.now) (flag_in flags.now reading.now)) (map demand_by demands.now) }
 {
     for demand in demands {
@@ -164,7 +165,7 @@ fn some_demand(flags: &IndexMap<&str, bool>, reading: &Reading, demands: &[Deman
     false
 }
 
-fn in_demand(flags: &IndexMap<&str, bool>, reading: &Reading, demand: &Demand) -> bool
+fn in_demand(flags: &NameMap<bool>, reading: &Reading, demand: &Demand) -> bool
     ensures { result ≡ used_in (lost_in reading.now) (flag_in flags.now reading.now) (demand_by demand.now) }
 {
     match demand {

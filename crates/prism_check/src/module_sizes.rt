@@ -6,12 +6,13 @@ ghost use Rattle.std.specs.Option.{option_map};
 ghost use Rattle.op_trees.specs.Tree.{capped};
 ghost use Rattle.prism_tree.specs.Syntax.{module_of};
 ghost use Rattle.prism_check.specs.Counted.{all_nodes, copied_demands, copied_size, height_in, highest, nodes_in, nodes_of, own_demands, own_size, tallest};
-ghost use Rattle.prism_check.specs.Tables.{named_module, under};
+ghost use Rattle.prism_check.specs.Tables.{named_module};
+ghost use Rattle.name_rules.specs.Names.{under};
 
 use crate::demands::contents_demands;
-use crate::tables::{add_first, name_of};
+use crate::tables::name_of;
 use crate::tree_size::{Size, measure_all, size_under};
-use indexmap::IndexMap;
+use name_rules::NameMap;
 use prism_tree::PrismModule;
 use std::alloc::{AllocError, Global};
 
@@ -19,7 +20,7 @@ use std::alloc::{AllocError, Global};
 pub(crate) fn modules_size(
     alloc: Global,
     all: &[PrismModule],
-    formulas: &IndexMap<&str, Size>,
+    formulas: &NameMap<Size>,
 ) -> Result<Size, AllocError>
     ensures nodes { let modules = map module_of all.now in
         IfOk result
@@ -40,13 +41,13 @@ pub(crate) fn modules_size(
 #[derive(Drop)]
 struct OwnSizes<'a> {
     all: Size,
-    named: IndexMap<&'a str, Size>,
+    named: NameMap<'a, Size>,
 }
 
 fn own_sizes<'a>(
     alloc: Global,
     all: &'a [PrismModule],
-    formulas: &IndexMap<&str, Size>,
+    formulas: &NameMap<Size>,
 ) -> Result<OwnSizes<'a>, AllocError>
     ensures nodes { IfOk result
         (λ own. own.all.nodes ≡ capped (nodes_of (nodes_in formulas.now) (flat_map own_demands (map module_of all.now)))) }
@@ -57,11 +58,11 @@ fn own_sizes<'a>(
         ≡ option_map (own_size (nodes_in formulas.now) (height_in formulas.now)) (named_module all.now x)) }
 {
     let mut sum = Size::nothing();
-    let mut named = IndexMap::new(alloc);
+    let mut named = NameMap::new(alloc);
     for entry in all {
         let size = own_size(alloc, entry, formulas)?;
         sum = sum.beside(size);
-        add_first(&mut named, name_of(entry), size)?;
+        named.put_first(name_of(entry), size)?;
     }
     Ok(OwnSizes { all: sum, named })
 }
@@ -70,7 +71,7 @@ fn own_sizes<'a>(
 fn own_size(
     alloc: Global,
     entry: &PrismModule,
-    formulas: &IndexMap<&str, Size>,
+    formulas: &NameMap<Size>,
 ) -> Result<Size, AllocError>
     ensures { IfOk result (λ size. size ≡ own_size (nodes_in formulas.now) (height_in formulas.now) (module_of entry.now)) }
 {
@@ -84,7 +85,7 @@ fn own_size(
 }
 
 // The size of all copies.
-fn copies_size(all: &[PrismModule], named: &IndexMap<&str, Size>) -> Size
+fn copies_size(all: &[PrismModule], named: &NameMap<Size>) -> Size
     ensures nodes { result.nodes ≡ capped (all_nodes (map (copied_size (under named.now)) (map module_of all.now))) }
     ensures height { result.height ≡ tallest (map (copied_size (under named.now)) (map module_of all.now)) }
 {
@@ -95,7 +96,7 @@ fn copies_size(all: &[PrismModule], named: &IndexMap<&str, Size>) -> Size
     sum
 }
 
-fn copied_size(entry: &PrismModule, named: &IndexMap<&str, Size>) -> Size
+fn copied_size(entry: &PrismModule, named: &NameMap<Size>) -> Size
     ensures { result ≡ copied_size (under named.now) (module_of entry.now) }
 {
     match entry {

@@ -3,25 +3,21 @@
 ghost use Rattle.std.specs.Prelude.{◌≡◌, List, ℕ, ◌++◌, length, map, IfOk, None};
 ghost use Rattle.std.specs.List.{flat_map};
 ghost use Rattle.prism_tree.specs.Syntax.{file_of};
-ghost use Rattle.prism_check.specs.Circles.{turns_from};
+ghost use Rattle.name_rules.specs.Circles.{turns_from};
 ghost use Rattle.prism_check.specs.Judged.{AreJudged};
-ghost use Rattle.prism_check.specs.Least.{soonest};
+ghost use Rattle.name_rules.specs.Least.{soonest};
 ghost use Rattle.prism_check.specs.NameFaults.{copy_faults, doubled_names, no_module, unknown_names, values};
 ghost use Rattle.prism_check.specs.Tables.{IsScope, module_under, named_module};
-ghost use Rattle.prism_check.specs.Views.{named_by};
+ghost use Rattle.name_rules.specs.Names.{named_by};
 
-use crate::circles::judge_circles;
 use crate::copies::judge_copies;
 use crate::declarations::declarations;
-use crate::least::sooner_if;
-use crate::named::{Entry, NameSet};
-use crate::placing::place_all;
 use crate::scope::{Scope, judge_unknown_names};
-use crate::search::by_depth;
 use crate::tables::{Formulas, Modules};
 use crate::twice::judge_twice;
 use crate::values::values;
 use bridge_io::{Fault, Reason};
+use name_rules::{Entry, NameSet, judge_circles, sooner_if};
 use prism_tree::PrismFile;
 use std::alloc::{AllocError, Global};
 
@@ -41,13 +37,11 @@ pub(crate) fn judge_names(alloc: Global, file: &PrismFile) -> Result<Names, Allo
 {
     let unknown = judge_declared(alloc, file)?;
     let all = declarations(alloc, file)?;
-    let first = by_depth(alloc, &all)?;
-    let placing = place_all(alloc, &all, &first)?;
-    let circles = judge_circles(alloc, &all, &first, &placing, unknown)?;
-    match judge_copied(alloc, file, circles)? {
+    let circles = judge_circles(alloc, &all, unknown)?;
+    match judge_copied(alloc, file, circles.best)? {
         Some(fault) => Ok(Names::Faulty(fault)),
         None => {
-            let order = formula_turns(alloc, file.constants.len(), &placing.turns)?;
+            let order = formula_turns(alloc, file.constants.len(), &circles.turns)?;
             Ok(Names::Ordered(order))
         }
     }

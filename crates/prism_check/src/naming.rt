@@ -3,10 +3,10 @@
 ghost use Rattle.std.specs.Prelude.{◌≡◌, List, [], ◌∷◌, ◌++◌, map, OnOk};
 ghost use Rattle.std.specs.List.{flat_map};
 ghost use Rattle.bridge_io.specs.declared.reason.Named.{Named as Name};
-ghost use Rattle.prism_check.specs.Views.{named_by};
+ghost use Rattle.name_rules.specs.Names.{named_by};
 
-use crate::named::Entry;
 use bridge_io::Named;
+use name_rules::Entry;
 use prism_tree::{
     NamePair, PrismConst, PrismFormula, PrismLabel, PrismModule, PrismRewards, PrismVar,
 };

@@ -6,18 +6,17 @@ ghost use Rattle.prism_tree.specs.Syntax.{copied, file_of, formula_of, module_of
 ghost use Rattle.prism_names.specs.Names.{part_of};
 ghost use Rattle.prism_check.specs.Demands.{formula_demands};
 ghost use Rattle.prism_check.specs.Views.{demand_by};
-ghost use Rattle.prism_check.specs.Least.{soonest};
+ghost use Rattle.name_rules.specs.Least.{soonest};
 ghost use Rattle.prism_check.specs.NameFaults.{loses_name, unknown_in, unknown_names};
 ghost use Rattle.prism_check.specs.Tables.{IsScope, module_under};
 
 use crate::demands::{Demand, add_all, contents_demands, outer_demands};
-use crate::least::sooner_if;
 use crate::lost::{Reading, loses_name};
-use crate::named::NameSet;
 use crate::tables::{Formulas, Modules, Renaming};
 use crate::unknown::judge_unknown;
 use crate::values::{commands_in, vars_in};
 use bridge_io::{Fault, Reason};
+use name_rules::{NameSet, sooner_if};
 use prism_tree::{CopiedModule, PrismFile, PrismFormula, PrismModule};
 use std::alloc::{AllocError, Global};
 

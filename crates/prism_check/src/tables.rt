@@ -5,41 +5,12 @@ ghost use Rattle.std.specs.Prelude.{◌≡◌, is_some, List, ℕ, OnOk, IfOk, b
 ghost use Rattle.std.specs.Option.{option_map};
 ghost use Rattle.prism_tree.specs.Syntax.{module_of};
 ghost use Rattle.prism_names.specs.Names.{module_name};
-ghost use Rattle.prism_check.specs.Tables.{body_in, body_under, first_some, module_under, new_name, pair_for, name_under, named_module, under};
+ghost use Rattle.prism_check.specs.Tables.{body_in, body_under, module_under, new_name, pair_for, name_under, named_module};
+ghost use Rattle.name_rules.specs.Names.{under, first_some};
 
-use indexmap::IndexMap;
+use name_rules::NameMap;
 use prism_tree::{NamePair, Pe, PrismFormula, PrismModule};
 use std::alloc::{AllocError, Global};
-
-/// Puts a value under a name, in place of one that stood there.
-pub(crate) fn put<'a, T: Copy>(
-    table: &mut IndexMap<&'a str, T>,
-    name: &'a str,
-    value: T,
-) -> Result<(), AllocError>
-    ensures { OnOk result
-        ((x : List ℕ) → under table.new x ≡ (if bytes_eq name.now x then Some value else under table.old x)) }
-{
-    match table.insert(name, value) {
-        Ok(_) => Ok(()),
-        Err(_) => Err(AllocError),
-    }
-}
-
-/// Adds a value under a name, if none stands there.
-pub(crate) fn add_first<'a, T: Copy>(
-    table: &mut IndexMap<&'a str, T>,
-    name: &'a str,
-    value: T,
-) -> Result<(), AllocError>
-    ensures { OnOk result
-        ((x : List ℕ) → under table.new x ≡ first_some (under table.old x) (if bytes_eq name.now x then Some value else None)) }
-{
-    if table.get(name).is_some() {
-        return Ok(());
-    }
-    put(table, name, value)
-}
 
 /// The renaming of a copy.
 #[derive(Drop)]
@@ -47,7 +18,7 @@ pub(crate) enum Renaming<'a> {
     /// Few pairs, which are gone through.
     Few(&'a [NamePair]),
     /// Many pairs, in a table.
-    Many(IndexMap<&'a str, &'a str>),
+    Many(NameMap<'a, &'a str>),
 }
 
 // Up to so many pairs are gone through in less time than a table takes to be made.
@@ -71,21 +42,18 @@ impl<'a> Renaming<'a> {
     {
         match self {
             Renaming::Few(pairs) => first_new_name(pairs, name),
-            Renaming::Many(table) => table.get(name).copied(),
+            Renaming::Many(table) => table.get(name),
         }
     }
 }
 
 // The right sides of these pairs by their left sides.
-fn table_of<'a>(
-    alloc: Global,
-    pairs: &'a [NamePair],
-) -> Result<IndexMap<&'a str, &'a str>, AllocError>
+fn table_of<'a>(alloc: Global, pairs: &'a [NamePair]) -> Result<NameMap<'a, &'a str>, AllocError>
     ensures { IfOk result (λ table. (x : List ℕ) → name_under table x ≡ pair_for pairs.now x) }
 {
-    let mut table = IndexMap::new(alloc);
+    let mut table = NameMap::new(alloc);
     for pair in pairs {
-        add_first(&mut table, pair.old.name.as_str(), pair.new.name.as_str())?;
+        table.put_first(pair.old.name.as_str(), pair.new.name.as_str())?;
     }
     Ok(table)
 }
@@ -105,7 +73,7 @@ fn first_new_name<'a>(pairs: &'a [NamePair], name: &str) -> Option<&'a str>
 /// The modules by their names.
 #[derive(Drop)]
 pub(crate) struct Modules<'a> {
-    first: IndexMap<&'a str, &'a PrismModule>,
+    first: NameMap<'a, &'a PrismModule>,
 }
 
 impl<'a> Modules<'a> {
@@ -113,9 +81,9 @@ impl<'a> Modules<'a> {
     pub(crate) fn of(alloc: Global, modules: &'a [PrismModule]) -> Result<Modules<'a>, AllocError>
         ensures { IfOk result (λ t. (x : List ℕ) → module_under t x ≡ named_module modules.now x) }
     {
-        let mut first = IndexMap::new(alloc);
+        let mut first = NameMap::new(alloc);
         for entry in modules {
-            add_first(&mut first, name_of(entry), entry)?;
+            first.put_first(name_of(entry), entry)?;
         }
         Ok(Modules { first })
     }
@@ -124,7 +92,7 @@ impl<'a> Modules<'a> {
     pub(crate) fn called(&self, name: &str) -> Option<&'a PrismModule>
         ensures { option_map (λ m. module_of m.now) result ≡ module_under self.now name.now }
     {
-        self.first.get(name).copied()
+        self.first.get(name)
     }
 }
 
@@ -141,7 +109,7 @@ pub(crate) fn name_of(m: &PrismModule) -> &str
 /// The bodies of formulas by their names.
 #[derive(Drop)]
 pub(crate) struct Formulas<'a> {
-    bodies: IndexMap<&'a str, &'a Pe>,
+    bodies: NameMap<'a, &'a Pe>,
 }
 
 impl<'a> Formulas<'a> {
@@ -152,9 +120,9 @@ impl<'a> Formulas<'a> {
     ) -> Result<Formulas<'a>, AllocError>
         ensures { IfOk result (λ t. (x : List ℕ) → body_under t x ≡ body_in formulas.now x) }
     {
-        let mut bodies = IndexMap::new(alloc);
+        let mut bodies = NameMap::new(alloc);
         for formula in formulas {
-            add_first(&mut bodies, formula.name.name.as_str(), &formula.body)?;
+            bodies.put_first(formula.name.name.as_str(), &formula.body)?;
         }
         Ok(Formulas { bodies })
     }

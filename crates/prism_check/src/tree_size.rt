@@ -5,11 +5,11 @@ ghost use Rattle.op_trees.specs.Tree.{capped, tree};
 ghost use Rattle.prism_names.specs.Sizes.{height_by, nodes_by};
 ghost use Rattle.prism_check.specs.Counted.{height_in, highest, leaf, nodes_in, nodes_of, nothing};
 ghost use Rattle.prism_check.specs.Demands.{expression_of};
-ghost use Rattle.prism_check.specs.Tables.{under};
+ghost use Rattle.name_rules.specs.Names.{under};
 ghost use Rattle.prism_check.specs.Views.{demand_by};
 
 use crate::demands::Demand;
-use indexmap::IndexMap;
+use name_rules::NameMap;
 use op_trees::Expr;
 use prism_tree::Pe;
 
@@ -66,17 +66,17 @@ impl Size {
 }
 
 /// The size under a name in a table, or another one where none is.
-pub(crate) fn size_under(name: &str, table: &IndexMap<&str, Size>, other: Size) -> Size
+pub(crate) fn size_under(name: &str, table: &NameMap<Size>, other: Size) -> Size
     ensures { result ≡ unwrap_or (under table.now name.now) other }
 {
     match table.get(name) {
-        Some(size) => *size,
+        Some(size) => size,
         None => other,
     }
 }
 
 /// The size of an expression.
-pub(crate) fn measure(e: &Pe, names: &IndexMap<&str, Size>) -> Size
+pub(crate) fn measure(e: &Pe, names: &NameMap<Size>) -> Size
     ensures nodes { result.nodes ≡ capped (nodes_by (nodes_in names.now) (tree e.now)) }
     ensures height { result.height ≡ capped (height_by (height_in names.now) (tree e.now)) }
 {
@@ -94,7 +94,7 @@ pub(crate) fn measure(e: &Pe, names: &IndexMap<&str, Size>) -> Size
 }
 
 /// The size of the expressions of these demands.
-pub(crate) fn measure_all(demands: &[Demand], names: &IndexMap<&str, Size>) -> Size
+pub(crate) fn measure_all(demands: &[Demand], names: &NameMap<Size>) -> Size
     ensures nodes { result.nodes ≡ capped (nodes_of (nodes_in names.now) (map demand_by demands.now)) }
     ensures height { result.height ≡ capped (highest (height_in names.now) (map demand_by demands.now)) }
 {

@@ -4,14 +4,14 @@ ghost use Rattle.std.specs.Prelude.{◌≡◌, ◌++◌, map, IfOk};
 ghost use Rattle.std.specs.List.{flat_map};
 ghost use Rattle.bridge_io.specs.declared.reason.Reason.TheVariants.{TwiceNamed};
 ghost use Rattle.prism_tree.specs.Syntax.{file_of, label_of, module_of};
-ghost use Rattle.prism_check.specs.Least.{soonest};
-ghost use Rattle.prism_check.specs.NameFaults.{doubled, doubled_names, doubled_pairs, given_labels, values};
-ghost use Rattle.prism_check.specs.Views.{named_by};
+ghost use Rattle.name_rules.specs.Least.{soonest};
+ghost use Rattle.name_rules.specs.Doubled.{doubled};
+ghost use Rattle.prism_check.specs.NameFaults.{doubled_names, doubled_pairs, given_labels, values};
+ghost use Rattle.name_rules.specs.Names.{named_by};
 
-use crate::doubled::judge_doubled;
-use crate::named::Entry;
 use crate::naming::{Naming, add_names_of};
 use bridge_io::{Fault, Reason};
+use name_rules::{Entry, judge_doubled};
 use prism_tree::{PrismFile, PrismLabel, PrismModule};
 use std::alloc::{AllocError, Global};
 

@@ -4,21 +4,20 @@ ghost use Rattle.std.specs.Prelude.{◌≡◌, ◌<◌, ◌&&◌, List, ℕ, map
 ghost use Rattle.bridge_io.specs.declared.reason.Reason.TheVariants.{WrongType};
 ghost use Rattle.op_trees.specs.Tree.{tree};
 ghost use Rattle.op_trees.specs.Types.{misfit_at, sort_one, sort_two, sort_three, type_in};
+ghost use Rattle.op_trees.specs.Names.{offset_of, some_name};
 ghost use Rattle.prism_tree.specs.Operators.{prism_meaning};
-ghost use Rattle.prism_tree.specs.Syntax.{formula_of, offset_of};
+ghost use Rattle.prism_tree.specs.Syntax.{formula_of};
 ghost use Rattle.prism_names.specs.Places.{at_places};
-ghost use Rattle.prism_check.specs.Least.{fault_if};
-ghost use Rattle.prism_check.specs.NameFaults.{some_name};
-ghost use Rattle.prism_check.specs.Tables.{under};
+ghost use Rattle.name_rules.specs.Least.{fault_if};
+ghost use Rattle.name_rules.specs.Names.{under};
 ghost use Rattle.prism_check.specs.TypeFaults.{is_unwanted, is_wanted, misfits, type_faults_of};
 ghost use Rattle.prism_check.specs.Typing.{declared_type, is_declared_variable, known_after, known_by, read_in, soonest_at, type_of, type_under, varies_in, varies_under, wrong};
 
 use crate::demands::Wanted;
-use crate::least::sooner_if;
-use crate::tables::{Renaming, put};
+use crate::tables::Renaming;
 use crate::variables::Declared;
 use bridge_io::{Fault, Reason};
-use indexmap::IndexMap;
+use name_rules::{NameMap, sooner_if};
 use op_trees::{Expr, Operator, Ty};
 use prism_tree::{Pe, PrismFormula, PrismOp};
 use std::alloc::{AllocError, Global};
@@ -35,7 +34,7 @@ pub(crate) struct Known {
 #[derive(Clone, Copy)]
 pub(crate) struct Names<'a, 'b, 'c> {
     pub(crate) declared: &'a Declared<'b>,
-    pub(crate) formulas: &'a IndexMap<&'b str, Known>,
+    pub(crate) formulas: &'a NameMap<'b, Known>,
     pub(crate) renaming: Option<&'c Renaming<'b>>,
 }
 
@@ -53,7 +52,7 @@ impl<'a> Declared<'a> {
         ensures { result ≡ declared_type self.now name.now }
     {
         if let Some(ty) = self.constants.get(name) {
-            return Some(*ty);
+            return Some(ty);
         }
         match self.variables.get(name) {
             Some(variable) => Some(variable.ty),
@@ -317,29 +316,25 @@ pub(crate) fn known_formulas<'b>(
     declared: &Declared<'b>,
     formulas: &'b [PrismFormula],
     order: &[usize],
-) -> Result<IndexMap<&'b str, Known>, AllocError>
+) -> Result<NameMap<'b, Known>, AllocError>
     requires { All (λ i. i < length formulas.now) order.now }
     ensures { IfOk result
         (λ table. (x : List ℕ) → under table x
         ≡ known_after (declared_type declared.now) (is_declared_variable declared.now)
         (at_places (map formula_of formulas.now) order.now) x) }
 {
-    let mut table = IndexMap::new(alloc);
+    let mut table = NameMap::new(alloc);
     for place in order {
         let formula = &formulas[*place];
         let known = learned(&*declared, &table, &formula.body);
-        set(&mut table, formula.name.name.as_str(), known)?;
+        table.put(formula.name.name.as_str(), known)?;
     }
     Ok(table)
 }
 
 // What is known of an expression.
 #[tactic(auto, unfolding(crate::specs::Typing::type_under, crate::specs::Typing::varies_under))]
-fn learned<'a, 'b>(
-    declared: &'a Declared<'b>,
-    formulas: &'a IndexMap<&'b str, Known>,
-    e: &Pe,
-) -> Known
+fn learned<'a, 'b>(declared: &'a Declared<'b>, formulas: &'a NameMap<'b, Known>, e: &Pe) -> Known
     ensures { result ≡ known_by (declared_type declared.now) (is_declared_variable declared.now) (under formulas.now) (tree e.now) }
 {
     let names = Names {
@@ -351,16 +346,4 @@ fn learned<'a, 'b>(
         ty: typed(&names, None, e, None).ty,
         varies: varies(&names, e),
     }
-}
-
-// The value under a name from now on.
-fn set<'b>(
-    table: &mut IndexMap<&'b str, Known>,
-    name: &'b str,
-    value: Known,
-) -> Result<(), AllocError>
-    ensures { OnOk result
-        ((x : List ℕ) → under table.new x ≡ (if bytes_eq name.now x then Some value else under table.old x)) }
-{
-    put(table, name, value)
 }

@@ -6,11 +6,11 @@ ghost use Rattle.std.specs.Option.{option_map};
 ghost use Rattle.prism_tree.specs.Syntax.{command_of, file_of, module_of, var_of};
 ghost use Rattle.prism_check.specs.NameFaults.{values};
 ghost use Rattle.prism_check.specs.Tables.{commands_in, module_under, module_vars_by, named_module, new_name, renamed_by, vars_in};
-ghost use Rattle.prism_check.specs.Views.{named_by};
+ghost use Rattle.name_rules.specs.Names.{named_by};
 
-use crate::named::Entry;
 use crate::naming::add_names_of;
 use crate::tables::{Modules, Renaming};
+use name_rules::Entry;
 use prism_tree::{PrismCommand, PrismFile, PrismModule, PrismVar};
 use std::alloc::{AllocError, Global};
 

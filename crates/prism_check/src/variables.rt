@@ -6,13 +6,14 @@ ghost use Rattle.std.specs.List.{find};
 ghost use Rattle.prism_tree.specs.Syntax.{file_of, module_of, var_of, const_of};
 ghost use Rattle.prism_names.specs.Names.{is_called};
 ghost use Rattle.prism_check.specs.Demands.{var_type};
-ghost use Rattle.prism_check.specs.Tables.{first_some, module_under, named_module, new_name, under};
+ghost use Rattle.name_rules.specs.Names.{first_some, under};
+ghost use Rattle.prism_check.specs.Tables.{module_under, named_module, new_name};
 ghost use Rattle.prism_check.specs.TypeFaults.{variable_called};
 ghost use Rattle.prism_check.specs.Typing.{IsDeclared, module_variables_by, numbered_by, owned, owned_in, variables_by};
 
-use crate::tables::{Modules, Renaming, add_first};
+use crate::tables::{Modules, Renaming};
 use crate::values::vars_in;
-use indexmap::IndexMap;
+use name_rules::NameMap;
 use op_trees::Ty;
 use prism_tree::{PrismConst, PrismFile, PrismModule, PrismVar};
 use std::alloc::{AllocError, Global};
@@ -27,8 +28,8 @@ pub(crate) struct Owned {
 /// The constants and variables of a file.
 #[derive(Drop)]
 pub(crate) struct Declared<'a> {
-    pub(crate) constants: IndexMap<&'a str, Ty>,
-    pub(crate) variables: IndexMap<&'a str, Owned>,
+    pub(crate) constants: NameMap<'a, Ty>,
+    pub(crate) variables: NameMap<'a, Owned>,
 }
 
 /// Those of this file; the variables of a copy have their new names.
@@ -53,12 +54,12 @@ fn owned_variables<'a>(
     alloc: Global,
     file: &'a PrismFile,
     modules: &Modules<'a>,
-) -> Result<IndexMap<&'a str, Owned>, AllocError>
+) -> Result<NameMap<'a, Owned>, AllocError>
     requires { (x : List ℕ) → module_under modules.now x ≡ named_module file.now.modules x }
     ensures { IfOk result
         (λ table. (x : List ℕ) → under table x ≡ option_map owned (variable_called (file_of file.now) x)) }
 {
-    let mut variables = IndexMap::new(alloc);
+    let mut variables = NameMap::new(alloc);
     let unchanged = Renaming::of(alloc, &[])?;
     add_variables(file.globals.as_slice(), &unchanged, None, &mut variables)?;
     add_all(alloc, file.modules.as_slice(), modules, &mut variables)?;
@@ -66,14 +67,14 @@ fn owned_variables<'a>(
 }
 
 // The types of these constants.
-fn constant_types(alloc: Global, constants: &[PrismConst]) -> Result<IndexMap<&str, Ty>, AllocError>
+fn constant_types(alloc: Global, constants: &[PrismConst]) -> Result<NameMap<Ty>, AllocError>
     ensures { IfOk result
         (λ table. (x : List ℕ) →
         under table x ≡ option_map (λ c. c.ty) (find (λ c. is_called x c.name) (map const_of constants.now))) }
 {
-    let mut table = IndexMap::new(alloc);
+    let mut table = NameMap::new(alloc);
     for constant in constants {
-        add_first(&mut table, constant.name.name.as_str(), constant.ty)?;
+        table.put_first(constant.name.name.as_str(), constant.ty)?;
     }
     Ok(table)
 }
@@ -103,7 +104,7 @@ fn add_variables<'a>(
     vars: &'a [PrismVar],
     renaming: &Renaming<'a>,
     owner: Option<usize>,
-    table: &mut IndexMap<&'a str, Owned>,
+    table: &mut NameMap<'a, Owned>,
 ) -> Result<(), AllocError>
     ensures { OnOk result
         ((x : List ℕ) → under table.new x
@@ -112,7 +113,7 @@ fn add_variables<'a>(
     for var in vars {
         let name = read_as(renaming, var.name.name.as_str());
         let ty = type_of(var);
-        add_first(table, name, Owned { owner, ty })?;
+        table.put_first(name, Owned { owner, ty })?;
     }
     Ok(())
 }
@@ -122,7 +123,7 @@ fn add_all<'a>(
     alloc: Global,
     all: &'a [PrismModule],
     modules: &Modules<'a>,
-    table: &mut IndexMap<&'a str, Owned>,
+    table: &mut NameMap<'a, Owned>,
 ) -> Result<(), AllocError>
     ensures { OnOk result
         ((x : List ℕ) → under table.new x
@@ -140,7 +141,7 @@ fn add_module<'a>(
     entry: &'a PrismModule,
     number: usize,
     modules: &Modules<'a>,
-    table: &mut IndexMap<&'a str, Owned>,
+    table: &mut NameMap<'a, Owned>,
 ) -> Result<(), AllocError>
     ensures { OnOk result
         ((x : List ℕ) → under table.new x

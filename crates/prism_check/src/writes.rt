@@ -6,14 +6,13 @@ ghost use Rattle.prism_tree.specs.Syntax.{branch_of, command_of, write_of};
 ghost use Rattle.prism_check.specs.Demands.{written};
 ghost use Rattle.prism_check.specs.TypeFaults.{target_by, wanted_at, write_faults};
 ghost use Rattle.prism_check.specs.Typing.{called_by, faults_in, moved_name, read_in, repeated_by, repeated_in, soonest_at, target_in, target_under, target_view};
-ghost use Rattle.prism_check.specs.Views.{named_by};
+ghost use Rattle.name_rules.specs.Names.{named_by};
 
 use crate::demands::{Wanted, wanted_by};
-use crate::doubled::judge_doubled;
-use crate::named::Entry;
 use crate::typing::{Names, Spot, judge_type, sooner_at};
 use crate::variables::Owned;
 use bridge_io::{Fault, Reason};
+use name_rules::{Entry, judge_doubled};
 use op_trees::Ty;
 use prism_tree::{PrismBranch, PrismCommand, PrismWrite};
 use std::alloc::{AllocError, Global};
@@ -41,7 +40,7 @@ fn target_under(names: &Names, number: usize, name: &str) -> Target
     match names.formulas.get(name) {
         Some(_) => Target::Foreign(Wanted::Anything),
         None => match names.declared.variables.get(name) {
-            Some(variable) => target_by(*variable, number),
+            Some(variable) => target_by(variable, number),
             None => Target::Foreign(Wanted::Anything),
         },
     }

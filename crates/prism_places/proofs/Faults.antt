@@ -6,6 +6,8 @@ use Rattle.std.specs.Option.{option_map}
 use Rattle.std.proofs.Common.{refl, ap, ap₂, ◌∙◌, sym}
 use Rattle.std.proofs.lemmas.List.{length-map}
 use Rattle.std.proofs.Math.Path.{fun_ext}
+use Rattle.basics.specs.Lists.{append_parts}
+use Rattle.basics.specs.Options.{is_some-map}
 use Rattle.bridge_io.specs.declared.reason.Named.{Named}
 use Rattle.bridge_io.specs.declared.reason.Reason.{Reason}
 use Rattle.bridge_io.specs.declared.reason.Reason.TheVariants.{TwiceNamed, Unknown, Cycle, RenameMissing, RenameOfRenamed, Nothing, TooLarge, WrongType, NotConstant, SyncGlobalWrite, WrittenTwice}
@@ -14,11 +16,13 @@ use Rattle.op_trees.specs.Tree.{Truth, Number, Name as At, One, Two, Three, bare
 use Rattle.op_trees.specs.declared.tree.Ty.{Ty}
 use Rattle.op_trees.specs.Types.{Types, type_in, types_looked_up, misfit_at}
 use Rattle.op_trees.specs.TypeLaws.{type-bare}
+use Rattle.op_trees.specs.Names.{offset_of, names_of, some_name}
+use Rattle.op_trees.specs.NameLaws.{offset-bare, some_name-bare, names-bare}
 use Rattle.process_core.specs.Ready.{Name, if_some, firsts}
 use Rattle.process_core.specs.Often.{sum_by-map}
 use Rattle.prism_tree.specs.declared.syntax.NamePair.{NamePair}
 use Rattle.prism_tree.specs.declared.syntax.CopiedModule.{CopiedModule}
-use Rattle.prism_tree.specs.Syntax.{Expression, Const, Range, Var, Formula, Branch, Command, Module, plain, copied, Rewards, File, offset_of}
+use Rattle.prism_tree.specs.Syntax.{Expression, Const, Range, Var, Formula, Branch, Command, Module, plain, copied, Rewards, File}
 use Rattle.prism_tree.specs.Operators.{prism_meaning}
 use Rattle.prism_names.specs.Names.{is_called, renaming, module_name, module_called, Part, part_of, parts, formula_body}
 use Rattle.prism_names.specs.Order.{whole}
@@ -26,15 +30,19 @@ use Rattle.prism_names.specs.Flat.{flat}
 use Rattle.prism_names.specs.Laws.{flat_part}
 use Rattle.prism_print.specs.Same.{bare_name, bare_const, bare_range, bare_var, bare_formula, bare_label, bare_write, bare_branch, bare_command, bare_pair, bare_copy, bare_module, bare_item, bare_rewards, bare_file}
 use Rattle.prism_check.specs.Demands.{Demand, fixed, varying, written, wanted_by, const_demands, formula_demands, range_demands, type_by, var_type, var_demands, branch_demands, command_demands, part_demands, label_demands, item_demands, rewards_demands, outer_demands, all_demands, expression_of}
-use Rattle.prism_check.specs.Least.{fault_if, fault, moved_to}
-use Rattle.prism_check.specs.NameFaults.{is_among, doubled_after, doubled, has_pair, renamed_var, module_vars, values, given_labels, doubled_pairs, doubled_names, names_of, names_used, unless_known, unknown, some_name, some_used, is_lost, loses_name, unknown_in, unknown_names, Declared, declarations, uses, uses_of, leads_to, is_circular, circular, circles, is_copy, copy_faults, name_faults}
+use Rattle.name_rules.specs.Least.{fault_if, fault, moved_to}
+use Rattle.name_rules.specs.Names.{is_among}
+use Rattle.name_rules.specs.Doubled.{doubled_after, doubled}
+use Rattle.prism_check.specs.NameFaults.{has_pair, renamed_var, module_vars, values, given_labels, doubled_pairs, doubled_names, names_used, unknown, some_used, is_lost, loses_name, unknown_in, unknown_names, declarations, circles, is_copy, copy_faults, name_faults}
+use Rattle.name_rules.specs.Uses.{used}
+use Rattle.name_rules.specs.Unknown.{unless_known}
+use Rattle.name_rules.specs.Circles.{Declared, uses_of, leads_to, is_circular, circular}
 use Rattle.prism_check.specs.SizeFaults.{nodes, height, command_count, part_actions, action_count, has_long_rewards, has_many_vectors, passes_limit, size_faults}
 use Rattle.prism_check.specs.TypeFaults.{part_variables, numbered_variables, variables, variable_called, or_else as or_other, declared_types, types, misfits, is_unwanted, type_faults_of, is_variable, has_variable, Target, own, global, foreign, target_of, target, wanted_at, write_faults, demand_faults, repeated_writes, part_faults, module_faults, numbered_faults, type_faults}
 use Rattle.prism_check.specs.Faults.{or_else, faults}
 use Rattle.prism_check.proofs.CleanFile.{no_either}
-use Rattle.prism_check.proofs.Each.{empty_map, empty_parts}
-use Rattle.prism_flat.specs.FlatLaws.{found_after, is_some-mapped}
-use Rattle.prism_check.proofs.Each.{map_same, flat_map_same}
+use Rattle.prism_check.proofs.Each.{empty_map, map_same, flat_map_same}
+use Rattle.prism_flat.specs.FlatLaws.{found_after}
 use Rattle.prism_places.proofs.Lists.{chosen_mapped, some_mapped, if_some-mapped, kept_mapped, any_mapped, joined, turned, gathered}
 use Rattle.prism_places.proofs.Names.{bare_part, module_name-bare, renaming-bare, is_formula-bare, called-bare, part-bare, parts-bare, bodies-bare}
 use Rattle.prism_places.proofs.Flat.{whole-bare, flat-bare, contents-bare}
@@ -144,7 +152,7 @@ branch_demands-bare acts b =
 command_demands-bare : (c : Command) → command_demands (bare_command c) ≡ map bare_demand (command_demands c)
 command_demands-bare c =
     ap₂ (λ d ds. d ∷ ds) refl
-    (ap (λ acts. flat_map (branch_demands acts) (map bare_branch c.branches)) (is_some-mapped bare_name c.action)
+    (ap (λ acts. flat_map (branch_demands acts) (map bare_branch c.branches)) (is_some-map bare_name c.action)
     ∙ gathered bare_demand bare_branch _ _ (branch_demands-bare (is_some c.action)) c.branches)
 
 part_demands-bare : (p : Part) → part_demands (bare_part p) ≡ map bare_demand (part_demands p)
@@ -175,28 +183,10 @@ demanded : (g h : Demand → List Fault) → ((d : Demand) → g (bare_demand d)
 demanded g h e us ds k = ap (flat_map g) k ∙ gathered placeless bare_demand _ _ e ds
 
 -- ---- names that are not declared
-names-bare : (e : Expression) → names_of (bare e) ≡ map bare_name (names_of e)
-names-bare (Truth at b) = refl
-names-bare (Number at d) = refl
-names-bare (At at x) = refl
-names-bare (One at o a) = names-bare a
-names-bare (Two at o a b) = joined bare_name _ _ _ _ (names-bare a) (names-bare b)
-names-bare (Three at o a b c) =
-    joined bare_name _ _ _ _ (names-bare a)
-    (joined bare_name _ _ _ _ (names-bare b) (names-bare c))
-
 used-bare : (d : Demand) → names_used (bare_demand d) ≡ map bare_name (names_used d)
 used-bare (fixed w e) = names-bare e
 used-bare (varying w e) = names-bare e
 used-bare (written acts w) = ap (λ ns. bare_name w.name ∷ ns) (names-bare w.value)
-
-some_name-bare : (p : Name → Bool) (e : Expression) → some_name p (bare e) ≡ some_name p e
-some_name-bare p (Truth at b) = refl
-some_name-bare p (Number at d) = refl
-some_name-bare p (At at x) = refl
-some_name-bare p (One at o a) = some_name-bare p a
-some_name-bare p (Two at o a b) = ap₂ (λ x y. x || y) (some_name-bare p a) (some_name-bare p b)
-some_name-bare p (Three at o a b c) = ap₂ (λ x y. x || y) (some_name-bare p a) (ap₂ (λ x y. x || y) (some_name-bare p b) (some_name-bare p c))
 
 module _ (file : File) where
   unknown-bare : (d : Demand) → unknown (bare_file file) (bare_demand d) ≡ map placeless (unknown file d)
@@ -226,7 +216,7 @@ module _ (file : File) where
   unknown_in-bare (plain m) =
       demanded (unknown (bare_file file)) (unknown file) unknown-bare _ (part_demands (part_of file (plain m))) (part_demands-bare (part_of file (plain m)))
   unknown_in-bare (copied m) =
-      joined placeless _ _ _ _ (tested _ _ m.from.at Unknown (ap (λ o. not (is_some o)) (called-bare file m.from.name) ∙ ap not (is_some-mapped bare_module (module_called file m.from.name))))
+      joined placeless _ _ _ _ (tested _ _ m.from.at Unknown (ap (λ o. not (is_some o)) (called-bare file m.from.name) ∙ ap not (is_some-map bare_module (module_called file m.from.name))))
       (tested _ _ m.name.at Unknown (ap (loses_name (bare_file file)) (part-bare file (copied m)) ∙ loses_name-bare (part_of file (copied m))))
 
   unknown_names-bare : unknown_names (bare_file file) ≡ map placeless (unknown_names file)
@@ -237,26 +227,22 @@ module _ (file : File) where
 
 -- ---- constants and formulas that depend on themselves
 abbrev bare_declared : Declared → Declared
-bare_declared d = record { name = bare_name d.name; body = option_map bare d.body }
+bare_declared d = record { name = bare_name d.name; uses = d.uses }
+
+all_used-bare : (o : Option Expression) → used (option_map bare o) ≡ used o
+all_used-bare None = refl
+all_used-bare (Some e) = ap (map (λ n. n.name)) (names-bare e) ∙ map_same (λ n. n.name) bare_name (λ n. n.name) (λ n. refl) (names_of e)
 
 declarations-bare : (file : File) → declarations (bare_file file) ≡ map bare_declared (declarations file)
 declarations-bare file =
-    joined bare_declared _ _ _ _ (turned bare_declared bare_const _ _ (λ c. refl) file.constants)
-    (turned bare_declared bare_formula _ _ (λ f. refl) file.formulas)
-
-uses-bare : (d : Declared) → uses (bare_declared d) ≡ uses d
-uses-bare d = of_body d.body
-  where
-    of_body : (o : Option Expression) → map (λ n. n.name) (flat_map names_of (if_some (option_map bare o))) ≡ map (λ n. n.name) (flat_map names_of (if_some o))
-    of_body None = refl
-    of_body (Some e) =
-        ap (map (λ n. n.name)) (gathered bare_name bare names_of names_of names-bare (e ∷ []))
-        ∙ map_same (λ n. n.name) bare_name (λ n. n.name) (λ n. refl) (flat_map names_of (e ∷ []))
+    joined bare_declared _ _ _ _
+    (turned bare_declared bare_const _ _ (λ c. ap (λ names. record { name = bare_name c.name; uses = names }) (all_used-bare c.value)) file.constants)
+    (turned bare_declared bare_formula _ _ (λ f. ap (λ names. record { name = bare_name f.name; uses = names }) (all_used-bare (Some f.body))) file.formulas)
 
 uses_of-bare : (ds : List Declared) (x : Name) → uses_of (map bare_declared ds) x ≡ uses_of ds x
 uses_of-bare ds x =
-    ap (flat_map uses) (kept_mapped bare_declared _ _ (λ d. refl) ds)
-    ∙ flat_map_same _ bare_declared _ uses-bare (filter (λ d. is_called x d.name) ds)
+    ap (flat_map (λ (d : Declared). d.uses)) (kept_mapped bare_declared _ _ (λ d. refl) ds)
+    ∙ flat_map_same _ bare_declared _ (λ d. refl) (filter (λ d. is_called x d.name) ds)
 
 leads-bare : (ds : List Declared) (n : ℕ) → leads_to (map bare_declared ds) n ≡ leads_to ds n
 leads-bare ds zero = refl
@@ -266,8 +252,8 @@ leads-bare ds (suc n) =
 circular-bare : (ds : List Declared) (d : Declared) → circular (map bare_declared ds) (bare_declared d) ≡ map placeless (circular ds d)
 circular-bare ds d =
     tested (is_circular (map bare_declared ds) (bare_declared d)) (is_circular ds d) d.name.at Cycle
-    (ap₂ (λ n us. list_any (λ x. leads_to (map bare_declared ds) n x d.name.name) us) (length-map ds bare_declared) (uses-bare d)
-    ∙ ap (λ leads. list_any (λ x. leads x d.name.name) (uses d)) (leads-bare ds (length ds)))
+    (ap (λ n. list_any (λ x. leads_to (map bare_declared ds) n x d.name.name) d.uses) (length-map ds bare_declared)
+    ∙ ap (λ leads. list_any (λ x. leads x d.name.name) d.uses) (leads-bare ds (length ds)))
 
 circles-bare : (file : File) → circles (bare_file file) ≡ map placeless (circles file)
 circles-bare file =
@@ -378,14 +364,6 @@ name_types-bare file =
     ∙ ap (types_looked_up prism_meaning (formula_body file) (length file.formulas)) (declared-bare file)
 
 -- ---- types of expressions
-offset-bare : (e : Expression) → offset_of (bare e) ≡ 0
-offset-bare (Truth at b) = refl
-offset-bare (Number at d) = refl
-offset-bare (At at x) = refl
-offset-bare (One at o a) = refl
-offset-bare (Two at o a b) = refl
-offset-bare (Three at o a b c) = refl
-
 -- a fault at the offset of an expression
 here-bare : (b c : Bool) (r : Reason) (e : Expression) → b ≡ c → fault_if b (offset_of (bare e)) r ≡ map placeless (fault_if c (offset_of e) r)
 here-bare b c r e h = ap (λ n. fault_if b n r) (offset-bare e) ∙ tested b c (offset_of e) r h
@@ -524,5 +502,5 @@ clean_alike f g e h = record { printable = printable_too f g e h.printable; name
 pub checked_alike : CheckedAlike
 checked_alike f g e order h =
     let sound = faults_alike f g e h.sound in
-    let once = (empty_parts (doubled_names g) _ (no_either (name_faults g) _ sound).0).0 in
+    let once = (append_parts (doubled_names g) _ (no_either (name_faults g) _ sound).0).0 in
     record { form = printable_too f g e h.form; sound = sound; order = order_too f g e once order h.order }

@@ -5,6 +5,7 @@ use Rattle.std.specs.Option.{option_map}
 use Rattle.std.proofs.Common.{refl, ap, ap₂, ◌∙◌}
 use Rattle.std.proofs.lemmas.List.{length-map}
 use Rattle.std.proofs.Math.Path.{fun_ext}
+use Rattle.basics.specs.Options.{is_some-map}
 use Rattle.op_trees.specs.Seen.{looked_up}
 use Rattle.op_trees.specs.Tree.{bare}
 use Rattle.process_core.specs.Ready.{Name}
@@ -13,7 +14,7 @@ use Rattle.prism_tree.specs.Operators.{prism_meaning}
 use Rattle.prism_tree.specs.Syntax.{Module, plain, copied, File}
 use Rattle.prism_print.specs.Same.{bare_name, bare_formula, bare_var, bare_command, bare_pair, bare_module, bare_file}
 use Rattle.prism_names.specs.Names.{is_called, formula_body, is_formula, renaming, written_name, module_name, module_called, Part, copy_of, part_of, parts, reading, reading_in}
-use Rattle.prism_flat.specs.FlatLaws.{found_after, is_some-mapped}
+use Rattle.prism_flat.specs.FlatLaws.{found_after}
 use Rattle.prism_places.proofs.Lists.{turned, some_turned}
 use Rattle.prism_places.proofs.Trees.{looked_up-bare}
 
@@ -38,7 +39,7 @@ module _ (file : File) where
       ∙ some_turned bare bare_formula (λ f. f.body) (λ f. f.body) (λ f. refl) (find (λ f. is_called x f.name) file.formulas))
 
   pub is_formula-bare : is_formula (bare_file file) ≡ is_formula file
-  is_formula-bare = fun_ext (λ x. ap (λ b. is_some (b x)) bodies-bare ∙ is_some-mapped bare (formula_body file x))
+  is_formula-bare = fun_ext (λ x. ap (λ b. is_some (b x)) bodies-bare ∙ is_some-map bare (formula_body file x))
 
   pub written_name-bare : (rename : Name → Name) → written_name (bare_file file) rename ≡ written_name file rename
   written_name-bare rename = ap (λ p x. if p x then x else rename x) is_formula-bare

@@ -1,9 +1,10 @@
 -- An order of a file's formulas is one of each file that is the same but for places, where the formulas have different names.
-use Rattle.std.specs.Prelude.{◌≡◌, ℕ, zero, suc, get_or, ◌<◌, ◌≤◌, List, [], ◌∷◌, ◌++◌, map, length, true, false, Option, Some, None, is_some, slice_get}
+use Rattle.std.specs.Prelude.{◌≡◌, ℕ, zero, suc, get_or, ◌<◌, ◌≤◌, List, [], ◌∷◌, ◌++◌, map, length, true, Option, Some, None, is_some, slice_get}
 use Rattle.std.specs.List.{All}
 use Rattle.std.proofs.Common.{arith, refl, sym, ap, ap₂, subst, ◌∙◌, inl, inr}
 use Rattle.std.proofs.lemmas.List.{length-map}
 use Rattle.std.proofs.lemmas.Option.{slice_get-map}
+use Rattle.basics.specs.Options.{none_of}
 use Rattle.op_trees.specs.Tree.{Truth, Number, Name as At, One, Two, Three, AllNames, bare}
 use Rattle.op_trees.specs.SeenLaws.{names_then}
 use Rattle.process_core.specs.Product.{map-flat_map, flat_map_agree}
@@ -41,10 +42,6 @@ of_names_too : (P : Name → Type 0) (d e : Expression) → bare d ≡ bare e �
 of_names_too P d e h = subst (λ A. A) (sym (of_names-bare P d) ∙ ap (AllNames P) h ∙ of_names-bare P e)
 
 -- ---- orders
-none_from : {A : Type 0} (o : Option A) → is_some o ≡ false → o ≡ None
-none_from None h = refl
-none_from (Some x) h = absurd cc
-
 some_from : {A : Type 0} (o : Option A) → is_some o ≡ true → (x : A) × (o ≡ Some x)
 some_from None h = absurd cc
 some_from (Some x) h = (x, refl)
@@ -74,7 +71,7 @@ module _ (f g : File) (e : bare_file f ≡ bare_file g) where
 
   earlier_too : (earlier : List Name) (x : Name) → IsEarlier f earlier x → IsEarlier g earlier x
   earlier_too earlier x (inl s) = inl s
-  earlier_too earlier x (inr n) = inr (none_from (formula_body g x) (sym (ap (λ p. p x) tests) ∙ ap is_some n))
+  earlier_too earlier x (inr n) = inr (none_of (formula_body g x) (sym (ap (λ p. p x) tests) ∙ ap is_some n))
 
   listed_too : (earlier : List Name) (fs gs : List Formula) → map bare_formula fs ≡ map bare_formula gs →
       Each (λ c. formula_body g c.name.name ≡ Some c.body) gs → IsListed f earlier fs → IsListed g earlier gs

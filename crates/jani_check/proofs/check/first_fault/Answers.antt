@@ -1,7 +1,7 @@
 use Rattle.std.specs.Prelude.{◌≡◌, None}
 use Rattle.std.proofs.Common.{◌∙◌, sym}
 use Rattle.std.proofs.lemmas.Result.{IfOk-weaker}
-use Rattle.jani_table.specs.Least.{soonest}
+use Rattle.name_rules.specs.Least.{soonest}
 use Rattle.jani_tree.specs.Syntax.{file_of}
 use Rattle.jani_check.specs.Faults.{or_else}
 use Rattle.jani_check.specs.NameFaults.{name_faults}

@@ -1,7 +1,7 @@
 use Rattle.std.specs.Prelude.{◌≡◌, [], map, drop}
 use Rattle.jani_check.specs.NameLists.{names_under}
 use Rattle.jani_check.specs.Participants.{meets_with, parts_taken}
-use Rattle.jani_check.specs.Tables.{has_name}
+use Rattle.name_rules.specs.Names.{has_name}
 use Rattle.jani_check.specs.TypeFaults.{meet}
 use Rattle.jani_check.proofs.clashes.meets.Given as goal
 

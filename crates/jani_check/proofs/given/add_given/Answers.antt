@@ -1,7 +1,7 @@
 use Rattle.std.specs.Prelude.{map}
 use Rattle.jani_tree.specs.Syntax.{location_of, write_of}
 use Rattle.jani_check.specs.TypeFaults.{targets}
-use Rattle.jani_check.specs.Views.{named_by}
+use Rattle.name_rules.specs.Names.{named_by}
 use Rattle.jani_check.proofs.Parts.{added_of, each_name, list_next}
 use Rattle.jani_check.proofs.given.add_given.Goals as goal
 

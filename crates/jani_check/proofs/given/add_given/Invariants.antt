@@ -2,7 +2,7 @@ use Rattle.std.specs.Prelude.{◌≡◌, ◌++◌, map, drop}
 use Rattle.std.specs.List.{flat_map}
 use Rattle.jani_tree.specs.Syntax.{location_of}
 use Rattle.jani_check.specs.TypeFaults.{targets}
-use Rattle.jani_check.specs.Views.{named_by}
+use Rattle.name_rules.specs.Names.{named_by}
 use Rattle.jani_check.proofs.given.add_given.Given as goal
 
 abbrev pub invariant-loop-l : goal.invariant-loop-l

@@ -1,9 +1,9 @@
 use Rattle.std.specs.Prelude.{◌≡◌, false, map, drop}
-use Rattle.jani_table.specs.Least.{soonest}
+use Rattle.name_rules.specs.Least.{soonest}
 use Rattle.jani_tree.specs.Syntax.{automaton_of}
 use Rattle.jani_check.specs.ProfileFaults.{given_after}
 use Rattle.jani_check.specs.Scopes.{thing_under}
-use Rattle.jani_check.specs.Tables.{has_name}
+use Rattle.name_rules.specs.Names.{has_name}
 use Rattle.jani_check.proofs.given.judge_given.Given as goal
 
 abbrev pub invariant-loop-a : goal.invariant-loop-a

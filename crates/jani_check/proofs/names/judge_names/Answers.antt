@@ -2,10 +2,10 @@ use Rattle.std.specs.Prelude.{◌≡◌, map}
 use Rattle.std.specs.List.{flat_map}
 use Rattle.std.proofs.Common.{◌∙◌, ap}
 use Rattle.std.proofs.lemmas.Result.{IfOk-weaker}
-use Rattle.jani_table.specs.Least.{soonest}
+use Rattle.name_rules.specs.Least.{soonest}
 use Rattle.jani_tree.specs.Syntax.{const_of, file_of}
 use Rattle.jani_check.specs.NameFaults.{circles, circular, composition_faults, doubled_names, name_faults, unknown_names}
-use Rattle.jani_check.proofs.Append.{four_parts}
+use Rattle.name_rules.proofs.Append.{four_parts}
 use Rattle.jani_check.proofs.names.judge_names.Goals as goal
 
 pub returns : goal.returns

@@ -1,7 +1,7 @@
 use Rattle.std.specs.Prelude.{map}
 use Rattle.std.proofs.Common.{ap}
 use Rattle.jani_tree.specs.Syntax.{const_of, var_of}
-use Rattle.jani_check.specs.Views.{named_by}
+use Rattle.name_rules.specs.Names.{named_by}
 use Rattle.jani_check.proofs.Parts.{added_of, each_name, two_from_none}
 use Rattle.jani_check.proofs.naming.global_names.Goals as goal
 

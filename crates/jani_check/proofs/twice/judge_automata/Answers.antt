@@ -1,6 +1,6 @@
 use Rattle.jani_tree.specs.Syntax.{automaton_of}
 use Rattle.jani_check.specs.NameFaults.{doubled_in}
-use Rattle.jani_check.proofs.Append.{soonest_next}
+use Rattle.name_rules.proofs.Append.{soonest_next}
 use Rattle.jani_check.proofs.twice.judge_automata.Goals as goal
 
 pub loop-a-preserved : goal.loop-a-preserved

@@ -1,10 +1,10 @@
 use Rattle.std.specs.Prelude.{◌≡◌, List, map, drop}
 use Rattle.std.specs.List.{flat_map}
 use Rattle.bridge_io.specs.declared.reason.Named.{Named}
-use Rattle.jani_table.specs.Least.{soonest}
+use Rattle.name_rules.specs.Least.{soonest}
 use Rattle.jani_tree.specs.Syntax.{automaton_of}
 use Rattle.jani_check.specs.NameFaults.{doubled_in}
-use Rattle.jani_check.specs.Lowest.{IsLowest}
+use Rattle.name_rules.specs.Doubled.{IsLowest}
 use Rattle.jani_check.proofs.twice.judge_automata.Given as goal
 
 abbrev pub invariant-loop-a : goal.invariant-loop-a

@@ -4,12 +4,12 @@ use Rattle.std.proofs.Common.{◌∙◌, ap}
 use Rattle.std.proofs.lemmas.Result.{IfOk-weaker}
 use Rattle.bridge_io.specs.declared.reason.Named.{Named}
 use Rattle.bridge_io.specs.declared.reason.Reason.TheVariants.{TwiceNamed}
-use Rattle.jani_table.specs.Least.{soonest}
+use Rattle.name_rules.specs.Least.{soonest}
 use Rattle.jani_tree.specs.Syntax.{automaton_of, location_of, var_of}
-use Rattle.jani_check.specs.NameFaults.{doubled, doubled_after, doubled_in, location_names, var_names}
-use Rattle.jani_check.specs.Lowest.{IsLowest}
-use Rattle.jani_check.specs.Views.{named_by}
-use Rattle.jani_check.proofs.Append.{soonest_then}
+use Rattle.jani_check.specs.NameFaults.{doubled_in, location_names, var_names}
+use Rattle.name_rules.specs.Doubled.{doubled, doubled_after, IsLowest}
+use Rattle.name_rules.specs.Names.{named_by}
+use Rattle.name_rules.proofs.Append.{soonest_then}
 use Rattle.jani_check.proofs.Parts.{each_name}
 use Rattle.jani_check.proofs.twice.judge_automaton.Goals as goal
 

@@ -4,11 +4,11 @@ use Rattle.std.proofs.Common.{◌∙◌, ap}
 use Rattle.std.proofs.lemmas.Result.{IfOk-weaker}
 use Rattle.bridge_io.specs.declared.reason.Named.{Named}
 use Rattle.bridge_io.specs.declared.reason.Reason.TheVariants.{TwiceNamed}
-use Rattle.jani_table.specs.Least.{soonest}
+use Rattle.name_rules.specs.Least.{soonest}
 use Rattle.jani_tree.specs.Syntax.{automaton_of, file_of}
-use Rattle.jani_check.specs.NameFaults.{automaton_names, doubled, doubled_in, doubled_names, global_names}
-use Rattle.jani_check.specs.Lowest.{IsLowest, lowest_of}
-use Rattle.jani_check.proofs.Append.{four_parts}
+use Rattle.jani_check.specs.NameFaults.{automaton_names, doubled_in, doubled_names, global_names}
+use Rattle.name_rules.specs.Doubled.{doubled, IsLowest, lowest_of}
+use Rattle.name_rules.proofs.Append.{four_parts}
 use Rattle.jani_check.proofs.Parts.{each_itself, each_name}
 use Rattle.jani_check.proofs.twice.judge_twice.Goals as goal
 

@@ -1,12 +1,12 @@
 use Rattle.std.proofs.Common.{◌∙◌, ap₂}
 use Rattle.bridge_io.specs.declared.reason.Reason.TheVariants.{NotConstant}
 use Rattle.op_trees.specs.Tree.{tree}
-use Rattle.jani_table.specs.Least.{soonest}
-use Rattle.jani_check.specs.Least.{fault_if}
+use Rattle.op_trees.specs.Names.{offset_of}
+use Rattle.name_rules.specs.Least.{soonest, fault_if}
 use Rattle.jani_check.specs.Scopes.{scope_thing}
-use Rattle.jani_check.specs.Things.{offset_of, types_by}
+use Rattle.jani_check.specs.Things.{types_by}
 use Rattle.jani_check.specs.TypeFaults.{has_variable, type_faults_of}
-use Rattle.jani_check.proofs.Append.{soonest_then}
+use Rattle.name_rules.proofs.Append.{soonest_then}
 use Rattle.jani_check.proofs.typing.judge_fixed.Goals as goal
 
 pub returns : goal.returns

@@ -3,9 +3,9 @@ use Rattle.std.specs.List.{flat_map}
 use Rattle.std.proofs.Common.{◌∙◌, ap, refl}
 use Rattle.std.proofs.lemmas.Result.{IfOk-weaker}
 use Rattle.bridge_io.specs.declared.reason.Reason.TheVariants.{WrittenTwice}
-use Rattle.jani_table.specs.Least.{soonest}
+use Rattle.name_rules.specs.Least.{soonest}
 use Rattle.jani_tree.specs.Syntax.{write_of}
-use Rattle.jani_check.specs.NameFaults.{doubled}
+use Rattle.name_rules.specs.Doubled.{doubled}
 use Rattle.jani_check.specs.TypeFaults.{repeated}
 use Rattle.jani_check.proofs.Few.{few_writes}
 use Rattle.jani_check.proofs.Parts.{each_name}

@@ -1,6 +1,6 @@
 use Rattle.prism_tree.specs.Syntax.{module_of}
 use Rattle.prism_check.specs.Tables.{copy_faults_by, module_under}
-use Rattle.prism_check.proofs.Append.{soonest_next}
+use Rattle.name_rules.proofs.Append.{soonest_next}
 use Rattle.prism_check.proofs.copies.judge_copies.Goals as goal
 
 pub loop-entry-preserved : goal.loop-entry-preserved

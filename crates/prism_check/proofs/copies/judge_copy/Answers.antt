@@ -1,7 +1,7 @@
 use Rattle.std.proofs.Common.{◌∙◌, sym, ap, ap₂}
 use Rattle.std.proofs.Math.Path.{fun_ext}
 use Rattle.prism_tree.specs.Syntax.{module_of}
-use Rattle.prism_check.specs.Least.{soonest}
+use Rattle.name_rules.specs.Least.{soonest}
 use Rattle.prism_check.specs.NameFaults.{is_copy}
 use Rattle.prism_check.specs.Tables.{module_under, pair_for, vars_in, lacks_pair_by, copy_faults_by}
 use Rattle.prism_check.proofs.CopyParts.{copy_judged}

@@ -1,6 +1,7 @@
 use Rattle.std.specs.Prelude.{◌≡◌, ◌++◌, map, drop}
 use Rattle.prism_tree.specs.Syntax.{const_of}
-use Rattle.prism_check.specs.Circles.{declared_by, declared_const}
+use Rattle.name_rules.specs.Circles.{declared_by}
+use Rattle.prism_check.specs.NameFaults.{declared_const}
 use Rattle.prism_check.proofs.declarations.add_constants.Given as goal
 
 abbrev pub invariant-loop-constant : goal.invariant-loop-constant

@@ -1,6 +1,7 @@
 use Rattle.std.specs.Prelude.{◌≡◌, ◌++◌, map, drop}
 use Rattle.prism_tree.specs.Syntax.{formula_of}
-use Rattle.prism_check.specs.Circles.{declared_by, declared_formula}
+use Rattle.name_rules.specs.Circles.{declared_by}
+use Rattle.prism_check.specs.NameFaults.{declared_formula}
 use Rattle.prism_check.proofs.declarations.add_formulas.Given as goal
 
 abbrev pub invariant-loop-formula : goal.invariant-loop-formula

@@ -1,7 +1,8 @@
 use Rattle.std.specs.Prelude.{◌++◌, map}
 use Rattle.std.proofs.Common.{◌∙◌, ap, ap₂}
 use Rattle.prism_tree.specs.Syntax.{const_of, formula_of}
-use Rattle.prism_check.specs.Circles.{declared_by, declared_const, declared_formula}
+use Rattle.name_rules.specs.Circles.{declared_by}
+use Rattle.prism_check.specs.NameFaults.{declared_const, declared_formula}
 use Rattle.prism_check.proofs.declarations.declarations.Goals as goal
 
 pub returns : goal.returns

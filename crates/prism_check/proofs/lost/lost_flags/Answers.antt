@@ -1,9 +1,15 @@
-use Rattle.std.specs.Prelude.{length}
+use Rattle.std.specs.Prelude.{length, unwrap_or}
 use Rattle.std.proofs.Common.{◌≡◌, ◌∙◌, sym, ap, arith, add-one}
 use Rattle.prism_check.specs.Levels.{flag_in, lost_in, level}
-use Rattle.prism_check.specs.Tables.{under, body_in}
+use Rattle.name_rules.specs.Names.{under}
+use Rattle.prism_check.specs.Tables.{body_in}
+use Rattle.name_rules.proofs.Maps.{at}
 use Rattle.prism_check.proofs.Rounds.{next_level, last_round}
 use Rattle.prism_check.proofs.lost.lost_flags.Goals as goal
+
+pub loop-turn-init : goal.loop-turn-init
+unfolding flag_in
+loop-turn-init c = λ x. ap (λ o. unwrap_or o (lost_in c.args.reading.now x)) (at c.new-flags.ensures x)
 
 pub loop-turn-preserved : goal.loop-turn-preserved
 unfolding flag_in

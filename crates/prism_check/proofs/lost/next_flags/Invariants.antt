@@ -1,8 +1,9 @@
 use Rattle.std.specs.Prelude.{◌≡◌, ℕ, List, drop}
 use Rattle.std.specs.Option.{option_map}
 use Rattle.prism_check.specs.Levels.{flag_in}
-use Rattle.prism_check.specs.NameFaults.{some_name}
-use Rattle.prism_check.specs.Tables.{first_some, body_in, under}
+use Rattle.op_trees.specs.Names.{some_name}
+use Rattle.name_rules.specs.Names.{first_some, under}
+use Rattle.prism_check.specs.Tables.{body_in}
 use Rattle.prism_check.proofs.lost.next_flags.Given as goal
 
 abbrev pub invariant-loop-formula : goal.invariant-loop-formula

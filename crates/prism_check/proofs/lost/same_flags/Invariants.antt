@@ -1,5 +1,5 @@
 use Rattle.std.specs.Prelude.{◌≡◌, All, take}
-use Rattle.prism_check.specs.Tables.{under}
+use Rattle.name_rules.specs.Names.{under}
 use Rattle.prism_check.proofs.lost.same_flags.Given as goal
 
 abbrev pub invariant-loop-formula : goal.invariant-loop-formula

@@ -2,7 +2,7 @@ use Rattle.std.specs.Prelude.{◌≡◌, ◌+◌, map, max, drop}
 use Rattle.op_trees.specs.Tree.{capped}
 use Rattle.prism_tree.specs.Syntax.{module_of}
 use Rattle.prism_check.specs.Counted.{all_nodes, copied_size, tallest}
-use Rattle.prism_check.specs.Tables.{under}
+use Rattle.name_rules.specs.Names.{under}
 use Rattle.prism_check.proofs.module_sizes.copies_size.Given as goal
 
 abbrev pub invariant-loop-entry : goal.invariant-loop-entry

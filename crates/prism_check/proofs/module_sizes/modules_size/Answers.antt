@@ -2,7 +2,8 @@ use Rattle.std.specs.Prelude.{map}
 use Rattle.std.proofs.Common.{arith}
 use Rattle.prism_tree.specs.Syntax.{module_of}
 use Rattle.prism_check.specs.Counted.{height_in, nodes_in}
-use Rattle.prism_check.specs.Tables.{named_module, under}
+use Rattle.prism_check.specs.Tables.{named_module}
+use Rattle.name_rules.specs.Names.{under}
 use Rattle.prism_check.proofs.Modular.{copies_height, copies_nodes}
 use Rattle.prism_check.proofs.module_sizes.modules_size.Goals as goal
 

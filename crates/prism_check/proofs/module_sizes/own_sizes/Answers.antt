@@ -1,8 +1,23 @@
-use Rattle.std.proofs.Common.{ap, arith}
+use Rattle.std.proofs.Common.{◌≡◌, ap, arith}
 use Rattle.prism_check.specs.Counted.{height_in, nodes_in, own_size}
-use Rattle.prism_check.specs.Tables.{under}
+use Rattle.name_rules.specs.Names.{first_some, under}
+use Rattle.name_rules.proofs.Maps.{at}
+use Rattle.std.specs.Option.{option_map}
+use Rattle.prism_check.specs.Tables.{named_module}
 use Rattle.prism_check.proofs.Modular.{named_more, own_height_more, own_nodes_more}
 use Rattle.prism_check.proofs.module_sizes.own_sizes.Goals as goal
+
+pub loop-entry-init : goal.loop-entry-init
+loop-entry-init c =
+    let no_nodes : c.nothing-sum.result.nodes ≡ 0 = ap (λ s. s.nodes) c.nothing-sum.ensures in
+    let no_height : c.nothing-sum.result.height ≡ 0 = ap (λ s. s.height) c.nothing-sum.ensures in
+    record {
+      nodes = omega (arith, no_nodes);
+      height = omega (arith, no_height);
+      nodes_fit = omega (arith, no_nodes);
+      height_fits = omega (arith, no_height);
+      named = λ x. ap (λ o. first_some o (option_map (own_size (nodes_in c.args.formulas.now) (height_in c.args.formulas.now)) (named_module c.args.all.now x))) (at c.new-named.ensures x);
+    }
 
 pub loop-entry-preserved : goal.loop-entry-preserved
 loop-entry-preserved c =
@@ -16,6 +31,6 @@ loop-entry-preserved c =
           c.loop-entry-test.true c.entry-item.is (ap (λ s. s.height) c.in_ok-size.ensures) c.beside-sum.ensures.height l.invariant.height;
       nodes_fit = omega (arith, c.beside-sum.ensures.nodes);
       height_fits = omega (arith, c.beside-sum.ensures.height, l.invariant.height_fits, ap (λ s. s.height) c.in_ok-size.ensures);
-      named = λ x. named_more (own_size f g) (under l.named) (under c.add_first.new.table) x c.name_of.result.now c.in_ok-size.size c.args.all.now l.entry-index c.entry-item.result _
-          c.loop-entry-test.true c.entry-item.is c.name_of.ensures c.in_ok-size.ensures (c.in_ok-add_first.ensures x) (l.invariant.named x);
+      named = λ x. named_more (own_size f g) (under l.named) (under c.put_first.new.self) x c.name_of.result.now c.in_ok-size.size c.args.all.now l.entry-index c.entry-item.result _
+          c.loop-entry-test.true c.entry-item.is c.name_of.ensures c.in_ok-size.ensures (at c.in_ok-put_first.ensures x) (l.invariant.named x);
     }

@@ -4,7 +4,8 @@ use Rattle.std.specs.Option.{option_map}
 use Rattle.op_trees.specs.Tree.{capped}
 use Rattle.prism_tree.specs.Syntax.{module_of}
 use Rattle.prism_check.specs.Counted.{height_in, highest, nodes_in, nodes_of, own_demands, own_size}
-use Rattle.prism_check.specs.Tables.{first_some, named_module, under}
+use Rattle.name_rules.specs.Names.{first_some, under}
+use Rattle.prism_check.specs.Tables.{named_module}
 use Rattle.prism_check.proofs.module_sizes.own_sizes.Given as goal
 
 abbrev pub invariant-loop-entry : goal.invariant-loop-entry

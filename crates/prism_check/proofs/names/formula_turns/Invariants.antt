@@ -1,5 +1,5 @@
 use Rattle.std.specs.Prelude.{◌≡◌, ◌++◌, drop}
-use Rattle.prism_check.specs.Circles.{turns_from}
+use Rattle.name_rules.specs.Circles.{turns_from}
 use Rattle.prism_check.proofs.names.formula_turns.Given as goal
 
 abbrev pub invariant-loop-turn : goal.invariant-loop-turn

@@ -3,7 +3,7 @@ use Rattle.std.proofs.Common.{◌∙◌, sym, ap}
 use Rattle.std.proofs.lemmas.List.{length-map}
 use Rattle.bridge_io.specs.declared.reason.Reason.TheVariants.{Nothing}
 use Rattle.prism_tree.specs.Syntax.{file_of, module_of}
-use Rattle.prism_check.specs.Least.{fault_if, soonest}
+use Rattle.name_rules.specs.Least.{fault_if, soonest}
 use Rattle.prism_check.specs.Tables.{copy_faults_by, module_under, named_module}
 use Rattle.std.specs.List.{flat_map}
 use Rattle.prism_check.proofs.CopyParts.{copies_are}

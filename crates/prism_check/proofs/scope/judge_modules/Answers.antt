@@ -1,6 +1,6 @@
 use Rattle.prism_tree.specs.Syntax.{file_of, module_of}
 use Rattle.prism_check.specs.NameFaults.{unknown_in}
-use Rattle.prism_check.proofs.Append.{soonest_next}
+use Rattle.name_rules.proofs.Append.{soonest_next}
 use Rattle.prism_check.proofs.scope.judge_modules.Goals as goal
 
 pub loop-entry-preserved : goal.loop-entry-preserved

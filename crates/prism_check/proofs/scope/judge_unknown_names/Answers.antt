@@ -2,12 +2,12 @@ use Rattle.std.specs.Prelude.{map, IfOk}
 use Rattle.std.specs.List.{flat_map}
 use Rattle.std.proofs.Common.{◌≡◌, ◌∙◌, ap, subst}
 use Rattle.prism_tree.specs.Syntax.{file_of, formula_of, module_of}
-use Rattle.prism_check.specs.Least.{soonest}
+use Rattle.name_rules.specs.Least.{soonest}
 use Rattle.prism_check.specs.Demands.{outer_demands, formula_demands}
 use Rattle.prism_check.specs.NameFaults.{unknown, unknown_by, unknown_in}
-use Rattle.prism_check.specs.Tables.{has_name}
+use Rattle.name_rules.specs.Names.{has_name}
 use Rattle.prism_check.specs.Views.{demand_by}
-use Rattle.prism_check.proofs.Append.{three_parts}
+use Rattle.name_rules.proofs.Append.{three_parts}
 use Rattle.prism_check.proofs.LostNames.{unknown_is}
 use Rattle.prism_check.proofs.scope.judge_unknown_names.Goals as goal
 

@@ -1,5 +1,6 @@
 use Rattle.std.specs.Prelude.{◌≡◌, ℕ, List, drop}
-use Rattle.prism_check.specs.Tables.{first_some, pair_for, name_under}
+use Rattle.name_rules.specs.Names.{first_some}
+use Rattle.prism_check.specs.Tables.{pair_for, name_under}
 use Rattle.prism_check.proofs.tables.table_of.Given as goal
 
 abbrev pub invariant-loop-pair : goal.invariant-loop-pair

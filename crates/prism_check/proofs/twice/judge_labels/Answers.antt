@@ -3,9 +3,10 @@ use Rattle.std.specs.List.{flat_map}
 use Rattle.std.proofs.Common.{◌≡◌, ◌∙◌, ap, subst, rules}
 use Rattle.bridge_io.specs.declared.reason.Reason.TheVariants.{TwiceNamed}
 use Rattle.prism_tree.specs.Syntax.{label_of}
-use Rattle.prism_check.specs.Least.{soonest}
-use Rattle.prism_check.specs.NameFaults.{doubled, given_labels}
-use Rattle.prism_check.specs.Views.{named_by}
+use Rattle.name_rules.specs.Least.{soonest}
+use Rattle.name_rules.specs.Doubled.{doubled}
+use Rattle.prism_check.specs.NameFaults.{given_labels}
+use Rattle.name_rules.specs.Names.{named_by}
 use Rattle.prism_check.proofs.Declared.{each_name}
 use Rattle.prism_check.proofs.twice.judge_labels.Goals as goal
 

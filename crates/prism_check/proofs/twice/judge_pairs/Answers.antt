@@ -1,6 +1,6 @@
 use Rattle.prism_tree.specs.Syntax.{module_of}
 use Rattle.prism_check.specs.NameFaults.{doubled_pairs}
-use Rattle.prism_check.proofs.Append.{soonest_next}
+use Rattle.name_rules.proofs.Append.{soonest_next}
 use Rattle.prism_check.proofs.twice.judge_pairs.Goals as goal
 
 pub loop-entry-preserved : goal.loop-entry-preserved

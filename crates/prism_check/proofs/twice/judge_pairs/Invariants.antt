@@ -1,7 +1,7 @@
 use Rattle.std.specs.Prelude.{◌≡◌, map, drop}
 use Rattle.std.specs.List.{flat_map}
 use Rattle.prism_tree.specs.Syntax.{module_of}
-use Rattle.prism_check.specs.Least.{soonest}
+use Rattle.name_rules.specs.Least.{soonest}
 use Rattle.prism_check.specs.NameFaults.{doubled_pairs}
 use Rattle.prism_check.proofs.twice.judge_pairs.Given as goal
 

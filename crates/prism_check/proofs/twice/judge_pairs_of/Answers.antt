@@ -4,8 +4,9 @@ use Rattle.std.proofs.Common.{◌≡◌, ◌∙◌, sym, ap, subst}
 use Rattle.std.proofs.lemmas.List.Concat.{flat_map_single}
 use Rattle.bridge_io.specs.declared.reason.Reason.TheVariants.{TwiceNamed}
 use Rattle.prism_tree.specs.Syntax.{module_of}
-use Rattle.prism_check.specs.Least.{soonest}
-use Rattle.prism_check.specs.NameFaults.{doubled, doubled_pairs}
+use Rattle.name_rules.specs.Least.{soonest}
+use Rattle.name_rules.specs.Doubled.{doubled}
+use Rattle.prism_check.specs.NameFaults.{doubled_pairs}
 use Rattle.prism_check.proofs.twice.judge_pairs_of.Goals as goal
 
 pub returns-in-Copied : goal.returns-in-Copied

@@ -6,9 +6,10 @@ use Rattle.bridge_io.specs.declared.reason.Reason.TheVariants.{TwiceNamed}
 use Rattle.process_core.specs.Ready.{if_some}
 use Rattle.prism_tree.specs.Syntax.{file_of, label_of, module_of, rewards_of}
 use Rattle.prism_names.specs.Names.{module_name}
-use Rattle.prism_check.specs.Least.{soonest}
-use Rattle.prism_check.specs.NameFaults.{doubled, doubled_pairs, given_labels, values}
-use Rattle.prism_check.proofs.Append.{five_parts}
+use Rattle.name_rules.specs.Least.{soonest}
+use Rattle.name_rules.specs.Doubled.{doubled}
+use Rattle.prism_check.specs.NameFaults.{doubled_pairs, given_labels, values}
+use Rattle.name_rules.proofs.Append.{five_parts}
 use Rattle.prism_check.proofs.Declared.{each_name}
 use Rattle.prism_check.proofs.twice.judge_twice.Goals as goal
 

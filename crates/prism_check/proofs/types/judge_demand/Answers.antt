@@ -2,7 +2,7 @@ use Rattle.std.specs.Prelude.{◌++◌, Bool}
 use Rattle.std.proofs.Common.{◌∙◌, sym, ap, ap₂}
 use Rattle.bridge_io.specs.declared.reason.Reason.TheVariants.{NotConstant}
 use Rattle.op_trees.specs.Tree.{tree}
-use Rattle.prism_check.specs.Least.{fault_if}
+use Rattle.name_rules.specs.Least.{fault_if}
 use Rattle.prism_check.specs.TypeFaults.{type_faults_of}
 use Rattle.prism_check.specs.Typing.{faults_in, soonest_at, type_of}
 use Rattle.prism_check.specs.Views.{demand_by}

@@ -1,6 +1,6 @@
 use Rattle.std.specs.Prelude.{◌≡◌, map, drop}
 use Rattle.prism_tree.specs.Syntax.{file_of, module_of}
-use Rattle.prism_check.specs.Least.{soonest}
+use Rattle.name_rules.specs.Least.{soonest}
 use Rattle.prism_check.specs.TypeFaults.{numbered_faults}
 use Rattle.prism_check.proofs.types.judge_modules.Given as goal
 

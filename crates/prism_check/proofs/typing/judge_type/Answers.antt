@@ -2,7 +2,7 @@ use Rattle.std.specs.Prelude.{◌++◌, Bool}
 use Rattle.std.proofs.Common.{◌∙◌, ap, ap₂}
 use Rattle.bridge_io.specs.declared.reason.Reason.TheVariants.{WrongType}
 use Rattle.op_trees.specs.Tree.{tree}
-use Rattle.prism_check.specs.Least.{fault_if}
+use Rattle.name_rules.specs.Least.{fault_if}
 use Rattle.prism_check.specs.TypeFaults.{is_unwanted, misfits}
 use Rattle.prism_check.specs.Typing.{soonest_at, type_of, wrong}
 use Rattle.prism_check.proofs.TypesPlaced.{at_then}

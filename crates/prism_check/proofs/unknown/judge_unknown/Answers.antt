@@ -1,7 +1,7 @@
 use Rattle.prism_check.specs.NameFaults.{unknown_by}
-use Rattle.prism_check.specs.Tables.{has_name}
+use Rattle.name_rules.specs.Names.{has_name}
 use Rattle.prism_check.specs.Views.{demand_by}
-use Rattle.prism_check.proofs.Append.{soonest_next}
+use Rattle.name_rules.proofs.Append.{soonest_next}
 use Rattle.prism_check.proofs.unknown.judge_unknown.Goals as goal
 
 pub loop-demand-preserved : goal.loop-demand-preserved

@@ -1,8 +1,8 @@
 use Rattle.std.specs.Prelude.{◌≡◌, map, drop}
 use Rattle.std.specs.List.{flat_map}
-use Rattle.prism_check.specs.Least.{soonest}
+use Rattle.name_rules.specs.Least.{soonest}
 use Rattle.prism_check.specs.NameFaults.{unknown_by}
-use Rattle.prism_check.specs.Tables.{has_name}
+use Rattle.name_rules.specs.Names.{has_name}
 use Rattle.prism_check.specs.Views.{demand_by}
 use Rattle.prism_check.proofs.unknown.judge_unknown.Given as goal
 

@@ -2,7 +2,7 @@ use Rattle.std.specs.Prelude.{◌≡◌, ◌++◌, map, drop}
 use Rattle.std.specs.List.{flat_map}
 use Rattle.prism_tree.specs.Syntax.{module_of}
 use Rattle.prism_check.specs.Tables.{module_under, module_vars_by}
-use Rattle.prism_check.specs.Views.{named_by}
+use Rattle.name_rules.specs.Names.{named_by}
 use Rattle.prism_check.proofs.values.add_all_vars.Given as goal
 
 abbrev pub invariant-loop-entry : goal.invariant-loop-entry

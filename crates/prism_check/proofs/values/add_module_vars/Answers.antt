@@ -3,7 +3,7 @@ use Rattle.std.specs.List.{flat_map}
 use Rattle.std.proofs.Common.{◌≡◌, ◌∙◌, sym, ap, subst}
 use Rattle.prism_tree.specs.Syntax.{module_of, var_of}
 use Rattle.prism_check.specs.Tables.{module_under, module_vars_by}
-use Rattle.prism_check.specs.Views.{named_by}
+use Rattle.name_rules.specs.Names.{named_by}
 use Rattle.prism_check.proofs.Declared.{each_name}
 use Rattle.prism_check.proofs.values.add_module_vars.Goals as goal
 

@@ -1,7 +1,7 @@
 use Rattle.std.specs.Prelude.{◌≡◌, ◌++◌, map, drop}
 use Rattle.prism_tree.specs.Syntax.{var_of}
 use Rattle.prism_check.specs.Tables.{new_name, renamed_by}
-use Rattle.prism_check.specs.Views.{named_by}
+use Rattle.name_rules.specs.Names.{named_by}
 use Rattle.prism_check.proofs.values.add_renamed.Given as goal
 
 abbrev pub invariant-loop-var : goal.invariant-loop-var

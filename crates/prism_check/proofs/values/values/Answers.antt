@@ -1,7 +1,7 @@
 use Rattle.std.specs.Prelude.{map}
 use Rattle.std.proofs.Common.{ap}
 use Rattle.prism_check.specs.Tables.{module_under}
-use Rattle.prism_check.specs.Views.{named_by}
+use Rattle.name_rules.specs.Names.{named_by}
 use Rattle.prism_check.proofs.Declared.{values_is}
 use Rattle.prism_check.proofs.values.values.Goals as goal
 

@@ -1,4 +1,5 @@
-use Rattle.prism_check.specs.Tables.{module_under, under}
+use Rattle.prism_check.specs.Tables.{module_under}
+use Rattle.name_rules.specs.Names.{under}
 use Rattle.prism_check.proofs.Owners.{module_more}
 use Rattle.prism_check.proofs.variables.add_all.Goals as goal
 

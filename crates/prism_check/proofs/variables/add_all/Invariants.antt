@@ -1,6 +1,7 @@
 use Rattle.std.specs.Prelude.{◌≡◌, ℕ, List, map, drop}
 use Rattle.prism_tree.specs.Syntax.{module_of}
-use Rattle.prism_check.specs.Tables.{first_some, module_under, under}
+use Rattle.name_rules.specs.Names.{first_some, under}
+use Rattle.prism_check.specs.Tables.{module_under}
 use Rattle.prism_check.specs.Typing.{owned_in, numbered_by}
 use Rattle.prism_check.proofs.variables.add_all.Given as goal
 

@@ -2,7 +2,8 @@ use Rattle.std.specs.Prelude.{ℕ, List, map, OnOk, Some}
 use Rattle.std.proofs.Common.{◌≡◌, ◌∙◌, sym, ap, ap₂, subst}
 use Rattle.std.proofs.Math.Path.{fun_ext}
 use Rattle.prism_tree.specs.Syntax.{module_of, var_of}
-use Rattle.prism_check.specs.Tables.{first_some, module_under, pair_for, under, vars_in}
+use Rattle.name_rules.specs.Names.{first_some, under}
+use Rattle.prism_check.specs.Tables.{module_under, pair_for, vars_in}
 use Rattle.prism_check.specs.TypeFaults.{Variable}
 use Rattle.prism_check.specs.Typing.{module_variables_by, owned_in, variables_by}
 use Rattle.prism_check.proofs.variables.add_module.Goals as goal

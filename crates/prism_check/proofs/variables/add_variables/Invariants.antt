@@ -1,6 +1,7 @@
 use Rattle.std.specs.Prelude.{◌≡◌, ℕ, List, map, drop}
 use Rattle.prism_tree.specs.Syntax.{var_of}
-use Rattle.prism_check.specs.Tables.{first_some, new_name, under}
+use Rattle.name_rules.specs.Names.{first_some, under}
+use Rattle.prism_check.specs.Tables.{new_name}
 use Rattle.prism_check.specs.Typing.{owned_in, variables_by}
 use Rattle.prism_check.proofs.variables.add_variables.Given as goal
 

@@ -3,10 +3,10 @@ use Rattle.std.proofs.Common.{◌≡◌, ◌∙◌, sym, ap, subst}
 use Rattle.bridge_io.specs.declared.reason.Reason.TheVariants.{WrittenTwice}
 use Rattle.process_core.specs.Product.{map-map}
 use Rattle.prism_tree.specs.Syntax.{write_of}
-use Rattle.prism_check.specs.Least.{soonest}
-use Rattle.prism_check.specs.NameFaults.{doubled}
+use Rattle.name_rules.specs.Least.{soonest}
+use Rattle.name_rules.specs.Doubled.{doubled}
 use Rattle.prism_check.specs.Typing.{called_by, moved_name, read_in}
-use Rattle.prism_check.specs.Views.{named_by}
+use Rattle.name_rules.specs.Names.{named_by}
 use Rattle.prism_check.proofs.TypesPlaced.{doubled_at}
 use Rattle.prism_check.proofs.writes.judge_update.Goals as goal
 

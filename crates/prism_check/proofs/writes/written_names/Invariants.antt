@@ -1,6 +1,6 @@
 use Rattle.std.specs.Prelude.{◌≡◌, map, take}
 use Rattle.prism_check.specs.Typing.{called_by, moved_name, read_in}
-use Rattle.prism_check.specs.Views.{named_by}
+use Rattle.name_rules.specs.Names.{named_by}
 use Rattle.prism_check.proofs.writes.written_names.Given as goal
 
 abbrev pub invariant-loop-write : goal.invariant-loop-write

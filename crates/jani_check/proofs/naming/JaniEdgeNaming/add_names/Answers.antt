@@ -1,7 +1,7 @@
 use Rattle.std.specs.Prelude.{[], ◌∷◌, map}
 use Rattle.std.proofs.lemmas.Result.{on_ok_weaker}
 use Rattle.jani_tree.specs.Syntax.{destination_of}
-use Rattle.jani_check.specs.Views.{named_by}
+use Rattle.name_rules.specs.Names.{named_by}
 use Rattle.jani_check.proofs.Parts.{added_of, each_name, two_added}
 use Rattle.jani_check.proofs.naming.JaniEdgeNaming.add_names.Goals as goal
 

@@ -1,5 +1,6 @@
 use Rattle.std.specs.Prelude.{◌≡◌, ℕ, List, drop}
-use Rattle.prism_check.specs.Tables.{first_some, body_in, body_at}
+use Rattle.name_rules.specs.Names.{first_some}
+use Rattle.prism_check.specs.Tables.{body_in, body_at}
 use Rattle.prism_check.proofs.tables.Formulas.of.Given as goal
 
 abbrev pub invariant-loop-formula : goal.invariant-loop-formula

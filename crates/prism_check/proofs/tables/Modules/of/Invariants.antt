@@ -1,5 +1,6 @@
 use Rattle.std.specs.Prelude.{◌≡◌, ℕ, List, drop}
-use Rattle.prism_check.specs.Tables.{first_some, named_module, module_at}
+use Rattle.name_rules.specs.Names.{first_some}
+use Rattle.prism_check.specs.Tables.{named_module, module_at}
 use Rattle.prism_check.proofs.tables.Modules.of.Given as goal
 
 abbrev pub invariant-loop-entry : goal.invariant-loop-entry

@@ -1,7 +1,0 @@
-use Rattle.std.specs.Prelude.{◌≡◌, map, drop}
-use Rattle.std.specs.List.{list_any}
-use Rattle.jani_check.specs.Tables.{has_name}
-use Rattle.jani_check.proofs.named.NameSet.has_some.Given as goal
-
-abbrev pub invariant-loop-name : goal.invariant-loop-name
-invariant-loop-name l = list_any (has_name l.self) (map (λ s. s.now) (drop l.name-index l.names)) ≡ list_any (has_name l.self) (map (λ s. s.now) l.names)

@@ -1,0 +1,12 @@
+pub mod Soonest
+pub mod Append
+pub mod Maps
+pub mod Clashes
+pub mod NamesAdded
+pub mod Leads
+pub mod Waited
+pub mod Placed
+pub mod Walk
+pub mod Turns
+pub mod Ranked
+pub mod Ordered
