@@ -2,15 +2,15 @@
 use Rattle.std.specs.Prelude.{◌≡◌, ◌⊎◌, ◌++◌, ℕ, zero, suc, ◌+◌, ◌<◌, ◌≤◌, List, [], ◌∷◌, map, length, Bool, true, false, not, ◌||◌, cond, Some, if◌then◌else◌, nat_eq, get_or, slice_get, slice_set}
 use Rattle.std.specs.List.{All}
 use Rattle.std.proofs.Common.{inl, inr, refl, sym, ap, ap₂, ◌∙◌, arith, eq-eqb, count_by, subst, flat_map}
-use Rattle.std.proofs.lemmas.Bool.{ne_eqb, eqb-true, or_right}
+use Rattle.std.proofs.lemmas.Bool.{ne_eqb, eqb-true, or_right, both_ways}
 use Rattle.std.proofs.lemmas.List.Sums.{sum_by-cons}
 use Rattle.std.proofs.lemmas.List.Elements.{All-nil, All-cons, All-weaker, All-head, All-tail}
+use Rattle.basics.specs.Numbers.{nat_eq-self}
 use Rattle.op_trees.specs.declared.tree.Value.{Value}
 use Rattle.process_core.specs.Process.{IsIn}
 use Rattle.process_core.specs.Product.{map_agree_in}
 use Rattle.process_core.specs.Ready.{Values}
 use Rattle.choice_laws.proofs.Members.{not_counted, in_left, in_right, in_either}
-use Rattle.choice_laws.proofs.Truths.{same_number, other_number, not_both}
 use Rattle.choice_laws.specs.Columns.{at_start, value_at, counting, state_by, slot, stands}
 
 -- ---- numbers from one on
@@ -70,9 +70,6 @@ set-counting f v k (suc n) (suc i) l =
     (set-counting f v (k + 1) n i (omega arith)
     ∙ (let e : (k + 1) + i ≡ k + suc i = omega arith in ap (λ m. map (λ j. if nat_eq m j then v else f j) (counting (k + 1) n)) e))
 
-same_bools : (a b : ℕ) → nat_eq a b ≡ true → a ≡ b
-same_bools a b h = eqb-true a b h
-
 pub value-set : (cols : List ℕ) (s : Values) (j : ℕ) (v : Value) (i : ℕ) → length s ≡ length cols → stands cols j ≡ true →
     value_at cols (slice_set s (slot cols j) v) i ≡ (if nat_eq j i then v else value_at cols s i)
 value-set [] s j v i l h = absurd cc
@@ -88,7 +85,7 @@ value-set (c ∷ cols) (u ∷ s) j v i l h = by_test (nat_eq c j) refl h (value-
         by_bool false false e = refl
 
     apart : (c j i : ℕ) → nat_eq c j ≡ false → nat_eq c i ≡ true → nat_eq j i ≡ false
-    apart c j i h k = ne_eqb j i (λ e. differ h (eq-eqb c j (same_bools c i k ∙ sym e)))
+    apart c j i h k = ne_eqb j i (λ e. differ h (eq-eqb c j (eqb-true c i k ∙ sym e)))
       where
         differ : nat_eq c j ≡ false → nat_eq c j ≡ true → ⊥
         differ h k = absurd cc
@@ -102,7 +99,7 @@ value-set (c ∷ cols) (u ∷ s) j v i l h = by_test (nat_eq c j) refl h (value-
     by_test : (b : Bool) → nat_eq c j ≡ b → (b || stands cols j) ≡ true →
         (stands cols j ≡ true → value_at cols (slice_set s (slot cols j) v) i ≡ (if nat_eq j i then v else value_at cols s i)) →
         value_at (c ∷ cols) (slice_set (u ∷ s) (cond (not b) (1 + slot cols j) 0) v) i ≡ (if nat_eq j i then v else (if nat_eq c i then u else value_at cols s i))
-    by_test true e k ih = by_case c j i v u (value_at cols s i) (same_bools c j e)
+    by_test true e k ih = by_case c j i v u (value_at cols s i) (eqb-true c j e)
     by_test false e k ih =
         (let n : 1 + slot cols j ≡ suc (slot cols j) = omega arith in ap (λ m. value_at (c ∷ cols) (slice_set (u ∷ s) m v) i) n)
         ∙ ap (λ x. if nat_eq c i then u else x) (ih k)
@@ -126,7 +123,7 @@ written_absent cols n s j h m =
     (λ k d x. let i = get_or (counting 0 n) k d in by_test i (nat_eq j i) refl)
   where
     by_test : (i : ℕ) (b : Bool) → nat_eq j i ≡ b → (if b then at_start else value_at cols s i) ≡ value_at cols s i
-    by_test i true e = sym (ap (value_at cols s) (sym (same_bools j i e)) ∙ value_absent cols s j h)
+    by_test i true e = sym (ap (value_at cols s) (sym (eqb-true j i e)) ∙ value_absent cols s j h)
     by_test i false e = refl
 
 -- ---- columns that stand there
@@ -188,12 +185,12 @@ read_back [] (u ∷ s) l h = absurd (let no : ⊥ = omega arith in no)
 read_back (j ∷ js) [] l h = absurd (let no : ⊥ = omega arith in no)
 read_back (j ∷ js) (u ∷ s) l h =
     let first = All-head (λ i. times_of i (j ∷ js) ≤ 1) j js h in
-    let one : times_of j (j ∷ js) ≡ 1 + times_of j js = sum_by-cons (λ c. cond (nat_eq c j) 1 0) j js ∙ ap (λ b. cond b 1 0 + times_of j js) (same_number j) in
+    let one : times_of j (j ∷ js) ≡ 1 + times_of j js = sum_by-cons (λ c. cond (nat_eq c j) 1 0) j js ∙ ap (λ b. cond b 1 0 + times_of j js) (nat_eq-self j) in
     let none : times_of j js ≡ 0 = omega arith in
     let apart = not_counted (λ c. nat_eq c j) js none in
-    ap₂ (λ a r. a ∷ r) (ap (λ b. if b then u else value_at js s j) (same_number j))
+    ap₂ (λ a r. a ∷ r) (ap (λ b. if b then u else value_at js s j) (nat_eq-self j))
     (map_agree_in (value_at (j ∷ js) (u ∷ s)) (value_at js s) js
-    (λ k d m. let i = get_or js k d in ap (λ b. if b then u else value_at js s i) (other_number j i (λ e. not_both (nat_eq i j) (apart k d m) (eq-eqb i j (sym e)))))
+    (λ k d m. let i = get_or js k d in ap (λ b. if b then u else value_at js s i) (ne_eqb j i (λ e. both_ways (nat_eq i j) (apart k d m) (eq-eqb i j (sym e)))))
     ∙ read_back js s (omega arith)
     (λ k d m.
     let i = get_or js k d in
@@ -212,7 +209,7 @@ comes x g [] h = absurd h
 comes x g (j ∷ js) h = by_part (in_either x (g j) (flat_map g js) h) (comes x g js)
   where
     by_part : IsIn x (g j) ⊎ IsIn x (flat_map g js) → (IsIn x (flat_map g js) → Comes x g js) → Comes x g (j ∷ js)
-    by_part (inl k) f = record { from = j; there = ap (λ b. b || stands js j) (same_number j); among = k }
+    by_part (inl k) f = record { from = j; there = ap (λ b. b || stands js j) (nat_eq-self j); among = k }
     by_part (inr k) f = let r = f k in record { from = r.from; there = or_right (nat_eq j r.from) (stands js r.from) r.there; among = r.among }
 
 pub goes : {X : Type 0} (x : X) (g : ℕ → List X) (js : List ℕ) (j : ℕ) → stands js j ≡ true → IsIn x (g j) → IsIn x (flat_map g js)

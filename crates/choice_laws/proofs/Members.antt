@@ -7,10 +7,11 @@ use Rattle.std.proofs.lemmas.Bool.{or_right}
 use Rattle.std.proofs.lemmas.List.Sums.{sum_by-cons, sum_by-append}
 use Rattle.std.proofs.lemmas.List.Filters.{sum_by-filter_both}
 use Rattle.std.proofs.lemmas.List.Elements.{All-nil, All-cons, All-head, All-tail, All-weaker}
+use Rattle.basics.specs.Booleans.{same_test}
 use Rattle.process_core.specs.Process.{EquallyOften, IsIn}
 use Rattle.process_core.specs.Often.{sum_by_agree, sum_by-flat_map, sum_by-filter, sum_by_exchange}
 use Rattle.process_core.specs.Equal.{IsEquality}
-use Rattle.process_core.proofs.Targets.{Distinct, by_truth}
+use Rattle.process_core.proofs.Targets.{Distinct}
 
 -- ---- counts
 pub if_zero : (b : Bool) → ◌≡◌ {A = ℕ} (cond b 0 0) 0
@@ -86,7 +87,7 @@ often_both p xs = record {
 -- ---- lists that hold the same members once each
 module _ {X : Type 0} (same : X → X → Bool) (eq : IsEquality same) where
   turned : (x y : X) → same x y ≡ same y x
-  turned x y = by_truth (same x y) (same y x) (λ h. (eq y x).1 (sym ((eq x y).0 h))) (λ h. (eq x y).1 (sym ((eq y x).0 h)))
+  turned x y = same_test (same x y) (same y x) (λ h. (eq y x).1 (sym ((eq x y).0 h))) (λ h. (eq x y).1 (sym ((eq y x).0 h)))
 
   moved : (g : X → ℕ) (x y : X) (b : Bool) → same x y ≡ b → cond b (g x) 0 ≡ cond (same y x) (g y) 0
   moved g x y true e = ap g ((eq x y).0 e) ∙ ap (λ b. cond b (g y) 0) (sym e ∙ turned x y)

@@ -5,11 +5,12 @@ use Rattle.std.specs.List.{flat_map, filter, list_any, All}
 use Rattle.std.proofs.Common.{refl, sym, ap, ap₂, ◌∙◌, inl, inr}
 use Rattle.std.proofs.lemmas.List.Folds.{flat_map-map}
 use Rattle.std.proofs.lemmas.List.Elements.{All-nil, All-cons, All-head, All-tail, All-append}
+use Rattle.basics.specs.Members.{all_each}
 use Rattle.process_core.specs.Process.{EquallyOften}
 use Rattle.process_core.specs.Product.{one_of_each, map-flat_map, flat_map_agree, flat_map-flat_map}
 use Rattle.process_core.specs.Often.{often_refl, often_same, often_trans, often-map, often-flat_map, often-one_of_each, often_exchange}
 use Rattle.choice_laws.specs.Products.{Place, AreWhole, OneIsParted, wholes, parts_for}
-use Rattle.choice_laws.proofs.Walks.{each, flat_map_agree_in, flat_map_none, kept_walk}
+use Rattle.choice_laws.proofs.Walks.{flat_map_agree_in, flat_map_none, kept_walk}
 
 -- ---- what holds of each way
 -- of ways that begin with one member
@@ -38,7 +39,7 @@ only_kept p (xs ∷ xss) f n =
     walked f (one_of_each xss) xs
     ∙ kept_walk p (λ x. flat_map (λ r. f (x ∷ r)) (one_of_each xss)) (λ x. flat_map (λ r. f (x ∷ r)) (one_of_each (map (filter p) xss)))
     (λ x e. only_kept p xss (λ r. f (x ∷ r)) (λ rs k. n (x ∷ rs) (ap₂ (λ a b. not a || b) e k)))
-    (λ x e. flat_map_none (λ r. f (x ∷ r)) (one_of_each xss) (each (λ r. f (x ∷ r) ≡ []) (λ r. n (x ∷ r) (ap (λ a. not a || list_any (λ y. not (p y)) r) e)) (one_of_each xss))) xs
+    (λ x e. flat_map_none (λ r. f (x ∷ r)) (one_of_each xss) (all_each (λ r. f (x ∷ r) ≡ []) (λ r. n (x ∷ r) (ap (λ a. not a || list_any (λ y. not (p y)) r) e)) (one_of_each xss))) xs
     ∙ sym (walked f (one_of_each (map (filter p) xss)) (filter p xs))
 
 -- ---- one list split into parts

@@ -4,22 +4,22 @@ use Rattle.std.specs.List.{flat_map, filter, list_any, All}
 use Rattle.std.proofs.Common.{refl, sym, ap, ap₂, ◌∙◌}
 use Rattle.std.proofs.lemmas.List.Folds.{flat_map-map, list_any-append}
 use Rattle.std.proofs.lemmas.List.Elements.{All-nil, All-cons, All-head, All-tail, All-weaker}
+use Rattle.std.proofs.Math.Bool.{or-false, not-not, or_assoc}
+use Rattle.basics.specs.Members.{any-map, any_agree, any_two}
 use Rattle.frac_core.specs.Fraction.{Fraction, nought}
 use Rattle.frac_core.specs.Sums.{product}
-use Rattle.process_core.proofs.Targets.{any-map}
 use Rattle.process_core.specs.Process.{Kinds, Branch}
 use Rattle.process_core.specs.Product.{one_of_each, one_of_each-map, map-map, map_agree_in}
 use Rattle.process_core.specs.Ready.{Values, Name, Reward, Update, Ready, Sum, together}
 use Rattle.process_core.specs.Choices.{is_false, number_of, all_defined, guard_of, weights_of, weighs_wrong, has_undef, has_outside, kinds_of, weight_of, written, assigned, own_rewards, branch_of, ways, outcome_of, choice_from, choice_of, choices}
 use Rattle.choice_laws.specs.Rewards.{earning, is_enabled, bare_update, bare_ready, any_undef, assigns_undef, some_assigns_undef, some_undef, AllEarn, AssignsAlike, Pays, EarnsBy}
-use Rattle.choice_laws.proofs.Truths.{or_false, or_assoc, not_not}
-use Rattle.choice_laws.proofs.Walks.{flat_map_agree_in, any_agree, any_two}
+use Rattle.choice_laws.proofs.Walks.{flat_map_agree_in}
 use Rattle.choice_laws.proofs.Products.{All-ways, only_kept}
 
 -- ---- combinations with a false guard
 any_false : (rs : List Ready) → list_any (λ r. not (is_enabled r)) rs ≡ list_any (λ r. is_false r.guard.value) rs
 any_false [] = refl
-any_false (r ∷ rs) = ap₂ (λ a b. a || b) (not_not (is_false r.guard.value)) (any_false rs)
+any_false (r ∷ rs) = ap₂ (λ a b. a || b) (not-not (is_false r.guard.value)) (any_false rs)
 
 pub disabled : (s : Values) (label : Option Name) (own : List Sum) (rs : List Ready) → list_any (λ r. not (is_enabled r)) rs ≡ true → choice_of s (earning label own rs) ≡ []
 disabled s label own rs h =
@@ -48,7 +48,7 @@ undef_apart u =
     let a = is_none (number_of u.weight.value) in
     let b = list_any (λ w. is_none w.value.value) u.writes in
     let c = assigns_undef u in
-    sym (or_assoc a b c) ∙ ap (λ x. (a || x) || c) (sym (or_false b))
+    sym (or_assoc a b c) ∙ ap (λ x. (a || x) || c) (sym (or-false b))
 
 same_kinds : (a b c d e f : Bool) → a ≡ b → c ≡ d → e ≡ f → ◌≡◌ {A = Kinds} (record { undef = a; range = c; weight = e }) (record { undef = b; range = d; weight = f })
 same_kinds a b c d e f p q r = cc

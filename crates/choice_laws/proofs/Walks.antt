@@ -1,27 +1,18 @@
 -- Lists that are walked through: what agrees at their members, filters, tests, and facts of all members.
-use Rattle.std.specs.Prelude.{◌≡◌, List, [], ◌∷◌, ◌++◌, map, Bool, true, false, ◌&&◌, ◌||◌, cond, Option, Some, if◌then◌else◌, get_or}
+use Rattle.std.specs.Prelude.{◌≡◌, List, [], ◌∷◌, ◌++◌, map, Bool, true, false, ◌&&◌, ◌||◌, cond, Some, if◌then◌else◌, get_or}
 use Rattle.std.specs.List.{flat_map, filter, find, list_any, All, AllZip}
 use Rattle.std.proofs.Common.{refl, sym, ap, ap₂, subst, ◌∙◌}
-use Rattle.std.proofs.lemmas.Bool.{or_parts, or_right}
+use Rattle.std.proofs.lemmas.Bool.{or_right}
 use Rattle.std.proofs.lemmas.List.Elements.{filter-append, All-nil, All-cons, All-head, All-tail, All-weaker, All-append}
 use Rattle.std.proofs.lemmas.List.Folds.{list_any-append}
-use Rattle.choice_laws.proofs.Truths.{or_exchange, and_or}
+use Rattle.basics.specs.Members.{any_two, any_never}
+use Rattle.choice_laws.proofs.Truths.{and_or}
 
 -- ---- parts of what is the same
 pub cons_parts : {X : Type 0} (x y : X) (xs ys : List X) → (x ∷ xs) ≡ (y ∷ ys) → (x ≡ y) × (xs ≡ ys)
 cons_parts x y xs ys e = (cc, cc)
 
-pub some_part : {X : Type 0} (x y : X) → ◌≡◌ {A = Option X} (Some x) (Some y) → x ≡ y
-some_part x y e = cc
-
 -- ---- facts of all members
-pub each : {X : Type 0} (P : X → Type 0) → ((x : X) → P x) → (xs : List X) → All P xs
-each P h xs k d l = h (get_or xs k d)
-
-pub All-unmap : {A B : Type 0} (P : B → Type 0) (f : A → B) (xs : List A) → All P (map f xs) → All (λ x. P (f x)) xs
-All-unmap P f [] h = All-nil (λ x. P (f x))
-All-unmap P f (x ∷ xs) h = All-cons (λ x. P (f x)) x xs (All-head P (f x) (map f xs) h) (All-unmap P f xs (All-tail P (f x) (map f xs) h))
-
 pub All-flat_map : {X Y : Type 0} (P : Y → Type 0) (f : X → List Y) (xs : List X) → All (λ x. All P (f x)) xs → All P (flat_map f xs)
 All-flat_map P f [] h = All-nil P
 All-flat_map P f (x ∷ xs) h = All-append P (f x) (flat_map f xs) (All-head (λ x. All P (f x)) x xs h) (All-flat_map P f xs (All-tail (λ x. All P (f x)) x xs h))
@@ -53,10 +44,6 @@ filter_agree_in p q [] h = refl
 filter_agree_in p q (x ∷ xs) h =
     ap₂ (λ b l. cond b (x ∷ l) l) (All-head (λ x. p x ≡ q x) x xs h) (filter_agree_in p q xs (All-tail (λ x. p x ≡ q x) x xs h))
 
-pub any_agree : {A : Type 0} (p q : A → Bool) → ((x : A) → p x ≡ q x) → (xs : List A) → list_any p xs ≡ list_any q xs
-any_agree p q h [] = refl
-any_agree p q h (x ∷ xs) = ap₂ (λ a b. a || b) (h x) (any_agree p q h xs)
-
 pub any_agree_in : {A : Type 0} (p q : A → Bool) (xs : List A) → All (λ x. p x ≡ q x) xs → list_any p xs ≡ list_any q xs
 any_agree_in p q [] h = refl
 any_agree_in p q (x ∷ xs) h = ap₂ (λ a b. a || b) (All-head (λ x. p x ≡ q x) x xs h) (any_agree_in p q xs (All-tail (λ x. p x ≡ q x) x xs h))
@@ -73,15 +60,6 @@ filter_all (x ∷ xs) = ap (λ l. x ∷ l) (filter_all xs)
 pub if_nil : {A : Type 0} (b : Bool) → ◌≡◌ {A = List A} (cond b [] []) []
 if_nil true = refl
 if_nil false = refl
-
-pub filter-map : {A B : Type 0} (q : B → Bool) (f : A → B) (xs : List A) → filter q (map f xs) ≡ map f (filter (λ x. q (f x)) xs)
-filter-map q f [] = refl
-filter-map q f (x ∷ xs) = by_test (q (f x)) (filter-map q f xs)
-  where
-    by_test : (b : Bool) → filter q (map f xs) ≡ map f (filter (λ x. q (f x)) xs) →
-        cond b (f x ∷ filter q (map f xs)) (filter q (map f xs)) ≡ map f (cond b (x ∷ filter (λ x. q (f x)) xs) (filter (λ x. q (f x)) xs))
-    by_test true e = ap (λ l. f x ∷ l) e
-    by_test false e = e
 
 pub filter-flat_map : {A B : Type 0} (q : B → Bool) (f : A → List B) (xs : List A) → filter q (flat_map f xs) ≡ flat_map (λ x. filter q (f x)) xs
 filter-flat_map q f [] = refl
@@ -137,17 +115,9 @@ any-filter q p (x ∷ xs) = by_test (p x) (any-filter q p xs)
     by_test true e = ap (λ b. q x || b) e
     by_test false e = e
 
-pub any_two : {X : Type 0} (p q : X → Bool) (xs : List X) → list_any (λ x. p x || q x) xs ≡ (list_any p xs || list_any q xs)
-any_two p q [] = refl
-any_two p q (x ∷ xs) = ap (λ b. (p x || q x) || b) (any_two p q xs) ∙ or_exchange (p x) (q x) (list_any p xs) (list_any q xs)
-
 pub any_and : {X : Type 0} (p : X → Bool) (b : Bool) (xs : List X) → list_any (λ x. p x && b) xs ≡ (list_any p xs && b)
 any_and p b [] = refl
 any_and p b (x ∷ xs) = ap (λ c. (p x && b) || c) (any_and p b xs) ∙ and_or (p x) (list_any p xs) b
-
-pub any_never : {X : Type 0} (xs : List X) → list_any (λ x. false) xs ≡ false
-any_never [] = refl
-any_never (x ∷ xs) = any_never xs
 
 -- the order of two tests is free
 pub any_exchange : {X Y : Type 0} (f : X → Y → Bool) (xs : List X) (ys : List Y) → list_any (λ x. list_any (f x) ys) xs ≡ list_any (λ y. list_any (λ x. f x y) xs) ys
@@ -159,12 +129,6 @@ has_any q [] = All-nil (λ x. q x ≡ true → list_any q [] ≡ true)
 has_any q (x ∷ xs) =
     All-cons (λ y. q y ≡ true → list_any q (x ∷ xs) ≡ true) x xs (λ h. ap (λ b. b || list_any q xs) h)
     (All-weaker (λ y. q y ≡ true → list_any q xs ≡ true) (λ y. q y ≡ true → list_any q (x ∷ xs) ≡ true) (λ y f h. or_right (q x) (list_any q xs) (f h)) xs (has_any q xs))
-
-pub not_any : {X : Type 0} (q : X → Bool) (xs : List X) → list_any q xs ≡ false → All (λ x. q x ≡ false) xs
-not_any q [] h = All-nil (λ x. q x ≡ false)
-not_any q (x ∷ xs) h =
-    let both = or_parts (q x) (list_any q xs) h in
-    All-cons (λ x. q x ≡ false) x xs both.0 (not_any q xs both.1)
 
 -- ---- something is left
 abbrev pub has_some : {A : Type 0} → List A → Bool

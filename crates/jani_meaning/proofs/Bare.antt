@@ -1,26 +1,24 @@
 -- What a JANI file means does not depend on the places that its tree keeps.
-use Rattle.std.specs.Prelude.{◌≡◌, ℕ, zero, suc, ◌+◌, ◌-◌, List, [], ◌∷◌, ◌++◌, map, length, Bool, true, false, not, ◌&&◌, cond, Option, Some, None, unwrap_or, nat_lt, bytes_eq, is_none, slice_get, if◌then◌else◌}
-use Rattle.std.specs.List.{find, filter, flat_map, position, position_or_len}
+use Rattle.std.specs.Prelude.{◌≡◌, ℕ, zero, suc, ◌+◌, ◌-◌, List, [], ◌∷◌, ◌++◌, map, length, Bool, not, ◌&&◌, Option, Some, None, unwrap_or, slice_get, if◌then◌else◌}
+use Rattle.std.specs.List.{find, filter, flat_map}
 use Rattle.std.specs.Option.{option_map, option_or}
 use Rattle.std.proofs.Common.{refl, sym, ap, ap₂, ◌∙◌}
 use Rattle.std.proofs.lemmas.List.{length-map, map-append}
 use Rattle.std.proofs.lemmas.List.Folds.{flat_map-map}
 use Rattle.std.proofs.Math.Path.{fun_ext}
+use Rattle.basics.specs.Lists.{map_agree}
 use Rattle.bridge_io.specs.declared.reason.Named.{Named}
-use Rattle.frac_core.specs.Fraction.{Fraction}
 use Rattle.op_trees.specs.Seen.{Seen, known}
 use Rattle.op_trees.specs.SeenLaws.{seen-bare}
 use Rattle.op_trees.specs.Tree.{bare}
 use Rattle.op_trees.specs.declared.tree.Value.{Value}
-use Rattle.process_core.specs.Process.{Choice, Model}
-use Rattle.process_core.specs.Product.{map-map, map_agree, flat_map_agree}
+use Rattle.process_core.specs.Product.{map-map, flat_map_agree}
 use Rattle.process_core.specs.Ready.{Values, Name, Write, Reward, Update, Ready, Vector, if_some}
-use Rattle.process_core.specs.declared.data.Mark.{Mark}
 use Rattle.jani_table.specs.Operators.{jani_meaning}
 use Rattle.jani_tree.specs.Syntax.{Expression, Const, VarKind, boolean, integer, number, real_bounded, one_sided, bounded, Var, Location, Destination, Edge, Automaton, File}
 use Rattle.jani_tree.specs.Syntax as syntax
 use Rattle.jani_tree.specs.Places.{bare_name, bare_const, bare_kind, bare_var, bare_write, bare_location, bare_destination, bare_edge, bare_automaton, bare_vector, bare_part, bare_file}
-use Rattle.prism_flat.specs.Instance.{Valuation, Fault, Domain, Between, Column, Scene, numbered, instance_faults, is_state, is_initial}
+use Rattle.process_core.specs.Instance.{Valuation, Between, numbered, models_alike}
 use Rattle.jani_tree.proofs.Mapped.{found_mapped, kept_mapped, position_mapped}
 use Rattle.jani_meaning.specs.Elements.{is_called, nothing_called, automaton_called, elements, location_number, first_number, initial_number, Owned, owned_by, variables, is_boolean, is_lasting, lasting, is_label, labels, is_structure, structures, is_own, is_global, place_of, column_number, structure_number}
 use Rattle.jani_meaning.specs.Scene.{see, counted, constant_called, constant_seen, constant_value, constant_within, constant, constant_names, location_column, domain_of, start_of, column, columns_of, scene}
@@ -293,20 +291,8 @@ module _ (file : File) (v : Valuation) where
         (transients-bare (labels (bare_file file)) (labels file) (labels-bare file)) (transients-bare (structures (bare_file file)) (structures file) (structures-bare file))
 
 -- ---- the process
-same_model : (a b : Valuation → List Fault) (c d e f : Valuation → Values → Bool) (g h : Valuation → Values → List Mark)
-    (i j : Valuation → Values → List (Choice Name Fraction Values)) → a ≡ b → c ≡ d → e ≡ f → g ≡ h → i ≡ j →
-    ◌≡◌ {A = Model Valuation Fault Name Fraction Mark Values} (record { faults = a; is_state = c; is_initial = e; marks = g; choices = i })
-    (record { faults = b; is_state = d; is_initial = f; marks = h; choices = j })
-same_model a b c d e f g h i j p q r s t = cc
-
 pub model-bare : (file : File) → model (bare_file file) ≡ model file
-model-bare file =
-    same_model _ _ _ _ _ _ _ _ _ _
-    (fun_ext (λ v. ap instance_faults (scene-bare file v)))
-    (fun_ext (λ v. fun_ext (λ s. ap (λ k. is_state k.columns s) (scene-bare file v))))
-    (fun_ext (λ v. fun_ext (λ s. ap (λ k. is_initial k.columns s) (scene-bare file v))))
-    (fun_ext (λ v. fun_ext (λ s. ap marks (moment-bare file v s))))
-    (fun_ext (λ v. fun_ext (λ s. ap (λ k. choices k s) (moment-bare file v s))))
+model-bare file = models_alike _ _ _ _ _ _ (scene-bare file) (λ v s. ap marks (moment-bare file v s)) (λ v s. ap (λ k. choices k s) (moment-bare file v s))
 
 pub places_mean_nothing : (f g : File) → PlacesMeanNothing f g
 places_mean_nothing f g e = sym (model-bare f) ∙ ap model e ∙ model-bare g

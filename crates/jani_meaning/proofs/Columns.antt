@@ -7,8 +7,10 @@ use Rattle.std.specs.declared.cmp.Ordering.TheVariants as C
 use Rattle.std.proofs.Common.{refl, sym, ap, ap₂, subst, ◌∙◌, arith, ltb-true, length-append, append_assoc}
 use Rattle.std.proofs.lemmas.Int.{ints}
 use Rattle.std.proofs.lemmas.List.{length-map}
+use Rattle.std.proofs.lemmas.Bool.{and_from}
+use Rattle.basics.specs.Booleans.{first_true, second_true, both_not}
 use Rattle.bridge_io.specs.declared.reason.Named.{Named}
-use Rattle.frac_core.specs.Fraction.{Fraction, whole, compare, first_true, second_true}
+use Rattle.frac_core.specs.Fraction.{Fraction, whole, compare}
 use Rattle.frac_core.specs.Order.{AtMost, AtMost-whole, Below, Below_not-AtMost, compare_ranks}
 use Rattle.op_trees.specs.Seen.{Seen}
 use Rattle.op_trees.specs.declared.tree.Value.{Value}
@@ -16,16 +18,11 @@ use Rattle.op_trees.specs.declared.tree.Value.TheVariants as V
 use Rattle.process_core.specs.Ready.{Values, Name}
 use Rattle.process_core.specs.Distribution.{KeepsStates}
 use Rattle.jani_tree.specs.Syntax.{Automaton, File}
-use Rattle.prism_flat.specs.Instance.{Domain, Between, Column, is_in, is_state, is_above, is_greater, numbered, column_faults, constant_faults, only_if}
-use Rattle.prism_flat.specs.Moment.{domain_at, fits_in, write_to}
+use Rattle.process_core.specs.Instance.{Domain, Between, Column, is_in, is_state, is_above, is_greater, numbered, column_faults, constant_faults, only_if, domain_at, fits_in, write_to}
 use Rattle.jani_meaning.specs.Elements.{is_called, automaton_called, elements, location_number, first_number, initial_number, lasting}
 use Rattle.jani_meaning.specs.Scene.{counted, location_column, column, constant_names, columns_of, scene}
 use Rattle.jani_meaning.specs.Moment.{location_write}
 use Rattle.jani_meaning.specs.Laws.{StatesHaveColumns, LocationsHaveNoFault}
-
-both_true : (a b : Bool) → a ≡ true → b ≡ true → (a && b) ≡ true
-both_true true b h k = k
-both_true false b h k = h
 
 -- ---- how many values a state has
 state_length : (cs : List Column) (s : Values) → IsTrue (is_state cs s) → length s ≡ length cs
@@ -45,9 +42,9 @@ state_set : (cs : List Column) (s : Values) (i : ℕ) (v : Value) → IsTrue (is
 state_set [] [] i v h k = h
 state_set [] (w ∷ s) i v h k = absurd cc
 state_set (c ∷ cs) [] i v h k = absurd cc
-state_set (c ∷ cs) (w ∷ s) zero v h k = both_true (is_in c.domain v) (is_state cs s) k (second_true (is_in c.domain w) (is_state cs s) h)
+state_set (c ∷ cs) (w ∷ s) zero v h k = and_from (is_in c.domain v) (is_state cs s) k (second_true (is_in c.domain w) (is_state cs s) h)
 state_set (c ∷ cs) (w ∷ s) (suc i) v h k =
-    both_true (is_in c.domain w) (is_state cs (slice_set s i v)) (first_true (is_in c.domain w) (is_state cs s) h)
+    and_from (is_in c.domain w) (is_state cs (slice_set s i v)) (first_true (is_in c.domain w) (is_state cs s) h)
     (state_set cs s i v (second_true (is_in c.domain w) (is_state cs s) h) k)
 
 fits_value : (d : Domain) (o : Option Value) (v : Value) → o ≡ Some v → fits_in d o ≡ true → is_in d v ≡ true
@@ -57,7 +54,7 @@ pub keeps_write_to : (cs : List Column) (i : ℕ) (value : Seen) → KeepsStates
 keeps_write_to cs i value = record { keeps = λ s v k e f. state_set cs s i v k (fits_value (domain_at cs i) value.value v e f) }
 
 -- ---- locations are within their range
-not_above : (x y : Fraction) → AtMost x y → is_above x y ≡ false
+pub not_above : (x y : Fraction) → AtMost x y → is_above x y ≡ false
 not_above x y h = by_answer (compare x y) (compare_ranks x y)
   where
     by_answer : (r : Ordering) → MatchOrdering r (Below x y) (x ≡ y) (Below y x) → is_greater r ≡ false
@@ -65,23 +62,18 @@ not_above x y h = by_answer (compare x y) (compare_ranks x y)
     by_answer C.Equal e = refl
     by_answer C.Greater b = absurd (Below_not-AtMost y x b h)
 
-not_above_whole : (k m : ℕ) → k ≤ m → is_above (whole (pos k)) (whole (pos m)) ≡ false
+pub not_above_whole : (k m : ℕ) → k ≤ m → is_above (whole (pos k)) (whole (pos m)) ≡ false
 not_above_whole k m h = not_above (whole (pos k)) (whole (pos m)) (AtMost-whole (pos k) (pos m) (omega (arith, ints)))
 
-two_not : (a b : Bool) → a ≡ false → b ≡ false → (not a && not b) ≡ true
-two_not true b h k = absurd cc
-two_not false true h k = absurd cc
-two_not false false h k = refl
-
-has_count : (k m : ℕ) → k ≤ m → is_in (Between (counted 0) (counted m)) (V.Number (whole (pos k))) ≡ true
+pub has_count : (k m : ℕ) → k ≤ m → is_in (Between (counted 0) (counted m)) (V.Number (whole (pos k))) ≡ true
 has_count k m h =
-    two_not (is_above (whole (pos 0)) (whole (pos k))) (is_above (whole (pos k)) (whole (pos m))) (not_above_whole 0 k (omega arith)) (not_above_whole k m h)
+    both_not (is_above (whole (pos 0)) (whole (pos k))) (is_above (whole (pos k)) (whole (pos m))) (not_above_whole 0 k (omega arith)) (not_above_whole k m h)
 
-place_within : (b : Bool) (k n : ℕ) → b ≡ nat_lt k n → unwrap_or (cond b (Some k) None) 0 ≤ n - 1
+pub place_within : (b : Bool) (k n : ℕ) → b ≡ nat_lt k n → unwrap_or (cond b (Some k) None) 0 ≤ n - 1
 place_within true k n e = let h = ltb-true k n (sym e) in omega arith
 place_within false k n e = omega arith
 
-location_within : (a : Automaton) (x : Name) → location_number a x ≤ length a.locations - 1
+pub location_within : (a : Automaton) (x : Name) → location_number a x ≤ length a.locations - 1
 location_within a x =
     let k = position_or_len (λ l. is_called x l.name) a.locations in
     place_within (nat_lt k (length a.locations)) k (length a.locations) refl
@@ -122,7 +114,7 @@ all_locations : (i : ℕ) (as_ : List Automaton) → numbered column_faults i (m
 all_locations i [] = refl
 all_locations i (a ∷ as_) = ap₂ (λ p q. p ++ q) (location_faults i a) (all_locations (i + 1) as_)
 
-numbered-append : {X Y : Type 0} (f : ℕ → X → List Y) (i : ℕ) (xs ys : List X) → numbered f i (xs ++ ys) ≡ numbered f i xs ++ numbered f (i + length xs) ys
+pub numbered-append : {X Y : Type 0} (f : ℕ → X → List Y) (i : ℕ) (xs ys : List X) → numbered f i (xs ++ ys) ≡ numbered f i xs ++ numbered f (i + length xs) ys
 numbered-append f i [] ys = ap (λ n. numbered f n ys) (omega arith)
 numbered-append f i (x ∷ xs) ys =
     ap (λ l. f i x ++ l) (numbered-append f (i + 1) xs ys ∙ ap (λ n. numbered f (i + 1) xs ++ numbered f n ys) (omega arith))

@@ -5,12 +5,13 @@ use Rattle.std.specs.List.{All, flat_map, filter}
 use Rattle.std.proofs.Common.{refl, ap₂, subst, ◌∙◌, arith, length-append}
 use Rattle.std.proofs.lemmas.List.{length-map}
 use Rattle.std.proofs.lemmas.List.Elements.{All-nil, All-cons, All-head, All-tail, All-append, All-map, All-weaker, All-filter}
+use Rattle.basics.specs.Members.{all_each}
 use Rattle.op_trees.specs.Seen.{Seen}
 use Rattle.process_core.specs.Ready.{Values, Name, Write, Ready, Sum, Vector, has_action, alone, silent, together, taking, of_elements}
 use Rattle.process_core.specs.Product.{All-one_of_each}
 use Rattle.process_core.specs.Distribution.{KeepsStates, KeepsAll, choices_proper}
 use Rattle.jani_tree.specs.Syntax.{Destination, Edge, Automaton, File}
-use Rattle.prism_flat.specs.Instance.{Valuation, Column, is_state, numbered}
+use Rattle.process_core.specs.Instance.{Valuation, Column, is_state, numbered}
 use Rattle.jani_meaning.specs.Elements.{elements, labels, structures, location_number, column_number, lasting}
 use Rattle.jani_meaning.specs.Scene.{column, constant_names, columns_of}
 use Rattle.jani_meaning.specs.Moment.{column_write, location_write, write_at, update_at, edge_at, element_at, transient_at, is_current, moment}
@@ -19,10 +20,6 @@ use Rattle.jani_meaning.specs.Laws.{ChoicesAreProper, MarksOfTransients}
 use Rattle.jani_meaning.proofs.Columns.{keeps_write_to, keeps_location, domain_of_location}
 
 -- ---- lists
-each : {X : Type 0} (P : X → Type 0) → ((x : X) → P x) → (xs : List X) → All P xs
-each P h [] = All-nil P
-each P h (x ∷ xs) = All-cons P x xs (h x) (each P h xs)
-
 each_flat : {X Y : Type 0} (P : Y → Type 0) (f : X → List Y) → ((x : X) → All P (f x)) → (xs : List X) → All P (flat_map f xs)
 each_flat P f h [] = All-nil P
 each_flat P f h (x ∷ xs) = All-append P (f x) (flat_map f xs) (h x) (each_flat P f h xs)
@@ -75,10 +72,10 @@ module _ (file : File) (v : Valuation) (s : Values) where
       (each_flat keeps (write_at file v s i) (λ w. keeps_column (columns_of file v) (column_number file i w.target.name) _) d.writes)
 
   edge_keeps : (i : ℕ) (a : Automaton) → slice_get (elements file) i ≡ Some a → (g : Edge) → KeepsAll (is_state (columns_of file v)) (edge_at file v s i a g)
-  edge_keeps i a e g = All-map (λ u. All keeps u.writes) (update_at file v s i a) g.destinations (each _ (update_keeps i a e) g.destinations)
+  edge_keeps i a e g = All-map (λ u. All keeps u.writes) (update_at file v s i a) g.destinations (all_each _ (update_keeps i a e) g.destinations)
 
   element_keeps : (i : ℕ) (a : Automaton) → slice_get (elements file) i ≡ Some a → All (KeepsAll (is_state (columns_of file v))) (element_at file v s i a)
-  element_keeps i a e = All-map (KeepsAll (is_state (columns_of file v))) (edge_at file v s i a) _ (each _ (edge_keeps i a e) (filter (λ g. is_current s i a g.location.name) a.edges))
+  element_keeps i a e = All-map (KeepsAll (is_state (columns_of file v))) (edge_at file v s i a) _ (all_each _ (edge_keeps i a e) (filter (λ g. is_current s i a g.location.name) a.edges))
 
   all_keep : All (All (KeepsAll (is_state (columns_of file v)))) (moment file v s).elements
   all_keep =

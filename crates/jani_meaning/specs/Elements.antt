@@ -8,7 +8,7 @@ use Rattle.std.specs.Option.{option_map, option_or}
 use Rattle.bridge_io.specs.declared.reason.Named.{Named}
 use Rattle.process_core.specs.Ready.{Name}
 use Rattle.jani_tree.specs.Syntax.{VarKind, boolean, integer, number, real_bounded, one_sided, bounded, Var, Automaton, File}
-use Rattle.prism_flat.specs.Instance.{numbered}
+use Rattle.process_core.specs.Instance.{numbered}
 
 abbrev pub is_called : Name → Named → Bool
 is_called x n = bytes_eq n.name x

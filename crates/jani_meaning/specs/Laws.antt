@@ -7,7 +7,7 @@ use Rattle.process_core.specs.Ready.{Values, Name}
 use Rattle.process_core.specs.Distribution.{IsProper}
 use Rattle.jani_tree.specs.Syntax.{Expression, Const, File}
 use Rattle.jani_tree.specs.Places.{bare_file}
-use Rattle.prism_flat.specs.Instance.{Valuation, numbered, constant_faults, column_faults}
+use Rattle.process_core.specs.Instance.{Valuation, numbered, constant_faults, column_faults}
 use Rattle.jani_meaning.specs.Elements.{lasting, labels, structures}
 use Rattle.jani_meaning.specs.Scene.{constant_called, constant_value, constant, constant_names, column, scene}
 use Rattle.jani_meaning.specs.Process.{model}

@@ -13,8 +13,7 @@ use Rattle.process_core.specs.Equal.{equal_values}
 use Rattle.process_core.specs.Ready.{Values, Name, Write, Reward, Update, Ready, Vector, if_some}
 use Rattle.jani_tree.specs.Syntax.{Expression, Location, Destination, Edge, Automaton, File}
 use Rattle.jani_tree.specs.Syntax as syntax
-use Rattle.prism_flat.specs.Instance.{Valuation, Column, numbered}
-use Rattle.prism_flat.specs.Moment.{write_to}
+use Rattle.process_core.specs.Instance.{Valuation, Column, numbered, write_to}
 use Rattle.jani_meaning.specs.Elements.{is_called, elements, location_number, Owned, labels, structures, column_number, structure_number}
 use Rattle.jani_meaning.specs.Scene.{see, constant, constant_names, counted, start_of, columns_of}
 

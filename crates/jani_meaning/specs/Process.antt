@@ -7,14 +7,13 @@ use Rattle.frac_core.specs.Fraction.{Fraction, nought}
 use Rattle.process_core.specs.Process.{Choice, Model}
 use Rattle.process_core.specs.Ready.{Values, Name, Sum, Combination, of_elements}
 use Rattle.process_core.specs.Choices as core
-use Rattle.process_core.specs.Choices.{number_of}
+use Rattle.process_core.specs.Choices.{number_of, truth_of}
 use Rattle.process_core.specs.Bounds as core_bounds
 use Rattle.process_core.specs.Bounds.{Excess}
 use Rattle.process_core.specs.declared.data.Mark.{Mark}
 use Rattle.process_core.specs.declared.data.Mark.TheVariants as M
 use Rattle.jani_tree.specs.Syntax.{File}
-use Rattle.prism_flat.specs.Instance.{Valuation, Fault, instance_faults, is_state, is_initial}
-use Rattle.prism_flat.specs.Process.{truth_of}
+use Rattle.process_core.specs.Instance.{Valuation, Fault, model_of}
 use Rattle.jani_meaning.specs.Scene.{scene}
 use Rattle.jani_meaning.specs.Moment.{Moment, moment}
 
@@ -43,10 +42,4 @@ has_wide_mark k = list_any (λ l. l.wide) k.labels || list_any (λ r. r.wide) k.
 
 -- ---- the process that a file describes
 abbrev pub model : File → Model Valuation Fault Name Fraction Mark Values
-model file = record {
-  faults = λ v. instance_faults (scene file v);
-  is_state = λ v s. is_state (scene file v).columns s;
-  is_initial = λ v s. is_initial (scene file v).columns s;
-  marks = λ v s. marks (moment file v s);
-  choices = λ v s. choices (moment file v s) s;
-}
+model file = model_of (scene file) (λ v s. marks (moment file v s)) (λ v s. choices (moment file v s) s)

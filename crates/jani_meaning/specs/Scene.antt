@@ -10,7 +10,7 @@ use Rattle.op_trees.specs.declared.tree.Value.TheVariants as V
 use Rattle.process_core.specs.Ready.{Name}
 use Rattle.jani_table.specs.Operators.{jani_meaning}
 use Rattle.jani_tree.specs.Syntax.{Expression, Const, VarKind, boolean, integer, number, real_bounded, one_sided, bounded, Var, Automaton, File}
-use Rattle.prism_flat.specs.Instance.{Valuation, Domain, Truths, Between, Column, Scene}
+use Rattle.process_core.specs.Instance.{Valuation, Domain, Truths, Between, Column, Scene}
 use Rattle.jani_meaning.specs.Elements.{is_called, elements, initial_number, lasting}
 
 -- ---- what is seen of expressions

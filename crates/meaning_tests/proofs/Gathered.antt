@@ -6,24 +6,9 @@ use Rattle.std.proofs.lemmas.List.Concat.{flat_map-append}
 use Rattle.std.proofs.lemmas.List.Folds.{list_any_at}
 use Rattle.process_core.specs.Product.{one_of_each, one_of_each-map, map-map}
 
-pub any_map : {A B : Type 0} (p : B → Bool) (f : A → B) (xs : List A) → list_any p (map f xs) ≡ list_any (λ x. p (f x)) xs
-any_map p f [] = refl
-any_map p f (x ∷ xs) = ap (λ b. p (f x) || b) (any_map p f xs)
-
 -- one that passes
 pub any_here : {A : Type 0} (p : A → Bool) (xs : List A) (i : ℕ) (x : A) → i < length xs → x ≡ get_or xs i x → p x ≡ true → list_any p xs ≡ true
 any_here p xs i x h e t = list_any_at p xs i x h (ap p (sym e) ∙ t)
-
--- the end of a loop
-pub whole : {A X : Type 0} (F : List A → X) (xs : List A) (i : ℕ) → length xs ≤ i → F (take i xs) ≡ F xs
-whole F xs i h = ap F (take_all i xs h)
-
-pub nothing_left : {A X : Type 0} (F : List A → X) (xs : List A) (i : ℕ) → length xs ≤ i → F (drop i xs) ≡ F []
-nothing_left F xs i h = ap F (drop_all i xs h)
-
--- one more of what is left
-pub left : {A : Type 0} (xs : List A) (i : ℕ) (x : A) → i < length xs → x ≡ get_or xs i x → drop i xs ≡ x ∷ drop (i + 1) xs
-left xs i x h e = drop_more xs i x h ∙ ap (λ z. z ∷ drop (i + 1) xs) (sym e)
 
 -- one member more, whose part is added at the end
 pub flat_more : {A B Y : Type 0} (view : Y → B) (f : A → List B) (xs : List A) (i : ℕ) (x : A) (old new added : List Y) → i < length xs → x ≡ get_or xs i x →
@@ -36,16 +21,6 @@ flat_more view f xs i x old new added h e so_far pushed here =
     ∙ sym (flat_map-append f (take i xs) (x ∷ []))
     ∙ ap (flat_map f) (ap (λ z. take i xs ++ z ∷ []) e ∙ sym (take_more xs i x h))
 
--- the same behind a list that stays
-pub flat_after : {A B Y : Type 0} (view : Y → B) (f : A → List B) (before : List B) (xs : List A) (i : ℕ) (x : A) (old new added : List Y) → i < length xs → x ≡ get_or xs i x →
-    map view old ≡ before ++ flat_map f (take i xs) → new ≡ old ++ added → map view added ≡ f x → map view new ≡ before ++ flat_map f (take (i + 1) xs)
-flat_after view f before xs i x old new added h e so_far pushed here =
-    ap (map view) pushed
-    ∙ map-append view old added
-    ∙ ap₂ (λ a b. a ++ b) so_far (here ∙ sym (append-nil (f x)))
-    ∙ append_assoc before (flat_map f (take i xs)) (f x ++ [])
-    ∙ ap (λ l. before ++ l) (sym (flat_map-append f (take i xs) (x ∷ [])) ∙ ap (flat_map f) (ap (λ z. take i xs ++ z ∷ []) e ∙ sym (take_more xs i x h)))
-
 -- one member more, whose part is empty
 pub flat_same : {A B : Type 0} (f : A → List B) (xs : List A) (i : ℕ) (x : A) (seen : List B) → i < length xs → x ≡ get_or xs i x →
     seen ≡ flat_map f (take i xs) → f x ≡ [] → seen ≡ flat_map f (take (i + 1) xs)
@@ -55,16 +30,6 @@ flat_same f xs i x seen h e so_far here =
     ∙ ap (λ l. flat_map f (take i xs) ++ l) (sym (append-nil (f x) ∙ here))
     ∙ sym (flat_map-append f (take i xs) (x ∷ []))
     ∙ ap (flat_map f) (ap (λ z. take i xs ++ z ∷ []) e ∙ sym (take_more xs i x h))
-
--- one member more, whose image is added at the end
-pub map_more : {A B Y : Type 0} (view : Y → B) (f : A → B) (xs : List A) (i : ℕ) (x : A) (old new : List Y) (y : Y) → i < length xs → x ≡ get_or xs i x →
-    map view old ≡ map f (take i xs) → new ≡ old ++ y ∷ [] → view y ≡ f x → map view new ≡ map f (take (i + 1) xs)
-map_more view f xs i x old new y h e so_far pushed here =
-    ap (map view) pushed
-    ∙ map-append view old (y ∷ [])
-    ∙ ap₂ (λ a b. a ++ b ∷ []) so_far here
-    ∙ sym (map-append f (take i xs) (x ∷ []))
-    ∙ ap (map f) (ap (λ z. take i xs ++ z ∷ []) e ∙ sym (take_more xs i x h))
 
 -- ---- what is kept of images, told of each by itself
 pub kept : {A B : Type 0} (p : B → Bool) (f : A → B) (xs : List A) → filter p (map f xs) ≡ flat_map (λ x. if p (f x) then f x ∷ [] else []) xs

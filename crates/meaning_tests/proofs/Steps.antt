@@ -1,6 +1,5 @@
 -- The value of an expression as it is seen, and one member more of the lists that the loops go over.
-use Rattle.std.proofs.Common.{◌≡◌, ℕ, ◌+◌, ◌<◌, List, [], ◌∷◌, ◌++◌, map, length, get_or, take, Bool, true, false, Option, Some, None, Ok, Err, refl, sym, ap, ap₂, ◌∙◌}
-use Rattle.std.proofs.lemmas.List.{take_more, map-append}
+use Rattle.std.proofs.Common.{◌≡◌, Bool, true, false, Option, Some, None, Ok, Err, refl, sym, ap, ◌∙◌}
 use Rattle.op_trees.specs.declared.tree.Value.{Value}
 use Rattle.op_trees.specs.declared.tree.EvalFail.TheVariants.{Undef}
 use Rattle.op_trees.specs.Meaning.{Environment, answer, answered}
@@ -33,15 +32,3 @@ unfolding see
 has_none t env h =
     let s = seen prism_meaning t (known_names env) in
     none_from_parts s.wide s.value (sym (answer_is prism_meaning env t) ∙ h)
-
--- ---- lists that are maps of others
-pub mapped_more : {A B C X : Type 0} (view : A → X) (change : C → X) (source : B → C) (xs : List B) (ys new : List A) (i : ℕ) (x : B) (y : A) →
-    i < length xs → x ≡ get_or xs i x → map view ys ≡ map change (map source (take i xs)) → view y ≡ change (source x) → new ≡ ys ++ y ∷ [] →
-    map view new ≡ map change (map source (take (i + 1) xs))
-mapped_more view change source xs ys new i x y h e so_far r pushed =
-    ap (map view) pushed
-    ∙ map-append view ys (y ∷ [])
-    ∙ ap₂ (λ a b. a ++ b ∷ []) so_far r
-    ∙ sym (map-append change (map source (take i xs)) (source x ∷ []))
-    ∙ ap (map change) (sym (map-append source (take i xs) (x ∷ [])))
-    ∙ ap (λ l. map change (map source l)) (ap (λ z. take i xs ++ z ∷ []) e ∙ sym (take_more xs i x h))

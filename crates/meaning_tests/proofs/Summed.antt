@@ -1,9 +1,11 @@
 -- Sums and products of numbers, and assignments, one member more.
-use Rattle.std.proofs.Common.{◌≡◌, ℕ, ◌+◌, ◌<◌, List, [], ◌∷◌, ◌++◌, map, Bool, true, false, ◌||◌, ◌&&◌, length, get_or, take, drop, Option, Some, None, refl, sym, ap, ap₂, ◌∙◌, take-append-drop}
+use Rattle.std.proofs.Common.{◌≡◌, ℕ, ◌+◌, ◌<◌, List, [], ◌∷◌, ◌++◌, map, Bool, false, ◌||◌, ◌&&◌, length, get_or, take, drop, Option, Some, None, refl, sym, ap, ap₂, ◌∙◌, take-append-drop}
 use Rattle.std.specs.Borrow.{Bor}
 use Rattle.std.specs.List.{list_any, flat_map, filter}
 use Rattle.std.specs.Option.{option_map}
 use Rattle.std.proofs.lemmas.List.{take_more}
+use Rattle.std.proofs.Math.Bool.{and-false}
+use Rattle.basics.specs.Lists.{drop_item}
 use Rattle.frac_core.specs.Fraction.{Fraction, plus, times, is_wide}
 use Rattle.frac_core.specs.Sums.{total, product}
 use Rattle.frac_core.specs.Laws.{plus_assoc, times_assoc}
@@ -18,7 +20,7 @@ use Rattle.meaning_tests.specs.Plain.{item_of}
 use Rattle.meaning_tests.specs.declared.data.PlainUpdate.{PlainUpdate}
 use Rattle.meaning_tests.specs.Choosing.{narrow_sum, updates_of}
 use Rattle.process_core.specs.Bounds.{adds}
-use Rattle.meaning_tests.proofs.Gathered.{left, none_of_kept}
+use Rattle.meaning_tests.proofs.Gathered.{none_of_kept}
 
 -- ---- all that are defined
 pub all_defined_more : {X : Type 0} (xs : List (Option X)) (ys : List X) (y : X) → all_defined xs ≡ Some ys → all_defined (xs ++ Some y ∷ []) ≡ Some (ys ++ y ∷ [])
@@ -48,7 +50,7 @@ none_past (x ∷ xs) ys = ap (with_first x) (none_past xs ys) ∙ with_none x
 
 pub none_defined : {X : Type 0} (xs : List (Option X)) (i : ℕ) (o : Option X) → i < length xs → o ≡ get_or xs i o → o ≡ None → all_defined xs ≡ None
 none_defined xs i o h e is =
-    ap all_defined (sym (take-append-drop i xs) ∙ ap (λ l. take i xs ++ l) (left xs i o h e ∙ ap (λ z. z ∷ drop (i + 1) xs) is))
+    ap all_defined (sym (take-append-drop i xs) ∙ ap (λ l. take i xs ++ l) (drop_item xs i o h e ∙ ap (λ z. z ∷ drop (i + 1) xs) is))
     ∙ none_past (take i xs) (drop (i + 1) xs)
 
 -- ---- sums and products
@@ -56,7 +58,7 @@ pub sum_step : (xs : List Fraction) (i : ℕ) (x s t : Fraction) → i < length 
 sum_step xs i x s t h e so_far next =
     ap (λ a. plus a (total (drop (i + 1) xs))) next
     ∙ plus_assoc s x (total (drop (i + 1) xs))
-    ∙ ap (λ l. plus s (total l)) (sym (left xs i x h e))
+    ∙ ap (λ l. plus s (total l)) (sym (drop_item xs i x h e))
     ∙ so_far
 
 pub narrow_step : (xs : List Fraction) (i : ℕ) (x s t : Fraction) → i < length xs → x ≡ get_or xs i x →
@@ -65,7 +67,7 @@ pub narrow_step : (xs : List Fraction) (i : ℕ) (x s t : Fraction) → i < leng
 narrow_step xs i x s t h e so_far next narrow =
     ap (λ a. list_any is_wide (partial_sums a (drop (i + 1) xs))) next
     ∙ ap (λ b. b || list_any is_wide (partial_sums (plus s x) (drop (i + 1) xs))) (sym narrow)
-    ∙ ap (λ l. list_any is_wide (partial_sums s l)) (sym (left xs i x h e))
+    ∙ ap (λ l. list_any is_wide (partial_sums s l)) (sym (drop_item xs i x h e))
     ∙ so_far
 
 pub product_step : {A B : Type 0} (g : B → Fraction) (f : A → B) (xs : List A) (i : ℕ) (x : A) (s t p : Fraction) → i < length xs → x ≡ get_or xs i x →
@@ -73,7 +75,7 @@ pub product_step : {A B : Type 0} (g : B → Fraction) (f : A → B) (xs : List 
 product_step g f xs i x s t p h e so_far next =
     ap (λ a. times a (product (map g (map f (drop (i + 1) xs))))) next
     ∙ times_assoc s (g (f x)) (product (map g (map f (drop (i + 1) xs))))
-    ∙ ap (λ l. times s (product (map g (map f l)))) (sym (left xs i x h e))
+    ∙ ap (λ l. times s (product (map g (map f l)))) (sym (drop_item xs i x h e))
     ∙ so_far
 
 -- ---- assignments
@@ -86,7 +88,7 @@ pub written_step : {A B : Type 0} (g : B → List Write) (f : A → B) (xs : Lis
 written_step g f xs i x s t p h e so_far next =
     ap (λ a. written a (flat_map g (map f (drop (i + 1) xs)))) next
     ∙ sym (written-append s (g (f x)) (flat_map g (map f (drop (i + 1) xs))))
-    ∙ ap (λ l. written s (flat_map g (map f l))) (sym (left xs i x h e))
+    ∙ ap (λ l. written s (flat_map g (map f l))) (sym (drop_item xs i x h e))
     ∙ so_far
 
 -- updates of PRISM files have no rewards
@@ -99,13 +101,9 @@ pub same_branch : (p q : Fraction) (s t : Values) (r u : List Fraction) → p �
 same_branch p q s t r u d e f = cc
 
 -- ---- sums of items, of which none is wide
-and_false : (b : Bool) → (b && false) ≡ false
-and_false true = refl
-and_false false = refl
-
 module _ (wanted : Adds → Bool) (items : List PlainItem) (sums : List (Option Fraction)) (e : sums ≡ flat_map adds (map (λ e. e.item) (filter (λ e. wanted e.adds) (map item_of items)))) where
   none_wide : list_any (λ i. i.guard.wide || (is_true i.guard.value && i.value.wide)) (map (λ e. e.item) (filter (λ e. wanted e.adds) (map item_of items))) ≡ false
-  none_wide = none_of_kept _ (λ e. e.item) (λ e. wanted e.adds) item_of (λ x. and_false (is_true x.guard)) items
+  none_wide = none_of_kept _ (λ e. e.item) (λ e. wanted e.adds) item_of (λ x. and-false (is_true x.guard)) items
 
   pub sum_undefined : None ≡ all_defined sums → narrow_sum None ≡ sum_for wanted (map item_of items)
   sum_undefined h =

@@ -3,18 +3,19 @@ use Rattle.std.proofs.Common.{◌≡◌, ℕ, zero, suc, ◌+◌, List, [], ◌�
 use Rattle.std.specs.List.{find, flat_map, list_all}
 use Rattle.std.proofs.Math.Path.{fun_ext}
 use Rattle.std.proofs.lemmas.Slice.Eq.{bytes_eq-Decides}
+use Rattle.basics.specs.Lists.{map_agree}
 use Rattle.op_trees.specs.Seen.{Seen, known, known_names, looked_up}
 use Rattle.op_trees.specs.declared.tree.Value.{Value}
 use Rattle.process_core.specs.Ready.{Values, Name, Update, Ready}
-use Rattle.process_core.specs.Product.{map_agree}
 use Rattle.prism_tree.specs.Operators.{prism_meaning}
 use Rattle.prism_tree.specs.Syntax.{Expression, Const, Branch, Command, Module, plain, copied, Label, Rewards, File}
 use Rattle.prism_tree.specs.Syntax as syntax
-use Rattle.prism_names.specs.Names.{is_called, is_formula, formula_body, unchanged, written_name, part_of, parts, reading, see}
-use Rattle.prism_flat.specs.Instance.{Valuation, Column, Fault, column_faults, constant_faults, instance_faults, numbered}
+use Rattle.prism_names.specs.Names.{is_called, formula_body, unchanged, part_of, parts, reading, see}
+use Rattle.process_core.specs.Instance.{Valuation, Column, Fault, column_faults, constant_faults, instance_faults, numbered, write_to}
 use Rattle.prism_flat.specs.Scene.{constant_called, constant_seen, constant_value, constant_within, constant, constant_names, column, part_columns, columns_of, scene}
-use Rattle.prism_flat.specs.Moment.{value_in, names_in, place_of, write_to, weight_seen, write_at, update_at, command_at, part_at, item_at, Earned, Moment, moment}
+use Rattle.prism_flat.specs.Moment.{value_in, names_in, place_of, weight_seen, write_at, update_at, command_at, part_at, item_at, Earned, Moment, moment}
 use Rattle.prism_flat.specs.Kept.{is_plain, IsWrittenOut}
+use Rattle.prism_check.proofs.CleanTypes.{same_written}
 use Rattle.meaning_tests.specs.Plain.{narrow}
 use Rattle.meaning_tests.specs.Tables.{value_at, value_under, round, rounds, own_vars, own_commands, write_under, update_under, command_under}
 
@@ -37,13 +38,6 @@ at_found v names (c ∷ cs) x = by_test (at_found v names cs x) (is_called x c.n
     by_test rest false t = rest
 
 -- ---- names
-written_same : (file : File) (x : Name) → written_name file unchanged x ≡ x
-written_same file x = by_test (is_formula file x)
-  where
-    by_test : (b : Bool) → (if b then x else unchanged x) ≡ x
-    by_test true = refl
-    by_test false = refl
-
 module _ (file : File) (no_formulas : file.formulas ≡ []) where
   pub reads_plainly : (names : Name → Seen) → reading file names ≡ names
   unfolding reading
@@ -104,7 +98,7 @@ constant_faults_are file v e =
 -- ---- commands
 module _ (file : File) (cs : List Column) (names : Name → Seen) where
   write_is : (w : syntax.Write) → write_under cs names w ≡ write_at file cs unchanged names w
-  write_is w = ap (λ x. write_to cs (place_of cs x) (see w.value names)) (sym (written_same file w.name.name))
+  write_is w = ap (λ x. write_to cs (place_of cs x) (see w.value names)) (sym (same_written file w.name.name))
 
   update_is : (b : Branch) → update_under cs names b ≡ update_at file cs unchanged names b
   update_is b = ap {B = Update} (λ ws. record { weight = weight_seen names b.weight; writes = ws; rewards = [] }) (map_agree _ _ write_is b.writes)

@@ -4,7 +4,7 @@ use Rattle.op_trees.specs.Seen.{Seen}
 use Rattle.op_trees.specs.declared.tree.Value.{Value}
 use Rattle.process_core.specs.Ready.{Write, Update, Ready}
 use Rattle.process_core.specs.declared.data.Given.{Given}
-use Rattle.prism_flat.specs.Instance.{Valuation, Domain, Truths, Between, Column, Fault}
+use Rattle.process_core.specs.Instance.{Valuation, Domain, Truths, Between, Column, Fault}
 use Rattle.prism_flat.specs.Moment.{Adds, ToStates, ToChoices, Earned, Moment}
 use Rattle.meaning_tests.specs.declared.data.Plain.{Plain}
 use Rattle.meaning_tests.specs.declared.data.PlainCommand.{PlainCommand}

@@ -1,7 +1,7 @@
 -- What the program's bounds of a variable stand for.
 use Rattle.std.specs.Prelude.{Option}
 use Rattle.std.specs.Option.{option_map}
-use Rattle.prism_flat.specs.Instance.{Range}
+use Rattle.process_core.specs.Instance.{Range}
 use Rattle.meaning_tests.specs.declared.ranges.Bounds.{Bounds}
 
 abbrev pub bounds_of : Bounds → Range

@@ -13,9 +13,9 @@ use Rattle.process_core.specs.Ready.{Name, Write, Update, Ready}
 use Rattle.prism_tree.specs.Syntax.{Const, Var, Branch, Command, Module, plain, copied, const_of}
 use Rattle.prism_tree.specs.Syntax as syntax
 use Rattle.prism_names.specs.Names.{is_called, unchanged, see}
-use Rattle.prism_flat.specs.Instance.{Valuation, Column}
+use Rattle.process_core.specs.Instance.{Valuation, Column, write_to}
 use Rattle.prism_flat.specs.Scene.{constant_seen}
-use Rattle.prism_flat.specs.Moment.{value_in, place_of, write_to, weight_seen, action_of}
+use Rattle.prism_flat.specs.Moment.{value_in, place_of, weight_seen, action_of}
 use Rattle.meaning_tests.specs.Plain.{column_of}
 use Rattle.meaning_tests.specs.declared.naming.Naming.{Naming}
 

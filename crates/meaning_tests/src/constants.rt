@@ -3,7 +3,7 @@
 ghost use Rattle.std.specs.Prelude.{◌≡◌, IfOk, length, map};
 ghost use Rattle.op_trees.specs.Seen.{known_names};
 ghost use Rattle.prism_tree.specs.Syntax.{const_of};
-ghost use Rattle.prism_flat.specs.Instance.{Valuation};
+ghost use Rattle.process_core.specs.Instance.{Valuation};
 ghost use Rattle.meaning_tests.specs.Plain.{given_by};
 ghost use Rattle.meaning_tests.specs.Tables.{round, rounds, seen_in, value_under};
 

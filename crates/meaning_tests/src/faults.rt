@@ -2,7 +2,7 @@
 
 ghost use Rattle.std.specs.Prelude.{◌≡◌, ◌++◌, IfOk, OnOk, map, option_to_list};
 ghost use Rattle.prism_tree.specs.Syntax.{file_of};
-ghost use Rattle.prism_flat.specs.Instance.{column_faults, constant_faults, domain_faults, first_faults, instance_faults, is_first, is_initial, is_state, numbered, range_faults};
+ghost use Rattle.process_core.specs.Instance.{column_faults, constant_faults, domain_faults, first_faults, instance_faults, is_first, is_initial, is_state, numbered, range_faults};
 ghost use Rattle.prism_flat.specs.Scene.{scene};
 ghost use Rattle.prism_flat.specs.Kept.{IsWrittenOut};
 ghost use Rattle.meaning_tests.specs.Plain.{column_of, domain_of, fault_of, given_by, narrow};

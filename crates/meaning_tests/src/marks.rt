@@ -2,7 +2,8 @@
 
 ghost use Rattle.std.specs.Prelude.{◌≡◌, map, IfOk};
 ghost use Rattle.process_core.specs.declared.data.Mark.TheVariants.{Truth, Number};
-ghost use Rattle.prism_flat.specs.Process.{truth_of, state_reward, marks};
+ghost use Rattle.process_core.specs.Choices.{truth_of};
+ghost use Rattle.prism_flat.specs.Process.{state_reward, marks};
 ghost use Rattle.meaning_tests.specs.Plain.{item_of, moment_of};
 
 use crate::data::{Plain, PlainFail, PlainItem};

@@ -12,7 +12,7 @@ use crate::faults::faults;
 use crate::marks::marks;
 use crate::moment::plain;
 use bridge_io::List;
-use prism_clean::FlatPrism;
+use prism_places::FlatPrism;
 use process_core::{Choice, Given, Mark, State};
 use std::alloc::Global;
 

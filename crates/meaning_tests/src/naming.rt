@@ -5,7 +5,7 @@ ghost use Rattle.op_trees.specs.Seen.{known_names};
 ghost use Rattle.op_trees.specs.Tree.{tree};
 ghost use Rattle.prism_tree.specs.Syntax.{const_of};
 ghost use Rattle.prism_names.specs.Names.{see};
-ghost use Rattle.prism_flat.specs.Instance.{Valuation};
+ghost use Rattle.process_core.specs.Instance.{Valuation};
 ghost use Rattle.prism_flat.specs.Moment.{value_in};
 ghost use Rattle.meaning_tests.specs.Plain.{column_of, narrow};
 ghost use Rattle.meaning_tests.specs.Tables.{seen_in, type_of, value_at};

@@ -4,7 +4,7 @@ ghost use Rattle.std.specs.Prelude.{◌≡◌};
 ghost use Rattle.frac_core.specs.Fraction.{is_whole};
 ghost use Rattle.process_core.specs.Choices.{number_of};
 ghost use Rattle.process_core.specs.Equal.{equal_truths, equal_values};
-ghost use Rattle.prism_flat.specs.Instance.{has_value, is_above, is_empty, is_in, is_outside, range_from, range_has, range_lacks};
+ghost use Rattle.process_core.specs.Instance.{has_value, is_above, is_empty, is_in, is_outside, range_from, range_has, range_lacks};
 ghost use Rattle.meaning_tests.specs.Plain.{domain_of, narrow};
 ghost use Rattle.meaning_tests.specs.Ranges.{bounds_of, range_of};
 

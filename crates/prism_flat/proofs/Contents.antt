@@ -3,9 +3,9 @@ use Rattle.std.specs.Prelude.{◌≡◌, ℕ, List, [], map, Option, Some, Resul
 use Rattle.std.specs.Option.{option_map}
 use Rattle.std.proofs.Common.{refl, sym, ap, ◌∙◌}
 use Rattle.std.proofs.Math.Path.{fun_ext}
+use Rattle.basics.specs.Lists.{map_agree}
 use Rattle.bridge_io.specs.declared.reason.Named.{Named}
 use Rattle.op_trees.specs.Tree.{substituted}
-use Rattle.process_core.specs.Product.{map_agree}
 use Rattle.process_core.specs.Ready.{Name}
 use Rattle.prism_tree.specs.declared.syntax.PrismFile.{PrismFile}
 use Rattle.prism_tree.specs.declared.syntax.CopiedModule.{CopiedModule}

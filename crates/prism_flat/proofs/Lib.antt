@@ -1,4 +1,3 @@
 pub mod Steps
 pub mod Contents
 mod Examples
-mod Worked

@@ -12,6 +12,7 @@ use Rattle.std.proofs.lemmas.List.Folds.{find-append}
 use Rattle.std.proofs.lemmas.List.Sums.{fold-append}
 use Rattle.std.proofs.lemmas.Option.{slice_get-get_or}
 use Rattle.std.proofs.lemmas.Slice.Eq.{bytes_eq-Decides}
+use Rattle.basics.specs.Options.{none_is}
 use Rattle.op_trees.specs.Tree.{tree, substituted}
 use Rattle.process_core.specs.Ready.{Name, if_some}
 use Rattle.process_core.specs.Product.{map-map}
@@ -70,10 +71,6 @@ behind_some : (o : Option NamePair) (p : NamePair) → is_none (option_map (λ (
 behind_some None p e = absurd cc
 behind_some (Some q) p e = refl
 
-nothing : (o : Option Name) → is_none o ≡ true → o ≡ None
-nothing None e = refl
-nothing (Some x) e = absurd cc
-
 -- a pair whose left side had none before
 pub pair_added : (pairs : List NamePair) (i : ℕ) (p : NamePair) (old new : Name → Option Name) → i < length pairs → p ≡ get_or pairs i p →
     ((x : Name) → old x ≡ first_new (take i pairs) x) → is_none (old p.old.name) ≡ true →
@@ -89,7 +86,7 @@ pair_added pairs i p old new h e so_far free added x =
         (if b then Some p.new.name else old x) ≡ option_map (λ q. q.new.name) (option_or (find (λ q. is_called x q.old) (take i pairs)) (if b then Some p else None))
     by_test true t =
         behind_none (find (λ q. is_called x q.old) (take i pairs)) p
-        (sym (so_far x) ∙ ap old (sym ((bytes_eq-Decides p.old.name x).0 t)) ∙ nothing (old p.old.name) free)
+        (sym (so_far x) ∙ ap old (sym ((bytes_eq-Decides p.old.name x).0 t)) ∙ none_is (old p.old.name) free)
     by_test false t = so_far x ∙ behind_nothing (find (λ q. is_called x q.old) (take i pairs))
 
 -- a pair whose left side had one
@@ -131,10 +128,6 @@ tested f (Some x) value b e t = ap (λ v. is_none (option_map f v)) (sym e) ∙ 
     flipped : (b : Bool) → true ≡ not b → false ≡ b
     flipped true h = cc
     flipped false h = refl
-
-pub through_if : {A B : Type 0} (f : A → B) (b : Bool) (v : A) (o : Option A) → option_map f (if b then Some v else o) ≡ (if b then Some (f v) else option_map f o)
-through_if f true v o = refl
-through_if f false v o = refl
 
 -- each member of a list is the image of the one in its place
 pub zipped : {A X : Type 0} (view : A → X) (change : X → X) (xs whole ys : List A) → xs ≡ whole →

@@ -10,7 +10,7 @@ use Rattle.prism_tree.specs.Syntax.{Expression, Const, File}
 use Rattle.prism_names.specs.Names.{unchanged, see, reading}
 use Rattle.prism_names.specs.Order.{whole}
 use Rattle.prism_names.specs.Laws.{seen_written_out}
-use Rattle.prism_flat.specs.Instance.{Valuation}
+use Rattle.process_core.specs.Instance.{Valuation}
 use Rattle.prism_flat.specs.Scene.{constant_called, constant_seen, constant_value, constant_within, constant, constant_names}
 
 -- a name that, if it is a constant's, is ranked below n
@@ -27,7 +27,7 @@ pub record IsConstantRank (file : File) (rank : Name → ℕ) : Type 0 where
 abbrev pub ConstantsHaveValues : File → Type 0
 ConstantsHaveValues file = (v : Valuation) (x : Name) → constant file v x ≡ constant_value (v x) (constant_names file v unchanged) (constant_called file x)
 
-renamed_unchanged : {O : Type 0} (t : Tree O) → renamed unchanged t ≡ t
+pub renamed_unchanged : {O : Type 0} (t : Tree O) → renamed unchanged t ≡ t
 renamed_unchanged (Truth at b) = refl
 renamed_unchanged (Number at d) = refl
 renamed_unchanged (At at x) = refl

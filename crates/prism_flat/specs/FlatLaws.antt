@@ -6,22 +6,21 @@ use Rattle.std.proofs.Common.{refl, ap, ap₂, ◌∙◌}
 use Rattle.std.proofs.lemmas.List.{length-map}
 use Rattle.std.proofs.lemmas.List.Folds.{flat_map-map}
 use Rattle.std.proofs.Math.Path.{fun_ext}
+use Rattle.basics.specs.Options.{is_some-map}
+use Rattle.basics.specs.Lists.{map_agree}
 use Rattle.bridge_io.specs.declared.reason.Named.{Named}
 use Rattle.op_trees.specs.Seen.{Seen, known}
 use Rattle.op_trees.specs.declared.tree.Value.{Value}
-use Rattle.process_core.specs.Product.{map-map, map_agree, flat_map_agree}
-use Rattle.frac_core.specs.Fraction.{Fraction}
-use Rattle.process_core.specs.Process.{Choice, Model}
-use Rattle.process_core.specs.declared.data.Mark.{Mark}
+use Rattle.process_core.specs.Product.{map-map, flat_map_agree}
 use Rattle.process_core.specs.Ready.{Values, Name, Ready}
 use Rattle.prism_tree.specs.Syntax.{Expression, Const, Range, Var, Branch, Command, Module, plain, copied, File}
 use Rattle.prism_tree.specs.Syntax as syntax
 use Rattle.prism_names.specs.Names.{is_called, unchanged, parts, module_name, written_name, see, reading, reading_in}
 use Rattle.prism_names.specs.Flat.{flat_expression, flat_name, flat_range, flat_var, flat_write, flat_branch, flat_command, flat_module, flat_constant, flat_label, flat_item, flat_rewards, flat}
 use Rattle.prism_names.specs.Laws.{seen_written_out, flat_part, parts-flat}
-use Rattle.prism_flat.specs.Instance.{Fault, Valuation, Between, Column, instance_faults, is_wide_instance, is_state, is_initial}
+use Rattle.process_core.specs.Instance.{Valuation, Between, Column, instance_faults, is_wide_instance, is_state, is_initial, write_to, models_alike}
 use Rattle.prism_flat.specs.Scene.{constant_called, constant_seen, constant_value, constant_within, constant, constant_names, domain_of, first_of, column, part_columns, columns_of, scene}
-use Rattle.prism_flat.specs.Moment.{Moment, value_in, place_of, write_to, weight_seen, action_of, write_at, update_at, command_at, part_at, adds_of, item_at, moment}
+use Rattle.prism_flat.specs.Moment.{Moment, value_in, place_of, weight_seen, action_of, write_at, update_at, command_at, part_at, adds_of, item_at, moment}
 use Rattle.prism_flat.specs.Process.{choices, marks, has_wide_mark, excess, model}
 use Rattle.prism_flat.specs.Kept.{SameMeaning, SameThings, IsWrittenOut, is_plain, variables, actions}
 
@@ -34,27 +33,11 @@ found_after p q f h (x ∷ xs) = ap (λ b. if b then Some (f x) else find p (map
     by_test true e = refl
     by_test false e = e
 
-pub is_some-mapped : {A B : Type 0} (f : A → B) (o : Option A) → is_some (option_map f o) ≡ is_some o
-is_some-mapped f None = refl
-is_some-mapped f (Some x) = refl
-
 -- ---- files that are the same under every valuation and at every state
-same_model : (a b : Valuation → List Fault) (c d e f : Valuation → Values → Bool) (g h : Valuation → Values → List Mark)
-    (i j : Valuation → Values → List (Choice Name Fraction Values)) → a ≡ b → c ≡ d → e ≡ f → g ≡ h → i ≡ j →
-    ◌≡◌ {A = Model Valuation Fault Name Fraction Mark Values} (record { faults = a; is_state = c; is_initial = e; marks = g; choices = i })
-    (record { faults = b; is_state = d; is_initial = f; marks = h; choices = j })
-same_model a b c d e f g h i j p q r s t = cc
-
 module _ (old new : File) (scenes : (v : Valuation) → scene new v ≡ scene old v) (moments : (v : Valuation) (s : Values) → moment new v s ≡ moment old v s) where
   -- both describe one process
   pub model_alike : model new ≡ model old
-  model_alike =
-      same_model _ _ _ _ _ _ _ _ _ _
-      (fun_ext (λ v. ap instance_faults (scenes v)))
-      (fun_ext (λ v. fun_ext (λ s. ap (λ k. is_state k.columns s) (scenes v))))
-      (fun_ext (λ v. fun_ext (λ s. ap (λ k. is_initial k.columns s) (scenes v))))
-      (fun_ext (λ v. fun_ext (λ s. ap marks (moments v s))))
-      (fun_ext (λ v. fun_ext (λ s. ap (λ k. choices k s) (moments v s))))
+  model_alike = models_alike _ _ _ _ _ _ scenes (λ v s. ap marks (moments v s)) (λ v s. ap (λ k. choices k s) (moments v s))
 
   pub meaning_alike : SameMeaning old new
   meaning_alike = record {
@@ -240,7 +223,7 @@ module _ (file : File) where
     types = map-map (λ c. c.ty) (flat_constant file) file.constants;
     open_ones =
         map-map (λ c. is_some c.value) (flat_constant file) file.constants
-        ∙ map_agree _ _ (λ c. is_some-mapped (flat_expression file unchanged) c.value) file.constants;
+        ∙ map_agree _ _ (λ c. is_some-map (flat_expression file unchanged) c.value) file.constants;
     variables = variables-flat;
     modules = map-map module_name (flat_module file) file.modules;
     actions = actions-flat;

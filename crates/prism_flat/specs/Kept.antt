@@ -4,7 +4,7 @@ use Rattle.std.specs.List.{flat_map, list_all}
 use Rattle.process_core.specs.Ready.{Values, Name}
 use Rattle.prism_tree.specs.Syntax.{Module, plain, copied, File}
 use Rattle.prism_names.specs.Names.{module_name, parts}
-use Rattle.prism_flat.specs.Instance.{Valuation, is_wide_instance}
+use Rattle.process_core.specs.Instance.{Valuation, is_wide_instance}
 use Rattle.prism_flat.specs.Scene.{scene}
 use Rattle.prism_flat.specs.Moment.{action_of, moment}
 use Rattle.prism_flat.specs.Process.{model, excess, has_wide_mark}

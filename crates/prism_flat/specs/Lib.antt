@@ -1,4 +1,3 @@
-pub mod Instance
 pub mod Scene
 pub mod Moment
 pub mod Process

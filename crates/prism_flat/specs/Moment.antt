@@ -1,6 +1,6 @@
 -- A PRISM file at a state: what its commands, labels and rewards come out as (PRISM manual, "The PRISM Language":
 -- "Commands", "Updates", "Formulas and Labels", "Costs and Rewards").
-use Rattle.std.specs.Prelude.{ℕ, List, [], ◌∷◌, map, Bool, false, Option, Some, None, if◌then◌else◌, bytes_eq, get_or}
+use Rattle.std.specs.Prelude.{ℕ, List, [], ◌∷◌, map, Option, Some, None, if◌then◌else◌, bytes_eq}
 use Rattle.std.specs.List.{position_or_len}
 use Rattle.std.specs.Option.{option_map}
 use Rattle.frac_core.specs.Fraction.{unit}
@@ -14,7 +14,7 @@ use Rattle.prism_tree.specs.Syntax as syntax
 use Rattle.prism_tree.specs.declared.syntax.ItemOn.{ItemOn}
 use Rattle.prism_tree.specs.declared.syntax.ItemOn.TheVariants as On
 use Rattle.prism_names.specs.Names.{unchanged, written_name, Part, parts, see, reading_in}
-use Rattle.prism_flat.specs.Instance.{Valuation, Domain, Truths, Column, is_in}
+use Rattle.process_core.specs.Instance.{Valuation, Column, write_to}
 use Rattle.prism_flat.specs.Scene.{constant, columns_of}
 
 -- what an item of a reward structure adds to: states, or choices with this label or none
@@ -46,16 +46,6 @@ names_in file v s rename = reading_in file (λ x. known (value_in (columns_of fi
 -- the number of the variable of this name, the number of variables where there is none
 abbrev pub place_of : List Column → Name → ℕ
 place_of cs x = position_or_len (λ c. bytes_eq c.name x) cs
-
-abbrev pub domain_at : List Column → ℕ → Domain
-domain_at cs i = get_or (map (λ c. c.domain) cs) i Truths
-
-abbrev pub fits_in : Domain → Option Value → Bool
-fits_in d None = false
-fits_in d (Some v) = is_in d v
-
-abbrev pub write_to : List Column → ℕ → Seen → Write
-write_to cs i value = record { column = i; value = value; fits = fits_in (domain_at cs i) value.value }
 
 -- a missing probability is 1
 abbrev pub weight_seen : (Name → Seen) → Option Expression → Seen

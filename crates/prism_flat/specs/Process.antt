@@ -1,19 +1,18 @@
 -- The process of a PRISM file: its choices and marks at a state, and what passes a bound there (PRISM manual, "The PRISM
 -- Language": "Commands", "Synchronisation", "Costs and Rewards").
-use Rattle.std.specs.Prelude.{List, map, ◌++◌, Bool, true, false, ◌||◌, Option, Some, None}
+use Rattle.std.specs.Prelude.{List, map, ◌++◌, Bool, true, false, ◌||◌, Option}
 use Rattle.std.specs.List.{filter, list_any}
 use Rattle.frac_core.specs.Fraction.{Fraction}
-use Rattle.op_trees.specs.declared.tree.Value.{Value}
-use Rattle.op_trees.specs.declared.tree.Value.TheVariants as V
 use Rattle.process_core.specs.Process.{Choice, Model}
 use Rattle.process_core.specs.Ready.{Values, Name, Sum, Combination, same_label, of_modules}
 use Rattle.process_core.specs.Choices as core
+use Rattle.process_core.specs.Choices.{truth_of}
 use Rattle.process_core.specs.Bounds as core_bounds
 use Rattle.process_core.specs.Bounds.{Item, Excess, summed}
 use Rattle.process_core.specs.declared.data.Mark.{Mark}
 use Rattle.process_core.specs.declared.data.Mark.TheVariants as M
 use Rattle.prism_tree.specs.Syntax.{File}
-use Rattle.prism_flat.specs.Instance.{Valuation, Fault, instance_faults, is_state, is_initial}
+use Rattle.process_core.specs.Instance.{Valuation, Fault, model_of}
 use Rattle.prism_flat.specs.Scene.{scene}
 use Rattle.prism_flat.specs.Moment.{Adds, ToStates, ToChoices, Earned, Moment, moment}
 
@@ -49,11 +48,6 @@ abbrev pub excess : Moment → Option Excess
 excess k = core_bounds.excess (combinations k)
 
 -- ---- marks: the labels, then the state rewards
-abbrev pub truth_of : Option Value → Option Bool
-truth_of (Some (V.Truth b)) = Some b
-truth_of (Some (V.Number q)) = None
-truth_of None = None
-
 abbrev pub marks : Moment → List Mark
 marks k = map (λ l. M.Truth (truth_of l.value)) k.labels ++ map (λ items. M.Number (state_reward items).value) k.rewards
 
@@ -62,10 +56,4 @@ has_wide_mark k = list_any (λ l. l.wide) k.labels || list_any (λ items. (state
 
 -- ---- the process that a file describes
 abbrev pub model : File → Model Valuation Fault Name Fraction Mark Values
-model file = record {
-  faults = λ v. instance_faults (scene file v);
-  is_state = λ v s. is_state (scene file v).columns s;
-  is_initial = λ v s. is_initial (scene file v).columns s;
-  marks = λ v s. marks (moment file v s);
-  choices = λ v s. choices (moment file v s) s;
-}
+model file = model_of (scene file) (λ v s. marks (moment file v s)) (λ v s. choices (moment file v s) s)

@@ -1,6 +1,5 @@
 //! What a PRISM file means, as definitions over the trees of files: its instances, states, choices and marks. A file is
 //! written out, with no formula and no copy of a module, and means the same.
-//! What stands in `specs/Instance.antt` is plain data, without names of the language.
 #![tactic(auto)]
 
 mod bodies;

@@ -1,9 +1,10 @@
 -- One branch more, and the end.
-use Rattle.std.proofs.Common.{◌≡◌, ℕ, ◌+◌, ◌<◌, ℤ, Option, IsErrAnd, List, [], ◌∷◌, ◌++◌, map, Bool, true, false, not, cond, ◌||◌, if◌then◌else◌, Result, Ok, Err, length, slice_set, get_or, take, drop, refl, sym, ap, ap₂, subst, ◌∙◌, take-append-drop}
+use Rattle.std.proofs.Common.{◌≡◌, ℕ, ◌+◌, ◌<◌, ℤ, List, [], ◌∷◌, ◌++◌, map, Bool, true, false, not, if◌then◌else◌, Result, Ok, Err, length, slice_set, get_or, take, drop, refl, sym, ap, ap₂, ◌∙◌, take-append-drop}
 use Rattle.std.specs.List.{list_any, position_or_len, filter}
 use Rattle.std.specs.Ordering.{int_eq}
 use Rattle.std.specs.Cmp.Lexicographic.{pointwise}
 use Rattle.std.proofs.lemmas.List.{map-append, take_more}
+use Rattle.basics.specs.Members.{any-map, any_agree, filter-map}
 use Rattle.indexmap.specs.IndexSet.{insert_key}
 use Rattle.frac_core.specs.Fraction.{Fraction, nought, plus, is_wide, same_number}
 use Rattle.frac_core.specs.Sums.{total}
@@ -12,19 +13,14 @@ use Rattle.frac_core.specs.declared.fraction.FracFail.{FracFail}
 use Rattle.frac_core.specs.declared.fraction.FracFail.TheVariants as F
 use Rattle.process_core.specs.Process.{Branch}
 use Rattle.process_core.specs.Ready.{Values}
-use Rattle.process_core.specs.Bounds.{Excess}
 use Rattle.process_core.specs.Equal.{equal_states, equal_states_is}
 use Rattle.process_core.specs.Merged.{weights_to, targets_of, merged, is_merging_wide}
 use Rattle.process_core.specs.Merging.{key_of, IsSummed, AddsBranch}
-use Rattle.process_core.specs.Answers.{Answers, only_wide}
+use Rattle.process_core.specs.Answers.{FailsBy, only_wide}
 use Rattle.process_core.specs.declared.data.StepFail.{StepFail}
 use Rattle.process_core.specs.declared.data.StepFail.TheVariants.{Memory, Wide, TooMany}
-use Rattle.process_core.proofs.Targets.{any-map, place-map, entry, opened, opened_at, summed_more, targets_more, narrow_more, merging_wide, merging_narrow}
+use Rattle.process_core.proofs.Targets.{place-map, entry, opened, opened_at, summed_more, targets_more, narrow_more, merging_wide, merging_narrow}
 use Rattle.process_core.proofs.Keys.{key_test}
-
-any_agree : {A : Type 0} (p q : A → Bool) → ((x : A) → p x ≡ q x) → (xs : List A) → list_any p xs ≡ list_any q xs
-any_agree p q h [] = refl
-any_agree p q h (x ∷ xs) = ap₂ (λ a b. a || b) (h x) (any_agree p q h xs)
 
 wide_from : (x : Fraction) (f : FracFail) → narrow x ≡ Err f → is_wide x ≡ true
 wide_from x f h = by_test (is_wide x) refl h
@@ -87,23 +83,15 @@ module _ (done : List (Branch Fraction Values)) (b : Branch Fraction Values) (ke
     adds_wide f n = ap (λ (x : Branch Fraction Values). is_wide (plus x.probability b.probability)) (sym entry_there) ∙ wide_from (plus e.probability b.probability) f n
 
 -- ---- a call that failed
-pub fails_as : {X : Type 0} (P : X → Type 0) (done rest all : List (Branch Fraction Values)) (b : Branch Fraction Values) (keys more : List (List ℤ)) (sums last : List (Branch Fraction Values)) (f : StepFail) →
+pub fails_as : (done rest all : List (Branch Fraction Values)) (b : Branch Fraction Values) (keys more : List (List ℤ)) (sums last : List (Branch Fraction Values)) (f : StepFail) →
     IsSummed done keys sums → (IsSummed done keys sums → AddsBranch done b more last (Err f)) → all ≡ (done ++ b ∷ []) ++ rest →
-    Answers (only_wide (is_merging_wide equal_states all)) P (Err f)
-fails_as P done rest all b keys more sums last (Memory m) h k e = tt
-fails_as P done rest all b keys more sums last Wide h k e =
+    FailsBy (only_wide (is_merging_wide equal_states all)) f
+fails_as done rest all b keys more sums last (Memory m) h k e = tt
+fails_as done rest all b keys more sums last Wide h k e =
     ap only_wide (ap (is_merging_wide equal_states) e ∙ merging_wide equal_states equal_states_is done rest b h.narrow (k h))
-fails_as P done rest all b keys more sums last TooMany h k e = absurd (k h)
+fails_as done rest all b keys more sums last TooMany h k e = absurd (k h)
 
 -- ---- the end
-filter-map : {A B : Type 0} (p : B → Bool) (f : A → B) (xs : List A) → filter p (map f xs) ≡ map f (filter (λ x. p (f x)) xs)
-filter-map p f [] = refl
-filter-map p f (x ∷ xs) = ap (λ r. cond (p (f x)) (f x ∷ r) r) (filter-map p f xs) ∙ pulled (p (f x))
-  where
-    pulled : (b : Bool) → cond b (f x ∷ map f (filter (λ x. p (f x)) xs)) (map f (filter (λ x. p (f x)) xs)) ≡ map f (cond b (x ∷ filter (λ x. p (f x)) xs) (filter (λ x. p (f x)) xs))
-    pulled true = refl
-    pulled false = refl
-
 pub ends_narrow : (done : List (Branch Fraction Values)) (keys : List (List ℤ)) (sums : List (Branch Fraction Values)) → IsSummed done keys sums → only_wide (is_merging_wide equal_states done) ≡ only_wide false
 ends_narrow done keys sums h = ap only_wide (merging_narrow equal_states equal_states_is done h.narrow)
 
@@ -111,10 +99,6 @@ pub ends : {B : Type 0} (seen : B → Branch Fraction Values) (done : List (Bran
     kept ≡ filter (λ x. not (same_number (seen x).probability nought)) sums → map seen kept ≡ merged equal_states done
 ends seen done keys sums kept h e =
     ap (map seen) e ∙ sym (filter-map (λ b. not (same_number b.probability nought)) seen sums) ∙ ap (filter (λ b. not (same_number b.probability nought))) h.sums_are
-
-pub handed_on : {X : Type 0} (e : Option Excess) (P : X → Type 0) (f : StepFail) (r : Result X StepFail) → IsErrAnd r (λ g. g ≡ f) → Answers e P (Err f) → Answers e P r
-handed_on e P f (Ok x) h k = absurd h
-handed_on e P f (Err g) h k = subst (λ g. Answers e P (Err g)) (sym h) k
 
 -- the branches so far, this one, and the rest
 pub parted : {B : Type 0} (seen : B → Branch Fraction Values) (xs : List B) (i : ℕ) (b : B) → i < length xs → b ≡ get_or xs i b →

@@ -6,6 +6,9 @@ use Rattle.indexmap.specs.IndexSet.{insert_key}
 use Rattle.std.specs.Ordering.{int_eq}
 use Rattle.std.specs.Cmp.Lexicographic.{pointwise}
 use Rattle.std.specs.Cmp.Rules.{signed_items}
+use Rattle.basics.specs.Lists.{cons_same}
+use Rattle.basics.specs.Members.{any-map}
+use Rattle.basics.specs.Booleans.{same_test}
 use Rattle.frac_core.specs.Fraction.{Fraction, nought}
 use Rattle.frac_core.specs.Laws.{same_parts, den_pos}
 use Rattle.op_trees.specs.declared.tree.Value.{Value}
@@ -17,16 +20,13 @@ use Rattle.process_core.specs.Seen.{seen_branch}
 use Rattle.process_core.specs.Ready.{Values}
 use Rattle.process_core.specs.Equal.{equal_states, equal_states_is}
 use Rattle.process_core.specs.Merging.{parts_of, key_of}
-use Rattle.process_core.proofs.Targets.{by_truth, any-map, place-map}
+use Rattle.process_core.proofs.Targets.{place-map}
 
 no_zero : (x : Fraction) → pos x.den ≡ pos 0 → ⊥
 no_zero x h = let e : x.den ≡ 0 = cc in let p = den_pos x in omega arith
 
 heads : {a b c d : ℤ} {xs ys : List ℤ} → ◌≡◌ {A = List ℤ} (a ∷ b ∷ xs) (c ∷ d ∷ ys) → (a ≡ c) × (b ≡ d) × (xs ≡ ys)
 heads h = (cc, cc, cc)
-
-cons_same : (v w : Value) (s t : Values) → v ≡ w → s ≡ t → ◌≡◌ {A = Values} (v ∷ s) (w ∷ t)
-cons_same v w s t e f = cc
 
 key_one : (v w : Value) (s t : Values) → parts_of v ++ key_of s ≡ parts_of w ++ key_of t → (v ≡ w) × (key_of s ≡ key_of t)
 key_one (V.Truth true) (V.Truth true) s t h = (refl, (heads h).2)
@@ -53,7 +53,7 @@ key_same (v ∷ s) (w ∷ t) h = let e = key_one v w s t h in cons_same v w s t 
 
 pub key_test : (s t : Values) → pointwise int_eq (key_of s) (key_of t) ≡ equal_states s t
 key_test s t =
-    by_truth (pointwise int_eq (key_of s) (key_of t)) (equal_states s t)
+    same_test (pointwise int_eq (key_of s) (key_of t)) (equal_states s t)
     (λ h. (equal_states_is s t).1 (key_same s t ((signed_items (key_of s) (key_of t)).0 h)))
     (λ h. (signed_items (key_of s) (key_of t)).1 (ap key_of ((equal_states_is s t).0 h)))
 

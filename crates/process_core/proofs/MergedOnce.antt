@@ -2,7 +2,8 @@
 use Rattle.std.proofs.Common.{◌≡◌, ◌≤◌, List, [], ◌∷◌, map, Bool, true, false, not, ◌||◌, cond, length, get_or, refl, sym, ap, ◌∙◌, arith}
 use Rattle.std.specs.List.{filter, list_any, All}
 use Rattle.std.proofs.lemmas.List.{length-map}
-use Rattle.std.proofs.lemmas.List.Elements.{All-nil, All-cons, All-head, All-tail, All-filter}
+use Rattle.std.proofs.lemmas.List.Elements.{All-nil, All-cons, All-head, All-tail, All-filter, filter_passes}
+use Rattle.std.proofs.lemmas.Bool.{not-true}
 use Rattle.frac_core.specs.Fraction.{Fraction, nought, plus, same_number}
 use Rattle.frac_core.specs.Laws.{plus_nought, nought_plus, same_number_is}
 use Rattle.frac_core.specs.Sums.{total}
@@ -11,7 +12,7 @@ use Rattle.process_core.specs.Ready.{Values}
 use Rattle.process_core.specs.Equal.{IsEquality}
 use Rattle.process_core.specs.Merged.{weights_to, targets_of, branches_to, summed_up, merged}
 use Rattle.process_core.specs.Laws.{IsMerged}
-use Rattle.process_core.proofs.Targets.{Distinct, firsts_distinct, filter_passes, not_true, none_yet}
+use Rattle.process_core.proofs.Targets.{Distinct, firsts_distinct, none_yet}
 
 module _ {S : Type 0} (same : S → S → Bool) (eq : IsEquality same) where
   -- ---- one branch to each of several targets
@@ -112,4 +113,4 @@ merged_each same bs =
     let nonzero = λ (b : Branch Fraction Values). not (same_number b.probability nought) in
     let passes = filter_passes nonzero (summed_up same bs) in
     let bare = All-filter nonzero (λ b. b.rewards ≡ []) (summed_up same bs) (all_bare (λ t. total (weights_to same t bs)) (targets_of same bs)) in
-    λ k d l. (not_true (same_number (get_or (merged same bs) k d).probability nought) (passes k d l), bare k d l)
+    λ k d l. (not-true (same_number (get_or (merged same bs) k d).probability nought) (passes k d l), bare k d l)

@@ -1,9 +1,12 @@
 -- How the sums for each target grow branch by branch.
-use Rattle.std.proofs.Common.{◌≡◌, ℕ, ◌+◌, ◌<◌, List, [], ◌∷◌, ◌++◌, map, Bool, true, false, not, ◌||◌, cond, if◌then◌else◌, length, slice_set, get_or, refl, sym, ap, ap₂, ◌∙◌, arith, suc, append_assoc, append-nil, subst}
+use Rattle.std.proofs.Common.{◌≡◌, ℕ, ◌+◌, List, [], ◌∷◌, ◌++◌, map, Bool, true, false, not, ◌||◌, cond, if◌then◌else◌, slice_set, get_or, refl, sym, ap, ap₂, ◌∙◌, arith, suc, append_assoc, append-nil, subst}
 use Rattle.std.specs.List.{filter, list_any, position_or_len, All}
 use Rattle.std.proofs.lemmas.List.{map-append}
-use Rattle.std.proofs.lemmas.List.Elements.{filter-append, All-nil, All-cons, All-head, All-tail, All-filter}
+use Rattle.std.proofs.lemmas.List.Elements.{filter-append, All-cons, All-head, All-tail, All-filter, filter_passes}
 use Rattle.std.proofs.lemmas.List.Folds.{list_any-append}
+use Rattle.std.proofs.lemmas.Bool.{not-true, not_from_false}
+use Rattle.basics.specs.Members.{filter_none, any-map}
+use Rattle.basics.specs.Booleans.{same_test}
 use Rattle.frac_core.specs.Fraction.{Fraction, nought, plus, is_wide}
 use Rattle.frac_core.specs.Laws.{plus_assoc, plus_nought, nought_plus}
 use Rattle.frac_core.specs.Sums.{total, total-append}
@@ -14,11 +17,6 @@ use Rattle.process_core.specs.Equal.{IsEquality}
 use Rattle.process_core.specs.Merged.{weights_to, targets_of, branches_to, summed_up, is_merging_wide}
 
 -- ---- tests
-pub by_truth : (a b : Bool) → (a ≡ true → b ≡ true) → (b ≡ true → a ≡ true) → a ≡ b
-by_truth true b h k = sym (h refl)
-by_truth false true h k = k refl
-by_truth false false h k = refl
-
 or_kept : (a b c d : Bool) → (a ≡ true → b ≡ true) → c ≡ d → (cond b (a || c) c) ≡ (a || d)
 or_kept true true c d h e = refl
 or_kept true false c d h e = absurd (let t = h refl in cc)
@@ -37,36 +35,9 @@ cond_nil : {X : Type 0} (b : Bool) (x : X) (xs : List X) → b ≡ false → xs 
 cond_nil true x xs h e = absurd cc
 cond_nil false x xs h e = e
 
-or_first : (a b : Bool) → (a || b) ≡ false → a ≡ false
-or_first true b h = h
-or_first false b h = refl
-
-or_second : (a b : Bool) → (a || b) ≡ false → b ≡ false
-or_second true b h = cc
-or_second false b h = h
-
-filter_none : {X : Type 0} (p : X → Bool) (xs : List X) → list_any p xs ≡ false → filter p xs ≡ []
-filter_none p [] h = refl
-filter_none p (x ∷ xs) h = cond_nil (p x) x (filter p xs) (or_first (p x) _ h) (filter_none p xs (or_second (p x) _ h))
-
-pub any-map : {A B : Type 0} (p : B → Bool) (f : A → B) (xs : List A) → list_any p (map f xs) ≡ list_any (λ x. p (f x)) xs
-any-map p f [] = refl
-any-map p f (x ∷ xs) = ap (λ b. p (f x) || b) (any-map p f xs)
-
 passes_cond : {X : Type 0} (q : X → Bool) (b : Bool) (x : X) (xs : List X) → b ≡ q x → All (λ y. q y ≡ true) xs → All (λ y. q y ≡ true) (cond b (x ∷ xs) xs)
 passes_cond q true x xs e h = All-cons (λ y. q y ≡ true) x xs (sym e) h
 passes_cond q false x xs e h = h
-
-pub filter_passes : {X : Type 0} (q : X → Bool) (xs : List X) → All (λ y. q y ≡ true) (filter q xs)
-filter_passes q [] = All-nil (λ y. q y ≡ true)
-filter_passes q (x ∷ xs) = passes_cond q (q x) x (filter q xs) refl (filter_passes q xs)
-
-pub not_true : (b : Bool) → not b ≡ true → b ≡ false
-not_true true h = sym h
-not_true false h = refl
-
-not_from_false : (b : Bool) → b ≡ false → not b ≡ true
-not_from_false b h = ap not h
 
 pub place-map : {X Y : Type 0} (p : X → Bool) (q : Y → Bool) (f : X → Y) → ((x : X) → q (f x) ≡ p x) → (xs : List X) → position_or_len q (map f xs) ≡ position_or_len p xs
 place-map p q f h [] = refl
@@ -90,7 +61,7 @@ module _ {S : Type 0} (same : S → S → Bool) (eq : IsEquality same) where
   same_self x = (eq x x).1 refl
 
   same_turned : (x y : S) → same x y ≡ same y x
-  same_turned x y = by_truth (same x y) (same y x) (λ h. (eq y x).1 (sym ((eq x y).0 h))) (λ h. (eq x y).1 (sym ((eq y x).0 h)))
+  same_turned x y = same_test (same x y) (same y x) (λ h. (eq y x).1 (sym ((eq x y).0 h))) (λ h. (eq x y).1 (sym ((eq y x).0 h)))
 
   other_than : (x y z : S) → same x y ≡ false → same x z ≡ true → not (same y z) ≡ true
   other_than x y z h k = not_from_false (same y z) (ap (same y) (sym ((eq x z).0 k)) ∙ same_turned y x ∙ h)
@@ -108,7 +79,7 @@ module _ {S : Type 0} (same : S → S → Bool) (eq : IsEquality same) where
   distinct-filter q (x ∷ xs) h = distinct_cond q (q x) x (filter q xs) (All-filter q (λ y. same x y ≡ false) xs h.0) (distinct-filter q xs h.1)
 
   all_not : (x : S) (xs : List S) → All (λ y. not (same x y) ≡ true) xs → All (λ y. same x y ≡ false) xs
-  all_not x xs h k d l = not_true (same x (get_or xs k d)) (h k d l)
+  all_not x xs h k d l = not-true (same x (get_or xs k d)) (h k d l)
 
   pub firsts_distinct : (xs : List S) → Distinct (firsts same xs)
   firsts_distinct [] = tt
@@ -216,15 +187,6 @@ module _ {S : Type 0} (same : S → S → Bool) (eq : IsEquality same) where
   found f t e (u ∷ us) k = found_at f t e u us (found f t e us) (same t u) refl k
 
   -- ---- places
-  place_below_at : {X : Type 0} (p : X → Bool) (xs : List X) → (list_any p xs ≡ true → position_or_len p xs < length xs) → (b : Bool) → (b || list_any p xs) ≡ true →
-      cond (not b) (1 + position_or_len p xs) 0 < suc (length xs)
-  place_below_at p xs ih true k = omega arith
-  place_below_at p xs ih false k = let l = ih k in omega arith
-
-  pub place_below : {X : Type 0} (p : X → Bool) (xs : List X) → list_any p xs ≡ true → position_or_len p xs < length xs
-  place_below p [] k = absurd cc
-  place_below p (x ∷ xs) k = place_below_at p xs (place_below p xs) (p x) k
-
   place_new : {X : Type 0} (p : X → Bool) (xs : List X) (y : X) → p y ≡ true → position_or_len p (xs ++ y ∷ []) ≡ position_or_len p xs
   place_new p [] y h = ap (λ b. cond (not b) (1 + 0) 0) h
   place_new p (x ∷ xs) y h = ap (λ n. cond (not (p x)) (1 + n) 0) (place_new p xs y h)
@@ -244,9 +206,6 @@ module _ {S : Type 0} (same : S → S → Bool) (eq : IsEquality same) where
       by_test false e = list_any-append (same t) ts (t ∷ []) ∙ ap₂ (λ a b. a || (b || false)) (sym e) (same_self t)
 
   -- ---- one branch more
-  more_if : (b : Bool) (x : Fraction) → List Fraction
-  more_if b x = cond b (x ∷ []) []
-
   weight_if : (b : Bool) (c : Branch Fraction S) → map (λ b. b.probability) (cond b (c ∷ []) []) ≡ cond b (c.probability ∷ []) []
   weight_if true c = refl
   weight_if false c = refl

@@ -27,6 +27,11 @@ number_of (Some (V.Number q)) = Some q
 number_of (Some (V.Truth b)) = None
 number_of None = None
 
+abbrev pub truth_of : Option Value → Option Bool
+truth_of (Some (V.Truth b)) = Some b
+truth_of (Some (V.Number q)) = None
+truth_of None = None
+
 -- all of them, where all are defined
 abbrev pub with_first : {X : Type 0} → Option X → Option (List X) → Option (List X)
 with_first (Some x) (Some xs) = Some (x ∷ xs)

@@ -5,6 +5,9 @@ use Rattle.std.specs.List.{list_any, flat_map, All}
 use Rattle.std.proofs.Common.{refl, sym, ap, ap₂, subst, ◌∙◌, arith}
 use Rattle.std.proofs.lemmas.Int.{ints}
 use Rattle.std.proofs.lemmas.List.Elements.{All-cons, All-nil, All-head, All-tail, All-append, All-map, All-weaker}
+use Rattle.std.proofs.lemmas.Bool.{not-false}
+use Rattle.basics.specs.Members.{none_passes, All-unmap}
+use Rattle.basics.specs.Booleans.{first_false, second_false}
 use Rattle.frac_core.specs.Fraction.{Fraction, nought, unit, plus, times}
 use Rattle.frac_core.specs.Laws.{plus_nought, times_comm, times_unit, times_nought, times-plus, same_number_is, zero_times}
 use Rattle.frac_core.specs.Order.{AtMost, times_AtMost, one_times}
@@ -34,24 +37,6 @@ pub record KeepsStates (is_state : Values → Bool) (w : Write) : Type 0 where
 
 abbrev pub KeepsAll : (Values → Bool) → Ready → Type 0
 KeepsAll is_state r = All (λ u. All (KeepsStates is_state) u.writes) r.updates
-
--- ---- tests
-or_first : (a b : Bool) → (a || b) ≡ false → a ≡ false
-or_first true b h = h
-or_first false b h = refl
-
-or_second : (a b : Bool) → (a || b) ≡ false → b ≡ false
-or_second true b h = cc
-or_second false b h = h
-
-not_false : (b : Bool) → not b ≡ false → b ≡ true
-not_false true h = refl
-not_false false h = cc
-
-none_passes : {X : Type 0} (p : X → Bool) (xs : List X) → list_any p xs ≡ false → All (λ x. p x ≡ false) xs
-none_passes p [] h = All-nil (λ x. p x ≡ false)
-none_passes p (x ∷ xs) h =
-    All-cons (λ x. p x ≡ false) x xs (or_first (p x) (list_any p xs) h) (none_passes p xs (or_second (p x) (list_any p xs) h))
 
 -- ---- sums of products
 plus-times : (x y z : Fraction) → times (plus x y) z ≡ plus (times x z) (times y z)
@@ -104,25 +89,21 @@ defined_weight (Some x) xs h = refl
 weights_defined : (us : List Update) → list_any has_undef us ≡ false → weights_of us ≡ Some (map weight_of us)
 weights_defined [] h = refl
 weights_defined (u ∷ us) h =
-    ap (with_first (number_of u.weight.value)) (weights_defined us (or_second (has_undef u) (list_any has_undef us) h))
-    ∙ defined_weight (number_of u.weight.value) _ (or_first (is_none (number_of u.weight.value)) _ (or_first (has_undef u) (list_any has_undef us) h))
+    ap (with_first (number_of u.weight.value)) (weights_defined us (second_false (has_undef u) (list_any has_undef us) h))
+    ∙ defined_weight (number_of u.weight.value) _ (first_false (is_none (number_of u.weight.value)) _ (first_false (has_undef u) (list_any has_undef us) h))
 
 weighs_right : (us : List Update) → list_any has_undef us ≡ false → weighs_wrong (weights_of us) ≡ false → weighs_wrong (Some (map weight_of us)) ≡ false
 weighs_right us h k = ap weighs_wrong (sym (weights_defined us h)) ∙ k
 
 participant_whole : (us : List Update) → list_any has_undef us ≡ false → weighs_wrong (weights_of us) ≡ false → total (map weight_of us) ≡ unit
 participant_whole us h k =
-    (same_number_is (total (map weight_of us)) unit).0 (not_false _ (or_second (list_any is_negative (map weight_of us)) _ (weighs_right us h k)))
-
-from_map : {X Y : Type 0} (P : Y → Type 0) (f : X → Y) (xs : List X) → All P (map f xs) → All (λ x. P (f x)) xs
-from_map P f [] h = All-nil (λ x. P (f x))
-from_map P f (x ∷ xs) h = All-cons (λ x. P (f x)) x xs (All-head P (f x) (map f xs) h) (from_map P f xs (All-tail P (f x) (map f xs) h))
+    (same_number_is (total (map weight_of us)) unit).0 (not-false _ (second_false (list_any is_negative (map weight_of us)) _ (weighs_right us h k)))
 
 participant_not_negative : (us : List Update) → list_any has_undef us ≡ false → weighs_wrong (weights_of us) ≡ false → All (λ u. AtMost nought (weight_of u)) us
 participant_not_negative us h k =
-    from_map (AtMost nought) weight_of us
+    All-unmap (AtMost nought) weight_of us
     (All-weaker (λ x. is_negative x ≡ false) (AtMost nought) at_most_from_test (map weight_of us)
-    (none_passes is_negative (map weight_of us) (or_first (list_any is_negative (map weight_of us)) _ (weighs_right us h k))))
+    (none_passes is_negative (map weight_of us) (first_false (list_any is_negative (map weight_of us)) _ (weighs_right us h k))))
 
 -- ---- a combination without faults
 -- each participant of a combination without kinds
@@ -136,16 +117,16 @@ faultless : (rs : List Ready) → list_any (λ r. list_any has_undef r.updates) 
 faultless [] h k l = All-nil IsFaultless
 faultless (r ∷ rs) h k l =
     All-cons IsFaultless r rs
-    (record { defined = or_first (list_any has_undef r.updates) _ h; within = or_first (list_any has_outside r.updates) _ k; weighs = or_first (weighs_wrong (weights_of r.updates)) _ l })
-    (faultless rs (or_second (list_any has_undef r.updates) _ h) (or_second (list_any has_outside r.updates) _ k) (or_second (weighs_wrong (weights_of r.updates)) _ l))
+    (record { defined = first_false (list_any has_undef r.updates) _ h; within = first_false (list_any has_outside r.updates) _ k; weighs = first_false (weighs_wrong (weights_of r.updates)) _ l })
+    (faultless rs (second_false (list_any has_undef r.updates) _ h) (second_false (list_any has_outside r.updates) _ k) (second_false (weighs_wrong (weights_of r.updates)) _ l))
 
 pub faultless_participants : (c : Combination) → has_kind (kinds_of c.rewards c.participants) ≡ false → All IsFaultless c.participants
 faultless_participants c h =
     let k = kinds_of c.rewards c.participants in
-    let rest = or_second k.undef (k.range || k.weight) h in
+    let rest = second_false k.undef (k.range || k.weight) h in
     faultless c.participants
-    (or_first (list_any (λ r. list_any has_undef r.updates) c.participants) _ (or_first k.undef (k.range || k.weight) h))
-    (or_first k.range k.weight rest) (or_second k.range k.weight rest)
+    (first_false (list_any (λ r. list_any has_undef r.updates) c.participants) _ (first_false k.undef (k.range || k.weight) h))
+    (first_false k.range k.weight rest) (second_false k.range k.weight rest)
 
 all_whole : (rs : List Ready) → All IsFaultless rs → All (λ x. x ≡ unit) (map total (map (map weight_of) (map (λ r. r.updates) rs)))
 all_whole [] h = All-nil (λ x. x ≡ unit)
@@ -187,7 +168,7 @@ stays_state : (is_state : Values → Bool) (s : Values) (w : Write) (o : Option 
     IsTrue (is_state (slice_set s w.column (unwrap_or o (V.Truth false))))
 stays_state is_state s w None e h k = absurd (let t = ap is_none e ∙ h.defined in cc)
 stays_state is_state s w (Some v) e h k =
-    h.keeps.keeps s v k (sym e) (not_false w.fits (and_first (is_some w.value.value) (not w.fits) h.within (sym (ap is_some e))))
+    h.keeps.keeps s v k (sym e) (not-false w.fits (and_first (is_some w.value.value) (not w.fits) h.within (sym (ap is_some e))))
 
 written_state : (is_state : Values → Bool) (s : Values) (ws : List Write) → All (IsSafe is_state) ws → IsTrue (is_state s) → IsTrue (is_state (written s ws))
 written_state is_state s [] h k = k
@@ -200,18 +181,18 @@ safe_writes : (is_state : Values → Bool) (ws : List Write) → All (KeepsState
 safe_writes is_state [] h k l = All-nil (IsSafe is_state)
 safe_writes is_state (w ∷ ws) h k l =
     All-cons (IsSafe is_state) w ws
-    (record { keeps = All-head (KeepsStates is_state) w ws h; defined = or_first (is_none w.value.value) _ k; within = or_first (is_some w.value.value && not w.fits) _ l })
-    (safe_writes is_state ws (All-tail (KeepsStates is_state) w ws h) (or_second (is_none w.value.value) _ k) (or_second (is_some w.value.value && not w.fits) _ l))
+    (record { keeps = All-head (KeepsStates is_state) w ws h; defined = first_false (is_none w.value.value) _ k; within = first_false (is_some w.value.value && not w.fits) _ l })
+    (safe_writes is_state ws (All-tail (KeepsStates is_state) w ws h) (second_false (is_none w.value.value) _ k) (second_false (is_some w.value.value && not w.fits) _ l))
 
 safe_updates : (is_state : Values → Bool) (us : List Update) → All (λ u. All (KeepsStates is_state) u.writes) us → list_any has_undef us ≡ false → list_any has_outside us ≡ false →
     All (λ u. All (IsSafe is_state) u.writes) us
 safe_updates is_state [] h k l = All-nil (λ u. All (IsSafe is_state) u.writes)
 safe_updates is_state (u ∷ us) h k l =
-    let no_undef = or_second (is_none (number_of u.weight.value)) _ (or_first (has_undef u) (list_any has_undef us) k) in
+    let no_undef = second_false (is_none (number_of u.weight.value)) _ (first_false (has_undef u) (list_any has_undef us) k) in
     All-cons (λ u. All (IsSafe is_state) u.writes) u us
     (safe_writes is_state u.writes (All-head (λ u. All (KeepsStates is_state) u.writes) u us h)
-    (or_first (list_any (λ w. is_none w.value.value) u.writes) _ no_undef) (or_first (has_outside u) (list_any has_outside us) l))
-    (safe_updates is_state us (All-tail (λ u. All (KeepsStates is_state) u.writes) u us h) (or_second (has_undef u) _ k) (or_second (has_outside u) _ l))
+    (first_false (list_any (λ w. is_none w.value.value) u.writes) _ no_undef) (first_false (has_outside u) (list_any has_outside us) l))
+    (safe_updates is_state us (All-tail (λ u. All (KeepsStates is_state) u.writes) u us h) (second_false (has_undef u) _ k) (second_false (has_outside u) _ l))
 
 safe_participants : (is_state : Values → Bool) (rs : List Ready) → All (KeepsAll is_state) rs → All IsFaultless rs → All (λ r. All (λ u. All (IsSafe is_state) u.writes) r.updates) rs
 safe_participants is_state [] h k = All-nil (λ r. All (λ u. All (IsSafe is_state) u.writes) r.updates)

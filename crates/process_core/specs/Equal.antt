@@ -2,6 +2,8 @@
 use Rattle.std.specs.Prelude.{◌≡◌, ◌↔◌, List, Bool, true, false, ◌&&◌, IsTrue, Option, Some, None}
 use Rattle.std.specs.Cmp.Lexicographic.{pointwise, pointwise_decides, bytes_decides}
 use Rattle.std.proofs.Common.{refl, sym, ap, ◌∙◌}
+use Rattle.std.proofs.lemmas.Bool.{and_from}
+use Rattle.basics.specs.Booleans.{first_true, second_true}
 use Rattle.frac_core.specs.Fraction.{Fraction, same_number}
 use Rattle.frac_core.specs.Laws.{same_number_is}
 use Rattle.op_trees.specs.declared.tree.Value.{Value}
@@ -48,18 +50,6 @@ equal_choices a b = same_label a.label b.label && equal_outcomes a.outcome b.out
 abbrev pub IsEquality : {X : Type 0} → (X → X → Bool) → Type 0
 IsEquality {X} same = (x y : X) → IsTrue (same x y) ↔ (x ≡ y)
 
-and_left : (a b : Bool) → (a && b) ≡ true → a ≡ true
-and_left true b h = refl
-and_left false b h = h
-
-and_right : (a b : Bool) → (a && b) ≡ true → b ≡ true
-and_right true b h = h
-and_right false b h = cc
-
-and_both : (a b : Bool) → a ≡ true → b ≡ true → (a && b) ≡ true
-and_both true b h k = k
-and_both false b h k = h
-
 truths_self : (a : Bool) → equal_truths a a ≡ true
 truths_self true = refl
 truths_self false = refl
@@ -85,13 +75,13 @@ same_branch x y s t rs qs p q r = cc
 pub equal_branches_is : IsEquality equal_branches
 equal_branches_is a b = (
   λ h.
-      let rest = and_right (same_number a.weight b.weight) _ h in
-      same_branch a.weight b.weight a.target.values b.target.values a.rewards b.rewards ((same_number_is a.weight b.weight).0 (and_left (same_number a.weight b.weight) _ h))
-      ((equal_states_is a.target.values b.target.values).0 (and_left (equal_states a.target.values b.target.values) _ rest))
-      ((pointwise_decides same_number_is a.rewards b.rewards).0 (and_right (equal_states a.target.values b.target.values) _ rest)),
+      let rest = second_true (same_number a.weight b.weight) _ h in
+      same_branch a.weight b.weight a.target.values b.target.values a.rewards b.rewards ((same_number_is a.weight b.weight).0 (first_true (same_number a.weight b.weight) _ h))
+      ((equal_states_is a.target.values b.target.values).0 (first_true (equal_states a.target.values b.target.values) _ rest))
+      ((pointwise_decides same_number_is a.rewards b.rewards).0 (second_true (equal_states a.target.values b.target.values) _ rest)),
   λ e.
-      and_both (same_number a.weight b.weight) _ ((same_number_is a.weight b.weight).1 (ap (λ (c : Branch). c.weight) e))
-      (and_both (equal_states a.target.values b.target.values) _ ((equal_states_is a.target.values b.target.values).1 (ap (λ (c : Branch). c.target.values) e))
+      and_from (same_number a.weight b.weight) _ ((same_number_is a.weight b.weight).1 (ap (λ (c : Branch). c.weight) e))
+      (and_from (equal_states a.target.values b.target.values) _ ((equal_states_is a.target.values b.target.values).1 (ap (λ (c : Branch). c.target.values) e))
       ((pointwise_decides same_number_is a.rewards b.rewards).1 (ap (λ (c : Branch). c.rewards) e))),
 )
 
@@ -101,10 +91,10 @@ same_kinds a b c d e f p q r = cc
 pub equal_kinds_is : IsEquality equal_kinds
 equal_kinds_is a b = (
   λ h.
-      let rest = and_right (equal_truths a.undef b.undef) _ h in
-      same_kinds a.undef b.undef a.range b.range a.weight b.weight (truths_same a.undef b.undef (and_left (equal_truths a.undef b.undef) _ h))
-      (truths_same a.range b.range (and_left (equal_truths a.range b.range) _ rest)) (truths_same a.weight b.weight (and_right (equal_truths a.range b.range) _ rest)),
-  λ e. ap (equal_kinds a) (sym e) ∙ and_both (equal_truths a.undef a.undef) _ (truths_self a.undef) (and_both (equal_truths a.range a.range) _ (truths_self a.range) (truths_self a.weight)),
+      let rest = second_true (equal_truths a.undef b.undef) _ h in
+      same_kinds a.undef b.undef a.range b.range a.weight b.weight (truths_same a.undef b.undef (first_true (equal_truths a.undef b.undef) _ h))
+      (truths_same a.range b.range (first_true (equal_truths a.range b.range) _ rest)) (truths_same a.weight b.weight (second_true (equal_truths a.range b.range) _ rest)),
+  λ e. ap (equal_kinds a) (sym e) ∙ and_from (equal_truths a.undef a.undef) _ (truths_self a.undef) (and_from (equal_truths a.range a.range) _ (truths_self a.range) (truths_self a.weight)),
 )
 
 pub equal_outcomes_is : IsEquality equal_outcomes
@@ -128,10 +118,10 @@ same_choice l m o q e f = cc
 pub equal_choices_is : IsEquality equal_choices
 equal_choices_is a b = (
   λ h.
-      same_choice a.label b.label a.outcome b.outcome ((same_label_is a.label b.label).0 (and_left (same_label a.label b.label) _ h))
-      ((equal_outcomes_is a.outcome b.outcome).0 (and_right (same_label a.label b.label) _ h)),
+      same_choice a.label b.label a.outcome b.outcome ((same_label_is a.label b.label).0 (first_true (same_label a.label b.label) _ h))
+      ((equal_outcomes_is a.outcome b.outcome).0 (second_true (same_label a.label b.label) _ h)),
   λ e.
-      and_both (same_label a.label b.label) _ ((same_label_is a.label b.label).1 (ap (λ (c : Choice). c.label) e))
+      and_from (same_label a.label b.label) _ ((same_label_is a.label b.label).1 (ap (λ (c : Choice). c.label) e))
       ((equal_outcomes_is a.outcome b.outcome).1 (ap (λ (c : Choice). c.outcome) e)),
 )
 

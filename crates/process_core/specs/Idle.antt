@@ -1,12 +1,13 @@
 -- A further participant that changes nothing but rewards, as a monitor is: where it assigns the rewards that the
 -- combination has by itself, the choice stays the same.
-use Rattle.std.specs.Prelude.{◌≡◌, List, [], ◌∷◌, ◌++◌, map, Bool, true, false, not, ◌||◌, Option, Some, None, is_none, if◌then◌else◌, slice_index_or}
+use Rattle.std.specs.Prelude.{◌≡◌, List, [], ◌∷◌, ◌++◌, map, Bool, true, false, not, ◌||◌, Option, Some, None, is_none, if◌then◌else◌}
 use Rattle.std.specs.List.{flat_map, list_any, All}
 use Rattle.std.proofs.Common.{refl, sym, ap, ap₂, ◌∙◌, append-nil}
 use Rattle.std.proofs.lemmas.List.{map-append}
-use Rattle.std.proofs.lemmas.List.Folds.{list_any-append}
 use Rattle.std.proofs.lemmas.List.Concat.{flat_map-append}
 use Rattle.std.proofs.lemmas.List.Elements.{All-head, All-tail, All-map, All-weaker}
+use Rattle.std.proofs.Math.Bool.{or-false, or_assoc}
+use Rattle.basics.specs.Members.{any_push, all_each}
 use Rattle.frac_core.specs.Fraction.{Fraction, nought, unit, times, plus}
 use Rattle.frac_core.specs.Laws.{plus_nought, times_unit, same_number_is}
 use Rattle.frac_core.specs.Sums.{product}
@@ -40,19 +41,8 @@ product_end : (xs : List Fraction) → product (xs ++ unit ∷ []) ≡ product x
 product_end [] = times_unit unit
 product_end (x ∷ xs) = ap (times x) (product_end xs)
 
-or_false : (b : Bool) → (b || false) ≡ b
-or_false true = refl
-or_false false = refl
-
-or_assoc : (a b c : Bool) → ((a || b) || c) ≡ (a || (b || c))
-or_assoc true b c = refl
-or_assoc false b c = refl
-
-any_end : (p : Ready → Bool) (rs : List Ready) (r : Ready) → list_any p (rs ++ r ∷ []) ≡ (list_any p rs || p r)
-any_end p rs r = list_any-append p rs (r ∷ []) ∙ ap (λ b. list_any p rs || b) (or_false (p r))
-
 any_end_no : (p : Ready → Bool) (rs : List Ready) (r : Ready) → p r ≡ false → list_any p (rs ++ r ∷ []) ≡ list_any p rs
-any_end_no p rs r h = any_end p rs r ∙ ap (λ b. list_any p rs || b) h ∙ or_false (list_any p rs)
+any_end_no p rs r h = any_push p rs r ∙ ap (λ b. list_any p rs || b) h ∙ or-false (list_any p rs)
 
 guard_end : (rs : List Ready) (a : Option Name) (rewards : List Reward) → guard_of (rs ++ idle a rewards ∷ []) ≡ guard_of rs
 guard_end rs a rewards =
@@ -70,7 +60,7 @@ kinds_end c own a rewards h =
     let some = list_any (λ r. list_any has_undef r.updates) c.participants in
     let assigns = list_any (λ r. is_none (number_of r.value.value)) rewards in
     same_kinds _ _ _ _ _ _
-    (ap (λ b. b || list_any (λ m. is_none m.value) own) (any_end (λ r. list_any has_undef r.updates) c.participants (idle a rewards) ∙ ap (λ b. some || b) (or_false assigns))
+    (ap (λ b. b || list_any (λ m. is_none m.value) own) (any_push (λ r. list_any has_undef r.updates) c.participants (idle a rewards) ∙ ap (λ b. some || b) (or-false assigns))
     ∙ or_assoc some assigns (list_any (λ m. is_none m.value) own) ∙ ap (λ b. some || b) h.undef)
     (any_end_no (λ r. list_any has_outside r.updates) c.participants (idle a rewards) refl)
     (any_end_no (λ r. weighs_wrong (weights_of r.updates)) c.participants (idle a rewards) weighs_one)
@@ -106,14 +96,11 @@ choice_joined s c own a rewards h =
     ap₂ (λ g k. choice_from g c.label (outcome_of k (map (branch_of s own) (ways (c.participants ++ idle a rewards ∷ []))))) (guard_end c.participants a rewards) (kinds_end c own a rewards h)
     ∙ ap (λ bs. choice_from (guard_of c.participants) c.label (outcome_of (kinds_of c.rewards c.participants) bs)) (branches_end s c own a rewards h)
 
-each : {X : Type 0} (P : X → Type 0) → ((x : X) → P x) → (xs : List X) → All P xs
-each P h xs k d l = h (slice_index_or xs k d)
-
 -- one that does nothing at all changes nothing
 pub choice_idle : (s : Values) (c : Combination) (a : Option Name) → choice_of s (joined_by c c.rewards (idle a [])) ≡ choice_of s c
 choice_idle s c a = choice_joined s c c.rewards a [] (record {
   same =
-      each (λ us. assigned (own_rewards c.rewards) (flat_map (λ u. u.rewards) us ++ []) ≡ assigned (own_rewards c.rewards) (flat_map (λ u. u.rewards) us))
+      all_each (λ us. assigned (own_rewards c.rewards) (flat_map (λ u. u.rewards) us ++ []) ≡ assigned (own_rewards c.rewards) (flat_map (λ u. u.rewards) us))
       (λ us. ap (assigned (own_rewards c.rewards)) (append-nil (flat_map (λ u. u.rewards) us))) (ways c.participants);
   undef = refl;
 })

@@ -15,5 +15,6 @@ pub mod Counts
 pub mod Merged
 pub mod Merging
 pub mod Answers
+pub mod Instance
 pub mod Steps
 pub mod Laws

@@ -7,6 +7,7 @@ use Rattle.std.proofs.lemmas.List.{map-append, length-map}
 use Rattle.std.proofs.lemmas.List.Folds.{flat_map-map}
 use Rattle.std.proofs.lemmas.List.Concat.{flat_map-append, flat_map_single}
 use Rattle.std.proofs.lemmas.List.Elements.{All-nil, All-cons, All-head, All-tail, All-append}
+use Rattle.basics.specs.Lists.{map_agree}
 use Rattle.process_core.specs.Zip.{AllZip-flat_map, AllZip-maps}
 
 abbrev pub one_of_each : {X : Type 0} → List (List X) → List (List X)
@@ -22,10 +23,6 @@ multiplied (n ∷ ns) = n * multiplied ns
 pub map-map : {A B C : Type 0} (g : B → C) (f : A → B) (xs : List A) → map g (map f xs) ≡ map (λ x. g (f x)) xs
 map-map g f [] = refl
 map-map g f (x ∷ xs) = ap (λ r. g (f x) ∷ r) (map-map g f xs)
-
-pub map_agree : {A B : Type 0} (f g : A → B) → ((x : A) → f x ≡ g x) → (xs : List A) → map f xs ≡ map g xs
-map_agree f g h [] = refl
-map_agree f g h (x ∷ xs) = ap₂ (λ a b. a ∷ b) (h x) (map_agree f g h xs)
 
 pub map_agree_in : {A B : Type 0} (f g : A → B) (xs : List A) → All (λ x. f x ≡ g x) xs → map f xs ≡ map g xs
 map_agree_in f g [] h = refl

@@ -1,16 +1,25 @@
 // What is seen of a process at a state: states, branches, choices and marks.
 
-ghost use Rattle.std.specs.Prelude.{◌≡◌};
+ghost use Rattle.std.specs.Prelude.{◌≡◌, IfOk};
 
 use bridge_io::{List, Text};
 use frac_core::Frac;
 use op_trees::Value;
-use std::alloc::AllocError;
+use std::alloc::{AllocError, Global};
 
 /// A state: a value for each column.
 #[derive(Drop)]
 pub struct State {
     pub values: List<Value>,
+}
+
+/// The same state once more.
+pub fn copy_state(alloc: Global, state: &State) -> Result<State, AllocError>
+    ensures { IfOk result (λ s. s ≡ state.now) }
+{
+    Ok(State {
+        values: List::from_vec(state.values.as_slice().to_vec(alloc)?),
+    })
 }
 
 /// The kinds of faults that a choice has: something in it is undefined, a value is assigned outside its range, or the

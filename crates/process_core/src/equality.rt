@@ -111,7 +111,8 @@ fn all_same<T: Same>(a: &[T], b: &[T]) -> bool
     true
 }
 
-fn same_label(a: &Option<Text>, b: &Option<Text>) -> bool
+/// Whether two labels are the same: the same name, or none.
+pub fn same_label(a: &Option<Text>, b: &Option<Text>) -> bool
     ensures { result ≡ same_label a.now b.now }
 {
     match (a, b) {

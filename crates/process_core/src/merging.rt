@@ -14,7 +14,7 @@ ghost use Rattle.process_core.specs.Merged.{is_merging_wide, merged};
 ghost use Rattle.process_core.specs.Merging.{AddsBranch, IsSummed, key_of, parts_of};
 ghost use Rattle.process_core.specs.Answers.{Answers, only_wide};
 
-use crate::data::{Branch, State, StepFail};
+use crate::data::{Branch, State, StepFail, copy_state};
 use bridge_io::List;
 use frac_core::Frac;
 use indexmap::IndexSet;
@@ -86,7 +86,7 @@ fn place_of(
 }
 
 /// A key for a state: states with the same key are the same.
-fn key_of(alloc: Global, state: &State) -> Result<Vec<i64>, AllocError>
+pub fn key_of(alloc: Global, state: &State) -> Result<Vec<i64>, AllocError>
     ensures { IfOk result (λ k. k.items ≡ key_of state.now.values) }
 {
     let mut key = Vec::new(alloc);
@@ -104,12 +104,4 @@ fn parts_of(value: Value) -> [i64; 2]
         Value::Truth(false) => [0, 0],
         Value::Number(x) => [x.num(), x.den()],
     }
-}
-
-fn copy_state(alloc: Global, state: &State) -> Result<State, AllocError>
-    ensures { IfOk result (λ s. s ≡ state.now) }
-{
-    Ok(State {
-        values: List::from_vec(state.values.as_slice().to_vec(alloc)?),
-    })
 }

@@ -1,5 +1,6 @@
 use Rattle.std.proofs.Common.{◌∙◌, sym, ap, map}
 use Rattle.std.specs.Borrow.{Bor}
+use Rattle.std.proofs.lemmas.List.{at_drop_all}
 use Rattle.frac_core.specs.Fraction.{times}
 use Rattle.frac_core.specs.Sums.{product}
 use Rattle.frac_core.specs.Laws.{times_unit, unit_times}
@@ -7,7 +8,6 @@ use Rattle.process_core.specs.Choices.{weight_of}
 use Rattle.meaning_tests.specs.declared.data.PlainUpdate.{PlainUpdate}
 use Rattle.meaning_tests.specs.Plain.{update_of}
 use Rattle.meaning_tests.specs.Choosing.{updates_of}
-use Rattle.meaning_tests.proofs.Gathered.{nothing_left}
 use Rattle.meaning_tests.proofs.Summed.{product_step}
 use Rattle.meaning_tests.proofs.branches.product.Goals as goal
 
@@ -24,5 +24,5 @@ loop-update-preserved c =
 pub returns : goal.returns
 returns c =
     sym (times_unit c.loop-update.weight)
-    ∙ sym (nothing_left (λ us. times c.loop-update.weight (product (map weight_of (updates_of us)))) c.args.updates.now c.loop-update.update-index c.loop-update-test.false)
+    ∙ sym (at_drop_all (λ us. times c.loop-update.weight (product (map weight_of (updates_of us)))) c.args.updates.now c.loop-update.update-index c.loop-update-test.false)
     ∙ c.loop-update.invariant

@@ -1,11 +1,12 @@
 use Rattle.std.proofs.Common.{◌∙◌, List, sym, ap, map, Vec, Global}
 use Rattle.std.specs.Borrow.{Bor}
+use Rattle.basics.specs.Lists.{at_take_all}
 use Rattle.process_core.specs.Product.{one_of_each, map-map}
 use Rattle.process_core.specs.Ready.{Ready}
 use Rattle.meaning_tests.specs.declared.data.PlainCommand.{PlainCommand}
 use Rattle.meaning_tests.specs.declared.data.PlainUpdate.{PlainUpdate}
 use Rattle.meaning_tests.specs.Plain.{command_of, update_of}
-use Rattle.meaning_tests.proofs.Gathered.{whole, ways_seen}
+use Rattle.meaning_tests.proofs.Gathered.{ways_seen}
 use Rattle.meaning_tests.proofs.branches.ways.Goals as goal
 
 pub returns : goal.returns
@@ -15,5 +16,5 @@ returns c =
     (c.in_ok-all.ensures ∙ ap (λ (l : List (Vec (Bor PlainUpdate) Global)). one_of_each (map (λ v. v.items) l)) c.as_slice-2.ensures.value)
     ∙ ap one_of_each
     (c.loop-r.invariant
-    ∙ whole (map (λ (r : Bor PlainCommand). (command_of r.now).updates)) c.args.participants.now c.loop-r.r-index c.loop-r-test.false
+    ∙ at_take_all (map (λ (r : Bor PlainCommand). (command_of r.now).updates)) c.args.participants.now c.loop-r.r-index c.loop-r-test.false
     ∙ sym (map-map (λ (r : Ready). r.updates) (λ (r : Bor PlainCommand). command_of r.now) c.args.participants.now))

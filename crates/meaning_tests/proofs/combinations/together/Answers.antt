@@ -1,10 +1,11 @@
 use Rattle.std.proofs.Common.{◌∙◌, Vec, Global, Some, sym, ap, map}
 use Rattle.std.specs.Borrow.{Bor}
+use Rattle.basics.specs.Lists.{at_take_all}
 use Rattle.process_core.specs.Product.{map-map}
 use Rattle.meaning_tests.specs.declared.data.PlainCommand.{PlainCommand}
 use Rattle.meaning_tests.specs.Plain.{command_of}
 use Rattle.meaning_tests.specs.Choosing.{participants_of, narrow_sum}
-use Rattle.meaning_tests.proofs.Gathered.{whole, ways_seen}
+use Rattle.meaning_tests.proofs.Gathered.{ways_seen}
 use Rattle.meaning_tests.proofs.Joined.{joined}
 use Rattle.meaning_tests.proofs.combinations.together.Goals as goal
 
@@ -13,7 +14,7 @@ returns c =
     let join = joined (Some c.args.label.now) (map narrow_sum c.args.rewards.now) in
     let seen = λ (w : Vec (Bor PlainCommand) Global). participants_of w.items in
     c.loop-way.invariant
-    ∙ whole (map (λ (w : Vec (Bor PlainCommand) Global). join (seen w))) c.as_slice-way-items.result.now c.loop-way.way-index c.loop-way-test.false
+    ∙ at_take_all (map (λ (w : Vec (Bor PlainCommand) Global). join (seen w))) c.as_slice-way-items.result.now c.loop-way.way-index c.loop-way-test.false
     ∙ ap (map (λ (w : Vec (Bor PlainCommand) Global). join (seen w))) c.as_slice-way-items.ensures.value
     ∙ sym (map-map join seen c.in_ok-ways.ways.items)
     ∙ ap (map join)

@@ -1,5 +1,5 @@
 use Rattle.std.proofs.Common.{◌≡◌, ◌++◌, map, drop}
-use Rattle.prism_flat.specs.Instance.{column_faults, numbered}
+use Rattle.process_core.specs.Instance.{column_faults, numbered}
 use Rattle.meaning_tests.specs.Plain.{fault_of, column_of}
 use Rattle.meaning_tests.proofs.faults.add_column_faults.Given as goal
 

@@ -1,5 +1,5 @@
 use Rattle.std.proofs.Common.{◌≡◌, ◌++◌, map, drop}
-use Rattle.prism_flat.specs.Instance.{constant_faults, numbered}
+use Rattle.process_core.specs.Instance.{constant_faults, numbered}
 use Rattle.meaning_tests.specs.Plain.{fault_of, narrow}
 use Rattle.meaning_tests.proofs.faults.add_constant_faults.Given as goal
 

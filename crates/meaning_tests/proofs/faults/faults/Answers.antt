@@ -1,6 +1,6 @@
 use Rattle.std.proofs.Common.{◌∙◌, ◌++◌, ap, map}
 use Rattle.prism_tree.specs.Syntax.{const_of, file_of}
-use Rattle.prism_flat.specs.Instance.{constant_faults, numbered}
+use Rattle.process_core.specs.Instance.{constant_faults, numbered}
 use Rattle.meaning_tests.specs.Plain.{column_of, fault_of, given_by, narrow}
 use Rattle.meaning_tests.proofs.Written.{all_faults}
 use Rattle.meaning_tests.proofs.faults.faults.Goals as goal

@@ -1,5 +1,5 @@
 use Rattle.std.proofs.Common.{◌≡◌, map, drop}
-use Rattle.prism_flat.specs.Instance.{is_initial}
+use Rattle.process_core.specs.Instance.{is_initial}
 use Rattle.meaning_tests.specs.Plain.{column_of}
 use Rattle.meaning_tests.proofs.faults.is_initial.Given as goal
 

@@ -1,6 +1,6 @@
 use Rattle.std.proofs.Common.{◌≡◌, map, take}
 use Rattle.process_core.specs.declared.data.Mark.TheVariants.{Truth}
-use Rattle.prism_flat.specs.Process.{truth_of}
+use Rattle.process_core.specs.Choices.{truth_of}
 use Rattle.meaning_tests.proofs.marks.label_marks.Given as goal
 
 abbrev pub invariant-loop-label : goal.invariant-loop-label

@@ -4,7 +4,8 @@ use Rattle.op_trees.specs.declared.tree.Value.{Value}
 use Rattle.process_core.specs.Product.{map-map}
 use Rattle.process_core.specs.declared.data.Mark.TheVariants.{Truth, Number}
 use Rattle.prism_flat.specs.Moment.{Earned}
-use Rattle.prism_flat.specs.Process.{truth_of, state_reward}
+use Rattle.process_core.specs.Choices.{truth_of}
+use Rattle.prism_flat.specs.Process.{state_reward}
 use Rattle.meaning_tests.specs.declared.data.PlainItem.{PlainItem}
 use Rattle.meaning_tests.specs.Plain.{narrow, item_of}
 use Rattle.meaning_tests.proofs.marks.marks.Goals as goal

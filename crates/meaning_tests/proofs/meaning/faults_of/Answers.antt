@@ -1,5 +1,5 @@
 use Rattle.std.proofs.Common.{◌∙◌, ap}
-use Rattle.prism_flat.specs.Instance.{instance_faults}
+use Rattle.process_core.specs.Instance.{instance_faults}
 use Rattle.prism_flat.specs.Scene.{scene}
 use Rattle.meaning_tests.specs.Plain.{given_by}
 use Rattle.meaning_tests.proofs.meaning.faults_of.Goals as goal

@@ -1,8 +1,8 @@
 use Rattle.prism_tree.specs.Syntax as syntax
 use Rattle.meaning_tests.specs.Plain.{command_of}
 use Rattle.meaning_tests.specs.Tables.{columns_in, command_under, seen_in}
-use Rattle.meaning_tests.proofs.Steps.{mapped_more}
 use Rattle.meaning_tests.proofs.moment.commands.Goals as goal
+use Rattle.gathering.proofs.Loops.{mapped_more}
 
 pub loop-command-preserved : goal.loop-command-preserved
 loop-command-preserved c =

@@ -2,8 +2,8 @@ use Rattle.prism_tree.specs.Syntax as syntax
 use Rattle.prism_flat.specs.Moment.{item_at}
 use Rattle.meaning_tests.specs.Plain.{item_of}
 use Rattle.meaning_tests.specs.Tables.{seen_in}
-use Rattle.meaning_tests.proofs.Steps.{mapped_more}
 use Rattle.meaning_tests.proofs.moment.items.Goals as goal
+use Rattle.gathering.proofs.Loops.{mapped_more}
 
 pub loop-item-preserved : goal.loop-item-preserved
 loop-item-preserved c =

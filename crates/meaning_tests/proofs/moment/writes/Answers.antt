@@ -1,9 +1,10 @@
 use Rattle.std.proofs.Common.{◌∙◌, ap, ap₂}
 use Rattle.prism_tree.specs.Syntax as syntax
-use Rattle.prism_flat.specs.Moment.{place_of, write_to}
+use Rattle.process_core.specs.Instance.{write_to}
+use Rattle.gathering.proofs.Loops.{mapped_more}
+use Rattle.prism_flat.specs.Moment.{place_of}
 use Rattle.meaning_tests.specs.Plain.{write_of}
 use Rattle.meaning_tests.specs.Tables.{columns_in, seen_in, write_under}
-use Rattle.meaning_tests.proofs.Steps.{mapped_more}
 use Rattle.meaning_tests.proofs.moment.writes.Goals as goal
 
 pub loop-write-preserved : goal.loop-write-preserved

@@ -1,7 +1,8 @@
 use Rattle.std.proofs.Common.{◌∙◌, ◌∷◌, [], ◌++◌, List, sym, ap, map, Vec, Global}
 use Rattle.std.specs.List.{flat_map}
 use Rattle.std.proofs.lemmas.List.Folds.{flat_map-map}
-use Rattle.meaning_tests.proofs.Gathered.{whole, flat_more}
+use Rattle.basics.specs.Lists.{at_take_all}
+use Rattle.meaning_tests.proofs.Gathered.{flat_more}
 use Rattle.meaning_tests.proofs.product.extended.Goals as goal
 
 pub loop-front-preserved : goal.loop-front-preserved
@@ -14,5 +15,5 @@ pub returns : goal.returns
 returns g c =
     let longer = λ (p : List g.row.T.Denot). map (λ x. p ++ x ∷ []) c.args.list.now in
     c.loop-front.invariant
-    ∙ whole (flat_map (λ (v : Vec g.row.T.Denot Global). longer v.items)) c.args.fronts.now c.loop-front.front-index c.loop-front-test.false
+    ∙ at_take_all (flat_map (λ (v : Vec g.row.T.Denot Global). longer v.items)) c.args.fronts.now c.loop-front.front-index c.loop-front-test.false
     ∙ sym (flat_map-map longer (λ (v : Vec g.row.T.Denot Global). v.items) c.args.fronts.now)

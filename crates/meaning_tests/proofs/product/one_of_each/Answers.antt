@@ -1,12 +1,12 @@
 use Rattle.std.proofs.Common.{◌∙◌, ◌∷◌, [], List, map, Vec, Global}
 use Rattle.std.specs.List.{fold}
+use Rattle.basics.specs.Lists.{at_take_all}
 use Rattle.process_core.specs.Product.{extended, extended_all}
-use Rattle.meaning_tests.proofs.Gathered.{whole}
 use Rattle.meaning_tests.proofs.product.one_of_each.Goals as goal
 
 pub returns : goal.returns
 returns g c =
     let items = λ (v : Vec g.row.T.Denot Global). v.items in
     c.loop-list.invariant
-    ∙ whole (λ (l : List (Vec g.row.T.Denot Global)). fold extended ([] ∷ []) (map items l)) c.args.lists.now c.loop-list.list-index c.loop-list-test.false
+    ∙ at_take_all (λ (l : List (Vec g.row.T.Denot Global)). fold extended ([] ∷ []) (map items l)) c.args.lists.now c.loop-list.list-index c.loop-list-test.false
     ∙ extended_all (map items c.args.lists.now)

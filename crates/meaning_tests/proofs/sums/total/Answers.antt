@@ -1,10 +1,10 @@
 use Rattle.std.proofs.Common.{◌∙◌, sym, ap}
 use Rattle.std.specs.List.{list_any}
+use Rattle.std.proofs.lemmas.List.{at_drop_all}
 use Rattle.frac_core.specs.Fraction.{plus, is_wide}
 use Rattle.frac_core.specs.Sums.{total}
 use Rattle.frac_core.specs.Laws.{plus_nought, nought_plus}
 use Rattle.process_core.specs.Bounds.{partial_sums}
-use Rattle.meaning_tests.proofs.Gathered.{nothing_left}
 use Rattle.meaning_tests.proofs.Summed.{sum_step, narrow_step}
 use Rattle.meaning_tests.proofs.sums.total.Goals as goal
 
@@ -28,5 +28,5 @@ loop-number-preserved c =
 pub returns-clause-value : goal.returns-clause-value
 returns-clause-value c =
     sym (plus_nought c.loop-number.sum)
-    ∙ sym (nothing_left (λ xs. plus c.loop-number.sum (total xs)) c.args.numbers.now c.loop-number.number-index c.loop-number-test.false)
+    ∙ sym (at_drop_all (λ xs. plus c.loop-number.sum (total xs)) c.args.numbers.now c.loop-number.number-index c.loop-number-test.false)
     ∙ c.loop-number.invariant.value

@@ -6,7 +6,8 @@ use Rattle.process_core.specs.Equal.{equal_states}
 use Rattle.process_core.specs.Merged.{merged}
 use Rattle.process_core.specs.Seen.{seen_branch}
 use Rattle.process_core.specs.Merging.{IsSummed}
-use Rattle.process_core.proofs.Adding.{fails_as, handed_on, parted, ends, ends_narrow}
+use Rattle.process_core.specs.Answers.{handed_on}
+use Rattle.process_core.proofs.Adding.{fails_as, parted, ends, ends_narrow}
 use Rattle.process_core.proofs.merging.merged.Goals as goal
 
 pub returns-in_err-add_branch : goal.returns-in_err-add_branch
@@ -17,7 +18,7 @@ returns-in_err-add_branch c =
     let f = c.in_err-add_branch.field-0.0 in
     let Is = λ (r : List Branch). map seen_branch r ≡ merged equal_states (map seen_branch c.args.branches.now) in
     handed_on _ Is f c.from_residual.result c.from_residual.ensures.1
-    (fails_as Is (map seen_branch (take i xs)) (map seen_branch (drop (i + 1) xs)) _ (seen_branch b) (map (λ k. k.items) c.loop-branch.keys.keys)
+    (fails_as (map seen_branch (take i xs)) (map seen_branch (drop (i + 1) xs)) _ (seen_branch b) (map (λ k. k.items) c.loop-branch.keys.keys)
     (map (λ k. k.items) c.add_branch.new.keys.keys) (map seen_branch c.loop-branch.sums.items) (map seen_branch c.add_branch.new.sums.items) f
     c.loop-branch.invariant.summed (c.in_err-add_branch.ensures.sums (map seen_branch (take i xs)))
     (ap (map seen_branch) (sym c.as_slice-branch-items.ensures) ∙ parted seen_branch xs i b c.loop-branch-test.true c.branch-item.is))

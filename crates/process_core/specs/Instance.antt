@@ -2,17 +2,21 @@
 -- Which faults it has, what its states are, and whether it is wide, follow from that alone, for PRISM and JANI alike.
 -- (PRISM manual, "The PRISM Language": "Constants", "Modules And Variables"; jani-model specification, "Models". Which
 -- faults an instance has, and their order, is a rule of this project.)
-use Rattle.std.specs.Prelude.{ℕ, ◌+◌, List, [], ◌∷◌, ◌++◌, map, Bool, true, false, not, ◌&&◌, ◌||◌, Option, Some, None, is_none, if◌then◌else◌, unwrap_or}
+use Rattle.std.specs.Prelude.{◌≡◌, ℕ, ◌+◌, List, [], ◌∷◌, ◌++◌, map, Bool, true, false, not, ◌&&◌, ◌||◌, Option, Some, None, is_none, if◌then◌else◌, get_or}
 use Rattle.std.specs.List.{list_any}
+use Rattle.std.proofs.Common.{ap, ap₂, ◌∙◌}
+use Rattle.std.proofs.Math.Path.{fun_ext}
 use Rattle.std.specs.declared.cmp.Ordering.{Ordering}
 use Rattle.std.specs.declared.cmp.Ordering.TheVariants as C
 use Rattle.frac_core.specs.Fraction.{Fraction, compare, is_whole}
 use Rattle.op_trees.specs.Seen.{Seen}
 use Rattle.op_trees.specs.declared.tree.Value.{Value}
 use Rattle.op_trees.specs.declared.tree.Value.TheVariants as V
-use Rattle.process_core.specs.Ready.{Values, Name}
-use Rattle.process_core.specs.Choices.{number_of}
+use Rattle.process_core.specs.Process.{Choice, Model}
+use Rattle.process_core.specs.Ready.{Values, Name, Write}
+use Rattle.process_core.specs.Choices.{number_of, all_defined}
 use Rattle.process_core.specs.Equal.{equal_values}
+use Rattle.process_core.specs.declared.data.Mark.{Mark}
 use Rattle.process_core.specs.declared.data.FaultKind.{FaultKind}
 use Rattle.process_core.specs.declared.data.FaultKind.TheVariants.{ConstUndef, BoundUndef, EmptyRange, InitUndef, InitOutside}
 
@@ -74,6 +78,17 @@ abbrev pub is_in : Domain → Value → Bool
 is_in Truths (V.Truth b) = true
 is_in Truths (V.Number q) = false
 is_in (Between l h) v = range_has (range_from l h) v
+
+-- ---- what is written to a variable
+abbrev pub domain_at : List Column → ℕ → Domain
+domain_at cs i = get_or (map (λ c. c.domain) cs) i Truths
+
+abbrev pub fits_in : Domain → Option Value → Bool
+fits_in d None = false
+fits_in d (Some v) = is_in d v
+
+abbrev pub write_to : List Column → ℕ → Seen → Write
+write_to cs i value = record { column = i; value = value; fits = fits_in (domain_at cs i) value.value }
 
 -- ---- instance faults
 -- a fault, and the number of the constant or of the variable that has it
@@ -143,13 +158,35 @@ abbrev pub is_first : Option Value → Value → Bool
 is_first None v = false
 is_first (Some w) v = equal_values w v
 
--- each variable has its first value
+-- a variable may begin with this value
+abbrev pub begins : Column → Value → Bool
+begins c v = is_first c.first.value v
+
+-- each variable begins with its value
 abbrev pub is_initial : List Column → Values → Bool
 is_initial [] [] = true
 is_initial [] (v ∷ s) = false
 is_initial (c ∷ cs) [] = false
-is_initial (c ∷ cs) (v ∷ s) = is_first c.first.value v && is_initial cs s
+is_initial (c ∷ cs) (v ∷ s) = begins c v && is_initial cs s
 
 -- the first values, where all are defined
-abbrev pub first_values : Scene → Values
-first_values k = map (λ c. unwrap_or c.first.value (V.Truth false)) k.columns
+abbrev pub first_values : Scene → Option Values
+first_values k = all_defined (map (λ c. c.first.value) k.columns)
+
+-- ---- the process of a model, from what it is under each valuation, and its marks and choices at each state
+abbrev pub model_of : (Valuation → Scene) → (Valuation → Values → List Mark) → (Valuation → Values → List (Choice Name Fraction Values)) →
+    Model Valuation Fault Name Fraction Mark Values
+model_of scene marks choices = record {
+  faults = λ v. instance_faults (scene v);
+  is_state = λ v s. is_state (scene v).columns s;
+  is_initial = λ v s. is_initial (scene v).columns s;
+  marks = marks;
+  choices = choices;
+}
+
+-- where these are the same, the processes are
+pub models_alike : (k l : Valuation → Scene) (a b : Valuation → Values → List Mark) (c d : Valuation → Values → List (Choice Name Fraction Values)) →
+    ((v : Valuation) → k v ≡ l v) → ((v : Valuation) (s : Values) → a v s ≡ b v s) → ((v : Valuation) (s : Values) → c v s ≡ d v s) →
+    model_of k a c ≡ model_of l b d
+models_alike k l a b c d scenes marks choices =
+    ap (λ x. model_of x a c) (fun_ext scenes) ∙ ap₂ (model_of l) (fun_ext (λ v. fun_ext (marks v))) (fun_ext (λ v. fun_ext (choices v)))
