@@ -1,11 +1,11 @@
 -- What is promised of a translation holds.
-use Rattle.std.specs.Prelude.{◌≡◌, List, [], ◌∷◌, Result, Ok, Err, IfOk, OnOk}
+use Rattle.std.specs.Prelude.{◌≡◌, [], Result, Ok, Err, IfOk, OnOk}
 use Rattle.std.proofs.Common.{refl, sym, ◌∙◌}
-use Rattle.bridge_io.specs.declared.reason.Fault.{Fault}
 use Rattle.bridge_io.specs.declared.reason.Refused.{Refused}
 use Rattle.prism_tree.specs.Syntax.{file_of}
 use Rattle.jani_tree.specs.Syntax.{File}
-use Rattle.jani_check.specs.Faults.{IsChecked, or_else}
+use Rattle.jani_check.specs.Faults.{IsChecked}
+use Rattle.jani_check.proofs.Profiled.{first_none}
 use Rattle.prism_places.specs.PlacesLaws.{PlacesMeanNothing, CleanAlike}
 use Rattle.prism_translation.specs.Lines.{lines}
 use Rattle.prism_translation.specs.Refused.{refused, shared_faults, size_faults}
@@ -16,10 +16,6 @@ use Rattle.prism_translation_meaning.specs.SameMeaning.{TranslationMeansTheSame,
 use Rattle.prism_translator.specs.declared.translation.CheckedPrismText.{CheckedPrismText}
 use Rattle.prism_translator.specs.Translation.{IsTranslation}
 use Rattle.jani_to_prism.specs.Promise.{IsTranslated, PlacesAside}
-
-first_none : (fs gs : List Fault) → or_else fs gs ≡ [] → fs ≡ []
-first_none [] gs e = refl
-first_none (f ∷ fs) gs e = absurd cc
 
 pub is_translated : (file : File) → IsChecked file → refused file ≡ [] → TranslatedIsPrintable file → NoNameFault file → NoTypeFault file → TranslationMeansTheSame →
     IsTranslated file (translated file)

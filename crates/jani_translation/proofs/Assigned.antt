@@ -4,6 +4,10 @@ use Rattle.std.specs.List.{All, filter, flat_map, list_any, zip, position}
 use Rattle.std.specs.Option.{option_map}
 use Rattle.std.proofs.Common.{refl, sym, ap, ap₂, ◌∙◌, arith, append_assoc, length-append}
 use Rattle.std.proofs.lemmas.List.Elements.{All-cons, All-head, All-tail}
+use Rattle.std.proofs.Math.Bool.{or-false}
+use Rattle.basics.specs.Members.{position_cons}
+use Rattle.basics.specs.Texts.{bytes_eq-self}
+use Rattle.basics.specs.Lists.{slice_get-drop, slice_get-take}
 use Rattle.bridge_io.specs.declared.reason.Named.{Named}
 use Rattle.frac_core.specs.Fraction.{Fraction, nought}
 use Rattle.op_trees.specs.Seen.{Seen}
@@ -13,7 +17,7 @@ use Rattle.process_core.specs.Bounds.{summed}
 use Rattle.prism_tree.specs.Syntax as prism
 use Rattle.prism_tree.specs.declared.syntax.ItemOn.{ItemOn}
 use Rattle.prism_names.specs.Names.{unchanged}
-use Rattle.prism_flat.specs.Instance.{Valuation}
+use Rattle.process_core.specs.Instance.{Valuation}
 use Rattle.prism_flat.specs.Moment as prism_moment
 use Rattle.prism_flat.specs.Moment.{adds_of, item_at}
 use Rattle.prism_flat.specs.Process.{is_for_choices, choice_rewards, sum_for}
@@ -31,10 +35,9 @@ use Rattle.jani_translation.specs.Translated.{translated}
 use Rattle.jani_translation.specs.SeenLaws.{IsSoundUnder, GivesAlike}
 use Rattle.jani_translation.specs.StateLaws.{state_of, SoundItem}
 use Rattle.jani_translation.proofs.Each.{for_rewards}
-use Rattle.jani_translation.proofs.Fresh.{same_bytes}
 use Rattle.jani_translation.proofs.SameSeen.{zip-take}
-use Rattle.jani_translation.proofs.StateNames.{position_cons, place_owned, column_is}
-use Rattle.jani_translation.proofs.Apart.{get_dropped, get_taken, values_apart}
+use Rattle.jani_translation.proofs.StateNames.{place_owned, column_is}
+use Rattle.name_table.proofs.Parts.{values_apart}
 use Rattle.jani_translation.proofs.Edges.{new_structures, structures_owned, here}
 use Rattle.jani_translation.proofs.Marks.{AreApart, rewards_apart}
 use Rattle.jani_translation.proofs.Sums.{items_seen, wanted_items}
@@ -45,7 +48,7 @@ named_at None x = refl
 named_at (Some n) x = refl
 
 entry_is : (u e : Entry) → ◌≡◌ {A = Option Entry} (Some u) (Some e) → bytes_eq u.name e.name ≡ true
-entry_is u e g = ap (λ o. bytes_eq (name_of o) e.name) g ∙ same_bytes e.name
+entry_is u e g = ap (λ o. bytes_eq (name_of o) e.name) g ∙ bytes_eq-self e.name
   where
     name_of : Option Entry → Name
     name_of None = []
@@ -83,7 +86,7 @@ module _ (file : prism.File) where
 
   pub no_column : (i k : ℕ) (e : Entry) → slice_get (new_names file).rewards k ≡ Some e → column_number (translated file) i e.name ≡ None
   no_column i k e g =
-      let a = get_taken (length file.rewards) k (drop (rewards_at file (entries file)) (entries file)) e g in
+      let a = slice_get-take (length file.rewards) k (drop (rewards_at file (entries file)) (entries file)) e g in
       let p = a.0 in
       let m = length (translated file).elements in
       column_is file i e.name
@@ -92,10 +95,10 @@ module _ (file : prism.File) where
       ∙ ap (option_map (λ k. m + k))
       (no_variable (new_names file).value e.name (variables file) (new_names file).variables
       (λ j u h.
-      let b = get_taken (length (variables file)) j (drop (length file.constants) (entries file)) u h in
+      let b = slice_get-take (length (variables file)) j (drop (length file.constants) (entries file)) u h in
       let q = b.0 in
       values_apart file (length file.constants + j) (rewards_at file (entries file) + k) u e (omega arith) (omega arith) (λ r. absurd (omega arith))
-      (sym (get_dropped (length file.constants) j (entries file)) ∙ b.1) (sym (get_dropped (rewards_at file (entries file)) k (entries file)) ∙ a.1)))
+      (sym (slice_get-drop (length file.constants) j (entries file)) ∙ b.1) (sym (slice_get-drop (rewards_at file (entries file)) k (entries file)) ∙ a.1)))
 
 -- ---- lists of rewards
 set_here : (front : List Fraction) (a x : Fraction) (xs : List Fraction) → slice_set (front ++ a ∷ xs) (length front) x ≡ front ++ x ∷ xs
@@ -111,10 +114,6 @@ own_noughts seen (r ∷ rs) (e ∷ es) l = ap (λ x. nought ∷ x) (own_noughts 
 none_undefined : {X : Type 0} (xs : List X) → list_any (λ m. is_none m.value) (map (λ r. no_reward) xs) ≡ false
 none_undefined [] = refl
 none_undefined (x ∷ xs) = none_undefined xs
-
-or_false : (b : Bool) → (b || false) ≡ b
-or_false true = refl
-or_false false = refl
 
 -- the members that a stricter test keeps
 pub kept_all : {X : Type 0} (P : X → Type 0) (p q : X → Bool) → ((x : X) → q x ≡ true → p x ≡ true) → (xs : List X) → All P (filter p xs) → All P (filter q xs)
@@ -255,6 +254,6 @@ module _ (file : prism.File) (v w : Valuation) (sound : IsSoundUnder file v) (al
     monitor_undefined a =
         ap (λ b. list_any (λ r. is_none (number_of r.value.value)) (gives file.rewards (new_names file).rewards) || b)
         (none_undefined (jani_moment.moment (translated file) w (state_of file s)).rewards)
-        ∙ or_false _
+        ∙ or-false _
         ∙ all_undefined file.rewards (new_names file).rewards (for_rewards file) a 0
         (λ k e q. let on : k ≡ 0 + k = omega arith in structure_here file i k e q ∙ ap Some on)

@@ -4,9 +4,10 @@ use Rattle.std.specs.List.{flat_map, filter, list_any, zip}
 use Rattle.std.specs.Option.{option_map}
 use Rattle.std.proofs.Common.{refl, sym, ap, ap₂, ◌∙◌}
 use Rattle.std.proofs.Math.Path.{fun_ext}
+use Rattle.basics.specs.Lists.{map_agree}
 use Rattle.bridge_io.specs.declared.reason.Named.{Named}
 use Rattle.op_trees.specs.Tree.{Two, Three, bare}
-use Rattle.process_core.specs.Product.{map-map, map_agree}
+use Rattle.process_core.specs.Product.{map-map}
 use Rattle.process_core.specs.Ready.{Name, same_label}
 use Rattle.prism_tree.specs.declared.syntax.ItemOn.{ItemOn}
 use Rattle.prism_tree.specs.declared.syntax.ItemOn.TheVariants as On
@@ -14,7 +15,7 @@ use Rattle.prism_tree.specs.Syntax as prism
 use Rattle.prism_tree.specs.Syntax.{Body, Command, Branch, Label, Item, Rewards}
 use Rattle.prism_print.specs.Same.{bare_body, bare_branch, bare_command, bare_const, bare_item, bare_label, bare_on, bare_range, bare_rewards}
 use Rattle.prism_print.specs.Same as source
-use Rattle.prism_flat.specs.Instance.{numbered, only_if}
+use Rattle.process_core.specs.Instance.{numbered, only_if}
 use Rattle.prism_places.proofs.Lists.{chosen_mapped, kept_mapped, any_mapped, joined, turned, gathered, some_turned}
 use Rattle.jani_table.specs.declared.operator.JaniOp.TheVariants.{Add, Ite}
 use Rattle.jani_tree.specs.Places.{bare_name, bare_kind, bare_var, bare_write, bare_destination, bare_edge, bare_automaton, bare_vector}

@@ -1,48 +1,46 @@
--- Without a monitor, the choices of a translated file follow those of the file, in order.
+-- At a state, the edges of a translated file follow the commands of the file, and earn what is earned without items.
 use Rattle.std.specs.Prelude.{◌≡◌, ℕ, zero, suc, ◌+◌, ◌<◌, ◌≤◌, List, [], ◌∷◌, ◌++◌, map, length, Bool, true, false, not, ◌&&◌, ◌||◌, cond, Option, Some, None, if◌then◌else◌, is_none, is_some, unwrap_or, slice_set, bytes_eq, Contains, IsTrue}
-use Rattle.std.specs.List.{All, AllByRecursion, AllZip, filter, flat_map, list_any, zip}
+use Rattle.std.specs.List.{AllByRecursion, AllZip, filter, list_any, zip}
 use Rattle.std.specs.Option.{option_map}
 use Rattle.std.proofs.Common.{refl, sym, ap, ap₂, subst, ◌∙◌, arith, length-append}
 use Rattle.std.proofs.lemmas.Bool.Decides.{same_from_decides}
 use Rattle.std.proofs.lemmas.Slice.Eq.{bytes_eq-Decides}
 use Rattle.std.proofs.lemmas.List.{length-map}
-use Rattle.std.proofs.lemmas.List.Folds.{flat_map-map}
-use Rattle.std.proofs.lemmas.List.Elements.{All-head, All-tail, All-contains_itself}
+use Rattle.basics.specs.Booleans.{first_false, second_false}
+use Rattle.basics.specs.Texts.{bytes_eq_comm}
 use Rattle.op_trees.specs.Seen.{Seen}
 use Rattle.op_trees.specs.declared.tree.Value.{Value}
 use Rattle.op_trees.specs.declared.tree.Value.TheVariants as V
-use Rattle.process_core.specs.Zip.{AllZip-append, AllZip-filter}
-use Rattle.process_core.specs.Ready.{Values, Name, Write, Update, Ready, Sum, Combination, same_label, has_action, firsts, if_some, actions_of, silent, together, sharing, taking, of_elements, of_modules, vector_of}
+use Rattle.process_core.specs.Zip.{AllZip-filter}
+use Rattle.process_core.specs.Ready.{Values, Name, Write, Update, Ready, Sum, Combination, same_label, has_action, firsts, actions_of, silent, sharing, taking}
 use Rattle.bridge_io.specs.declared.reason.Named.{Named}
 use Rattle.process_core.specs.Bounds.{summed}
 use Rattle.process_core.specs.Choices as core
-use Rattle.process_core.specs.Choices.{written, has_undef, has_outside}
-use Rattle.process_core.specs.Follow.{FollowsUpdate, FollowsReady, FollowsCombination, FollowsAlone, together_follow, silent_follow, choices_same}
+use Rattle.process_core.specs.Choices.{written}
+use Rattle.process_core.specs.Follow.{FollowsUpdate, FollowsReady, FollowsCombination, FollowsAlone, silent_follow}
 use Rattle.prism_tree.specs.Syntax as prism
 use Rattle.prism_tree.specs.declared.syntax.ItemOn.{ItemOn}
 use Rattle.prism_tree.specs.declared.syntax.ItemOn.TheVariants as On
 use Rattle.prism_names.specs.Names.{unchanged, part_of}
-use Rattle.prism_flat.specs.Instance.{Valuation, numbered}
+use Rattle.process_core.specs.Instance.{Valuation, numbered}
 use Rattle.prism_flat.specs.Moment as prism_moment
 use Rattle.prism_flat.specs.Moment.{adds_of, item_at, part_at, Earned}
 use Rattle.prism_flat.specs.Process.{is_for_choices, choice_rewards}
 use Rattle.jani_meaning.specs.Elements.{Owned, owned_by}
 use Rattle.jani_meaning.specs.Moment as jani_moment
-use Rattle.jani_meaning.specs.Moment.{location_write}
 use Rattle.jani_meaning.specs.Process.{no_reward}
 use Rattle.name_table.specs.declared.entry.Entry.{Entry}
 use Rattle.name_table.specs.Asks.{bodies, actions, action_of, new_names}
 use Rattle.jani_translation.specs.Parts.{structure}
-use Rattle.jani_translation.specs.Automata.{has_items, for_action, for_silent, has_silent, earning_actions, is_some_name, earns_silently, has_monitor, location_values, module_automata, monitor}
+use Rattle.jani_translation.specs.Automata.{has_items, for_action, for_silent, has_silent, is_some_name, earns_silently, location_values, module_automata, monitor}
 use Rattle.jani_translation.specs.Translated.{translated}
-use Rattle.jani_translation.specs.Laws.{renamed_vector}
 use Rattle.jani_translation.specs.SeenLaws.{IsSoundUnder, GivesAlike}
-use Rattle.jani_translation.specs.StateLaws.{at_home, state_of, shifted_write, shifted_update, shifted_ready, shifted, ChoicesAlike}
+use Rattle.jani_translation.specs.StateLaws.{at_home, state_of, shifted_write, shifted_update, shifted_ready, shifted}
 use Rattle.jani_translation.proofs.Each.{n_bodies, for_modules, for_rewards}
-use Rattle.jani_translation.proofs.Vectors.{vectors_of_actions}
+use Rattle.jani_translation.proofs.Vectors.{all_actions}
 use Rattle.jani_translation.proofs.Differ.{actions_differ}
 use Rattle.jani_translation.proofs.Written.{body_part, written_parts}
-use Rattle.jani_translation.proofs.Edges.{structures_owned, n_automata, edges_are_commands}
+use Rattle.jani_translation.proofs.Edges.{structures_owned, n_automata}
 
 -- ---- states
 pub any_state : Values → Bool
@@ -135,10 +133,6 @@ module _ (file : prism.File) where
   abbrev pub IsOwnLabel : (Option Name → Option Name) → Name → Type 0
   IsOwnLabel label a = (b : Option Name) → same_label (Some a) b ≡ same_label (Some (new a)) (label b)
 
-  action_follows : (a : Name) → IsOwnName a → IsOwnLabel new_label a
-  action_follows a h None = refl
-  action_follows a h (Some y) = sym (h y)
-
   abbrev FollowsNamed : Name → Ready → Ready → Type 0
   FollowsNamed a r t = FollowsReady any_state state r t × (has_action (Some a) r ≡ has_action (Some (new a)) t)
 
@@ -205,26 +199,12 @@ silently_for On.InState = refl
 silently_for On.Silent = refl
 silently_for (On.Action a) = refl
 
-bytes_turned : (x y : Name) → bytes_eq x y ≡ bytes_eq y x
-bytes_turned x y =
-    let p = bytes_eq-Decides x y in
-    let q = bytes_eq-Decides y x in
-    same_from_decides (bytes_eq x y) (bytes_eq y x) p ((λ h. sym (q.0 h)), (λ e. q.1 (sym e)))
-
 pub action_for : (x : Name) (o : ItemOn) → is_for_choices (Some x) (adds_of o) ≡ for_action x o
 action_for x On.InState = refl
 action_for x On.Silent = refl
-action_for x (On.Action a) = bytes_turned x a.name
+action_for x (On.Action a) = bytes_eq_comm x a.name
 
 -- ---- without a monitor there are no items for a choice
-or_left : (a b : Bool) → (a || b) ≡ false → a ≡ false
-or_left true b h = absurd cc
-or_left false b h = refl
-
-or_right : (a b : Bool) → (a || b) ≡ false → b ≡ false
-or_right true b h = absurd cc
-or_right false b h = h
-
 pub none_earns : (p : Name → Bool) (as_ : List Name) → is_some_name (filter p as_) ≡ false → AllByRecursion (λ a. p a ≡ false) as_
 none_earns p [] h = tt
 none_earns p (a ∷ as_) h = by_test (p a) refl h (none_earns p as_)
@@ -234,17 +214,13 @@ none_earns p (a ∷ as_) h = by_test (p a) refl h (none_earns p as_)
     by_test true e h r = absurd cc
     by_test false e h r = (e, r h)
 
--- ---- the actions and the silent commands at a state
+-- ---- the silent commands at a state
 module _ (f : prism.Command → Ready) (same : (c : prism.Command) → (f c).action ≡ action_of c) where
-  command_actions : (cs : List prism.Command) → flat_map (λ r. if_some r.action) (map f cs) ≡ flat_map (λ c. if_some (action_of c)) cs
-  command_actions [] = refl
-  command_actions (c ∷ cs) = ap₂ (λ a b. if_some a ++ b) (same c) (command_actions cs)
-
   pub no_silent : (cs : List prism.Command) → list_any (λ c. is_none c.action) cs ≡ false → filter (has_action None) (map f cs) ≡ []
   no_silent [] h = refl
   no_silent (c ∷ cs) h =
       ap (λ a. cond (same_label None a) (f c ∷ filter (has_action None) (map f cs)) (filter (has_action None) (map f cs))) (same c)
-      ∙ by_action c.action (or_left (is_none c.action) (list_any (λ c. is_none c.action) cs) h) (no_silent cs (or_right (is_none c.action) (list_any (λ c. is_none c.action) cs) h))
+      ∙ by_action c.action (first_false (is_none c.action) (list_any (λ c. is_none c.action) cs) h) (no_silent cs (second_false (is_none c.action) (list_any (λ c. is_none c.action) cs) h))
     where
       by_action : (a : Option Named) → is_none a ≡ false → filter (has_action None) (map f cs) ≡ [] →
           cond (same_label None (option_map (λ x. x.name) a)) (f c ∷ filter (has_action None) (map f cs)) (filter (has_action None) (map f cs)) ≡ []
@@ -252,27 +228,12 @@ module _ (f : prism.Command → Ready) (same : (c : prism.Command) → (f c).act
       by_action (Some x) q r = r
 
 module _ (file : prism.File) (v : Valuation) (s : Values) where
-  body_actions : (ms : List prism.Body) →
-      flat_map (λ m. flat_map (λ r. if_some r.action) m) (map (part_at file v s) (map body_part ms)) ≡ flat_map (λ m. flat_map (λ c. if_some (action_of c)) m.commands) ms
-  body_actions [] = refl
-  body_actions (m ∷ ms) = ap₂ (λ x y. x ++ y) (command_actions _ (λ c. refl) m.commands) (body_actions ms)
-
   no_silent_combination : (rewards : List Sum) (ms : List prism.Body) → list_any has_silent ms ≡ false → silent rewards (map (part_at file v s) (map body_part ms)) ≡ []
   no_silent_combination rewards [] h = refl
   no_silent_combination rewards (m ∷ ms) h =
       ap₂ (λ x y. map (λ r. record { label = None; rewards = rewards; participants = r ∷ [] }) x ++ y)
-      (no_silent _ (λ c. refl) m.commands (or_left (has_silent m) (list_any has_silent ms) h))
-      (no_silent_combination rewards ms (or_right (has_silent m) (list_any has_silent ms) h))
-
--- other rewards for the members that a list does not have
-none_for_none : (rewards other : List Sum) (ms : List (List Ready)) → silent rewards ms ≡ [] → silent other ms ≡ []
-none_for_none rewards other [] h = refl
-none_for_none rewards other (m ∷ ms) h = by_list (filter (has_action None) m) h (none_for_none rewards other ms)
-  where
-    by_list : (rs : List Ready) → (map (λ r. record { label = None; rewards = rewards; participants = r ∷ [] }) rs ++ silent rewards ms) ≡ [] → (silent rewards ms ≡ [] → silent other ms ≡ []) →
-        (map (λ r. record { label = None; rewards = other; participants = r ∷ [] }) rs ++ silent other ms) ≡ []
-    by_list [] h k = k h
-    by_list (r ∷ rs) h k = absurd cc
+      (no_silent _ (λ c. refl) m.commands (first_false (has_silent m) (list_any has_silent ms) h))
+      (no_silent_combination rewards ms (second_false (has_silent m) (list_any has_silent ms) h))
 
 module _ (file : prism.File) (v w : Valuation) (sound : IsSoundUnder file v) (alike : GivesAlike file v w) (s : Values) where
   abbrev pub mods : List (List Ready)
@@ -306,7 +267,7 @@ module _ (file : prism.File) (v w : Valuation) (sound : IsSoundUnder file v) (al
   are_bodies = ap (map (part_at file v s)) (written_parts file sound.written.modules)
 
   pub actions_are : actions_of mods ≡ actions file
-  actions_are = ap (λ ms. firsts bytes_eq (flat_map (λ m. flat_map (λ r. if_some r.action) m) ms)) are_bodies ∙ ap (firsts bytes_eq) (body_actions file v s (bodies file))
+  actions_are = ap (firsts bytes_eq) (all_actions file v s file.modules sound.written.modules)
 
   pub rewards_none : (a : Option Name) (wanted : ItemOn → Bool) → ((o : ItemOn) → is_for_choices a (adds_of o) ≡ wanted o) → has_items wanted file ≡ false →
       map (λ m. m.value) own ≡ map (λ m. m.value) (earned a)
@@ -315,58 +276,15 @@ module _ (file : prism.File) (v w : Valuation) (sound : IsSoundUnder file v) (al
       ∙ no_rewards file (prism_moment.names_in file v s unchanged) a wanted e (jani_moment.transient_at (translated file) w (state_of file s)) file.rewards (new_names file).rewards (for_rewards file) h
 
   -- ---- commands without action
-  silent_all : has_items for_silent file ≡ false → AllZip Follows (silent (earned None) mods) (silent own (shifted label (length (translated file).elements) mods))
-  silent_all h =
-      silent_follow any_state (state_of file) label refl (earned None) own (rewards_none None for_silent silently_for h) mods (shifted label (length (translated file).elements) mods) (modules_follow file 0 mods few)
-
-  silent_same : (ms ns : List (List Ready)) (xs ys : List Sum) → AllZip (AllZip (FollowsAlone any_state (state_of file))) ms ns → silent xs ms ≡ [] → AllZip Follows (silent ys ms) (silent ys ns)
-  silent_same ms ns xs ys h e = silent_follow any_state (state_of file) label refl ys ys refl ms ns h
-
-  both_none : (xs ys : List Combination) → xs ≡ [] → AllZip Follows xs ys → (zs : List Combination) → zs ≡ [] → AllZip Follows zs ys
-  both_none xs ys e h zs q = subst (λ (r : List Combination). AllZip Follows r ys) (e ∙ sym q) h
-
   pub silent_follows : earns_silently file ≡ false → AllZip Follows (silent (earned None) mods) (silent own (shifted label (length (translated file).elements) mods))
   silent_follows quiet = by_items (has_items for_silent file) refl quiet
     where
       by_items : (b : Bool) → has_items for_silent file ≡ b → (b && list_any has_silent (bodies file)) ≡ false →
           AllZip Follows (silent (earned None) mods) (silent own (shifted label (length (translated file).elements) mods))
-      by_items false e h = silent_all e
+      by_items false e h =
+          silent_follow any_state (state_of file) label refl (earned None) own (rewards_none None for_silent silently_for e) mods (shifted label (length (translated file).elements) mods) (modules_follow file 0 mods few)
       by_items true e h =
           let ns = shifted label (length (translated file).elements) mods in
-          let nothing : silent own mods ≡ [] = ap (silent own) are_bodies ∙ no_silent_combination file v s own (bodies file) h in
-          both_none (silent own mods) (silent own ns) nothing (silent_same mods ns own own (modules_follow file 0 mods few) nothing) (silent (earned None) mods) (none_for_none own (earned None) mods nothing)
-
-  -- ---- commands with an action
-  action_alike : (a : Name) → Contains (actions file) a → has_items (for_action a) file ≡ false →
-      AllZip Follows (together (Some a) (earned (Some a)) (sharing a mods))
-      (together (Some ((new_names file).action a)) own (taking (map (option_map (new_names file).action) (vector_of a mods).parts) (shifted label (length (translated file).elements) mods)))
-  action_alike a c h =
-      together_follow any_state (state_of file) label (Some a) (Some ((new_names file).action a)) (earned (Some a)) own refl (rewards_none (Some a) (for_action a) (action_for a) h)
-      (sharing a mods) (taking (map (option_map (new_names file).action) (vector_of a mods).parts) (shifted label (length (translated file).elements) mods))
-      (taking_follows file label a (action_follows file a (own_name file a c)) 0 mods few)
-
-  actions_follow : (as_ : List Name) → All (Contains (actions file)) as_ → AllByRecursion (λ a. has_items (for_action a) file ≡ false) as_ →
-      AllZip Follows (flat_map (λ a. together (Some a) (earned (Some a)) (sharing a mods)) as_)
-      (flat_map (λ a. together (Some ((new_names file).action a)) own (taking (map (option_map (new_names file).action) (vector_of a mods).parts) (shifted label (length (translated file).elements) mods))) as_)
-  actions_follow [] c h = tt
-  actions_follow (a ∷ as_) c h =
-      AllZip-append Follows _ _ _ _ (action_alike a (All-head (Contains (actions file)) a as_ c) h.0) (actions_follow as_ (All-tail (Contains (actions file)) a as_ c) h.1)
-
-  -- ---- all combinations
-  all_follow : has_monitor file ≡ false → AllZip Follows (of_modules earned mods)
-      (of_elements own (map (λ a. renamed_vector (new_names file).action (vector_of a mods)) (actions_of mods)) (shifted label (length (translated file).elements) mods))
-  all_follow none =
-      AllZip-append Follows _ _ _ _ (silent_follows (or_right (is_some_name (earning_actions file)) (earns_silently file) none))
-      (subst (λ (r : List Combination). AllZip Follows (flat_map (λ a. together (Some a) (earned (Some a)) (sharing a mods)) (actions_of mods)) r)
-      (sym (flat_map-map (λ v. together v.result own (taking v.parts (shifted label (length (translated file).elements) mods))) (λ a. renamed_vector (new_names file).action (vector_of a mods)) (actions_of mods)))
-      (actions_follow (actions_of mods)
-      (subst (λ (as_ : List Name). All (Contains (actions file)) as_) (sym actions_are) (All-contains_itself (actions file)))
-      (subst (λ (as_ : List Name). AllByRecursion (λ a. has_items (for_action a) file ≡ false) as_) (sym actions_are)
-      (none_earns (λ a. has_items (for_action a) file) (actions file) (or_left (is_some_name (earning_actions file)) (earns_silently file) none)))))
-
-pub choices_alike : (file : prism.File) → ChoicesAlike file
-unfolding any_state
-choices_alike file v w sound alike none s h =
-    let rewards = map (λ r. no_reward) (jani_moment.moment (translated file) w (state_of file s)).rewards in
-    ap₂ (λ vs es. core.choices (state_of file s) (of_elements rewards vs es)) (vectors_of_actions file sound.written none v s) (edges_are_commands file v w sound alike none s h)
-    ∙ choices_same any_state (state_of file) (option_map (new_names file).action) s refl _ _ (all_follow file v w sound alike s none)
+          let nothing : (rewards : List Sum) → silent rewards mods ≡ [] = λ rewards. ap (silent rewards) are_bodies ∙ no_silent_combination file v s rewards (bodies file) h in
+          subst (λ (r : List Combination). AllZip Follows r (silent own ns)) (nothing own ∙ sym (nothing (earned None)))
+          (silent_follow any_state (state_of file) label refl own own refl mods ns (modules_follow file 0 mods few))

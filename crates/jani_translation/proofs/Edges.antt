@@ -1,22 +1,23 @@
 -- The edges of a translated file at a state are the commands, each behind the location of its element.
-use Rattle.std.specs.Prelude.{◌≡◌, ℕ, zero, suc, ◌+◌, ◌<◌, ◌≤◌, List, [], ◌∷◌, ◌++◌, map, length, drop, Bool, true, false, not, ◌&&◌, ◌||◌, cond, Option, Some, None, if◌then◌else◌, slice_get, get_or, bytes_eq, IfSome, Contains}
+use Rattle.std.specs.Prelude.{◌≡◌, ℕ, zero, suc, ◌+◌, ◌<◌, ◌≤◌, List, [], ◌∷◌, ◌++◌, map, length, drop, Bool, true, false, not, ◌&&◌, cond, Option, Some, None, if◌then◌else◌, slice_get, get_or, bytes_eq, IfSome, Contains}
 use Rattle.std.specs.List.{All, filter, flat_map, zip, position}
 use Rattle.std.specs.Option.{option_map}
 use Rattle.std.proofs.Common.{refl, sym, ap, ap₂, ◌∙◌, arith, append-nil, append_assoc, length-append}
-use Rattle.std.proofs.Math.Path.{fun_ext}
 use Rattle.std.proofs.lemmas.List.{length-map}
 use Rattle.std.proofs.lemmas.List.Elements.{All-head, All-tail}
+use Rattle.basics.specs.Members.{position_cons}
+use Rattle.basics.specs.Texts.{bytes_eq-self}
+use Rattle.basics.specs.Lists.{slice_get-drop, slice_get-take}
 use Rattle.bridge_io.specs.declared.reason.Named.{Named}
 use Rattle.op_trees.specs.Seen.{Seen}
 use Rattle.process_core.specs.Product.{map-map}
 use Rattle.process_core.specs.Ready.{Values, Name, Write, Reward, Update, Ready}
 use Rattle.prism_tree.specs.Syntax as prism
 use Rattle.prism_names.specs.Names.{unchanged, written_name, is_formula, see}
-use Rattle.prism_flat.specs.Instance.{Valuation, Truths, Column, numbered, only_if}
+use Rattle.process_core.specs.Instance.{Valuation, Truths, Column, numbered, only_if, domain_at, fits_in}
 use Rattle.prism_flat.specs.Scene as prism_scene
 use Rattle.prism_flat.specs.Moment as prism_moment
-use Rattle.prism_flat.specs.Moment.{domain_at, fits_in}
-use Rattle.jani_tree.specs.Syntax.{Automaton, Var, File, Edge}
+use Rattle.jani_tree.specs.Syntax.{Automaton, Var, File}
 use Rattle.jani_tree.specs.Syntax as jani
 use Rattle.jani_meaning.specs.Elements.{is_called, owned_by, place_of as place_in, is_structure, structures, is_boolean, column_number, structure_number, location_number}
 use Rattle.jani_meaning.specs.Scene as jani_scene
@@ -26,28 +27,21 @@ use Rattle.name_table.specs.declared.entry.Entry.{Entry}
 use Rattle.prism_images.specs.Image.{image}
 use Rattle.name_table.specs.Asks.{bodies, variables, entries, rewards_at, NewNames, new_names}
 use Rattle.jani_translation.specs.Parts.{variable, label, structure}
-use Rattle.jani_translation.specs.Automata.{loc, earns_silently, has_monitor, edge, edge_action, destination, write, module_automaton, module_automata, monitor, automaton, zz_monitor, monitor_edges, location_values, earning_actions, is_some_name}
+use Rattle.jani_translation.specs.Automata.{loc, earns_silently, has_monitor, edge, edge_action, destination, write, module_automaton, module_automata, monitor, automaton, zz_monitor, monitor_edges, location_values}
 use Rattle.jani_translation.specs.Translated.{translated}
 use Rattle.jani_translation.specs.SeenLaws.{IsSound, IsSoundUnder, GivesAlike, renamed_column}
-use Rattle.jani_translation.specs.StateLaws.{at_home, state_of, SoundWrite, SoundBranch, SoundCommand, shifted_write, shifted_update, edge_label, shifted_ready, shifted, EdgesAreCommands, EdgesWatched}
+use Rattle.jani_translation.specs.StateLaws.{at_home, state_of, SoundWrite, SoundBranch, SoundCommand, shifted_write, shifted_update, edge_label, shifted_ready, shifted, EdgesWatched}
 use Rattle.jani_translation.proofs.Each.{n_bodies, for_modules}
-use Rattle.jani_translation.proofs.Fresh.{Agrees, same_bytes}
+use Rattle.jani_translation.proofs.Fresh.{Agrees, entry_of}
 use Rattle.jani_translation.proofs.SameSeen.{image_seen, variables_agree}
 use Rattle.jani_translation.proofs.Elements.{elements_are}
 use Rattle.jani_translation.proofs.Written.{body_part, written_parts, variable_columns}
-use Rattle.jani_translation.proofs.StateNames.{position_cons, place_owned, owned_more, column_is, names_seen_alike}
+use Rattle.jani_translation.proofs.StateNames.{place_owned, owned_more, column_is, names_seen_alike}
 use Rattle.jani_translation.proofs.States.{columns_are}
-use Rattle.jani_translation.proofs.Apart.{get_dropped, get_taken, values_apart, entry_of}
+use Rattle.jani_translation.proofs.OneForOne.{filter-none}
+use Rattle.name_table.proofs.Parts.{values_apart}
 
 -- ---- reward structures
-pub filter-none : {X Y : Type 0} (p : Y → Bool) (f : X → Y) → ((x : X) → p (f x) ≡ false) → (xs : List X) (rest : List Y) → filter p (map f xs ++ rest) ≡ filter p rest
-filter-none p f h [] rest = refl
-filter-none p f h (x ∷ xs) rest = dropped (p (f x)) (h x) (filter-none p f h xs rest)
-  where
-    dropped : (b : Bool) → b ≡ false → filter p (map f xs ++ rest) ≡ filter p rest → cond b (f x ∷ filter p (map f xs ++ rest)) (filter p (map f xs ++ rest)) ≡ filter p rest
-    dropped true e t = absurd cc
-    dropped false e t = t
-
 pub filter-all : {X Y : Type 0} (p : Y → Bool) (f : X → Y) → ((x : X) → p (f x) ≡ true) → (xs : List X) → filter p (map f xs) ≡ map f xs
 filter-all p f h [] = refl
 filter-all p f h (x ∷ xs) = kept (p (f x)) (h x) (filter-all p f h xs)
@@ -111,11 +105,11 @@ module _ (file : prism.File) (v w : Valuation) (sound : IsSoundUnder file v) (al
       ∙ place_owned i z (new_structures file)
       ∙ none_called z file.rewards (new_names file).rewards
       (λ j u h.
-      let t = get_taken (length file.rewards) j (drop (rewards_at file (entries file)) (entries file)) u h in
+      let t = slice_get-take (length file.rewards) j (drop (rewards_at file (entries file)) (entries file)) u h in
       let inside = t.0 in
       ap (bytes_eq u.name) (sym d.name)
       ∙ values_apart file (rewards_at file (entries file) + j) (length file.constants + k) u d.entry (omega arith) (omega arith) (λ q. absurd (omega arith))
-      (sym (get_dropped (rewards_at file (entries file)) j (entries file)) ∙ t.1) (sym (get_dropped (length file.constants) k (entries file)) ∙ d.at))
+      (sym (slice_get-drop (rewards_at file (entries file)) j (entries file)) ∙ t.1) (sym (slice_get-drop (length file.constants) k (entries file)) ∙ d.at))
 
 -- ---- columns
 module _ (new : Name → Name) (old : Name → Seen) (x z : Name) where
@@ -124,7 +118,7 @@ module _ (new : Name → Name) (old : Name → Seen) (x z : Name) where
   found_place [] es k l g a = absurd (omega arith)
   found_place (y ∷ vs) [] k l g a = absurd a
   found_place (y ∷ vs) (e ∷ es) zero l g a =
-      let same : bytes_eq y.name.name x ≡ true = ap (λ n. bytes_eq n x) g ∙ same_bytes x in
+      let same : bytes_eq y.name.name x ≡ true = ap (λ n. bytes_eq n x) g ∙ bytes_eq-self x in
       position_cons (λ y. is_called z y.name) (variable new y e) (map (λ p. variable new p.0 p.1) (zip vs es))
       ∙ by_test (bytes_eq e.name z) (bytes_eq y.name.name x) a.0 same
     where
@@ -330,26 +324,6 @@ edges_watched file v w sound alike s h =
     ∙ ap (λ ps. shifted (edge_label silently names.action) (length g.elements) (map (prism_moment.part_at file v s) ps)) (sym (written_parts file sound.written.modules)))
     (one_numbered at_element (length file.modules) (has_monitor file) (automaton names zz_monitor [] (monitor_edges names file)))
 
--- ---- without a monitor
-or_right : (a b : Bool) → (a || b) ≡ false → b ≡ false
-or_right true b h = absurd cc
-or_right false b h = h
-
-not_one : {X : Type 0} (b : Bool) (x : X) → b ≡ false → only_if b x ≡ []
-not_one true x h = absurd cc
-not_one false x h = refl
-
 pub quiet_label : (new : Name → Name) (a : Option Name) → edge_label false new a ≡ option_map new a
 quiet_label new None = refl
 quiet_label new (Some a) = refl
-
-pub edges_are_commands : (file : prism.File) → EdgesAreCommands file
-edges_are_commands file v w sound alike none s h =
-    let g = translated file in
-    let names = new_names file in
-    let quiet : earns_silently file ≡ false = or_right (is_some_name (earning_actions file)) (earns_silently file) none in
-    edges_watched file v w sound alike s h
-    ∙ ap₂ (λ b r. shifted (edge_label b names.action) (length g.elements) (prism_moment.moment file v s).modules ++ map (jani_moment.element_at g w (state_of file s) (length file.modules)) r)
-    quiet (not_one (has_monitor file) (automaton names zz_monitor [] (monitor_edges names file)) none)
-    ∙ append-nil (shifted (edge_label false names.action) (length g.elements) (prism_moment.moment file v s).modules)
-    ∙ ap (λ l. shifted l (length g.elements) (prism_moment.moment file v s).modules) (fun_ext (quiet_label names.action))

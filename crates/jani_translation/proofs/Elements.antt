@@ -1,26 +1,22 @@
 -- The elements of a translated file are its automata: no two have one name, and each has one location and no variables.
-use Rattle.std.specs.Prelude.{◌≡◌, ℕ, zero, suc, ◌+◌, ◌<◌, List, [], ◌∷◌, ◌++◌, map, length, drop, Bool, true, false, cond, Option, Some, None, unwrap_or, slice_get, get_or, bytes_eq}
+use Rattle.std.specs.Prelude.{◌≡◌, ℕ, suc, ◌+◌, List, [], ◌∷◌, ◌++◌, map, length, Bool, true, false, cond, Some, unwrap_or, slice_get, get_or, bytes_eq}
 use Rattle.std.specs.List.{find, AllByRecursion}
 use Rattle.std.proofs.Common.{refl, sym, ap, ap₂, ◌∙◌, arith}
-use Rattle.std.proofs.lemmas.List.{length-map}
+use Rattle.basics.specs.Texts.{bytes_ne, bytes_eq-self}
 use Rattle.bridge_io.specs.declared.reason.Named.{Named}
 use Rattle.prism_tree.specs.Syntax as prism
-use Rattle.prism_flat.specs.Instance.{only_if}
+use Rattle.process_core.specs.Instance.{only_if}
 use Rattle.jani_tree.specs.Syntax.{Automaton, Write}
 use Rattle.jani_meaning.specs.Elements.{is_called, nothing_called, elements}
 use Rattle.name_table.specs.declared.class.NameClass.{NameClass}
 use Rattle.name_table.specs.declared.class.NameClass.TheVariants.{Module as OfModule}
 use Rattle.name_table.specs.declared.class.Target.TheVariants.{Jani}
 use Rattle.name_table.specs.declared.entry.Entry.{Entry}
-use Rattle.name_table.specs.Rule.{space, begins_zz, made_name}
-use Rattle.name_table.specs.Entries.{Ask, count_of}
-use Rattle.name_table.proofs.EntryLemmas.{Comes, was_kept, was_made, placed, kept_is_old, no_two_alike}
-use Rattle.name_table.specs.Asks.{ask, bodies, variables, constant_asks, variable_asks, label_asks, reward_asks, module_asks, action_asks, asks, entries, modules_at, NewNames, new_names}
+use Rattle.name_table.specs.Rule.{made_name}
+use Rattle.name_table.proofs.Parts.{get_part, not_named, module_class, modules_apart}
+use Rattle.name_table.specs.Asks.{bodies, asks, entries, modules_at, NewNames, new_names}
 use Rattle.jani_translation.specs.Automata.{zz_monitor, automaton, module_automaton, module_automata, monitor, monitor_edges, earns_silently, has_monitor, location_values}
 use Rattle.jani_translation.specs.Translated.{translated}
-use Rattle.jani_translation.proofs.Each.{n_bodies}
-use Rattle.jani_translation.proofs.Fresh.{same_bytes, other_bytes}
-use Rattle.jani_translation.proofs.Apart.{get_dropped, get_taken}
 
 -- ---- automata of different names are found by their names
 abbrev pub IsOther : Automaton → Automaton → Type 0
@@ -52,86 +48,20 @@ all_called : (as_ : List Automaton) → AreLone as_ → map (called_in as_) (map
 unfolding called_in
 all_called [] h = refl
 all_called (a ∷ as_) h =
-    ap₂ (λ x r. x ∷ r) (found_first (bytes_eq a.name.name a.name.name) a as_ a.name (same_bytes a.name.name)) (passed a as_ as_ h.0 ∙ all_called as_ h.1)
+    ap₂ (λ x r. x ∷ r) (found_first (bytes_eq a.name.name a.name.name) a as_ a.name (bytes_eq-self a.name.name)) (passed a as_ as_ h.0 ∙ all_called as_ h.1)
 
--- ---- the entries of modules
-skip : {X : Type 0} (xs ys : List X) (n i : ℕ) → length xs ≡ n → slice_get (xs ++ ys) (n + i) ≡ slice_get ys i
-skip [] ys n i l = let on : n + i ≡ i = omega arith in ap (slice_get ys) on
-skip (x ∷ xs) ys zero i l = absurd (omega arith)
-skip (x ∷ xs) ys (suc n) i l =
-    let on : suc n + i ≡ suc (n + i) = omega arith in
-    ap (slice_get (x ∷ (xs ++ ys))) on ∙ skip xs ys n i (omega arith)
-
-module_asked : (ms : List prism.Body) (rest : List Ask) (i : ℕ) (a : Ask) → i < length ms → slice_get (map (λ m. ask OfModule m.name.name) ms ++ rest) i ≡ Some a → a.0 ≡ OfModule
-module_asked [] rest i a l h = absurd (omega arith)
-module_asked (m ∷ ms) rest zero a l h = ap from (sym h)
-  where
-    from : Option Ask → NameClass
-    from None = OfModule
-    from (Some a) = a.0
-module_asked (m ∷ ms) rest (suc i) a l h = module_asked ms rest i a (omega arith) h
-
+-- ---- no module is called as the monitor is
 made_other : (c : NameClass) (n : ℕ) → c ≡ OfModule → made_name c n ≡ zz_monitor.name → ⊥
 made_other c n e h =
     let q : made_name OfModule n ≡ zz_monitor.name = ap (λ d. made_name d n) (sym e) ∙ h in
     let r : ◌≡◌ {A = ℕ} 95 111 = ap (λ l. get_or l 4 0) q in
     omega arith
 
-not_monitor : (es : List Entry) (a : Ask) (e : Entry) → Comes Jani es a.0 a.1 e → a.0 ≡ OfModule → e.name ≡ zz_monitor.name → ⊥
-not_monitor es a e (was_kept x p k h) c q =
-    let r : true ≡ false = sym (ap begins_zz (sym (ap (λ (u : Entry). u.name) h) ∙ q)) ∙ k.plain in
-    absurd cc
-not_monitor es a e (was_made h) c q = made_other a.0 (count_of a.0 es) c (sym (ap (λ (u : Entry). u.name) h) ∙ q)
-
-module _ (file : prism.File) where
-  asked_at : (i : ℕ) → slice_get (asks file) (modules_at file (entries file) + i) ≡ slice_get (module_asks file ++ action_asks file) i
-  asked_at i =
-      let cs = length file.constants in
-      let vs = length (variables file) in
-      let ls = length file.labels in
-      let rs = length file.rewards in
-      let re : modules_at file (entries file) + i ≡ cs + (vs + (ls + (rs + i))) = omega arith in
-      ap (slice_get (asks file)) re
-      ∙ skip (constant_asks file) _ cs _ (length-map file.constants _)
-      ∙ skip (variable_asks file) _ vs _ (length-map (variables file) _)
-      ∙ skip (label_asks file) _ ls _ (length-map file.labels _)
-      ∙ skip (reward_asks file) (module_asks file ++ action_asks file) rs i (length-map file.rewards _)
-
-  -- the entry of a module among all entries
-  record IsModules (i : ℕ) (e : Entry) : Type 0 where
-    low : i < length (bodies file)
-    at_place : slice_get (entries file) (modules_at file (entries file) + i) ≡ Some e
-
-  of_module : (i : ℕ) (e : Entry) → slice_get (new_names file).modules i ≡ Some e → IsModules i e
-  of_module i e h =
-      let t = get_taken (length file.modules) i (drop (modules_at file (entries file)) (entries file)) e h in
-      let n = n_bodies file in
-      let l = t.0 in
-      record { low = omega arith; at_place = sym (get_dropped (modules_at file (entries file)) i (entries file)) ∙ t.1 }
-
-  asked_module : (i : ℕ) (e : Entry) (h : IsModules i e) → (placed Jani (asks file) (modules_at file (entries file) + i) e h.at_place).asked.0 ≡ OfModule
-  asked_module i e h =
-      let p = placed Jani (asks file) (modules_at file (entries file) + i) e h.at_place in
-      module_asked (bodies file) (action_asks file) i p.asked h.low (sym (asked_at i) ∙ p.ask)
-
-  module_class : (i : ℕ) (e : Entry) → IsModules i e → e.class ≡ OfModule
-  module_class i e h =
-      let p = placed Jani (asks file) (modules_at file (entries file) + i) e h.at_place in
-      (kept_is_old Jani (asks file) (modules_at file (entries file) + i) p.asked e (record { entry = h.at_place; ask = p.ask })).0 ∙ asked_module i e h
-
-  modules_apart : (i j : ℕ) (e u : Entry) → (i ≡ j → ⊥) → slice_get (new_names file).modules i ≡ Some e → slice_get (new_names file).modules j ≡ Some u → bytes_eq e.name u.name ≡ false
-  modules_apart i j e u d g h =
-      let a = of_module i e g in
-      let b = of_module j u h in
-      other_bytes e.name u.name
-      (λ q. no_two_alike Jani (asks file) (modules_at file (entries file) + i) (modules_at file (entries file) + j) e u a.at_place b.at_place
-      (λ r. d (omega arith)) (ap (space Jani) (module_class i e a ∙ sym (module_class j u b))) q)
-
-  module_no_monitor : (i : ℕ) (e : Entry) → slice_get (new_names file).modules i ≡ Some e → bytes_eq e.name zz_monitor.name ≡ false
-  module_no_monitor i e h =
-      let a = of_module i e h in
-      let p = placed Jani (asks file) (modules_at file (entries file) + i) e a.at_place in
-      other_bytes e.name zz_monitor.name (λ q. not_monitor _ p.asked e p.comes (asked_module i e a) q)
+module_no_monitor : (file : prism.File) (i : ℕ) (e : Entry) → slice_get (new_names file).modules i ≡ Some e → bytes_eq e.name zz_monitor.name ≡ false
+module_no_monitor file i e h =
+    let at = modules_at file (entries file) in
+    let a = get_part at (length file.modules) i (entries file) e h in
+    bytes_ne e.name zz_monitor.name (not_named Jani (asks file) (at + i) e zz_monitor.name a.1 refl (λ n q. made_other e.class n (module_class file i e a.0 a.1) q))
 
 -- ---- automata by their names
 module _ (names : NewNames) (silently : Bool) where
@@ -161,7 +91,7 @@ lone_one : (b : Bool) (a : Automaton) → AreLone (only_if b a)
 lone_one true a = (tt, tt)
 lone_one false a = tt
 
-automata_lone : (file : prism.File) → AreLone (translated file).automata
+pub automata_lone : (file : prism.File) → AreLone (translated file).automata
 automata_lone file =
     let names = new_names file in
     lone names (earns_silently file) (location_values names file) (bodies file) names.modules (monitor names file) (modules_apart file)

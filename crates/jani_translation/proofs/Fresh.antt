@@ -1,41 +1,21 @@
 -- New names differ where old ones do.
-use Rattle.std.specs.Prelude.{◌≡◌, ℕ, zero, suc, ◌+◌, ◌<◌, ◌≤◌, List, [], ◌∷◌, ◌++◌, map, length, drop, Bool, true, false, Option, Some, None, slice_get, bytes_eq, if◌then◌else◌}
+use Rattle.std.specs.Prelude.{◌≡◌, ℕ, zero, suc, ◌+◌, ◌<◌, ◌≤◌, List, [], ◌∷◌, ◌++◌, map, length, drop, Bool, true, false, Some, slice_get, bytes_eq, if◌then◌else◌, get_or}
 use Rattle.std.specs.List.{AllByRecursion, IsDistinct}
 use Rattle.std.proofs.Common.{refl, sym, ap, ◌∙◌, arith, length-append}
-use Rattle.std.proofs.lemmas.Slice.Eq.{bytes_eq-Decides}
-use Rattle.std.proofs.lemmas.Bool.Decides.{same_from_decides}
 use Rattle.std.proofs.lemmas.List.{length-map}
+use Rattle.basics.specs.Texts.{bytes_ne, bytes_eq-self, bytes_eq-true, bytes_eq_comm}
 use Rattle.process_core.specs.Ready.{Name}
 use Rattle.prism_tree.specs.Syntax as prism
 use Rattle.name_table.specs.declared.class.NameClass.{NameClass}
 use Rattle.name_table.specs.declared.class.NameClass.TheVariants.{Constant, Variable, Location, Module, Action, Label, Reward, Property}
 use Rattle.name_table.specs.declared.class.Target.TheVariants.{Jani}
 use Rattle.name_table.specs.declared.entry.Entry.{Entry}
-use Rattle.name_table.specs.Rule.{space, is_valid, made_name}
+use Rattle.name_table.specs.Rule.{is_valid, made_name}
 use Rattle.name_table.specs.Entries.{Ask, count_of}
-use Rattle.name_table.proofs.EntryLemmas.{Comes, was_kept, was_made, placed, kept_is_old, no_two_alike}
-use Rattle.name_table.specs.Asks.{ask, variables, label_asks, reward_asks, module_asks, action_asks, asks, entries, new_name, value_names, new_names}
+use Rattle.name_table.proofs.EntryLemmas.{Comes, was_kept, was_made, placed}
+use Rattle.name_table.proofs.Parts.{values_apart}
+use Rattle.name_table.specs.Asks.{variables, asks, entries, new_name, value_names, new_names}
 use Rattle.jani_translation.proofs.Each.{n_entries}
-
--- ---- bytes
-pub same_bytes : (xs : Name) → bytes_eq xs xs ≡ true
-same_bytes xs = (bytes_eq-Decides xs xs).1 refl
-
-pub equal_bytes : (xs ys : Name) → bytes_eq xs ys ≡ true → xs ≡ ys
-equal_bytes xs ys = (bytes_eq-Decides xs ys).0
-
-pub bytes_turned : (x y : Name) → bytes_eq x y ≡ bytes_eq y x
-bytes_turned x y =
-    let p = bytes_eq-Decides x y in
-    let q = bytes_eq-Decides y x in
-    same_from_decides (bytes_eq x y) (bytes_eq y x) p ((λ h. sym (q.0 h)), (λ e. q.1 (sym e)))
-
-pub other_bytes : (xs ys : Name) → (xs ≡ ys → ⊥) → bytes_eq xs ys ≡ false
-other_bytes xs ys h = by_answer (bytes_eq xs ys) refl
-  where
-    by_answer : (b : Bool) → bytes_eq xs ys ≡ b → b ≡ false
-    by_answer true e = absurd (h (equal_bytes xs ys e))
-    by_answer false e = refl
 
 -- ---- entries with different names, for as many names as there are
 abbrev pub Apart : Entry → List Name → List Entry → Type 0
@@ -55,7 +35,7 @@ Agrees x z (y ∷ ys) [] = ⊥
 Agrees x z (y ∷ ys) (e ∷ es) = (bytes_eq e.name z ≡ bytes_eq y x) × Agrees x z ys es
 
 not_among : (e : Entry) (ys : List Name) (es : List Entry) (x : Name) → (e.name ≡ [] → ⊥) → Apart e ys es → bytes_eq e.name (new_name ys es x) ≡ false
-not_among e [] es x some a = other_bytes e.name [] some
+not_among e [] es x some a = bytes_ne e.name [] some
 not_among e (y ∷ ys) [] x some a = absurd a
 not_among e (y ∷ ys) (u ∷ us) x some a = by_answer (bytes_eq y x) (not_among e ys us x some a.1)
   where
@@ -67,11 +47,11 @@ none_agree : (e : Entry) (y x : Name) (ys : List Name) (es : List Entry) → y �
 none_agree e y x [] es h d a = tt
 none_agree e y x (z ∷ ys) [] h d a = absurd a
 none_agree e y x (z ∷ ys) (u ∷ us) h d a =
-    ((bytes_turned u.name e.name ∙ a.0) ∙ sym (bytes_turned z x ∙ ap (λ n. bytes_eq n z) (sym h) ∙ d.0), none_agree e y x ys us h d.1 a.1)
+    ((bytes_eq_comm u.name e.name ∙ a.0) ∙ sym (bytes_eq_comm z x ∙ ap (λ n. bytes_eq n z) (sym h) ∙ d.0), none_agree e y x ys us h d.1 a.1)
 
 agrees_by : (e : Entry) (y x : Name) (ys : List Name) (es : List Entry) (b : Bool) → bytes_eq y x ≡ b → AllByRecursion (λ u. bytes_eq y u ≡ false) ys →
     (e.name ≡ [] → ⊥) → Apart e ys es → Agrees x (new_name ys es x) ys es → Agrees x (if b then e.name else new_name ys es x) (y ∷ ys) (e ∷ es)
-agrees_by e y x ys es true h d some a r = (same_bytes e.name ∙ sym h, none_agree e y x ys es (equal_bytes y x h) d a)
+agrees_by e y x ys es true h d some a r = (bytes_eq-self e.name ∙ sym h, none_agree e y x ys es (bytes_eq-true y x h) d a)
 agrees_by e y x ys es false h d some a r = (not_among e ys es x some a ∙ sym h, r)
 
 pub agrees : (x : Name) (ys : List Name) (es : List Entry) → IsDistinct bytes_eq ys → Fresh ys es → Agrees x (new_name ys es x) ys es
@@ -126,26 +106,6 @@ module _ (file : prism.File) where
       let p = placed Jani (asks file) i e h in
       has_bytes _ e.class p.asked e p.comes
 
-  variable_space : (vs : List prism.Var) (rest : List Ask) (i : ℕ) (a : Ask) → i < length vs →
-      slice_get (map (λ x. ask Variable x.name.name) vs ++ rest) i ≡ Some a → space Jani a.0 ≡ space Jani Constant
-  variable_space [] rest i a l h = absurd (omega arith)
-  variable_space (x ∷ vs) rest zero a l h = ap (λ o. space Jani (from o)) (sym h)
-    where
-      from : Option Ask → NameClass
-      from None = Variable
-      from (Some a) = a.0
-  variable_space (x ∷ vs) rest (suc i) a l h = variable_space vs rest i a (omega arith) h
-
-  value_space : (cs : List prism.Const) (vs : List prism.Var) (rest : List Ask) (i : ℕ) (a : Ask) → i < length cs + length vs →
-      slice_get (map (λ c. ask Constant c.name.name) cs ++ (map (λ x. ask Variable x.name.name) vs ++ rest)) i ≡ Some a → space Jani a.0 ≡ space Jani Constant
-  value_space [] vs rest i a l h = variable_space vs rest i a (omega arith) h
-  value_space (c ∷ cs) vs rest zero a l h = ap (λ o. space Jani (from o)) (sym h)
-    where
-      from : Option Ask → NameClass
-      from None = Variable
-      from (Some a) = a.0
-  value_space (c ∷ cs) vs rest (suc i) a l h = value_space cs vs rest i a (omega arith) h
-
   n_values : length (value_names file) ≡ length file.constants + length (variables file)
   n_values =
       let a = length-append (map (λ c. c.name.name) file.constants) (map (λ x. x.name.name) (variables file)) in
@@ -153,18 +113,8 @@ module _ (file : prism.File) where
       let c = length-map (variables file) (λ x. x.name.name) in
       omega arith
 
-  entry_space : (i : ℕ) (e : Entry) → i < length (value_names file) → slice_get (entries file) i ≡ Some e → space Jani e.class ≡ space Jani Constant
-  entry_space i e l h =
-      let p = placed Jani (asks file) i e h in
-      let k = kept_is_old Jani (asks file) i p.asked e (record { entry = h; ask = p.ask }) in
-      let n = n_values in
-      ap (space Jani) k.0
-      ∙ value_space file.constants (variables file) (label_asks file ++ (reward_asks file ++ (module_asks file ++ action_asks file))) i p.asked (omega arith) p.ask
-
   entries_apart : OneApart (value_names file) (entries file)
-  entries_apart i j e u l k d g h =
-      other_bytes e.name u.name
-      (λ q. no_two_alike Jani (asks file) i j e u g h d (entry_space i e l g ∙ sym (entry_space j u k h)) q)
+  entries_apart i j e u l k d g h = let n = n_values in values_apart file i j e u (omega arith) (omega arith) d g h
 
   pub enough : length (value_names file) ≤ length (entries file)
   enough = let n = n_values in let m = n_entries file in omega arith
@@ -193,4 +143,19 @@ Takes new (y ∷ ys) (e ∷ es) = (e.name ≡ new y) × Takes new ys es
 pub takes_from : (new : Name → Name) (ys : List Name) (es : List Entry) → ((x : Name) → Agrees x (new x) ys es) → Takes new ys es
 takes_from new [] es h = tt
 takes_from new (y ∷ ys) [] h = absurd (h [])
-takes_from new (y ∷ ys) (e ∷ es) h = (equal_bytes e.name (new y) ((h y).0 ∙ same_bytes y), takes_from new ys es (λ x. (h x).1))
+takes_from new (y ∷ ys) (e ∷ es) h = (bytes_eq-true e.name (new y) ((h y).0 ∙ bytes_eq-self y), takes_from new ys es (λ x. (h x).1))
+
+-- ---- the entry of a declared name
+pub record IsEntryOf (x z : Name) (es : List Entry) (k : ℕ) : Type 0 where
+  pub entry : Entry
+  pub at : slice_get es k ≡ Some entry
+  pub name : entry.name ≡ z
+
+pub entry_of : (x z : Name) (ys : List Name) (es : List Entry) (k : ℕ) → k < length ys → get_or ys k x ≡ x → Agrees x z ys es → IsEntryOf x z es k
+entry_of x z [] es k l g a = absurd (omega arith)
+entry_of x z (y ∷ ys) [] k l g a = absurd a
+entry_of x z (y ∷ ys) (e ∷ es) zero l g a =
+    record { entry = e; at = refl; name = bytes_eq-true e.name z (a.0 ∙ ap (λ n. bytes_eq n x) g ∙ bytes_eq-self x) }
+entry_of x z (y ∷ ys) (e ∷ es) (suc k) l g a =
+    let r = entry_of x z ys es k (omega arith) g a.1 in
+    record { entry = r.entry; at = r.at; name = r.name }

@@ -5,9 +5,9 @@ pub mod Fresh
 pub mod SameSeen
 pub mod SameColumns
 pub mod Differ
-pub mod Apart
 pub mod Elements
 pub mod Written
+pub mod Clean
 pub mod StateNames
 pub mod States
 pub mod Edges
@@ -16,7 +16,6 @@ pub mod Gathering
 pub mod Filed
 pub mod Statements
 pub mod Monitored
-pub mod Numbered
 pub mod Places
 pub mod Gathering2
 pub mod Listed

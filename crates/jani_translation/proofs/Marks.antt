@@ -4,17 +4,19 @@ use Rattle.std.specs.List.{All, AllByRecursion, filter, find, flat_map, zip}
 use Rattle.std.proofs.Common.{refl, sym, ap, ap₂, ◌∙◌, arith, append-nil}
 use Rattle.std.proofs.lemmas.List.{length-map}
 use Rattle.std.proofs.lemmas.List.Elements.{All-head, All-tail}
+use Rattle.basics.specs.Texts.{bytes_eq-self}
+use Rattle.basics.specs.Lists.{slice_get-drop, slice_get-take}
 use Rattle.bridge_io.specs.declared.reason.Named.{Named}
 use Rattle.op_trees.specs.Seen.{Seen}
 use Rattle.process_core.specs.Ready.{Values, Name, if_some}
-use Rattle.process_core.specs.Choices.{number_of}
+use Rattle.process_core.specs.Choices.{number_of, truth_of}
 use Rattle.process_core.specs.declared.data.Mark.TheVariants as M
 use Rattle.prism_tree.specs.Syntax as prism
 use Rattle.prism_names.specs.Names.{unchanged, see}
-use Rattle.prism_flat.specs.Instance.{Valuation, numbered, only_if}
+use Rattle.process_core.specs.Instance.{Valuation, numbered, only_if}
 use Rattle.prism_flat.specs.Moment as prism_moment
 use Rattle.prism_flat.specs.Moment.{item_at}
-use Rattle.prism_flat.specs.Process.{state_reward, truth_of}
+use Rattle.prism_flat.specs.Process.{state_reward}
 use Rattle.process_core.specs.Bounds.{summed}
 use Rattle.jani_tree.specs.Syntax.{Automaton, Location, Var, File}
 use Rattle.jani_tree.specs.Syntax as jani
@@ -29,12 +31,12 @@ use Rattle.jani_translation.specs.Translated.{translated}
 use Rattle.jani_translation.specs.SeenLaws.{IsSound, IsSoundUnder, GivesAlike}
 use Rattle.jani_translation.specs.StateLaws.{at_home, state_of, SoundItem, MarksAreSound, LabelsSeenAlike, MarksAlike}
 use Rattle.jani_translation.proofs.Each.{n_bodies, for_labels, for_rewards, for_modules}
-use Rattle.jani_translation.proofs.Fresh.{same_bytes}
 use Rattle.jani_translation.proofs.Elements.{elements_are}
 use Rattle.jani_translation.proofs.StateNames.{owned_more}
-use Rattle.jani_translation.proofs.Edges.{new_structures, structures_owned, filter-none, filter_owned, here, expression_here}
-use Rattle.jani_translation.proofs.Apart.{get_dropped, get_taken, values_apart}
+use Rattle.jani_translation.proofs.Edges.{new_structures, structures_owned, filter_owned, here, expression_here}
+use Rattle.name_table.proofs.Parts.{values_apart}
 use Rattle.jani_translation.proofs.Sums.{nought_is, items_seen, state_items}
+use Rattle.jani_translation.proofs.OneForOne.{filter-none}
 
 -- ---- what a list of writes gives to a name
 given : Name → List jani.Write → Option jani.Write
@@ -92,7 +94,7 @@ module _ (names : NewNames) where
   labels_given [] es more h = tt
   labels_given (l ∷ ls) [] more h = tt
   labels_given (l ∷ ls) (e ∷ es) more h = (
-    given_here e.name (label_value names l e) (map (λ p. label_value names p.0 p.1) (zip ls es) ++ more) (same_bytes e.name),
+    given_here e.name (label_value names l e) (map (λ p. label_value names p.0 p.1) (zip ls es) ++ more) (bytes_eq-self e.name),
     gives_behind (λ l e. Some (label_value names l e)) (label_value names l e) (map (λ p. label_value names p.0 p.1) (zip ls es) ++ more) ls es
         (λ i u g. h 0 (suc i) e u (λ q. absurd (omega arith)) refl g)
         (labels_given ls es more (λ i j a b d p q. h (suc i) (suc j) a b (λ r. d (omega arith)) p q)),
@@ -134,7 +136,7 @@ module _ (names : NewNames) where
           × Gives (λ r e. first_write (reward_of names for_states r e)) (sum_to names (instead_if r.name e.name) is ++ rest) rs es
       by_items later [] = (none_given e.name rs es (λ i u g. h (suc i) 0 u e (λ q. absurd (omega arith)) g refl), later)
       by_items later (i ∷ is) = (
-        given_here e.name _ rest (ap (λ n. bytes_eq n e.name) (named_at r.name e.name) ∙ same_bytes e.name),
+        given_here e.name _ rest (ap (λ n. bytes_eq n e.name) (named_at r.name e.name) ∙ bytes_eq-self e.name),
         gives_behind (λ r e. first_write (reward_of names for_states r e)) _ rest rs es
             (λ j u g. ap (λ n. bytes_eq n u.name) (named_at r.name e.name) ∙ h 0 (suc j) e u (λ q. absurd (omega arith)) refl g) later,
       )
@@ -143,30 +145,30 @@ module _ (names : NewNames) where
 module _ (file : prism.File) where
   labels_apart : AreApart (new_names file).labels
   labels_apart i j e u d g h =
-      let a = get_taken (length file.labels) i (drop (labels_at file (entries file)) (entries file)) e g in
-      let b = get_taken (length file.labels) j (drop (labels_at file (entries file)) (entries file)) u h in
+      let a = slice_get-take (length file.labels) i (drop (labels_at file (entries file)) (entries file)) e g in
+      let b = slice_get-take (length file.labels) j (drop (labels_at file (entries file)) (entries file)) u h in
       let p = a.0 in
       let q = b.0 in
       values_apart file (labels_at file (entries file) + i) (labels_at file (entries file) + j) e u (omega arith) (omega arith) (λ r. d (omega arith))
-      (sym (get_dropped (labels_at file (entries file)) i (entries file)) ∙ a.1) (sym (get_dropped (labels_at file (entries file)) j (entries file)) ∙ b.1)
+      (sym (slice_get-drop (labels_at file (entries file)) i (entries file)) ∙ a.1) (sym (slice_get-drop (labels_at file (entries file)) j (entries file)) ∙ b.1)
 
   pub rewards_apart : AreApart (new_names file).rewards
   rewards_apart i j e u d g h =
-      let a = get_taken (length file.rewards) i (drop (rewards_at file (entries file)) (entries file)) e g in
-      let b = get_taken (length file.rewards) j (drop (rewards_at file (entries file)) (entries file)) u h in
+      let a = slice_get-take (length file.rewards) i (drop (rewards_at file (entries file)) (entries file)) e g in
+      let b = slice_get-take (length file.rewards) j (drop (rewards_at file (entries file)) (entries file)) u h in
       let p = a.0 in
       let q = b.0 in
       values_apart file (rewards_at file (entries file) + i) (rewards_at file (entries file) + j) e u (omega arith) (omega arith) (λ r. d (omega arith))
-      (sym (get_dropped (rewards_at file (entries file)) i (entries file)) ∙ a.1) (sym (get_dropped (rewards_at file (entries file)) j (entries file)) ∙ b.1)
+      (sym (slice_get-drop (rewards_at file (entries file)) i (entries file)) ∙ a.1) (sym (slice_get-drop (rewards_at file (entries file)) j (entries file)) ∙ b.1)
 
   labels_no_rewards : (i : ℕ) (e : Entry) → slice_get (new_names file).labels i ≡ Some e → IsFarFrom e.name (new_names file).rewards
   labels_no_rewards i e g j u h =
-      let a = get_taken (length file.labels) i (drop (labels_at file (entries file)) (entries file)) e g in
-      let b = get_taken (length file.rewards) j (drop (rewards_at file (entries file)) (entries file)) u h in
+      let a = slice_get-take (length file.labels) i (drop (labels_at file (entries file)) (entries file)) e g in
+      let b = slice_get-take (length file.rewards) j (drop (rewards_at file (entries file)) (entries file)) u h in
       let p = a.0 in
       let q = b.0 in
       values_apart file (labels_at file (entries file) + i) (rewards_at file (entries file) + j) e u (omega arith) (omega arith) (λ r. absurd (omega arith))
-      (sym (get_dropped (labels_at file (entries file)) i (entries file)) ∙ a.1) (sym (get_dropped (rewards_at file (entries file)) j (entries file)) ∙ b.1)
+      (sym (slice_get-drop (labels_at file (entries file)) i (entries file)) ∙ a.1) (sym (slice_get-drop (rewards_at file (entries file)) j (entries file)) ∙ b.1)
 
   labels_in_location : Gives (λ l e. Some (label_value (new_names file) l e)) (location_values (new_names file) file) file.labels (new_names file).labels
   labels_in_location = labels_given (new_names file) file.labels (new_names file).labels (rewards_of (new_names file) for_states file.rewards) labels_apart

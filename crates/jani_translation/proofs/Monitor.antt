@@ -4,6 +4,7 @@ use Rattle.std.specs.Prelude.{◌≡◌, ℕ, zero, suc, ◌<◌, List, [], ◌�
 use Rattle.std.specs.List.{AllByRecursion, IsDistinct, filter}
 use Rattle.std.proofs.Common.{refl, sym, ap, ap₂, subst, ◌∙◌, arith}
 use Rattle.std.proofs.lemmas.List.{map-append}
+use Rattle.basics.specs.Texts.{bytes_ne, bytes_eq-self}
 use Rattle.bridge_io.specs.declared.reason.Named.{Named}
 use Rattle.frac_core.specs.Fraction.{unit}
 use Rattle.op_trees.specs.Seen.{known}
@@ -14,7 +15,7 @@ use Rattle.process_core.specs.Follow.{FollowsUpdate, FollowsReady}
 use Rattle.process_core.specs.Idle.{idle_update, idle}
 use Rattle.prism_tree.specs.Syntax as prism
 use Rattle.prism_tree.specs.declared.syntax.ItemOn.{ItemOn}
-use Rattle.prism_flat.specs.Instance.{Valuation, only_if}
+use Rattle.process_core.specs.Instance.{Valuation, only_if}
 use Rattle.jani_tree.specs.Syntax.{Automaton, Edge, File}
 use Rattle.jani_meaning.specs.Moment as jani_moment
 use Rattle.jani_meaning.specs.Moment.{location_write}
@@ -24,11 +25,11 @@ use Rattle.jani_translation.specs.Automata.{loc, zz_silent, zz_monitor, has_item
 use Rattle.jani_translation.specs.Translated.{translated}
 use Rattle.jani_translation.specs.SeenLaws.{IsSoundUnder, GivesAlike}
 use Rattle.jani_translation.specs.StateLaws.{state_of}
-use Rattle.jani_translation.proofs.Fresh.{same_bytes, other_bytes}
 use Rattle.jani_translation.proofs.Differ.{actions_distinct, actions_are_not_silent}
-use Rattle.jani_translation.proofs.Edges.{filter-none, home_at}
+use Rattle.jani_translation.proofs.Edges.{home_at}
 use Rattle.jani_translation.proofs.Choices.{any_state, set_home, own_name}
 use Rattle.jani_translation.proofs.Assigned.{assigned_by, monitor_writes}
+use Rattle.jani_translation.proofs.OneForOne.{filter-none}
 
 -- ---- lists with at most one member more
 filter_one : {X : Type 0} (p : X → Bool) (b : Bool) (x : X) → p x ≡ true → filter p (only_if b x) ≡ only_if b x
@@ -69,13 +70,13 @@ module _ (q : Ready → Bool) (f : Name → Ready) (a : Name) (same : (y : Name)
   found_once t (x ∷ xs) rest d zero l g =
       subst (λ z. AllByRecursion (λ y. bytes_eq z y ≡ false) xs → filter q (map f (cond (kept z) (z ∷ filter kept xs) (filter kept xs)) ++ rest) ≡ f a ∷ filter q rest) (sym g)
       (λ h. ap (λ b. filter q (map f (cond b (a ∷ filter kept xs) (filter kept xs)) ++ rest)) t
-      ∙ ap₂ (λ b l. cond b (f a ∷ l) l) (same a ∙ same_bytes a) (others xs rest h)) d.0
+      ∙ ap₂ (λ b l. cond b (f a ∷ l) l) (same a ∙ bytes_eq-self a) (others xs rest h)) d.0
   found_once t (x ∷ xs) rest d (suc k) l g =
-      by_test (kept x) (same x ∙ other_bytes a x (λ e. differ e (ap (bytes_eq x) (sym g) ∙ at_place (λ y. bytes_eq x y ≡ false) a xs d.0 k (omega arith))))
+      by_test (kept x) (same x ∙ bytes_ne a x (λ e. differ e (ap (bytes_eq x) (sym g) ∙ at_place (λ y. bytes_eq x y ≡ false) a xs d.0 k (omega arith))))
       (found_once t xs rest d.1 k (omega arith) g)
     where
       differ : a ≡ x → bytes_eq x a ≡ false → ⊥
-      differ e h = absurd (let u : true ≡ false = sym (same_bytes x) ∙ ap (bytes_eq x) (sym e) ∙ h in cc)
+      differ e h = absurd (let u : true ≡ false = sym (bytes_eq-self x) ∙ ap (bytes_eq x) (sym e) ∙ h in cc)
 
       by_test : (b : Bool) → q (f x) ≡ false → filter q (map f (filter kept xs) ++ rest) ≡ f a ∷ filter q rest → filter q (map f (cond b (x ∷ filter kept xs) (filter kept xs)) ++ rest) ≡ f a ∷ filter q rest
       by_test true e r = ap (λ c. cond c (f x ∷ filter q (map f (filter kept xs) ++ rest)) (filter q (map f (filter kept xs) ++ rest))) e ∙ r
@@ -149,8 +150,8 @@ module _ (file : prism.File) (v w : Valuation) (sound : IsSoundUnder file v) (al
   pub one_silent : filter (has_action (Some zz_silent.name)) watched_edges ≡ only_if (earns_silently file) (watching zz_silent for_silent)
   one_silent =
       filter-none (has_action (Some zz_silent.name)) (λ a. watching (made ((new_names file).action a)) (for_action a))
-      (λ a. other_bytes zz_silent.name ((new_names file).action a) (λ e. actions_are_not_silent file a (sym e))) (earning_actions file) (only_if (earns_silently file) (watching zz_silent for_silent))
-      ∙ filter_one (has_action (Some zz_silent.name)) (earns_silently file) (watching zz_silent for_silent) (same_bytes zz_silent.name)
+      (λ a. bytes_ne zz_silent.name ((new_names file).action a) (λ e. actions_are_not_silent file a (sym e))) (earning_actions file) (only_if (earns_silently file) (watching zz_silent for_silent))
+      ∙ filter_one (has_action (Some zz_silent.name)) (earns_silently file) (watching zz_silent for_silent) (bytes_eq-self zz_silent.name)
 
   pub one_for_action : (a : Name) → Contains (actions file) a → has_items (for_action a) file ≡ true →
       filter (has_action (Some ((new_names file).action a))) watched_edges ≡ watching (made ((new_names file).action a)) (for_action a) ∷ []
@@ -160,4 +161,4 @@ module _ (file : prism.File) (v w : Valuation) (sound : IsSoundUnder file v) (al
       let f : Name → Ready = λ a. watching (made (new a)) (for_action a) in
       let silent = watching zz_silent for_silent in
       found_once q f a (own_name file a c) (λ a. has_items (for_action a) file) h (actions file) (only_if (earns_silently file) silent) (actions_distinct file) c.0 c.1 c.2
-      ∙ ap (λ r. f a ∷ r) (filter_no_one q (earns_silently file) silent (other_bytes (new a) zz_silent.name (actions_are_not_silent file a)))
+      ∙ ap (λ r. f a ∷ r) (filter_no_one q (earns_silently file) silent (bytes_ne (new a) zz_silent.name (actions_are_not_silent file a)))

@@ -5,7 +5,7 @@ use Rattle.std.specs.Option.{option_map}
 use Rattle.std.proofs.Common.{refl, sym, ap, ap₂, ◌∙◌, arith, length-append, append-nil}
 use Rattle.std.proofs.lemmas.List.{length-map}
 use Rattle.prism_tree.specs.Syntax as prism
-use Rattle.prism_flat.specs.Instance.{only_if}
+use Rattle.process_core.specs.Instance.{only_if}
 use Rattle.jani_tree.specs.Syntax.{Automaton, Write}
 use Rattle.name_table.specs.declared.entry.Entry.{Entry}
 use Rattle.prism_images.specs.Image.{image}
@@ -16,7 +16,7 @@ use Rattle.jani_translation.specs.Laws.{OneAutomatonEach, OneElementEach, Module
 use Rattle.jani_translation.proofs.Each.{map-zip, length-zip, n_bodies, for_constants, for_variables, for_labels, for_rewards, for_modules}
 
 -- ---- automata
-one_or_none : {X : Type 0} (b : Bool) (x : X) → length (only_if b x) ≡ (if b then 1 else 0)
+pub one_or_none : {X : Type 0} (b : Bool) (x : X) → length (only_if b x) ≡ (if b then 1 else 0)
 one_or_none true x = refl
 one_or_none false x = refl
 
@@ -84,7 +84,7 @@ filter-all p f h (x ∷ xs) rest = kept (p (f x)) (h x) (filter-all p f h xs res
     kept true e t = ap (λ r. f x ∷ r) t
     kept false e t = absurd cc
 
-filter-none : {X Y : Type 0} (p : Y → Bool) (f : X → Y) → ((x : X) → p (f x) ≡ false) → (xs : List X) (rest : List Y) →
+pub filter-none : {X Y : Type 0} (p : Y → Bool) (f : X → Y) → ((x : X) → p (f x) ≡ false) → (xs : List X) (rest : List Y) →
     filter p (map f xs ++ rest) ≡ filter p rest
 filter-none p f h [] rest = refl
 filter-none p f h (x ∷ xs) rest = dropped (p (f x)) (h x) (filter-none p f h xs rest)

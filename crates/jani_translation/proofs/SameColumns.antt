@@ -1,9 +1,10 @@
 -- The scenes of a file and of the translated file: constants, columns and instance faults.
-use Rattle.std.specs.Prelude.{◌≡◌, ℕ, ◌+◌, List, [], ◌∷◌, ◌++◌, map, length, drop, Bool, true, false, not, ◌&&◌, cond, Option, Some, None, unwrap_or, IfSome}
+use Rattle.std.specs.Prelude.{◌≡◌, ℕ, ◌+◌, List, [], ◌∷◌, ◌++◌, map, length, drop, Bool, true, false, not, cond, Option, Some, None, unwrap_or, IfSome}
 use Rattle.std.specs.List.{All, find, filter, flat_map, zip, list_all}
 use Rattle.std.proofs.Common.{refl, sym, ap, ap₂, ◌∙◌, append-nil}
 use Rattle.std.proofs.lemmas.List.{map-append}
 use Rattle.std.proofs.lemmas.List.Elements.{All-nil, All-cons, All-append, All-head, All-tail}
+use Rattle.basics.specs.Booleans.{first_true, second_true}
 use Rattle.bridge_io.specs.declared.reason.Named.{Named}
 use Rattle.op_trees.specs.Seen.{Seen, known}
 use Rattle.process_core.specs.Product.{map-flat_map}
@@ -11,7 +12,7 @@ use Rattle.process_core.specs.Ready.{Name}
 use Rattle.prism_tree.specs.Syntax as prism
 use Rattle.prism_tree.specs.Syntax.{Module, plain, copied}
 use Rattle.prism_names.specs.Names.{unchanged, part_of}
-use Rattle.prism_flat.specs.Instance.{Valuation, Domain, Between, Column, numbered, only_if, constant_faults, column_faults}
+use Rattle.process_core.specs.Instance.{Valuation, Domain, Between, Column, numbered, only_if, constant_faults, column_faults}
 use Rattle.prism_flat.specs.Kept.{is_plain}
 use Rattle.prism_flat.specs.Scene as prism_scene
 use Rattle.jani_tree.specs.Syntax.{Automaton, Var, Write, File}
@@ -83,14 +84,6 @@ module _ (new : Name → Name) (old env : Name → Seen) (n : (x : Name) → env
       ap₂ (λ c r. c ∷ r) (same_column _ _ _ _ _ _ t.0 (domain_alike x.range here.0) (first_alike x.start x.range here.0 here.1)) (columns_alike vs es t.1 rest)
 
 -- ---- the columns of a written out file
-and_left : (a b : Bool) → (a && b) ≡ true → a ≡ true
-and_left true b h = refl
-and_left false b h = absurd cc
-
-and_right : (a b : Bool) → (a && b) ≡ true → b ≡ true
-and_right true b h = h
-and_right false b h = absurd cc
-
 module _ (file : prism.File) (v : Valuation) where
   module_columns : (m : Module) → is_plain m ≡ true →
       prism_scene.part_columns file v (part_of file m) ≡ map (prism_scene.column unchanged (prism_scene.constant_names file v unchanged)) (contents m).vars
@@ -102,7 +95,7 @@ module _ (file : prism.File) (v : Valuation) where
       ≡ flat_map (λ m. map (prism_scene.column unchanged (prism_scene.constant_names file v unchanged)) m.vars) (map contents ms)
   all_columns [] h = refl
   all_columns (m ∷ ms) h =
-      ap₂ (λ x y. x ++ y) (module_columns m (and_left (is_plain m) (list_all is_plain ms) h)) (all_columns ms (and_right (is_plain m) (list_all is_plain ms) h))
+      ap₂ (λ x y. x ++ y) (module_columns m (first_true (is_plain m) (list_all is_plain ms) h)) (all_columns ms (second_true (is_plain m) (list_all is_plain ms) h))
 
   written_columns : list_all is_plain file.modules ≡ true →
       prism_scene.columns_of file v ≡ map (prism_scene.column unchanged (prism_scene.constant_names file v unchanged)) (variables file)

@@ -5,16 +5,16 @@ use Rattle.std.specs.Option.{option_map}
 use Rattle.std.proofs.Common.{refl, sym, ap, subst, ◌∙◌, arith}
 use Rattle.std.proofs.lemmas.List.{length-map}
 use Rattle.std.proofs.lemmas.List.Elements.{All-head, All-tail}
-use Rattle.op_trees.specs.Seen.{Seen, known, looked_up}
+use Rattle.basics.specs.Texts.{bytes_eq-true}
+use Rattle.op_trees.specs.Seen.{Seen, known}
 use Rattle.op_trees.specs.SeenLaws.{names_all}
 use Rattle.op_trees.specs.declared.tree.Value.{Value}
 use Rattle.process_core.specs.Ready.{Name}
-use Rattle.prism_tree.specs.Operators.{prism_meaning}
 use Rattle.prism_tree.specs.Syntax as prism
 use Rattle.prism_tree.specs.Syntax.{Module, plain, copied}
 use Rattle.prism_names.specs.Names as names
-use Rattle.prism_names.specs.Names.{unchanged, formula_body, part_of, reading}
-use Rattle.prism_flat.specs.Instance.{Valuation}
+use Rattle.prism_names.specs.Names.{unchanged, part_of}
+use Rattle.process_core.specs.Instance.{Valuation}
 use Rattle.prism_flat.specs.Scene as prism_scene
 use Rattle.jani_tree.specs.Syntax as jani
 use Rattle.jani_tree.specs.Syntax.{Automaton, Var, File}
@@ -29,18 +29,14 @@ use Rattle.jani_translation.specs.Parts.{constant}
 use Rattle.jani_translation.specs.Translated.{translated}
 use Rattle.jani_translation.specs.SeenLaws.{IsSound, SoundConstant, IsSoundUnder, GivenAlike, GivesAlike}
 use Rattle.jani_translation.proofs.Each.{for_constants}
-use Rattle.jani_translation.proofs.Fresh.{equal_bytes, Agrees, values_agree, agrees_front, agrees_back}
+use Rattle.jani_translation.proofs.Fresh.{Agrees, values_agree, agrees_front, agrees_back}
+use Rattle.jani_translation.proofs.Written.{given_reading}
 
 -- ---- expressions
 pub image_seen : (new : Name → Name) (e : prism.Expression) (old env : Name → Seen) → ((x : Name) → env (new x) ≡ old x) → IsSound old e →
     jani_scene.see (image new e) env ≡ names.see e old
 unfolding jani_scene.see names.see
 image_seen new e old env h s = seen_alike new old env e (names_all (λ x. env (new x) ≡ old x) h e) s.0 s.1
-
--- without formulas a name is seen as it is given
-plain_reading : (file : prism.File) (given : Name → Seen) → file.formulas ≡ [] → reading file given ≡ given
-unfolding reading
-plain_reading file given e = ap (λ n. looked_up prism_meaning (formula_body file) n given) (ap length e)
 
 -- ---- a constant
 pub constant_alike : (new : Name → Name) (old env : Name → Seen) (g h : Option Value) (d : Option prism.Expression) → ((x : Name) → env (new x) ≡ old x) → (d ≡ None → g ≡ h) → IfSome d (IsSound old) →
@@ -85,7 +81,7 @@ found_first : (P : prism.Const → Type 0) (x : Name) (d c : prism.Const) (b : B
     (o ≡ Some c → IsFound P x c) → cond b (Some d) o ≡ Some c → IsFound P x c
 found_first P x d c true o e p r h =
     let s : d ≡ c = ap (λ k. unwrap_or k d) h in
-    subst (IsFound P x) s (record { name = equal_bytes d.name.name x e; has = p })
+    subst (IsFound P x) s (record { name = bytes_eq-true d.name.name x e; has = p })
 found_first P x d c false o e p r h = r h
 
 found : (P : prism.Const → Type 0) (x : Name) (cs : List prism.Const) (c : prism.Const) → All P cs → find (λ d. names.is_called x d.name) cs ≡ Some c → IsFound P x c
@@ -129,7 +125,7 @@ module _ (file : prism.File) (v w : Valuation) (sound : IsSoundUnder file v) (al
       value_alike (new_names file).value (λ y. known (prism_scene.constant_within file v n y)) (λ y. known (jani_scene.constant_within (translated file) w n y))
       (w ((new_names file).value x)) (v x) (jani_scene.constant_called (translated file) ((new_names file).value x)) (prism_scene.constant_called file x)
       (called_alike x) (λ y. ap known (within_alike n y)) (λ c h. (given_alike x c h, sound_constant x c h n))
-      ∙ ap (λ r. prism_scene.constant_value (v x) r (prism_scene.constant_called file x)) (sym (plain_reading file (λ y. known (prism_scene.constant_within file v n y)) sound.written.formulas))
+      ∙ ap (λ r. prism_scene.constant_value (v x) r (prism_scene.constant_called file x)) (sym (given_reading file (λ y. known (prism_scene.constant_within file v n y)) sound.written.formulas))
 
   pub n_constants : length (translated file).constants ≡ length file.constants
   n_constants =
@@ -149,4 +145,4 @@ module _ (file : prism.File) (v w : Valuation) (sound : IsSoundUnder file v) (al
   names_alike x = ap known (constant_same x)
 
   pub names_plain : prism_scene.constant_names file v unchanged ≡ (λ x. known (prism_scene.constant file v x))
-  names_plain = plain_reading file (λ x. known (prism_scene.constant file v x)) sound.written.formulas
+  names_plain = given_reading file (λ x. known (prism_scene.constant file v x)) sound.written.formulas

@@ -1,14 +1,16 @@
 -- Names of a translated file at a state: each is seen as its old name is.
 use Rattle.std.specs.Prelude.{◌≡◌, ℕ, zero, suc, ◌+◌, nat_lt, List, [], ◌∷◌, ◌++◌, map, length, drop, Bool, true, false, not, cond, Option, Some, None, slice_get, bytes_eq, if◌then◌else◌}
-use Rattle.std.specs.List.{filter, zip, position, position_or_len, AllByRecursion}
+use Rattle.std.specs.List.{filter, zip, position, AllByRecursion}
 use Rattle.std.specs.Option.{option_map, option_or}
-use Rattle.std.proofs.Common.{refl, sym, ap, ap₂, ◌∙◌, arith, tests, lt-ltb, append-nil}
+use Rattle.std.proofs.Common.{refl, sym, ap, ap₂, ◌∙◌, arith, lt-ltb, append-nil}
+use Rattle.basics.specs.Members.{position_cons}
+use Rattle.basics.specs.Numbers.{nat_lt-suc}
 use Rattle.op_trees.specs.Seen.{Seen, known}
 use Rattle.op_trees.specs.declared.tree.Value.{Value}
 use Rattle.process_core.specs.Ready.{Values, Name}
 use Rattle.prism_tree.specs.Syntax as prism
 use Rattle.prism_names.specs.Names.{unchanged}
-use Rattle.prism_flat.specs.Instance.{numbered}
+use Rattle.process_core.specs.Instance.{numbered}
 use Rattle.prism_flat.specs.Scene as prism_scene
 use Rattle.prism_flat.specs.Moment as prism_moment
 use Rattle.jani_tree.specs.Syntax.{Automaton, Var}
@@ -27,9 +29,6 @@ use Rattle.jani_translation.proofs.Elements.{elements_are, IsOne, automata_one}
 use Rattle.jani_translation.proofs.Written.{given_reading, variable_columns}
 
 -- ---- positions
-less_next : (n m : ℕ) → nat_lt (suc n) (suc m) ≡ nat_lt n m
-less_next n m = grind (arith, tests)
-
 position_by : (b : Bool) (n m : ℕ) →
     cond (nat_lt (cond (not b) (1 + n) 0) (suc m)) (Some (cond (not b) (1 + n) 0)) None ≡ cond b (Some 0) (option_map suc (cond (nat_lt n m) (Some n) None))
 position_by true n m =
@@ -37,14 +36,11 @@ position_by true n m =
     ap (λ b. cond b (Some 0) None) first
 position_by false n m =
     let on : 1 + n ≡ suc n = omega arith in
-    ap (λ k. cond (nat_lt k (suc m)) (Some k) None) on ∙ ap (λ c. cond c (Some (suc n)) None) (less_next n m) ∙ by_test (nat_lt n m)
+    ap (λ k. cond (nat_lt k (suc m)) (Some k) None) on ∙ ap (λ c. cond c (Some (suc n)) None) (nat_lt-suc n m) ∙ by_test (nat_lt n m)
   where
     by_test : (c : Bool) → cond c (Some (suc n)) None ≡ option_map suc (cond c (Some n) None)
     by_test true = refl
     by_test false = refl
-
-pub position_cons : {X : Type 0} (p : X → Bool) (x : X) (xs : List X) → position p (x ∷ xs) ≡ cond (p x) (Some 0) (option_map suc (position p xs))
-position_cons p x xs = position_by (p x) (position_or_len p xs) (length xs)
 
 -- ---- no variable belongs to an element
 pub none_owned : (i : ℕ) (z : Name) (vs : List Var) → position (is_own i z) (owned_by None vs) ≡ None

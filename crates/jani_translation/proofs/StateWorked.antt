@@ -13,7 +13,7 @@ use Rattle.process_core.specs.Bounds.{summed}
 use Rattle.prism_tree.specs.declared.operator.PrismOp.TheVariants as P
 use Rattle.prism_tree.specs.Syntax as prism
 use Rattle.prism_names.specs.Names.{see, reading}
-use Rattle.prism_flat.specs.Instance.{Valuation}
+use Rattle.process_core.specs.Instance.{Valuation}
 use Rattle.prism_flat.specs.Moment.{item_at}
 use Rattle.jani_meaning.specs.Scene as jani_scene
 use Rattle.name_table.specs.Asks.{new_names}

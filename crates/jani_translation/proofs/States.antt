@@ -1,17 +1,19 @@
 -- The states of a translated file: each element is at its one location.
-use Rattle.std.specs.Prelude.{◌≡◌, List, [], ◌∷◌, ◌++◌, map, Bool, true, false, not, ◌&&◌}
+use Rattle.std.specs.Prelude.{◌≡◌, List, [], ◌∷◌, ◌++◌, map, true, not, ◌&&◌}
 use Rattle.std.specs.Ordering.{MatchOrdering}
 use Rattle.std.specs.List.{AllByRecursion}
 use Rattle.std.proofs.Common.{refl, sym, ap, ap₂, ◌∙◌}
 use Rattle.std.specs.declared.cmp.Ordering.{Ordering}
 use Rattle.std.specs.declared.cmp.Ordering.TheVariants as C
+use Rattle.std.proofs.lemmas.Bool.{and_parts}
+use Rattle.std.proofs.lemmas.List.{append_cancel_left}
 use Rattle.frac_core.specs.Fraction.{Fraction, nought, compare, is_whole}
 use Rattle.frac_core.specs.Order.{Below, compare_ranks, compare_is}
 use Rattle.op_trees.specs.declared.tree.Value.{Value}
 use Rattle.op_trees.specs.declared.tree.Value.TheVariants as V
 use Rattle.process_core.specs.Ready.{Values, Name}
 use Rattle.prism_tree.specs.Syntax as prism
-use Rattle.prism_flat.specs.Instance.{Valuation, Between, Column, is_greater, is_above, is_in, is_first, is_state, is_initial}
+use Rattle.process_core.specs.Instance.{Valuation, Between, Column, is_greater, is_above, is_in, is_first, is_state, is_initial}
 use Rattle.prism_flat.specs.Scene as prism_scene
 use Rattle.jani_tree.specs.Syntax.{Automaton}
 use Rattle.jani_meaning.specs.Scene as jani_scene
@@ -81,15 +83,11 @@ by_order q C.Less m h k = absurd (not_greater (compare nought q) k (compare_is n
 by_order q C.Equal m h k = m
 by_order q C.Greater m h k = absurd cc
 
-both : (a b : Bool) → (a && b) ≡ true → (a ≡ true) × (b ≡ true)
-both true b h = (refl, h)
-both false b h = absurd cc
-
 home_only : (u : Value) → is_in (Between (counted 0) (counted 0)) u ≡ true → at_home ≡ u
 home_only (V.Truth b) h = absurd cc
 home_only (V.Number q) h =
-    let p = both (is_whole q) (not (is_above nought q) && not (is_above q nought)) h in
-    let r = both (not (is_above nought q)) (not (is_above q nought)) p.1 in
+    let p = and_parts (is_whole q) (not (is_above nought q) && not (is_above q nought)) h in
+    let r = and_parts (not (is_above nought q)) (not (is_above q nought)) p.1 in
     ap V.Number (sym (by_order q (compare q nought) (compare_ranks q nought) r.1 r.0))
 
 behind : (names : NewNames) (cs : List Column) (as_ : List Automaton) → AllByRecursion (IsOne names) as_ → (u : Values) → is_state (map location_column as_ ++ cs) u ≡ true →
@@ -97,7 +95,7 @@ behind : (names : NewNames) (cs : List Column) (as_ : List Automaton) → AllByR
 behind names cs [] h u k = (u, k, refl)
 behind names cs (a ∷ as_) h [] k = absurd cc
 behind names cs (a ∷ as_) h (x ∷ u) k =
-    let p = both (is_in (location_column a).domain x) (is_state (map location_column as_ ++ cs) u) k in
+    let p = and_parts (is_in (location_column a).domain x) (is_state (map location_column as_ ++ cs) u) k in
     let r = behind names cs as_ h.1 u p.1 in
     (r.0, r.1, ap₂ (λ y t. y ∷ t) (home_only x (sym (ap (λ (b : Automaton). is_in (location_column b).domain x) h.0.1) ∙ p.0)) r.2)
 
@@ -107,13 +105,5 @@ states_are_these file v w sound alike u h =
     let r = behind (new_names file) cs (translated file).automata (automata_one file) u (sym (ap (λ k. is_state k u) (columns_are file v w sound alike)) ∙ h) in
     (r.0, sym (renamed_states (new_names file).value (prism_scene.columns_of file v) r.0) ∙ r.1, r.2)
 
-same_behind : (us s t : Values) → us ++ s ≡ us ++ t → s ≡ t
-same_behind [] s t e = e
-same_behind (u ∷ us) s t e = same_behind us s t (ap later e)
-  where
-    later : Values → Values
-    later [] = []
-    later (x ∷ xs) = xs
-
 pub states_differ : (file : prism.File) → StatesDiffer file
-states_differ file s t e = same_behind (map (λ a. at_home) (translated file).elements) s t e
+states_differ file s t e = append_cancel_left (map (λ a. at_home) (translated file).elements) s t e

@@ -4,7 +4,9 @@ use Rattle.std.specs.List.{All, AllZip, filter, flat_map, list_any}
 use Rattle.std.specs.Option.{option_map}
 use Rattle.std.proofs.Common.{refl, sym, ap, ap₂, subst, ◌∙◌, arith, append-nil, length-append}
 use Rattle.std.proofs.lemmas.List.{length-map}
-use Rattle.std.proofs.lemmas.List.Elements.{All-nil, All-cons, All-head, All-tail, All-map, All-filter, All-weaker}
+use Rattle.std.proofs.lemmas.List.Elements.{All-head, All-tail, All-map, All-filter, All-weaker}
+use Rattle.basics.specs.Members.{all_each}
+use Rattle.basics.specs.Texts.{bytes_ne}
 use Rattle.process_core.specs.Process.{choice_image}
 use Rattle.process_core.specs.Zip.{AllZip-append}
 use Rattle.process_core.specs.Product.{one_of_each, one_of_each_alike, one_of_each_last, All-one_of_each, map-map}
@@ -16,7 +18,7 @@ use Rattle.prism_tree.specs.Syntax as prism
 use Rattle.prism_tree.specs.declared.syntax.ItemOn.{ItemOn}
 use Rattle.prism_tree.specs.declared.syntax.ItemOn.TheVariants as On
 use Rattle.prism_names.specs.Names.{Part, parts}
-use Rattle.prism_flat.specs.Instance.{Valuation, numbered, only_if}
+use Rattle.process_core.specs.Instance.{Valuation, numbered, only_if}
 use Rattle.prism_flat.specs.Scene as prism_scene
 use Rattle.prism_flat.specs.Moment as prism_moment
 use Rattle.jani_meaning.specs.Moment as jani_moment
@@ -28,7 +30,6 @@ use Rattle.jani_translation.specs.Laws.{watched_vector}
 use Rattle.jani_translation.specs.SeenLaws.{IsSoundUnder, GivesAlike}
 use Rattle.jani_translation.specs.StateLaws.{state_of, SoundItem, ItemsAreSound, edge_label, shifted_ready, shifted}
 use Rattle.jani_translation.proofs.Each.{n_bodies, for_modules}
-use Rattle.jani_translation.proofs.Fresh.{other_bytes}
 use Rattle.jani_translation.proofs.Differ.{actions_are_not_silent}
 use Rattle.jani_translation.proofs.Edges.{n_automata}
 use Rattle.jani_translation.proofs.Choices.{any_state, is_any_state, IsOwnName, own_name, IsOwnLabel, taking_follows, action_for, none_earns, mods, own, earned, few, rewards_none}
@@ -36,10 +37,6 @@ use Rattle.jani_translation.proofs.Assigned.{kept_all, assigned_by, monitor_assi
 use Rattle.jani_translation.proofs.Monitor.{at_place, watching, watching_idle, monitor_here, none_without, one_for_action}
 
 -- ---- lists
-all_each : {X : Type 0} (P : X → Type 0) → ((x : X) → P x) → (xs : List X) → All P xs
-all_each P h [] = All-nil P
-all_each P h (x ∷ xs) = All-cons P x xs (h x) (all_each P h xs)
-
 pub n_numbered : {X Y : Type 0} (f : ℕ → X → Y) (i : ℕ) (xs : List X) → length (numbered (λ i x. f i x ∷ []) i xs) ≡ length xs
 n_numbered f i [] = refl
 n_numbered f i (x ∷ xs) = ap suc (n_numbered f (i + 1) xs)
@@ -119,11 +116,11 @@ module _ (file : prism.File) (v : Valuation) (s : Values) where
 
 -- ---- items of a kind for choices are sound
 module _ (file : prism.File) (v : Valuation) (s : Values) where
-  pub sound_items : ItemsAreSound file v s → (wanted : ItemOn → Bool) → ((o : ItemOn) → wanted o ≡ true → not (for_states o) ≡ true) →
+  pub sound_items : ItemsAreSound file v s → has_monitor file ≡ true → (wanted : ItemOn → Bool) → ((o : ItemOn) → wanted o ≡ true → not (for_states o) ≡ true) →
       All (λ r. All (SoundItem file v s) (filter (λ i. wanted i.on) r.items)) file.rewards
-  sound_items h wanted k =
+  sound_items h m wanted k =
       All-weaker (λ r. All (SoundItem file v s) (filter (λ i. not (for_states i.on)) r.items)) (λ r. All (SoundItem file v s) (filter (λ i. wanted i.on) r.items))
-      (λ r a. kept_all (SoundItem file v s) (λ i. not (for_states i.on)) (λ i. wanted i.on) (λ i. k i.on) r.items a) file.rewards h.items
+      (λ r a. kept_all (SoundItem file v s) (λ i. not (for_states i.on)) (λ i. wanted i.on) (λ i. k i.on) r.items a) file.rewards (h.items m)
 
 pub silent_choices : (o : ItemOn) → for_silent o ≡ true → not (for_states o) ≡ true
 silent_choices On.InState e = absurd cc
@@ -162,7 +159,7 @@ module _ (file : prism.File) where
 
   own_edge : (b : Bool) (a : Name) → IsOwnName file a → IsOwnLabel file (edge_label b (new_names file).action) a
   own_edge b a h (Some y) = sym (h y)
-  own_edge true a h None = sym (other_bytes ((new_names file).action a) zz_silent.name (actions_are_not_silent file a))
+  own_edge true a h None = sym (bytes_ne ((new_names file).action a) zz_silent.name (actions_are_not_silent file a))
   own_edge false a h None = refl
 
 module _ (file : prism.File) (v w : Valuation) (sound : IsSoundUnder file v) (alike : GivesAlike file v w) (s : Values) (long : length s ≡ length (variables file)) where
@@ -245,7 +242,7 @@ module _ (file : prism.File) (v w : Valuation) (sound : IsSoundUnder file v) (al
           let i = length file.modules in
           let t = watching file v w sound alike s long (made ((new_names file).action a)) (for_action a) in
           let rewards = assigned_by file v w sound alike s long i (rewards_of (new_names file) (for_action a) file.rewards) in
-          let good = sound_items file v s items (for_action a) (action_choices a) in
+          let good = sound_items file v s items k (for_action a) (action_choices a) in
           subst (λ r. Alike a (taken ++ r)) (sym (watcher_taken a c h k))
           (watched_together file s (Some a) (Some ((new_names file).action a)) None refl (earned file v w sound alike s (Some a)) (own file v w sound alike s) rewards t
           (watching_idle file v w sound alike s long (monitor_number file k) (made ((new_names file).action a)) None (for_action a))

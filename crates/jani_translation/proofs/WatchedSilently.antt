@@ -1,5 +1,5 @@
 -- With a monitor, the choices of commands without action; and all choices of a translated file.
-use Rattle.std.specs.Prelude.{◌≡◌, ℕ, zero, suc, ◌+◌, ◌<◌, nat_eq, List, [], ◌∷◌, ◌++◌, map, length, Bool, true, false, ◌||◌, cond, Option, Some, None, if◌then◌else◌, unwrap_or, slice_get, Contains}
+use Rattle.std.specs.Prelude.{◌≡◌, ℕ, zero, suc, ◌+◌, ◌<◌, nat_eq, List, [], ◌∷◌, ◌++◌, map, length, Bool, true, false, cond, Option, Some, None, if◌then◌else◌, slice_get, Contains}
 use Rattle.std.specs.List.{All, AllZip, filter, flat_map}
 use Rattle.std.specs.Option.{option_map}
 use Rattle.std.proofs.Common.{refl, sym, ap, ap₂, subst, ◌∙◌, arith, append-nil, eq-eqb, ne_eqb}
@@ -8,6 +8,9 @@ use Rattle.std.proofs.lemmas.List.{length-map, map-append}
 use Rattle.std.proofs.lemmas.List.Concat.{flat_map-append}
 use Rattle.std.proofs.lemmas.List.Folds.{flat_map-map}
 use Rattle.std.proofs.lemmas.List.Elements.{All-nil, All-cons, All-contains_itself, All-filter}
+use Rattle.std.proofs.lemmas.Option.{same_Some, slice_get_within}
+use Rattle.std.proofs.lemmas.Bool.{or_right}
+use Rattle.basics.specs.Texts.{bytes_ne, bytes_eq-self}
 use Rattle.process_core.specs.Process.{EquallyOften, choice_image}
 use Rattle.process_core.specs.Zip.{AllZip-append, AllZip-filter, flat_map_alike}
 use Rattle.process_core.specs.Product.{map-flat_map}
@@ -21,7 +24,7 @@ use Rattle.process_core.specs.Idle.{NoRewards}
 use Rattle.prism_tree.specs.Syntax as prism
 use Rattle.prism_tree.specs.Syntax.{Body}
 use Rattle.prism_names.specs.Names.{part_of}
-use Rattle.prism_flat.specs.Instance.{Valuation, numbered, only_if}
+use Rattle.process_core.specs.Instance.{Valuation, numbered, only_if}
 use Rattle.prism_flat.specs.Moment.{part_at}
 use Rattle.prism_flat.specs.Process as prism_process
 use Rattle.jani_meaning.specs.Moment as jani_moment
@@ -34,7 +37,6 @@ use Rattle.jani_translation.specs.SeenLaws.{IsSoundUnder, GivesAlike}
 use Rattle.jani_translation.specs.StateLaws.{state_of, CommandsAreSound, ItemsAreSound, edge_label, shifted_ready, shifted, ChoicesInOrder, ChoicesWatched}
 use Rattle.jani_translation.proofs.Each.{n_bodies}
 use Rattle.jani_translation.proofs.Vectors.{vectors_watched}
-use Rattle.jani_translation.proofs.Fresh.{same_bytes, other_bytes}
 use Rattle.jani_translation.proofs.Differ.{actions_are_not_silent}
 use Rattle.jani_translation.proofs.Written.{body_part}
 use Rattle.jani_translation.proofs.Edges.{quiet_label, edges_watched}
@@ -44,29 +46,17 @@ use Rattle.jani_translation.proofs.Monitor.{watching, watching_idle, monitor_her
 use Rattle.jani_translation.proofs.Watched.{n_numbered, taking-append, SameChoice, each_same, watched_together, sound_items, silent_choices, monitor_number, watchers, commands, no_silent_watcher, actions_watched, part_no_rewards}
 
 -- ---- members of lists
-get_is : {X : Type 0} (x y : X) → ◌≡◌ {A = Option X} (Some x) (Some y) → x ≡ y
-get_is x y g = ap (λ o. unwrap_or o x) g
-
-get_less : {X : Type 0} (xs : List X) (i : ℕ) (x : X) → slice_get xs i ≡ Some x → i < length xs
-get_less [] i x g = absurd cc
-get_less (y ∷ xs) zero x g = omega arith
-get_less (y ∷ xs) (suc i) x g = let l = get_less xs i x g in omega arith
-
 get_mapped : {X Y : Type 0} (f : X → Y) (xs : List X) (i : ℕ) (x : X) → slice_get xs i ≡ Some x → slice_get (map f xs) i ≡ Some (f x)
 get_mapped f [] i x g = absurd cc
-get_mapped f (y ∷ xs) zero x g = ap (λ z. Some (f z)) (get_is y x g)
+get_mapped f (y ∷ xs) zero x g = ap (λ z. Some (f z)) (same_Some y x g)
 get_mapped f (y ∷ xs) (suc i) x g = get_mapped f xs i x g
 
 get_numbered : {X Y : Type 0} (f : ℕ → X → Y) (k : ℕ) (xs : List X) (i : ℕ) (x : X) → slice_get xs i ≡ Some x → slice_get (numbered (λ j y. f j y ∷ []) k xs) i ≡ Some (f (k + i) x)
 get_numbered f k [] i x g = absurd cc
-get_numbered f k (y ∷ xs) zero x g = let on : k ≡ k + zero = omega arith in ap₂ (λ j z. Some (f j z)) on (get_is y x g)
+get_numbered f k (y ∷ xs) zero x g = let on : k ≡ k + zero = omega arith in ap₂ (λ j z. Some (f j z)) on (same_Some y x g)
 get_numbered f k (y ∷ xs) (suc i) x g =
     let on : k + 1 + i ≡ k + suc i = omega arith in
     get_numbered f (k + 1) xs i x g ∙ ap (λ j. Some (f j x)) on
-
-or_true : (a b : Bool) → b ≡ true → (a || b) ≡ true
-or_true true b h = refl
-or_true false b h = h
 
 -- ---- the vector of one module's commands without action takes of that module alone
 module _ (i : ℕ) where
@@ -86,7 +76,7 @@ module _ (i : ℕ) where
   one_taken k [] (u ∷ es) j e q l g = absurd cc
   one_taken k (b ∷ bs) (u ∷ es) zero e q l g =
       ap (λ c. taking (option_map (λ n. n.name) (part_if c zz_silent) ∷ silent_parts (k + 1) bs) (u ∷ es)) (eq-eqb i k (omega arith))
-      ∙ ap₂ (λ x r. filter (has_action (Some zz_silent.name)) x ∷ r) (get_is u e g) (none_taken (k + 1) bs es (omega arith))
+      ∙ ap₂ (λ x r. filter (has_action (Some zz_silent.name)) x ∷ r) (same_Some u e g) (none_taken (k + 1) bs es (omega arith))
   one_taken k (b ∷ bs) (u ∷ es) (suc j) e q l g =
       ap (λ c. taking (option_map (λ n. n.name) (part_if c zz_silent) ∷ silent_parts (k + 1) bs) (u ∷ es)) (ne_eqb i k (λ r. absurd (omega arith)))
       ∙ one_taken (k + 1) bs es j e (omega arith) (omega arith) g
@@ -111,8 +101,8 @@ module _ (file : prism.File) (silently : earns_silently file ≡ true) where
   labelled false h None = absurd cc
 
   named_silent : (b : Bool) → b ≡ true → (a : Option Name) → same_label None a ≡ same_label (Some zz_silent.name) (edge_label b (new_names file).action a)
-  named_silent b h (Some a) = sym (other_bytes zz_silent.name ((new_names file).action a) (λ e. actions_are_not_silent file a (sym e)))
-  named_silent true h None = sym (same_bytes zz_silent.name)
+  named_silent b h (Some a) = sym (bytes_ne zz_silent.name ((new_names file).action a) (λ e. actions_are_not_silent file a (sym e)))
+  named_silent true h None = sym (bytes_eq-self zz_silent.name)
   named_silent false h None = absurd cc
 
   no_edges : (i : ℕ) (m : List Ready) → filter (has_action None) (map (shifted_ready new_label n i) m) ≡ []
@@ -144,7 +134,7 @@ module _ (file : prism.File) (silently : earns_silently file ≡ true) where
       follow_alone _ _ (AllZip-filter FollowsSilent (has_action None) (has_action (Some zz_silent.name)) (λ r t f. f.1) m (map (shifted_ready new_label n i) m) (silents_follow i l m))
 
   monitor_for_silent : has_monitor file ≡ true
-  monitor_for_silent = or_true (is_some_name (earning_actions file)) (earns_silently file) silently
+  monitor_for_silent = or_right (is_some_name (earning_actions file)) (earns_silently file) silently
 
 module _ (file : prism.File) (v w : Valuation) (sound : IsSoundUnder file v) (alike : GivesAlike file v w) (s : Values) (long : length s ≡ length (variables file)) where
   abbrev all_elements : List (List Ready)
@@ -177,7 +167,7 @@ module _ (file : prism.File) (v w : Valuation) (sound : IsSoundUnder file v) (al
 
   module_number : (i : ℕ) (b : Body) → slice_get (bodies file) i ≡ Some b → i < length (translated file).elements
   module_number i b g =
-      let l = get_less (mods file v w sound alike s) i (part_at file v s (body_part b)) (module_is i b g) in
+      let l = slice_get_within (mods file v w sound alike s) i (part_at file v s (body_part b)) (module_is i b g) in
       let k = few file v w sound alike s in
       omega arith
 
@@ -209,7 +199,7 @@ module _ (file : prism.File) (v w : Valuation) (sound : IsSoundUnder file v) (al
       let k = length file.modules in
       let t = watching file v w sound alike s long zz_silent for_silent in
       let rewards = assigned_by file v w sound alike s long k (rewards_of (new_names file) for_silent file.rewards) in
-      let good = sound_items file v s items for_silent silent_choices in
+      let good = sound_items file v s items (monitor_for_silent file h) for_silent silent_choices in
       let rs = filter (has_action None) m in
       let ts = filter (has_action (Some zz_silent.name)) (map (shifted_ready l (length (translated file).elements) i) m) in
       subst (λ (x : List Combination). AllZip Same x (together None (own file v w sound alike s) (taking (jani_moment.vector_of (silent_vector file i)).parts all_elements)))

@@ -12,7 +12,7 @@ use Rattle.process_core.specs.Process.{EquallyOften, Outcome, Good, Bad, Choice,
 use Rattle.process_core.specs.Ready.{Values, Name}
 use Rattle.prism_tree.specs.Syntax as prism
 use Rattle.prism_names.specs.Names.{see, reading}
-use Rattle.prism_flat.specs.Instance.{Valuation}
+use Rattle.process_core.specs.Instance.{Valuation}
 use Rattle.prism_flat.specs.Process as prism_process
 use Rattle.jani_meaning.specs.Scene as jani_scene
 use Rattle.jani_meaning.specs.Process as jani_process
@@ -74,7 +74,7 @@ commands_sound = record {
 items_sound : ItemsAreSound two_ways no_values []
 unfolding see reading decimal_value times ten_to fraction
 items_sound = record {
-  items =
+  items = λ m.
       All-cons (λ r. All (SoundItem two_ways no_values []) (filter (λ i. not (for_states i.on)) r.items)) _ []
       (All-cons (SoundItem two_ways no_values []) (p.silent (p.truth true) (p.int 1)) [] ((tt, tt), tt, (tt, tt)) (All-nil (SoundItem two_ways no_values [])))
       (All-nil (λ r. All (SoundItem two_ways no_values []) (filter (λ i. not (for_states i.on)) r.items)));

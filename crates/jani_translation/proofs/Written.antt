@@ -1,8 +1,9 @@
 -- A file that is written out: its names are read as they are given, and its columns, parts and states are those of its bodies.
-use Rattle.std.specs.Prelude.{◌≡◌, List, [], ◌∷◌, ◌++◌, map, length, Bool, true, false, ◌&&◌}
+use Rattle.std.specs.Prelude.{◌≡◌, List, [], ◌∷◌, ◌++◌, map, length, true}
 use Rattle.std.specs.List.{flat_map, list_all}
 use Rattle.std.proofs.Common.{refl, sym, ap, ap₂, ◌∙◌}
 use Rattle.std.proofs.lemmas.List.{map-append}
+use Rattle.basics.specs.Booleans.{first_true, second_true}
 use Rattle.op_trees.specs.Seen.{Seen, looked_up}
 use Rattle.process_core.specs.Product.{map-flat_map}
 use Rattle.process_core.specs.Ready.{Name}
@@ -10,7 +11,7 @@ use Rattle.prism_tree.specs.Operators.{prism_meaning}
 use Rattle.prism_tree.specs.Syntax as prism
 use Rattle.prism_tree.specs.Syntax.{Module, Body, plain, copied}
 use Rattle.prism_names.specs.Names.{unchanged, formula_body, Part, part_of, reading}
-use Rattle.prism_flat.specs.Instance.{Valuation}
+use Rattle.process_core.specs.Instance.{Valuation}
 use Rattle.prism_flat.specs.Kept.{is_plain}
 use Rattle.prism_flat.specs.Scene as prism_scene
 use Rattle.name_table.specs.Asks.{contents, bodies, variables}
@@ -19,14 +20,6 @@ use Rattle.name_table.specs.Asks.{contents, bodies, variables}
 pub given_reading : (file : prism.File) (given : Name → Seen) → file.formulas ≡ [] → reading file given ≡ given
 unfolding reading
 given_reading file given e = ap (λ n. looked_up prism_meaning (formula_body file) n given) (ap length e)
-
-pub and_left : (a b : Bool) → (a && b) ≡ true → a ≡ true
-and_left true b h = refl
-and_left false b h = absurd cc
-
-pub and_right : (a b : Bool) → (a && b) ≡ true → b ≡ true
-and_right true b h = h
-and_right false b h = absurd cc
 
 -- a module without its name is read as it stands
 abbrev pub body_part : Body → Part
@@ -39,7 +32,7 @@ module _ (file : prism.File) where
 
   parts_of : (ms : List Module) → list_all is_plain ms ≡ true → map (part_of file) ms ≡ map body_part (map contents ms)
   parts_of [] h = refl
-  parts_of (m ∷ ms) h = ap₂ (λ p r. p ∷ r) (written_part m (and_left (is_plain m) (list_all is_plain ms) h)) (parts_of ms (and_right (is_plain m) (list_all is_plain ms) h))
+  parts_of (m ∷ ms) h = ap₂ (λ p r. p ∷ r) (written_part m (first_true (is_plain m) (list_all is_plain ms) h)) (parts_of ms (second_true (is_plain m) (list_all is_plain ms) h))
 
   pub written_parts : list_all is_plain file.modules ≡ true → map (part_of file) file.modules ≡ map body_part (bodies file)
   written_parts h = parts_of file.modules h

@@ -11,7 +11,7 @@ use Rattle.prism_tree.specs.declared.syntax.ItemOn.{ItemOn}
 use Rattle.prism_tree.specs.declared.syntax.ItemOn.TheVariants as On
 use Rattle.prism_tree.specs.Syntax as prism
 use Rattle.prism_tree.specs.Syntax.{Body, Command, Branch, Label, Item, Rewards}
-use Rattle.prism_flat.specs.Instance.{only_if}
+use Rattle.process_core.specs.Instance.{only_if}
 use Rattle.jani_table.specs.declared.operator.JaniOp.TheVariants.{Add, Ite}
 use Rattle.jani_tree.specs.Syntax.{Expression, Write, Destination, Edge, Automaton}
 use Rattle.name_table.specs.declared.entry.Entry.{Entry}

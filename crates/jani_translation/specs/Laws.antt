@@ -1,10 +1,10 @@
 -- What holds of every translated file: statements, which are proved of the functions of this crate.
-use Rattle.std.specs.Prelude.{◌≡◌, ◌+◌, [], ◌++◌, map, length, take, false, not, Some, None, if◌then◌else◌}
+use Rattle.std.specs.Prelude.{◌≡◌, ◌+◌, [], ◌++◌, map, length, take, not, Some, None, if◌then◌else◌}
 use Rattle.std.specs.List.{filter}
 use Rattle.std.specs.Option.{option_map}
 use Rattle.process_core.specs.Ready.{Values, Name, Vector, actions_of, vector_of}
 use Rattle.prism_tree.specs.Syntax as prism
-use Rattle.prism_flat.specs.Instance.{Valuation, only_if}
+use Rattle.process_core.specs.Instance.{Valuation, only_if}
 use Rattle.prism_flat.specs.Kept.{IsWrittenOut}
 use Rattle.prism_flat.specs.Moment.{moment}
 use Rattle.jani_meaning.specs.Moment as jani
@@ -59,16 +59,6 @@ OneTransientEach file =
     length (filter (λ x. x.transient) (translated file).variables) ≡ length file.labels + length file.rewards
 
 -- ---- vectors
--- the vector, with other names for its actions
-abbrev pub renamed_vector : (Name → Name) → Vector → Vector
-renamed_vector new v = record { parts = map (option_map new) v.parts; result = option_map new v.result }
-
--- Without a monitor, the vectors are those of the modules' actions, under the new names.
-abbrev pub VectorsOfActions : prism.File → Type 0
-VectorsOfActions file = IsWrittenOut file → has_monitor file ≡ false → (v : Valuation) (s : Values) →
-    map jani.vector_of (translated file).vectors
-    ≡ map (λ a. renamed_vector (new_names file).action (vector_of a (moment file v s).modules)) (actions_of (moment file v s).modules)
-
 -- the vector under other names, and behind it the part of the monitor, if there is one: it takes part in actions that have
 -- items
 abbrev pub watched_vector : prism.File → (Name → Name) → Name → Vector → Vector

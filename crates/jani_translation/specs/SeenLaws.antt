@@ -5,7 +5,7 @@ use Rattle.std.specs.List.{All, IsDistinct}
 use Rattle.op_trees.specs.Seen.{Seen, known}
 use Rattle.process_core.specs.Ready.{Name}
 use Rattle.prism_tree.specs.Syntax as prism
-use Rattle.prism_flat.specs.Instance.{Valuation, Column, numbered, constant_faults, column_faults}
+use Rattle.process_core.specs.Instance.{Valuation, Column, numbered, constant_faults, column_faults}
 use Rattle.prism_flat.specs.Kept.{IsWrittenOut}
 use Rattle.prism_flat.specs.Scene as prism_scene
 use Rattle.jani_meaning.specs.Elements.{elements}

@@ -1,5 +1,5 @@
 -- What a translated file is at a state: statements, which are proved of the functions of this crate.
-use Rattle.std.specs.Prelude.{◌≡◌, ℕ, ◌+◌, ◌<◌, pos, List, [], ◌∷◌, ◌++◌, length, map, Bool, false, not, Option, Some, None, if◌then◌else◌, IfSome, IsTrue, Contains}
+use Rattle.std.specs.Prelude.{◌≡◌, ℕ, ◌+◌, ◌<◌, pos, List, [], ◌∷◌, ◌++◌, length, map, Bool, false, not, Option, Some, None, if◌then◌else◌, IfSome, IsTrue, Contains, true}
 use Rattle.std.specs.List.{All, filter}
 use Rattle.std.specs.Option.{option_map}
 use Rattle.frac_core.specs.Fraction.{whole}
@@ -9,7 +9,7 @@ use Rattle.process_core.specs.Process.{EquallyOften, choice_image}
 use Rattle.process_core.specs.Ready.{Values, Name, Write, Update, Ready}
 use Rattle.prism_tree.specs.Syntax as prism
 use Rattle.prism_names.specs.Names.{unchanged, see}
-use Rattle.prism_flat.specs.Instance.{Valuation, numbered}
+use Rattle.process_core.specs.Instance.{Valuation, numbered}
 use Rattle.prism_flat.specs.Moment as prism_moment
 use Rattle.prism_flat.specs.Process as prism_process
 use Rattle.jani_meaning.specs.Elements.{elements}
@@ -91,9 +91,9 @@ module _ (file : prism.File) (v : Valuation) (s : Values) where
     pub labels : All (λ l. IsSoundHere l.body) file.labels
     pub items : All (λ r. All SoundItem (filter (λ i. for_states i.on) r.items)) file.rewards
 
-  -- The expressions of the items for choices are sound at the state.
+  -- Where there is a monitor, the expressions of the items for choices are sound at the state.
   pub record ItemsAreSound : Type 0 where
-    pub items : All (λ r. All SoundItem (filter (λ i. not (for_states i.on)) r.items)) file.rewards
+    pub items : has_monitor file ≡ true → All (λ r. All SoundItem (filter (λ i. not (for_states i.on)) r.items)) file.rewards
 
 -- ---- commands
 -- a write of the same value, behind so many columns
@@ -116,13 +116,7 @@ shifted_ready label n i r = record { action = label r.action; guard = r.guard; u
 abbrev pub shifted : (Option Name → Option Name) → ℕ → List (List Ready) → List (List Ready)
 shifted label n ms = numbered (λ i m. map (shifted_ready label n i) m ∷ []) 0 ms
 
--- Without a monitor, the edges of the elements are the commands of the modules.
-abbrev pub EdgesAreCommands : prism.File → Type 0
-EdgesAreCommands file = (v w : Valuation) → IsSoundUnder file v → GivesAlike file v w → has_monitor file ≡ false → (s : Values) → CommandsAreSound file v s →
-    (jani_moment.moment (translated file) w (state_of file s)).elements
-    ≡ shifted (option_map (new_names file).action) (length (translated file).elements) (prism_moment.moment file v s).modules
-
--- With or without one, these come first, and the edges of the monitor, if there is one, last.
+-- The edges of the elements are the commands of the modules; behind them stand the edges of the monitor, if there is one.
 abbrev pub EdgesWatched : prism.File → Type 0
 EdgesWatched file = (v w : Valuation) → IsSoundUnder file v → GivesAlike file v w → (s : Values) → CommandsAreSound file v s →
     (jani_moment.moment (translated file) w (state_of file s)).elements
@@ -142,14 +136,8 @@ MarksAlike file = (v w : Valuation) → IsSoundUnder file v → GivesAlike file 
     (jani_process.model (translated file)).marks w (state_of file s) ≡ (prism_process.model file).marks v s
 
 -- ---- choices
--- Without a monitor, the choices are those of the file, in order: their labels have new names, and they lead to the states
--- that go with those of the file.
-abbrev pub ChoicesAlike : prism.File → Type 0
-ChoicesAlike file = (v w : Valuation) → IsSoundUnder file v → GivesAlike file v w → has_monitor file ≡ false → (s : Values) → CommandsAreSound file v s →
-    (jani_process.model (translated file)).choices w (state_of file s)
-    ≡ map (choice_image (option_map (new_names file).action) (state_of file)) ((prism_process.model file).choices v s)
-
--- Where the monitor, if there is one, earns nothing for commands without action, the choices are those of the file, in order.
+-- Where the monitor, if there is one, earns nothing for commands without action, the choices are those of the file, in order:
+-- their labels have new names, and they lead to the states that go with those of the file.
 abbrev pub ChoicesInOrder : prism.File → Type 0
 ChoicesInOrder file = (v w : Valuation) → IsSoundUnder file v → GivesAlike file v w → earns_silently file ≡ false → (s : Values) → CommandsAreSound file v s → ItemsAreSound file v s →
     (jani_process.model (translated file)).choices w (state_of file s)

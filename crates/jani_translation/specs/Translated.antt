@@ -7,7 +7,7 @@ use Rattle.bridge_io.specs.declared.reason.Named.{Named}
 use Rattle.process_core.specs.Ready.{Name, same_label}
 use Rattle.prism_tree.specs.Syntax as prism
 use Rattle.prism_tree.specs.Syntax.{Body}
-use Rattle.prism_flat.specs.Instance.{numbered, only_if}
+use Rattle.process_core.specs.Instance.{numbered, only_if}
 use Rattle.jani_table.specs.Node.{array, no_nodes}
 use Rattle.jani_tree.specs.Syntax.{Var, Vector, File}
 use Rattle.name_table.specs.Asks.{bodies, variables, actions, action_of, NewNames, new_names}

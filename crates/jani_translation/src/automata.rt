@@ -2,7 +2,7 @@
 
 ghost use Rattle.std.specs.Prelude.{◌≡◌, ◌++◌, [], is_none, map, IfOk, OnOk};
 ghost use Rattle.std.specs.List.{list_any, zip};
-ghost use Rattle.prism_flat.specs.Instance.{only_if};
+ghost use Rattle.process_core.specs.Instance.{only_if};
 ghost use Rattle.prism_tree.specs.Syntax as prism;
 ghost use Rattle.prism_tree.specs.Syntax.{file_of};
 ghost use Rattle.jani_tree.specs.Syntax as jani;

@@ -1,10 +1,10 @@
 // Laws of the translation: functions that do nothing, whose contracts are the laws.
 
 ghost use Rattle.prism_tree.specs.Syntax.{File};
-ghost use Rattle.jani_translation.specs.Laws.{OneAutomatonEach, OneElementEach, ModulesComeFirst, OneEdgeEach, ConstantTypes, ConstantValues, VariableKinds, VariableStarts, OneTransientEach, VectorsOfActions, VectorsWatched};
+ghost use Rattle.jani_translation.specs.Laws.{OneAutomatonEach, OneElementEach, ModulesComeFirst, OneEdgeEach, ConstantTypes, ConstantValues, VariableKinds, VariableStarts, OneTransientEach, VectorsWatched};
 ghost use Rattle.jani_translation.specs.NameLaws.{ValuesDiffer, ConstantNames, ActionsDiffer, ActionsAreNotSilent};
 ghost use Rattle.jani_translation.specs.SeenLaws.{SameConstants, ConstantsSeenAlike, ColumnsSeenAlike, FaultsAlike};
-ghost use Rattle.jani_translation.specs.StateLaws.{ElementsAreAutomata, NamesSeenAlike, StatesAlike, InitialAlike, StatesAreThese, StatesDiffer, EdgesAreCommands, EdgesWatched, LabelsSeenAlike, MarksAlike, ChoicesAlike, ChoicesInOrder, ChoicesWatched};
+ghost use Rattle.jani_translation.specs.StateLaws.{ElementsAreAutomata, NamesSeenAlike, StatesAlike, InitialAlike, StatesAreThese, StatesDiffer, EdgesWatched, LabelsSeenAlike, MarksAlike, ChoicesInOrder, ChoicesWatched};
 
 /// There is an automaton for each module, and one more with a monitor; its edges are those of the module's commands, in
 /// order. Constants and variables stand one for one, with their types, and there is a transient variable for each label
@@ -33,7 +33,6 @@ pub fn new_names_law()
 /// Where a file is written out, the vectors are those of the modules' actions, under their new names, and behind each the
 /// part of the monitor, where there is one; those of commands without action come last.
 pub fn vectors_law()
-    ensures unwatched { (file : File) → VectorsOfActions file }
     ensures watched { (file : File) → VectorsWatched file }
 {}
 
@@ -62,11 +61,9 @@ pub fn state_law()
     ensures initial { (file : File) → InitialAlike file }
     ensures onto { (file : File) → StatesAreThese file }
     ensures one { (file : File) → StatesDiffer file }
-    ensures edges { (file : File) → EdgesAreCommands file }
-    ensures watched { (file : File) → EdgesWatched file }
+    ensures edges { (file : File) → EdgesWatched file }
     ensures labels { (file : File) → LabelsSeenAlike file }
     ensures marks { (file : File) → MarksAlike file }
-    ensures choices { (file : File) → ChoicesAlike file }
-    ensures ordered_choices { (file : File) → ChoicesInOrder file }
+    ensures choices { (file : File) → ChoicesInOrder file }
     ensures watched_choices { (file : File) → ChoicesWatched file }
 {}

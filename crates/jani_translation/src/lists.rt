@@ -1,7 +1,7 @@
 // Lists that stand under names.
 
 ghost use Rattle.std.specs.Prelude.{◌≡◌, List as ListOf, ℕ, [], ◌++◌, OnOk, bytes_eq, if◌then◌else◌};
-ghost use Rattle.prism_flat.specs.Instance.{only_if};
+ghost use Rattle.process_core.specs.Instance.{only_if};
 ghost use Rattle.jani_translation.specs.Code.{list_under};
 
 use bridge_io::List;

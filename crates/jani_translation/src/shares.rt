@@ -3,7 +3,7 @@
 ghost use Rattle.std.specs.Prelude.{◌≡◌, List as ListOf, ℕ, [], ◌++◌, map, IfOk, OnOk, bytes_eq, if◌then◌else◌};
 ghost use Rattle.std.specs.List.{filter, flat_map, zip};
 ghost use Rattle.prism_tree.specs.Syntax as prism;
-ghost use Rattle.prism_flat.specs.Instance.{only_if};
+ghost use Rattle.process_core.specs.Instance.{only_if};
 ghost use Rattle.jani_tree.specs.Syntax as jani;
 ghost use Rattle.name_table.specs.Asks.{NewNames as NamesOf};
 ghost use Rattle.jani_translation.specs.Parts.{instead_if};

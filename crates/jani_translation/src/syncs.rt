@@ -2,7 +2,7 @@
 
 ghost use Rattle.std.specs.Prelude.{◌≡◌, ◌++◌, ◌∷◌, [], map, nat_eq, IfOk, OnOk};
 ghost use Rattle.prism_tree.specs.Syntax.{file_of};
-ghost use Rattle.prism_flat.specs.Instance.{numbered, only_if};
+ghost use Rattle.process_core.specs.Instance.{numbered, only_if};
 ghost use Rattle.jani_tree.specs.Syntax as jani;
 ghost use Rattle.name_table.specs.Asks.{actions};
 ghost use Rattle.name_table.specs.Gathered.{body_in, is_in};

@@ -2,14 +2,14 @@
 use Rattle.std.specs.Prelude.{◌≡◌, List, [], ◌∷◌, Bool, true, false, cond, Option, Some, None, IsTrue, is_some, IfSome}
 use Rattle.std.specs.List.{All, find}
 use Rattle.std.proofs.Common.{refl, sym, ap, subst}
-use Rattle.std.proofs.lemmas.List.Elements.{All-nil, All-cons, All-head, All-tail}
+use Rattle.std.proofs.lemmas.List.Elements.{All-nil, All-cons}
 use Rattle.op_trees.specs.declared.tree.Ty.{Ty}
 use Rattle.op_trees.specs.declared.tree.Ty.TheVariants as T
 use Rattle.op_trees.specs.declared.tree.Value.{Value}
 use Rattle.op_trees.specs.declared.tree.Value.TheVariants as V
 use Rattle.op_trees.specs.Tree.{Truth, Number, Name as At, One, Two, Three, AllNumbers}
 use Rattle.op_trees.specs.Types.{AgreesWith, has_type, type_in}
-use Rattle.op_trees.specs.TypeLaws.{value_agrees}
+use Rattle.op_trees.specs.TypeLaws.{value_agrees, typed_operands}
 use Rattle.op_trees.specs.Meaning.{value_of}
 use Rattle.op_trees.specs.Seen.{known}
 use Rattle.op_trees.specs.SeenLaws.{names_all, seen_is}
@@ -23,9 +23,9 @@ use Rattle.prism_print.specs.Printable.{Each, IfAny, IsPrintableExpression}
 use Rattle.prism_check.specs.Demands.{wanted_by}
 use Rattle.prism_check.specs.TypeFaults as source
 use Rattle.prism_check.specs.TypeFaults.{types}
-use Rattle.prism_clean.specs.Flattened.{IsFlat}
+use Rattle.prism_places.specs.Flattened.{IsFlat}
 use Rattle.prism_images.specs.Laws.{IsNoNumberOf}
-use Rattle.prism_images.proofs.Typed.{compares_truths, has_operands, agreeing}
+use Rattle.prism_images.proofs.Typed.{compares_truths, agreeing}
 use Rattle.jani_translation.specs.SeenLaws.{IsSound}
 use Rattle.jani_translation_types.proofs.Expressions.{HasType, IsFixed}
 
@@ -33,10 +33,6 @@ use Rattle.jani_translation_types.proofs.Expressions.{HasType, IsFixed}
 pub all_then : {A : Type 0} (P Q : A → Type 0) → ((x : A) → P x → Q x) → (xs : List A) → Each P xs → All Q xs
 all_then P Q h [] p = All-nil Q
 all_then P Q h (x ∷ xs) p = All-cons Q x xs (h x p.0) (all_then P Q h xs p.1)
-
-pub each_all : {A : Type 0} (P : A → Type 0) (xs : List A) → All P xs → Each P xs
-each_all P [] a = tt
-each_all P (x ∷ xs) a = (All-head P x xs a, each_all P xs (All-tail P x xs a))
 
 -- one that is found passes the test, and has what all have
 pub found : {A : Type 0} (P : A → Type 0) (test : A → Bool) (xs : List A) → Each P xs → IfAny (λ a. P a × (test a ≡ true)) (find test xs)
@@ -91,7 +87,7 @@ module _ (file : prism.File) (flat : IsFlat file) (env : Name → Option Value) 
   pub sound : AreTyped → (w : Ty) (e : prism.Expression) → HasType file flat w e → IsSound (λ x. known (env x)) e
   sound a w e h =
       let some : IsTrue (is_some (type_in prism_meaning (types file) e)) = subst (λ o. IsTrue (is_some o)) (sym h.is) refl in (
-        has_operands (types file) (λ x. known (env x)) e some,
+        typed_operands prism_meaning prism_lawful (types file) e some,
         compares_truths (types file) (λ x. known (env x)) e
             (names_all (λ x. IsNoNumberOf (types file x) (env x)) (λ x. agreeing (types file x) (env x) (a x)) e) some,
       )

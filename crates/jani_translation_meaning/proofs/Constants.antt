@@ -3,6 +3,9 @@
 use Rattle.std.specs.Prelude.{◌≡◌, ℕ, zero, suc, true, length, Option, Some, None, IfSome}
 use Rattle.std.specs.Option.{option_map}
 use Rattle.std.proofs.Common.{refl, sym, ap, subst, ◌∙◌}
+use Rattle.std.proofs.lemmas.List.Elements.{recursion_from_All}
+use Rattle.basics.specs.Texts.{bytes_eq-true}
+use Rattle.basics.specs.Each.{each_with}
 use Rattle.op_trees.specs.declared.tree.Ty.{Ty}
 use Rattle.op_trees.specs.declared.tree.Ty.TheVariants as T
 use Rattle.op_trees.specs.declared.tree.Value.{Value}
@@ -11,23 +14,21 @@ use Rattle.op_trees.specs.Seen.{known}
 use Rattle.process_core.specs.Ready.{Name}
 use Rattle.prism_tree.specs.Syntax as prism
 use Rattle.prism_names.specs.Names.{is_called}
-use Rattle.prism_flat.specs.Instance.{Valuation}
+use Rattle.process_core.specs.Instance.{Valuation}
 use Rattle.prism_flat.specs.Scene.{constant_called, constant_seen, constant_value, constant_within, constant}
 use Rattle.prism_print.specs.Printable.{Each, IfAny, IsPrintableConst, IsPrintableExpression}
 use Rattle.prism_check.specs.Demands.{var_type}
 use Rattle.prism_check.specs.TypeFaults as source
-use Rattle.prism_check.specs.TypeFaults.{types, declared_types}
-use Rattle.prism_check.proofs.Each.{each_with}
-use Rattle.prism_clean.specs.Flattened.{IsFlat}
+use Rattle.prism_check.specs.TypeFaults.{types}
+use Rattle.prism_places.specs.Flattened.{IsFlat}
 use Rattle.name_table.specs.Asks.{variables}
 use Rattle.jani_translation.specs.SeenLaws.{SoundRange, SoundVariable, SoundConstant, IsSoundUnder}
-use Rattle.jani_translation.proofs.Fresh.{equal_bytes}
 use Rattle.jani_translation.proofs.Written.{given_reading}
-use Rattle.jani_translation_types.proofs.Clean.{values_distinct, types_declared}
+use Rattle.jani_translation.proofs.Clean.{values_distinct, types_declared}
 use Rattle.jani_translation_types.proofs.Expressions.{IsFixed}
 use Rattle.jani_translation_types.proofs.Sources.{IsFineConst, IsFineRange, IsFineVar, consts_fine, variables_fine}
 use Rattle.jani_translation_meaning.specs.MeaningLaws.{GivesTyped, FlatIsSound}
-use Rattle.jani_translation_meaning.proofs.Agreeing.{all_then, each_all, found, undefined, AreTyped, sound, sound_some, value_typed}
+use Rattle.jani_translation_meaning.proofs.Agreeing.{all_then, found, undefined, AreTyped, sound, sound_some, value_typed}
 
 module _ (file : prism.File) (flat : IsFlat file) (v : Valuation) (gives : GivesTyped file v) where
   -- what each constant has
@@ -37,7 +38,7 @@ module _ (file : prism.File) (flat : IsFlat file) (v : Valuation) (gives : Gives
   good : Each IsGood file.constants
   good =
       each_with (λ c. c.value ≡ None → AgreesWith (Some c.ty) (v c.name.name)) (λ c. IsPrintableConst c × IsFineConst file flat c) IsGood (λ c p q. (p, q.0, q.1)) file.constants
-      (each_all (λ c. c.value ≡ None → AgreesWith (Some c.ty) (v c.name.name)) file.constants gives)
+      (recursion_from_All (λ c. c.value ≡ None → AgreesWith (Some c.ty) (v c.name.name)) file.constants gives)
       (each_with IsPrintableConst (IsFineConst file flat) (λ c. IsPrintableConst c × IsFineConst file flat c) (λ c p q. (p, q)) file.constants
       flat.checked.form.constants (consts_fine file flat))
 
@@ -55,7 +56,7 @@ module _ (file : prism.File) (flat : IsFlat file) (v : Valuation) (gives : Gives
   called_typed env a x None e = undefined (types file x)
   called_typed env a x (Some c) e =
       let f = subst (IfAny (λ c. IsGood c × (is_called x c.name ≡ true))) e (found IsGood (λ c. is_called x c.name) file.constants good) in
-      let given = subst (λ y. c.value ≡ None → AgreesWith (Some c.ty) (v y)) (equal_bytes c.name.name x f.1) f.0.0 in
+      let given = subst (λ y. c.value ≡ None → AgreesWith (Some c.ty) (v y)) (bytes_eq-true c.name.name x f.1) f.0.0 in
       subst (λ t. AgreesWith t (constant_seen (v x) (λ y. known (env y)) c.value).value) (type_is x c e)
       (seen_typed env a c.ty (v x) c.value given f.0.1.1 f.0.2)
 

@@ -15,14 +15,14 @@ use Rattle.process_core.specs.declared.data.Mark.{Mark}
 use Rattle.process_core.specs.Product.{map-map}
 use Rattle.process_core.specs.Ready.{Values, Name}
 use Rattle.prism_tree.specs.Syntax as prism
-use Rattle.prism_flat.specs.Instance.{Valuation, Fault, Domain, Truths, Between, Range, Column, is_empty, is_outside, fault_of, numbered, only_if, range_from, constant_faults, range_faults, domain_faults, first_faults, column_faults}
+use Rattle.process_core.specs.Instance.{Valuation, Fault, Domain, Truths, Between, Range, Column, is_empty, is_outside, fault_of, numbered, only_if, range_from, constant_faults, range_faults, domain_faults, first_faults, column_faults}
 use Rattle.prism_flat.specs.Scene as prism_scene
 use Rattle.prism_flat.specs.Process as prism_process
 use Rattle.prism_names.specs.Names.{unchanged}
 use Rattle.prism_names.specs.Flat.{flat, flat_constant, flat_expression}
 use Rattle.prism_flat.specs.FlatLaws.{model-flat, is_written_out}
 use Rattle.prism_check.proofs.CleanFile.{flat_is_checked}
-use Rattle.prism_clean.specs.Flattened.{IsFlat}
+use Rattle.prism_places.specs.Flattened.{IsFlat}
 use Rattle.jani_tree.specs.Syntax as jani
 use Rattle.jani_tree.specs.Places.{bare_name, bare_const, bare_file}
 use Rattle.jani_meaning.proofs.Bare.{places_mean_nothing}
@@ -32,7 +32,7 @@ use Rattle.jani_translation.specs.Translated.{translated}
 use Rattle.jani_translation.specs.SeenLaws.{GivesAlike}
 use Rattle.jani_translation.specs.StateLaws.{at_home, state_of}
 use Rattle.jani_translation.proofs.Differ.{names_of_constants}
-use Rattle.jani_translation_types.proofs.Clean.{values_distinct}
+use Rattle.jani_translation.proofs.Clean.{values_distinct}
 use Rattle.jani_translation.proofs.SameColumns.{faults_alike}
 use Rattle.jani_translation.proofs.States.{states_alike, initial_alike, states_are_these, states_differ}
 use Rattle.jani_translation.proofs.Marks.{marks_alike}

@@ -1,9 +1,12 @@
 -- At a state each name has a value of its type; so the expressions of commands, labels and items are sound at it.
-use Rattle.std.specs.Prelude.{◌≡◌, ℕ, zero, suc, ◌<◌, List, [], ◌∷◌, ◌++◌, map, length, Bool, true, false, cond, nat_eq, if◌then◌else◌, Option, Some, None, IsTrue, is_some, IfSome, Contains, bytes_eq, not}
-use Rattle.std.specs.List.{All, AllByRecursion, IsDistinct, find, filter, flat_map}
+use Rattle.std.specs.Prelude.{◌≡◌, ℕ, zero, suc, ◌<◌, List, [], ◌∷◌, map, length, Bool, true, false, cond, nat_eq, if◌then◌else◌, Option, Some, None, IsTrue, is_some, IfSome, Contains, bytes_eq, not}
+use Rattle.std.specs.List.{All, find, filter}
 use Rattle.std.specs.Option.{option_map}
 use Rattle.std.proofs.Common.{refl, sym, ap, subst, ◌∙◌, arith}
 use Rattle.std.proofs.lemmas.List.Elements.{All-filter, Contains-append_right}
+use Rattle.basics.specs.Booleans.{first_true, second_true}
+use Rattle.basics.specs.Texts.{bytes_eq-true}
+use Rattle.basics.specs.Each.{each_with}
 use Rattle.bridge_io.specs.declared.reason.Reason.TheVariants.{Nothing}
 use Rattle.op_trees.specs.declared.tree.Ty.{Ty}
 use Rattle.op_trees.specs.declared.tree.Ty.TheVariants as T
@@ -14,65 +17,34 @@ use Rattle.op_trees.specs.Seen.{Seen, known}
 use Rattle.process_core.specs.Ready.{Values, Name}
 use Rattle.prism_tree.specs.Syntax as prism
 use Rattle.prism_names.specs.Names.{is_called, unchanged, see}
-use Rattle.prism_flat.specs.Instance as instance
-use Rattle.prism_flat.specs.Instance.{Valuation, is_in, is_state, range_has, range_from}
+use Rattle.process_core.specs.Instance as instance
+use Rattle.process_core.specs.Instance.{Valuation, is_in, is_state, range_has, range_from}
 use Rattle.prism_flat.specs.Scene.{constant_called, constant, constant_names, column, columns_of, domain_of}
 use Rattle.prism_flat.specs.Moment.{value_in, names_in}
 use Rattle.prism_flat.specs.Process.{model}
 use Rattle.prism_print.specs.Printable.{Each, IfAny, IsPrintableExpression, IsPrintableItem, IsPrintableRewards}
 use Rattle.prism_check.specs.Demands.{type_by, var_type}
-use Rattle.prism_check.specs.NameFaults.{doubled_names, unknown_names, circles, copy_faults, no_module}
 use Rattle.prism_check.specs.TypeFaults as source
 use Rattle.prism_check.specs.TypeFaults.{types}
-use Rattle.prism_check.proofs.Each.{each_with, empty_parts, no_fault}
-use Rattle.prism_clean.specs.Flattened.{IsFlat}
+use Rattle.prism_check.proofs.Each.{no_fault}
+use Rattle.prism_places.specs.Flattened.{IsFlat}
 use Rattle.prism_images.specs.Laws.{IsNoNumber}
 use Rattle.prism_images.proofs.Typed.{agreeing}
 use Rattle.name_table.specs.Asks.{bodies, variables}
 use Rattle.jani_translation.specs.Automata.{for_states}
 use Rattle.jani_translation.specs.SeenLaws.{IsSound}
 use Rattle.jani_translation.specs.StateLaws.{IsSoundHere, SoundWrite, SoundBranch, SoundCommand, CommandsAreSound, SoundItem, MarksAreSound, ItemsAreSound}
-use Rattle.jani_translation.proofs.Fresh.{same_bytes, equal_bytes}
-use Rattle.jani_translation.proofs.Written.{given_reading, variable_columns, and_left, and_right}
-use Rattle.jani_translation_types.proofs.Clean.{no_name_fault, values_distinct, types_declared, variable_types, declared_type}
+use Rattle.jani_translation.proofs.Written.{given_reading, variable_columns}
+use Rattle.jani_translation.proofs.Clean.{no_faults, values_distinct, types_declared, variable_types, declared_type}
 use Rattle.jani_translation_types.proofs.Expressions.{HasType}
 use Rattle.jani_translation_types.proofs.Sources.{IsFineLabel, IsFineItem, bodies_fine, labels_fine, rewards_fine}
-use Rattle.jani_translation_types.proofs.Writes.{IsFineWrite}
+use Rattle.jani_translation_types.proofs.Writes.{IsFineWrite, no_constant}
 use Rattle.jani_translation_types.proofs.Edges.{IsFineBranch, IsFineCommand, commands_fine}
 use Rattle.jani_translation_meaning.specs.MeaningLaws.{GivesTyped, FlatCommandsAreSound, FlatMarksAreSound, FlatItemsAreSound}
 use Rattle.jani_translation_meaning.proofs.Agreeing.{all_then, some_agrees, AreTyped, sound, value_typed}
 use Rattle.jani_translation_meaning.proofs.Constants.{constant_typed}
 
 -- ---- a variable's name is no constant's
-turned : (x y : Name) → bytes_eq x y ≡ false → bytes_eq y x ≡ false
-turned x y h = by_answer (bytes_eq y x) refl
-  where
-    by_answer : (b : Bool) → bytes_eq y x ≡ b → b ≡ false
-    by_answer true e = absurd (let r : true ≡ false = sym (ap (bytes_eq x) (equal_bytes y x e) ∙ same_bytes x) ∙ h in cc)
-    by_answer false e = refl
-
-none_typed : (x : Name) (vs : List prism.Var) → AllByRecursion (λ y. bytes_eq x y ≡ false) (map (λ v. v.name.name) vs) → declared_type x vs ≡ None
-none_typed x [] h = refl
-none_typed x (v ∷ vs) h = ap (λ b. option_map var_type (cond b (Some v) (find (λ v. is_called x v.name) vs))) (turned x v.name.name h.0) ∙ none_typed x vs h.1
-
-last_of : {A : Type 0} (P : A → Type 0) (xs ys : List A) → AllByRecursion P (xs ++ ys) → AllByRecursion P ys
-last_of P [] ys h = h
-last_of P (x ∷ xs) ys h = last_of P xs ys h.1
-
-no_constant : (x : Name) (cs : List prism.Const) (vs : List prism.Var) → IsDistinct bytes_eq (map (λ c. c.name.name) cs ++ map (λ v. v.name.name) vs) →
-    IsTrue (is_some (declared_type x vs)) → find (λ c. is_called x c.name) cs ≡ None
-unfolding IsDistinct
-no_constant x [] vs d h = refl
-no_constant x (c ∷ cs) vs d h = by_answer (bytes_eq c.name.name x) refl (no_constant x cs vs d.1 h)
-  where
-    by_answer : (b : Bool) → bytes_eq c.name.name x ≡ b → find (λ c. is_called x c.name) cs ≡ None → cond b (Some c) (find (λ c. is_called x c.name) cs) ≡ None
-    by_answer true e r =
-        absurd
-        (let none = none_typed c.name.name vs (last_of (λ y. bytes_eq c.name.name y ≡ false) (map (λ c. c.name.name) cs) (map (λ v. v.name.name) vs) d.0) in
-        let r : IsTrue (is_some (declared_type c.name.name vs)) = subst (λ y. IsTrue (is_some (declared_type y vs))) (sym (equal_bytes c.name.name x e)) h in
-        let s : IsTrue false = subst (λ o. IsTrue (is_some o)) none r in cc)
-    by_answer false e r = r
-
 -- so the type of a name is the variable's, or else the constant's
 either : (c d : Option Ty) → (IsTrue (is_some d) → c ≡ None) → source.or_else c d ≡ source.or_else d c
 either None None h = refl
@@ -91,14 +63,14 @@ some_contained x (y ∷ vs) h = by_test (bytes_eq y.name.name x) refl (some_cont
     by_test : (b : Bool) → bytes_eq y.name.name x ≡ b → (IsTrue (is_some (declared_type x vs)) → Contains (map (λ y. y.name.name) vs) x) →
         IsTrue (is_some (option_map var_type (cond b (Some y) (find (λ v. is_called x v.name) vs)))) →
         Contains (map (λ y. y.name.name) (y ∷ vs)) x
-    by_test true e r k = (0, omega arith, equal_bytes y.name.name x e)
+    by_test true e r k = (0, omega arith, bytes_eq-true y.name.name x e)
     by_test false e r k = Contains-append_right (y.name.name ∷ []) (map (λ y. y.name.name) vs) x (r k)
 
 -- ---- values of columns
 ranged : (o : Option instance.Range) (u : Value) → range_has o u ≡ true → IsTrue (has_type T.Int u)
 ranged None u h = absurd cc
 ranged (Some r) (V.Truth b) h = absurd cc
-ranged (Some r) (V.Number q) h = and_left (nat_eq q.den 1) _ h
+ranged (Some r) (V.Number q) h = first_true (nat_eq q.den 1) _ h
 
 module _ (old : Name → Seen) where
   in_domain : (r : Option prism.Range) (u : Value) → is_in (domain_of old r) u ≡ true → IsTrue (has_type (type_by r) u)
@@ -110,19 +82,19 @@ module _ (old : Name → Seen) where
   length_is [] [] h = refl
   length_is [] (u ∷ s) h = absurd cc
   length_is (y ∷ vs) [] h = absurd cc
-  length_is (y ∷ vs) (u ∷ s) h = ap suc (length_is vs s (and_right (is_in (domain_of old y.range) u) (is_state (map (column unchanged old) vs) s) h))
+  length_is (y ∷ vs) (u ∷ s) h = ap suc (length_is vs s (second_true (is_in (domain_of old y.range) u) (is_state (map (column unchanged old) vs) s) h))
 
   in_typed : (x : Name) (constants : Name → Option Value) (t : Option Ty) → AgreesWith t (constants x) → (vs : List prism.Var) (s : Values) →
       is_state (map (column unchanged old) vs) s ≡ true → AgreesWith (source.or_else (declared_type x vs) t) (value_in (map (column unchanged old) vs) s constants x)
   in_typed x constants t a [] s h = a
   in_typed x constants t a (y ∷ vs) [] h = absurd cc
   in_typed x constants t a (y ∷ vs) (u ∷ s) h =
-      by_test (bytes_eq y.name.name x) (in_typed x constants t a vs s (and_right (is_in (domain_of old y.range) u) (is_state (map (column unchanged old) vs) s) h))
+      by_test (bytes_eq y.name.name x) (in_typed x constants t a vs s (second_true (is_in (domain_of old y.range) u) (is_state (map (column unchanged old) vs) s) h))
     where
       by_test : (b : Bool) → AgreesWith (source.or_else (declared_type x vs) t) (value_in (map (column unchanged old) vs) s constants x) →
           AgreesWith (source.or_else (option_map var_type (cond b (Some y) (find (λ v. is_called x v.name) vs))) t)
           (if b then Some u else value_in (map (column unchanged old) vs) s constants x)
-      by_test true r = some_agrees (var_type y) u (in_domain y.range u (and_left (is_in (domain_of old y.range) u) (is_state (map (column unchanged old) vs) s) h))
+      by_test true r = some_agrees (var_type y) u (in_domain y.range u (first_true (is_in (domain_of old y.range) u) (is_state (map (column unchanged old) vs) s) h))
       by_test false r = r
 
 module _ (file : prism.File) (flat : IsFlat file) (v : Valuation) (gives : GivesTyped file v) (s : Values) (state : (model file).is_state v s ≡ true) where
@@ -200,12 +172,7 @@ module _ (file : prism.File) (flat : IsFlat file) (v : Valuation) (gives : Gives
   not_empty (suc n) h = omega arith
 
   some_module : 0 < length file.modules
-  some_module =
-      let a = (empty_parts (doubled_names file) _ (no_name_fault file flat)).1 in
-      let b = (empty_parts (unknown_names file) _ a).1 in
-      let c = (empty_parts (circles file) _ b).1 in
-      let d = (empty_parts (flat_map (copy_faults file) file.modules) (no_module file) c).1 in
-      not_empty (length file.modules) (no_fault (nat_eq (length file.modules) 0) file.end Nothing d)
+  some_module = not_empty (length file.modules) (no_fault (nat_eq (length file.modules) 0) file.end Nothing (no_faults file flat).modules)
 
   abbrev IsGoodItem : prism.Item → Type 0
   IsGoodItem i = IsPrintableItem i × IsFineItem file flat i
@@ -231,7 +198,7 @@ module _ (file : prism.File) (flat : IsFlat file) (v : Valuation) (gives : Gives
   }
 
   pub choice_items_sound : ItemsAreSound file v s
-  choice_items_sound = record { items = all_then (λ r. Each IsGoodItem r.items) (λ r. All (SoundItem file v s) (filter (λ i. not (for_states i.on)) r.items)) (items_sound (λ i. not (for_states i.on))) file.rewards good_items }
+  choice_items_sound = record { items = λ m. all_then (λ r. Each IsGoodItem r.items) (λ r. All (SoundItem file v s) (filter (λ i. not (for_states i.on)) r.items)) (items_sound (λ i. not (for_states i.on))) file.rewards good_items }
 
 pub commands_are_sound : (file : prism.File) → FlatCommandsAreSound file
 commands_are_sound file flat v gives s state = commands_sound file flat v gives s state

@@ -5,9 +5,9 @@ use Rattle.std.specs.List.{All}
 use Rattle.op_trees.specs.Types.{AgreesWith}
 use Rattle.process_core.specs.Ready.{Values}
 use Rattle.prism_tree.specs.Syntax as prism
-use Rattle.prism_flat.specs.Instance.{Valuation}
+use Rattle.process_core.specs.Instance.{Valuation}
 use Rattle.prism_flat.specs.Process.{model}
-use Rattle.prism_clean.specs.Flattened.{IsFlat}
+use Rattle.prism_places.specs.Flattened.{IsFlat}
 use Rattle.jani_translation.specs.SeenLaws.{IsSoundUnder}
 use Rattle.jani_translation.specs.StateLaws.{CommandsAreSound, MarksAreSound, ItemsAreSound}
 

@@ -8,7 +8,7 @@ use Rattle.process_core.specs.declared.data.FaultKind.{FaultKind}
 use Rattle.process_core.specs.declared.data.FaultKind.TheVariants.{ConstUndef, BoundUndef, EmptyRange, InitUndef, InitOutside}
 use Rattle.prism_tree.specs.Syntax as prism
 use Rattle.prism_names.specs.Flat.{flat}
-use Rattle.prism_flat.specs.Instance.{Fault, fault_of}
+use Rattle.process_core.specs.Instance.{Fault, fault_of}
 use Rattle.prism_flat.specs.Process as prism_process
 use Rattle.prism_check.specs.Checked.{Checked, IsChecked}
 use Rattle.jani_tree.specs.Syntax as jani

@@ -1,34 +1,27 @@
 -- The action of each command of a file is among its actions.
-use Rattle.std.specs.Prelude.{◌≡◌, List, [], ◌∷◌, ◌++◌, Bool, true, false, ◌||◌, Option, Some, None, bytes_eq}
+use Rattle.std.specs.Prelude.{◌≡◌, List, [], ◌∷◌, ◌++◌, true, false, Option, Some, None, bytes_eq}
 use Rattle.std.specs.List.{flat_map, list_any}
-use Rattle.std.proofs.Common.{refl, ◌∙◌}
+use Rattle.std.proofs.Common.{◌∙◌}
 use Rattle.std.proofs.lemmas.List.Folds.{list_any-append}
 use Rattle.std.proofs.lemmas.Slice.Eq.{bytes_eq-Decides}
+use Rattle.std.proofs.lemmas.Bool.{or_left, or_right}
+use Rattle.basics.specs.Texts.{bytes_eq-self}
+use Rattle.basics.specs.Each.{each_then}
 use Rattle.bridge_io.specs.declared.reason.Named.{Named}
 use Rattle.process_core.specs.Ready.{Name, if_some}
 use Rattle.process_core.proofs.Targets.{any_firsts}
 use Rattle.prism_tree.specs.Syntax.{Command, Body, File}
 use Rattle.prism_print.specs.Printable.{Each, IfAny}
-use Rattle.prism_check.proofs.Each.{each_then}
 use Rattle.name_table.specs.Asks.{bodies, actions, action_of, called}
-use Rattle.jani_translation.proofs.Fresh.{same_bytes}
 
 abbrev pub IsAction : File → Name → Type 0
 IsAction file a = list_any (λ y. bytes_eq y a) (actions file) ≡ true
-
-pub or_left : (a b : Bool) → a ≡ true → (a || b) ≡ true
-or_left true b h = refl
-or_left false b h = absurd cc
-
-pub or_right : (a b : Bool) → b ≡ true → (a || b) ≡ true
-or_right true b h = refl
-or_right false b h = h
 
 -- each member of a list is in it
 pub each_among : (xs : List Name) → Each (λ a. list_any (λ y. bytes_eq y a) xs ≡ true) xs
 each_among [] = tt
 each_among (x ∷ xs) = (
-  or_left (bytes_eq x x) (list_any (λ y. bytes_eq y x) xs) (same_bytes x),
+  or_left (bytes_eq x x) (list_any (λ y. bytes_eq y x) xs) (bytes_eq-self x),
   each_then (λ a. list_any (λ y. bytes_eq y a) xs ≡ true) (λ a. list_any (λ y. bytes_eq y a) (x ∷ xs) ≡ true)
       (λ a h. or_right (bytes_eq x a) (list_any (λ y. bytes_eq y a) xs) h) xs (each_among xs),
 )
@@ -51,7 +44,7 @@ ActionIn xs c = IfAny (Has xs) (action_of c)
 
 one_in : (o : Option Name) → IfAny (Has (if_some o)) o
 one_in None = tt
-one_in (Some a) = or_left (bytes_eq a a) false (same_bytes a)
+one_in (Some a) = or_left (bytes_eq a a) false (bytes_eq-self a)
 
 more_in : (xs ys : List Name) → ((a : Name) → Has xs a → Has ys a) → (o : Option Name) → IfAny (Has xs) o → IfAny (Has ys) o
 more_in xs ys f None h = tt

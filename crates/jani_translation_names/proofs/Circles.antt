@@ -1,74 +1,46 @@
 -- No constant of a translated file depends on itself.
-use Rattle.std.specs.Prelude.{◌≡◌, ℕ, zero, suc, max, List, [], ◌∷◌, ◌++◌, map, length, take, Bool, true, false, ◌||◌, Option, Some, None, bytes_eq, Contains, if◌then◌else◌}
-use Rattle.std.specs.List.{AllByRecursion, IsDistinct, flat_map, filter, list_any, zip}
+use Rattle.std.specs.Prelude.{◌≡◌, ℕ, zero, suc, List, [], ◌∷◌, ◌++◌, map, length, take, Bool, true, false, ◌||◌, Option, Some, None, bytes_eq, Contains, if◌then◌else◌}
+use Rattle.std.specs.List.{flat_map, filter, list_any, zip}
 use Rattle.std.specs.Option.{option_map}
 use Rattle.std.proofs.Common.{refl, sym, ap, ap₂, subst, ◌∙◌, append-nil}
 use Rattle.std.proofs.Math.Path.{fun_ext}
 use Rattle.std.proofs.lemmas.List.{map-append}
 use Rattle.std.proofs.lemmas.Slice.Eq.{bytes_eq-Decides}
+use Rattle.basics.specs.Members.{any-map}
+use Rattle.basics.specs.Texts.{bytes_ne, bytes_eq-true}
+use Rattle.basics.specs.Lists.{append_both}
+use Rattle.basics.specs.Each.{map_each, each_parts, empty_each}
 use Rattle.bridge_io.specs.declared.reason.Named.{Named}
-use Rattle.bridge_io.specs.declared.reason.Reason.{Reason}
-use Rattle.bridge_io.specs.declared.reason.Reason.TheVariants.{TwiceNamed, Cycle}
+use Rattle.bridge_io.specs.declared.reason.Reason.TheVariants.{Cycle}
 use Rattle.op_trees.specs.Tree.{Truth, Number, Name as At, One, Two, Three}
+use Rattle.op_trees.specs.Names.{names_of as names_in}
 use Rattle.process_core.specs.Ready.{Name}
 use Rattle.prism_tree.specs.Syntax as prism
 use Rattle.prism_flat.specs.Kept.{IsWrittenOut}
 use Rattle.prism_print.specs.Printable.{Each}
+use Rattle.name_rules.specs.Uses.{used}
 use Rattle.prism_check.specs.NameFaults as pc
 use Rattle.prism_check.specs.NameFaults.{Declared, declarations}
 use Rattle.prism_check.proofs.Each as lists
-use Rattle.prism_check.proofs.Each.{each_then, each_map, map_each, each_parts, empty_parts, empty_join, empty_each}
 use Rattle.jani_tree.specs.Syntax.{Const}
-use Rattle.jani_check.specs.NameFaults.{names_of as names_in, uses, uses_of, leads_to, is_circular, circular}
+use Rattle.jani_check.specs.NameFaults.{uses, uses_of, leads_to, is_circular, circular}
 use Rattle.name_table.specs.declared.entry.Entry.{Entry}
 use Rattle.prism_images.specs.Image.{image}
-use Rattle.prism_clean.specs.Flattened.{IsFlat}
+use Rattle.prism_places.specs.Flattened.{IsFlat}
 use Rattle.name_table.specs.Asks.{variables, value_names, entries, new_names}
 use Rattle.jani_translation.specs.Parts.{constant}
-use Rattle.jani_translation.proofs.Fresh.{other_bytes, equal_bytes, values_agree, agrees_front, Takes, takes_from}
+use Rattle.jani_translation.proofs.Clean.{no_faults, values_distinct}
+use Rattle.jani_translation.proofs.Fresh.{values_agree, agrees_front, Takes, takes_from}
 use Rattle.jani_translation.proofs.Differ.{values_differ}
 use Rattle.jani_translation_names.specs.Laws.{NoCircles}
-use Rattle.jani_translation_names.proofs.Known.{value_names_are, no_faults}
 use Rattle.jani_translation_names.proofs.Unknown.{one_names}
-use Rattle.jani_translation_names.proofs.Doubled.{Apart, names_of, no_fault, each_contained}
-
--- ---- no two constants and variables of the file have one name
-module _ (r : Reason) where
-  apart : (earlier ns : List Named) → pc.doubled_after r earlier ns ≡ [] → Each (λ n. Each (λ m. bytes_eq m.name n.name ≡ false) earlier) ns × Apart (names_of ns)
-  apart earlier [] e = (tt, tt)
-  apart earlier (n ∷ ns) e =
-      let p = empty_parts (flat_map (pc.clash r n) earlier) (pc.doubled_after r (n ∷ earlier) ns) e in
-      let q = apart (n ∷ earlier) ns p.1 in (
-        (
-          each_then (λ m. pc.clash r n m ≡ []) (λ m. bytes_eq m.name n.name ≡ false) (λ m k. lists.no_fault (bytes_eq m.name n.name) (max m.at n.at) r k) earlier
-              (empty_each (pc.clash r n) earlier p.0),
-          each_then (λ k. Each (λ m. bytes_eq m.name k.name ≡ false) (n ∷ earlier)) (λ k. Each (λ m. bytes_eq m.name k.name ≡ false) earlier) (λ k h. h.1) ns q.0,
-        ),
-        (
-          each_map (λ k. Each (λ m. bytes_eq m.name k.name ≡ false) (n ∷ earlier)) (λ y. bytes_eq n.name y ≡ false) (λ k. k.name) (λ k h. h.0) ns q.0,
-          q.1,
-        ),
-      )
-
-by_recursion : (Q : Name → Type 0) (xs : List Name) → Each Q xs → AllByRecursion Q xs
-by_recursion Q [] h = tt
-by_recursion Q (x ∷ xs) h = (h.0, by_recursion Q xs h.1)
-
-distinct : (xs : List Name) → Apart xs → IsDistinct bytes_eq xs
-unfolding IsDistinct
-distinct [] h = tt
-distinct (x ∷ xs) h = (by_recursion (λ y. bytes_eq x y ≡ false) xs h.0, distinct xs h.1)
-
-pub values_distinct : (file : prism.File) → IsFlat file → IsDistinct bytes_eq (value_names file)
-values_distinct file flat =
-    let d = empty_parts (pc.doubled TwiceNamed (pc.values file)) _ (no_faults file flat).doubled in
-    distinct (value_names file) (subst Apart (value_names_are file flat.form) (apart TwiceNamed [] (pc.values file) d.0).1)
+use Rattle.jani_translation_names.proofs.Doubled.{names_of, no_fault, each_contained}
 
 -- ---- names of images
 abbrev bytes_of : List Named → List Name
 bytes_of ns = map (λ n. n.name) ns
 
-images_name : (new : Name → Name) (e : prism.Expression) → bytes_of (names_in (image new e)) ≡ map new (bytes_of (pc.names_of e))
+images_name : (new : Name → Name) (e : prism.Expression) → bytes_of (names_in (image new e)) ≡ map new (bytes_of (names_in e))
 images_name new (Truth at b) = refl
 images_name new (Number at d) = refl
 images_name new (At at x) = refl
@@ -76,32 +48,28 @@ images_name new (One at o a) = ap bytes_of (one_names at o (image new a)) ∙ im
 images_name new (Two at o a b) =
     map-append (λ n. n.name) (names_in (image new a)) (names_in (image new b))
     ∙ ap₂ (λ xs ys. xs ++ ys) (images_name new a) (images_name new b)
-    ∙ sym (map-append new (bytes_of (pc.names_of a)) (bytes_of (pc.names_of b)))
-    ∙ ap (map new) (sym (map-append (λ n. n.name) (pc.names_of a) (pc.names_of b)))
+    ∙ sym (map-append new (bytes_of (names_in a)) (bytes_of (names_in b)))
+    ∙ ap (map new) (sym (map-append (λ n. n.name) (names_in a) (names_in b)))
 images_name new (Three at o a b c) =
     map-append (λ n. n.name) (names_in (image new a)) (names_in (image new b) ++ names_in (image new c))
     ∙ ap₂ (λ xs ys. xs ++ ys) (images_name new a)
     (map-append (λ n. n.name) (names_in (image new b)) (names_in (image new c))
     ∙ ap₂ (λ xs ys. xs ++ ys) (images_name new b) (images_name new c)
-    ∙ sym (map-append new (bytes_of (pc.names_of b)) (bytes_of (pc.names_of c))))
-    ∙ sym (map-append new (bytes_of (pc.names_of a)) (bytes_of (pc.names_of b) ++ bytes_of (pc.names_of c)))
+    ∙ sym (map-append new (bytes_of (names_in b)) (bytes_of (names_in c))))
+    ∙ sym (map-append new (bytes_of (names_in a)) (bytes_of (names_in b) ++ bytes_of (names_in c)))
     ∙ ap (map new)
-    (ap (λ ys. bytes_of (pc.names_of a) ++ ys) (sym (map-append (λ n. n.name) (pc.names_of b) (pc.names_of c)))
-    ∙ sym (map-append (λ n. n.name) (pc.names_of a) (pc.names_of b ++ pc.names_of c)))
+    (ap (λ ys. bytes_of (names_in a) ++ ys) (sym (map-append (λ n. n.name) (names_in b) (names_in c)))
+    ∙ sym (map-append (λ n. n.name) (names_in a) (names_in b ++ names_in c)))
 
 abbrev declared : prism.Const → Declared
-declared c = record { name = c.name; body = c.value }
+declared c = pc.declared_const c
 
-uses_alike : (new : Name → Name) (c : prism.Const) (e : Entry) → uses (constant new c e) ≡ map new (pc.uses (declared c))
+uses_alike : (new : Name → Name) (c : prism.Const) (e : Entry) → uses (constant new c e) ≡ map new (declared c).uses
 uses_alike new c e = by_value c.value
   where
-    by_value : (o : Option prism.Expression) → uses (record { name = c.name; ty = c.ty; value = option_map (image new) o; note = None }) ≡ map new (pc.uses (record { name = c.name; body = o }))
+    by_value : (o : Option prism.Expression) → uses (record { name = c.name; ty = c.ty; value = option_map (image new) o; note = None }) ≡ map new (used o)
     by_value None = refl
-    by_value (Some t) = map-append (λ n. n.name) (names_in (image new t)) [] ∙ append-nil (bytes_of (names_in (image new t))) ∙ images_name new t ∙ ap (map new) (sym (map-append (λ n. n.name) (pc.names_of t) [] ∙ append-nil (bytes_of (pc.names_of t))))
-
-any_images : (p : Name → Bool) (new : Name → Name) (xs : List Name) → list_any p (map new xs) ≡ list_any (λ x. p (new x)) xs
-any_images p new [] = refl
-any_images p new (x ∷ xs) = ap (λ b. p (new x) || b) (any_images p new xs)
+    by_value (Some t) = map-append (λ n. n.name) (names_in (image new t)) [] ∙ append-nil (bytes_of (names_in (image new t))) ∙ images_name new t
 
 -- ---- constants that lead to constants
 module _ (new : Name → Name) (IsOld : Name → Type 0) (alike : (x y : Name) → IsOld y → bytes_eq (new y) (new x) ≡ bytes_eq y x)
@@ -128,9 +96,9 @@ module _ (new : Name → Name) (IsOld : Name → Type 0) (alike : (x y : Name) �
       old_rest : List Declared
       old_rest = filter (λ d. bytes_eq d.name.name x) (map declared cs)
 
-      by_test : (b : Bool) → flat_map uses rest ≡ map new (flat_map pc.uses old_rest) →
-          flat_map uses (if b then constant new c e ∷ rest else rest) ≡ map new (flat_map pc.uses (if b then declared c ∷ old_rest else old_rest))
-      by_test true h = ap₂ (λ xs ys. xs ++ ys) (uses_alike new c e) h ∙ sym (map-append new (pc.uses (declared c)) (flat_map pc.uses old_rest))
+      by_test : (b : Bool) → flat_map uses rest ≡ map new (flat_map (λ (d : Declared). d.uses) old_rest) →
+          flat_map uses (if b then constant new c e ∷ rest else rest) ≡ map new (flat_map (λ (d : Declared). d.uses) (if b then declared c ∷ old_rest else old_rest))
+      by_test true h = ap₂ (λ xs ys. xs ++ ys) (uses_alike new c e) h ∙ sym (map-append new (declared c).uses (flat_map (λ (d : Declared). d.uses) old_rest))
       by_test false h = h
 
   n_images : (cs : List prism.Const) (es : List Entry) → Goes cs es → length (images cs es) ≡ length (map declared cs)
@@ -144,17 +112,17 @@ module _ (new : Name → Name) (IsOld : Name → Type 0) (alike : (x y : Name) �
     lead_alike (suc n) x y o =
         ap₂ (λ a b. a || b) (turned x y o)
         (ap (λ zs. list_any (λ z. leads_to (images cs es) n z (new y)) zs) (used_alike cs es g x)
-        ∙ any_images (λ z. leads_to (images cs es) n z (new y)) new (pc.uses_of (map declared cs) x)
+        ∙ any-map (λ z. leads_to (images cs es) n z (new y)) new (pc.uses_of (map declared cs) x)
         ∙ ap (λ f. list_any f (pc.uses_of (map declared cs) x)) (fun_ext (λ z. lead_alike n z y o)))
 
     circular_alike : (c : prism.Const) (e : Entry) → e.name ≡ new c.name.name → IsOld c.name.name →
         is_circular (images cs es) (constant new c e) ≡ pc.is_circular (map declared cs) (declared c)
     circular_alike c e h o =
         let n = length (images cs es) in
-        let us = pc.uses (declared c) in
+        let us = (declared c).uses in
         ap (λ m. list_any (λ x. leads_to (images cs es) n x m) (uses (constant new c e))) h
         ∙ ap (λ zs. list_any (λ x. leads_to (images cs es) n x (new c.name.name)) zs) (uses_alike new c e)
-        ∙ any_images (λ x. leads_to (images cs es) n x (new c.name.name)) new us
+        ∙ any-map (λ x. leads_to (images cs es) n x (new c.name.name)) new us
         ∙ ap (λ k. list_any (λ x. leads_to (images cs es) k (new x) (new c.name.name)) us) (n_images cs es g)
         ∙ ap (λ f. list_any f us) (fun_ext (λ x. lead_alike (length (map declared cs)) x c.name.name o))
 
@@ -163,7 +131,7 @@ module _ (new : Name → Name) (IsOld : Name → Type 0) (alike : (x y : Name) �
     none_circular [] us h k = refl
     none_circular (d ∷ ds) [] h k = absurd h
     none_circular (d ∷ ds) (u ∷ us) h k =
-        empty_join (circular (images cs es) (constant new d u)) (flat_map (circular (images cs es)) (images ds us))
+        append_both (circular (images cs es) (constant new d u)) (flat_map (circular (images cs es)) (images ds us))
         (no_fault (is_circular (images cs es) (constant new d u)) d.name.at Cycle
         (circular_alike d u h.0 h.1 ∙ lists.no_fault (pc.is_circular (map declared cs) (declared d)) d.name.at Cycle k.0))
         (none_circular ds us h.2 k.1)
@@ -178,11 +146,11 @@ same_tests : (a b c d : Name) → (a ≡ b → c ≡ d) → (c ≡ d → a ≡ b
 same_tests a b c d f g = by_test (bytes_eq c d) refl
   where
     by_test : (t : Bool) → bytes_eq c d ≡ t → bytes_eq a b ≡ t
-    by_test true e = (bytes_eq-Decides a b).1 (g (equal_bytes c d e))
-    by_test false e = other_bytes a b (λ q. let r : true ≡ false = sym ((bytes_eq-Decides c d).1 (f q)) ∙ e in absurd cc)
+    by_test true e = (bytes_eq-Decides a b).1 (g (bytes_eq-true c d e))
+    by_test false e = bytes_ne a b (λ q. let r : true ≡ false = sym ((bytes_eq-Decides c d).1 (f q)) ∙ e in absurd cc)
 
 declarations_are : (file : prism.File) → IsWrittenOut file → declarations file ≡ map declared file.constants
-declarations_are file w = ap (λ fs. map declared file.constants ++ map (λ f. record { name = f.name; body = Some f.body }) fs) w.formulas ∙ append-nil (map declared file.constants)
+declarations_are file w = ap (λ fs. map declared file.constants ++ map pc.declared_formula fs) w.formulas ∙ append-nil (map declared file.constants)
 
 pub no_circles : (file : prism.File) → NoCircles file
 no_circles file flat =

@@ -1,34 +1,38 @@
 -- The composition of a translated file: each automaton takes part once, and each vector has a part for each, with some that
 -- takes part.
-use Rattle.std.specs.Prelude.{◌≡◌, ℕ, suc, ◌+◌, List, [], ◌∷◌, map, length, Bool, true, false, not, ◌||◌, Option, Some, None, is_some, nat_eq, bytes_eq, if◌then◌else◌}
+use Rattle.std.specs.Prelude.{◌≡◌, ℕ, ◌+◌, List, [], ◌∷◌, map, length, Bool, true, false, not, ◌||◌, Option, Some, None, is_some, nat_eq, bytes_eq, if◌then◌else◌}
 use Rattle.std.specs.List.{flat_map, list_any}
-use Rattle.std.proofs.Common.{refl, sym, ap, ap₂, ◌∙◌, arith, length-append}
+use Rattle.std.proofs.Common.{refl, sym, ap, ap₂, ◌∙◌, arith, length-append, eq-eqb}
 use Rattle.std.proofs.lemmas.Bool.Decides.{nat_tests}
 use Rattle.std.proofs.lemmas.List.{length-map}
 use Rattle.std.proofs.lemmas.List.Folds.{list_any-append}
 use Rattle.std.proofs.lemmas.Slice.Eq.{bytes_eq-Decides}
+use Rattle.std.proofs.lemmas.Bool.{or_left, or_right}
+use Rattle.std.proofs.Math.Bool.{or-false}
+use Rattle.basics.specs.Texts.{bytes_eq_comm}
+use Rattle.basics.specs.Lists.{append_both}
+use Rattle.basics.specs.Each.{each_map, each_join, each_empty}
 use Rattle.bridge_io.specs.declared.reason.Reason.TheVariants.{Nothing, BadVector, RepeatedAutomaton}
 use Rattle.process_core.specs.Ready.{Name, if_some, same_label}
 use Rattle.process_core.proofs.Targets.{any_firsts}
 use Rattle.prism_tree.specs.Syntax as prism
-use Rattle.prism_tree.specs.Syntax.{Command, Body}
-use Rattle.prism_flat.specs.Instance.{numbered, only_if}
+use Rattle.prism_tree.specs.Syntax.{Body}
+use Rattle.process_core.specs.Instance.{numbered, only_if}
 use Rattle.prism_print.specs.Printable.{Each}
 use Rattle.prism_check.specs.NameFaults as pc
 use Rattle.prism_check.proofs.Each as lists
-use Rattle.prism_check.proofs.Each.{each_map, each_join, empty_join, each_empty}
 use Rattle.jani_tree.specs.Syntax.{Vector}
 use Rattle.jani_check.specs.NameFaults.{automaton_names, doubled_names, unknown_names, circles, repeated_elements, no_element, bad_vector, composition_faults}
 use Rattle.name_table.specs.Asks.{bodies, actions, action_of, new_names}
 use Rattle.jani_translation.specs.Parts.{made}
 use Rattle.jani_translation.specs.Automata.{zz_silent, for_action, has_items, has_silent, earning_actions, is_some_name, earns_silently, has_monitor}
 use Rattle.jani_translation.specs.Translated.{has_command, part_if, silent_vector, silent_vectors, action_vector, translated}
+use Rattle.jani_translation.proofs.Clean.{no_faults}
 use Rattle.jani_translation.proofs.Each.{n_bodies}
-use Rattle.jani_translation.proofs.Fresh.{equal_bytes, other_bytes}
-use Rattle.jani_translation.proofs.OneForOne.{one_automaton_each}
+use Rattle.jani_translation.proofs.OneForOne.{one_automaton_each, one_or_none}
+use Rattle.jani_translation.proofs.Watched.{n_numbered}
 use Rattle.jani_translation_names.specs.Laws.{NoCompositionFaults, NoNameFaults}
-use Rattle.jani_translation_names.proofs.Known.{no_faults}
-use Rattle.jani_translation_names.proofs.Actions.{IsAction, actions_among, or_left, or_right}
+use Rattle.jani_translation_names.proofs.Actions.{IsAction, actions_among}
 use Rattle.jani_translation_names.proofs.Form.{each_only, each_numbered}
 use Rattle.jani_translation_names.proofs.Doubled.{no_fault, not_doubled, automata_apart, none_doubled}
 use Rattle.jani_translation_names.proofs.Unknown.{none_unknown}
@@ -40,28 +44,14 @@ neither true true h k = refl
 neither true false h k = absurd cc
 neither false b h k = absurd cc
 
-same_number : (m n : ℕ) → m ≡ n → nat_eq m n ≡ true
-same_number m n e = grind (arith, nat_tests)
-
 -- ---- some module has the action
 flat_any : {X : Type 0} (p : Name → Bool) (q : X → Bool) (f : X → List Name) → ((x : X) → list_any p (f x) ≡ q x) → (xs : List X) → list_any p (flat_map f xs) ≡ list_any q xs
 flat_any p q f h [] = refl
 flat_any p q f h (x ∷ xs) = list_any-append p (f x) (flat_map f xs) ∙ ap₂ (λ a b. a || b) (h x) (flat_any p q f h xs)
 
-turned : (x y : Name) → bytes_eq x y ≡ bytes_eq y x
-turned x y = by_test (bytes_eq y x) refl
-  where
-    by_test : (b : Bool) → bytes_eq y x ≡ b → bytes_eq x y ≡ b
-    by_test true e = (bytes_eq-Decides x y).1 (sym (equal_bytes y x e))
-    by_test false e = other_bytes x y (λ q. let r : true ≡ false = sym ((bytes_eq-Decides y x).1 (sym q)) ∙ e in absurd cc)
-
-or_none : (a : Bool) → (a || false) ≡ a
-or_none true = refl
-or_none false = refl
-
 action_test : (a : Name) (o : Option Name) → list_any (λ y. bytes_eq y a) (if_some o) ≡ same_label (Some a) o
 action_test a None = refl
-action_test a (Some b) = or_none (bytes_eq b a) ∙ turned b a
+action_test a (Some b) = or-false (bytes_eq b a) ∙ bytes_eq_comm b a
 
 command_test : (a : Name) (m : Body) → list_any (λ y. bytes_eq y a) (flat_map (λ c. if_some (action_of c)) m.commands) ≡ has_command a m
 command_test a m = flat_any (λ y. bytes_eq y a) (λ c. same_label (Some a) (action_of c)) (λ c. if_some (action_of c)) (λ c. action_test a (action_of c)) m.commands
@@ -72,14 +62,6 @@ some_module file a h =
     ∙ sym (any_firsts bytes_eq bytes_eq-Decides (λ y. bytes_eq y a) (flat_map (λ m. flat_map (λ c. if_some (action_of c)) m.commands) (bodies file))) ∙ h
 
 -- ---- lengths
-n_only : {X : Type 0} (b : Bool) (x : X) → length (only_if b x) ≡ (if b then 1 else 0)
-n_only true x = refl
-n_only false x = refl
-
-n_numbered : {X Y : Type 0} (f : ℕ → X → Y) (i : ℕ) (xs : List X) → length (numbered (λ k x. f k x ∷ []) i xs) ≡ length xs
-n_numbered f i [] = refl
-n_numbered f i (x ∷ xs) = ap suc (n_numbered f (i + 1) xs)
-
 module _ (file : prism.File) where
   abbrev n : ℕ
   n = length (translated file).elements
@@ -92,7 +74,7 @@ module _ (file : prism.File) where
   IsFine v = bad_vector n v ≡ []
 
   fine : (v : Vector) → length v.parts ≡ n → list_any is_some v.parts ≡ true → IsFine v
-  fine v l s = no_fault (not (nat_eq (length v.parts) n) || not (list_any is_some v.parts)) v.at BadVector (neither (nat_eq (length v.parts) n) (list_any is_some v.parts) (same_number (length v.parts) n l) s)
+  fine v l s = no_fault (not (nat_eq (length v.parts) n) || not (list_any is_some v.parts)) v.at BadVector (neither (nat_eq (length v.parts) n) (list_any is_some v.parts) (eq-eqb (length v.parts) n l) s)
 
   taking_part : (a : Name) (ms : List Body) → list_any (λ m. has_command a m) ms ≡ true →
       list_any is_some (map (λ m. part_if (has_command a m) (made ((new_names file).action a))) ms) ≡ true
@@ -111,7 +93,7 @@ module _ (file : prism.File) where
       let ps = map (λ m. part_if (has_command a m) x) (bodies file) in
       let qs = only_if (has_monitor file) (part_if (has_items (for_action a) file) x) in
       fine (action_vector (new_names file) file a)
-      (length-append ps qs ∙ ap₂ (λ i j. i + j) (length-map (bodies file) (λ m. part_if (has_command a m) x)) (n_only (has_monitor file) (part_if (has_items (for_action a) file) x)) ∙ sym n_elements)
+      (length-append ps qs ∙ ap₂ (λ i j. i + j) (length-map (bodies file) (λ m. part_if (has_command a m) x)) (one_or_none (has_monitor file) (part_if (has_items (for_action a) file) x)) ∙ sym n_elements)
       (list_any-append is_some ps qs ∙ or_left (list_any is_some ps) (list_any is_some qs) (taking_part a (bodies file) (some_module file a h)))
 
   monitored : earns_silently file ≡ true → has_monitor file ≡ true
@@ -148,14 +130,14 @@ module _ (file : prism.File) where
 pub no_composition_faults : (file : prism.File) → NoCompositionFaults file
 no_composition_faults file flat =
     let t = translated file in
-    empty_join (repeated_elements t) _ (not_doubled RepeatedAutomaton (automaton_names t) (automata_apart file))
-    (empty_join (no_element t) (flat_map (bad_vector (length t.elements)) t.vectors)
+    append_both (repeated_elements t) _ (not_doubled RepeatedAutomaton (automaton_names t) (automata_apart file))
+    (append_both (no_element t) (flat_map (bad_vector (length t.elements)) t.vectors)
     (no_fault (nat_eq (length t.elements) 0) t.elements_at Nothing (some_element file (no_faults file flat).modules))
     (each_empty (bad_vector (length t.elements)) t.vectors (vectors_fine file)))
 
 pub no_name_faults : (file : prism.File) → NoNameFaults file
 no_name_faults file flat =
     let t = translated file in
-    empty_join (doubled_names t) _ (none_doubled file)
-    (empty_join (unknown_names t) _ (none_unknown file flat)
-    (empty_join (circles t) (composition_faults t) (no_circles file flat) (no_composition_faults file flat)))
+    append_both (doubled_names t) _ (none_doubled file)
+    (append_both (unknown_names t) _ (none_unknown file flat)
+    (append_both (circles t) (composition_faults t) (no_circles file flat) (no_composition_faults file flat)))

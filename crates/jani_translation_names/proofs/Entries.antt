@@ -1,8 +1,8 @@
 -- The new names of a file: of each entry, of the names that are known and of the actions.
-use Rattle.std.specs.Prelude.{◌≡◌, ℕ, zero, suc, ◌≤◌, List, [], ◌∷◌, length, take, drop, Bool, true, false, ◌||◌, Some, slice_get, bytes_eq, if◌then◌else◌}
-use Rattle.std.specs.List.{All, filter, list_any, zip}
-use Rattle.std.proofs.Common.{refl, subst, arith, length-drop}
-use Rattle.std.proofs.lemmas.List.Elements.{All-head, All-tail}
+use Rattle.std.specs.Prelude.{◌≡◌, ℕ, ◌≤◌, List, [], ◌∷◌, length, drop, Bool, true, false, ◌||◌, Some, slice_get, bytes_eq, if◌then◌else◌}
+use Rattle.std.specs.List.{list_any}
+use Rattle.std.proofs.Common.{refl, arith, length-drop}
+use Rattle.basics.specs.Each.{each_at, each_take, each_drop}
 use Rattle.process_core.specs.Ready.{Name}
 use Rattle.prism_tree.specs.Syntax as prism
 use Rattle.prism_print.specs.Printable.{Each}
@@ -11,39 +11,6 @@ use Rattle.name_table.specs.declared.entry.Entry.{Entry}
 use Rattle.name_table.specs.Asks.{entries, some_from, new_name, value_names, new_names, actions, actions_at}
 use Rattle.jani_translation.proofs.Each.{n_entries}
 use Rattle.jani_translation.proofs.Fresh.{no_empty, enough}
-
--- ---- lists
-pub each_at : {A : Type 0} (P : A → Type 0) (xs : List A) → ((i : ℕ) (x : A) → slice_get xs i ≡ Some x → P x) → Each P xs
-each_at P [] h = tt
-each_at P (x ∷ xs) h = (h 0 x refl, each_at P xs (λ i y e. h (suc i) y e))
-
-pub each_take : {A : Type 0} (P : A → Type 0) (n : ℕ) (xs : List A) → Each P xs → Each P (take n xs)
-each_take P zero xs h = tt
-each_take P (suc n) [] h = tt
-each_take P (suc n) (x ∷ xs) h = (h.0, each_take P n xs h.1)
-
-pub each_drop : {A : Type 0} (P : A → Type 0) (n : ℕ) (xs : List A) → Each P xs → Each P (drop n xs)
-each_drop P zero xs h = h
-each_drop P (suc n) [] h = tt
-each_drop P (suc n) (x ∷ xs) h = each_drop P n xs h.1
-
-pub each_zip : {A B : Type 0} (P : A → Type 0) (Q : B → Type 0) (xs : List A) (ys : List B) → Each P xs → Each Q ys → Each (λ p. P p.0 × Q p.1) (zip xs ys)
-each_zip P Q [] ys h k = tt
-each_zip P Q (x ∷ xs) [] h k = tt
-each_zip P Q (x ∷ xs) (y ∷ ys) h k = ((h.0, k.0), each_zip P Q xs ys h.1 k.1)
-
-pub each_filter : {A : Type 0} (P : A → Type 0) (p : A → Bool) (xs : List A) → Each P xs → Each P (filter p xs)
-each_filter P p [] h = tt
-each_filter {A = A} P p (x ∷ xs) h = by_test (p x) (each_filter P p xs h.1)
-  where
-    by_test : (b : Bool) → Each P (filter p xs) → Each P (if b then x ∷ filter p xs else filter p xs)
-    by_test true r = (h.0, r)
-    by_test false r = r
-
-all_at : {A : Type 0} (P : A → Type 0) (xs : List A) (i : ℕ) (x : A) → All P xs → slice_get xs i ≡ Some x → P x
-all_at P [] i x h e = absurd cc
-all_at P (y ∷ xs) zero x h e = let q : y ≡ x = cc in subst P q (All-head P y xs h)
-all_at P (y ∷ xs) (suc i) x h e = all_at P xs i x (All-tail P y xs h) e
 
 -- ---- names that are made
 some_items : (x : Name) → (x ≡ [] → ⊥) → HasItems x

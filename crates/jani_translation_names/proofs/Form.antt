@@ -1,17 +1,18 @@
 -- A translated file has the form of a file that is read.
 use Rattle.std.specs.Prelude.{ℕ, ◌+◌, List, [], ◌∷◌, ◌++◌, map, length, Bool, true, false, Option, Some, None, nat_eq, if◌then◌else◌}
-use Rattle.std.specs.List.{flat_map, filter, zip}
+use Rattle.std.specs.List.{filter, zip}
 use Rattle.std.specs.Option.{option_map}
 use Rattle.std.proofs.Common.{refl}
+use Rattle.basics.specs.Each.{each_map, each_join, each_zip, each_filter, each_flat, each_any}
 use Rattle.bridge_io.specs.declared.reason.Named.{Named}
 use Rattle.op_trees.specs.Tree.{Truth, Number, Name as At, One, Two, Three, AllNumbers}
 use Rattle.op_trees.specs.SeenLaws.{names_then}
 use Rattle.process_core.specs.Ready.{Name}
 use Rattle.prism_tree.specs.Syntax as prism
 use Rattle.prism_tree.specs.declared.syntax.ItemOn.{ItemOn}
-use Rattle.prism_flat.specs.Instance.{numbered, only_if}
+use Rattle.process_core.specs.Instance.{numbered, only_if}
 use Rattle.prism_print.specs.Printable.{Each, IfAny, IsPrintableExpression, AreBranches}
-use Rattle.prism_check.proofs.Each.{each_map, each_join, any_map}
+use Rattle.prism_check.proofs.Each.{any_map}
 use Rattle.jani_table.specs.declared.operator.JaniOp.TheVariants.{Add}
 use Rattle.jani_tree.specs.Canonical.{OfSome, OfAll}
 use Rattle.jani_tree.specs.Syntax.{Expression, Write, Edge, Automaton}
@@ -26,7 +27,7 @@ use Rattle.jani_translation.specs.Automata.{loc, zz_silent, zz_monitor, for_stat
 use Rattle.jani_translation.specs.Translated.{has_command, part_if, silent_vector, silent_vectors, global_variables, jani_actions, action_vector, vectors, translated}
 use Rattle.jani_translation_names.specs.Laws.{TranslatedHasForm}
 use Rattle.jani_translation_names.proofs.Known.{IsKnown, Good, GoodConst, GoodRange, GoodVar, GoodLabel, GoodWrite, GoodBranch, GoodCommand, GoodBody, GoodItem, GoodRewards, IsGood, is_good}
-use Rattle.jani_translation_names.proofs.Entries.{each_zip, each_filter, names_from, known_name, action_name}
+use Rattle.jani_translation_names.proofs.Entries.{names_from, known_name, action_name}
 use Rattle.jani_translation_names.proofs.Actions.{IsAction, HasAction, actions_among, actions_of_commands}
 
 -- ---- lists
@@ -41,14 +42,6 @@ of_some P (Some x) h = h
 pub each_only : {A : Type 0} (P : A → Type 0) (b : Bool) (x : A) → P x → Each P (only_if b x)
 each_only P true x h = (h, tt)
 each_only P false x h = tt
-
-pub each_flat : {A B : Type 0} (P : A → Type 0) (Q : B → Type 0) (f : A → List B) → ((x : A) → P x → Each Q (f x)) → (xs : List A) → Each P xs → Each Q (flat_map f xs)
-each_flat P Q f h [] p = tt
-each_flat P Q f h (x ∷ xs) p = each_join Q (f x) (flat_map f xs) (h x p.0) (each_flat P Q f h xs p.1)
-
-pub each_any : {A B : Type 0} (Q : B → Type 0) (f : A → B) → ((x : A) → Q (f x)) → (xs : List A) → Each Q (map f xs)
-each_any Q f h [] = tt
-each_any Q f h (x ∷ xs) = (h x, each_any Q f h xs)
 
 pub each_numbered : {A B : Type 0} (Q : B → Type 0) (f : ℕ → A → List B) → ((i : ℕ) (x : A) → Each Q (f i x)) → (i : ℕ) (xs : List A) → Each Q (numbered f i xs)
 each_numbered Q f h i [] = tt

@@ -1,29 +1,28 @@
 -- What is known of a PRISM file that has no fault and is written out: its expressions may be spelled, and their names are those
 -- of its constants and variables.
-use Rattle.std.specs.Prelude.{◌≡◌, List, [], ◌∷◌, ◌++◌, map, Bool, true, false, not, ◌&&◌, ◌||◌, Option, Some, None, is_some, bytes_eq}
+use Rattle.std.specs.Prelude.{◌≡◌, List, [], ◌∷◌, ◌++◌, map, Bool, true, not, ◌||◌, Option, Some, None, is_some, bytes_eq}
 use Rattle.std.specs.List.{flat_map, list_any, list_all}
-use Rattle.std.proofs.Common.{refl, sym, ap, ap₂, ◌∙◌}
-use Rattle.std.proofs.lemmas.List.{map-append}
+use Rattle.std.proofs.Common.{refl, sym, ap, ◌∙◌}
+use Rattle.std.proofs.lemmas.Bool.{and_parts, not-false}
+use Rattle.basics.specs.Lists.{append_parts}
+use Rattle.basics.specs.Each.{each_then, each_with, map_each, each_join, each_parts, each_of, empty_each}
 use Rattle.bridge_io.specs.declared.reason.Named.{Named}
 use Rattle.bridge_io.specs.declared.reason.Reason.TheVariants.{Unknown}
-use Rattle.bridge_io.specs.declared.reason.Fault.{Fault}
 use Rattle.op_trees.specs.declared.tree.Ty.{Ty}
 use Rattle.op_trees.specs.Tree.{AllNames}
+use Rattle.op_trees.specs.Names.{names_of}
 use Rattle.process_core.specs.Ready.{Name, if_some}
-use Rattle.process_core.specs.Product.{map-map}
 use Rattle.prism_tree.specs.Syntax.{Expression, Const, Range, Var, Label, Write, Branch, Command, Body, Module, plain, copied, Item, Rewards, File}
 use Rattle.prism_names.specs.Names.{part_of}
 use Rattle.prism_flat.specs.Kept.{is_plain, IsWrittenOut}
 use Rattle.prism_print.specs.Printable.{Each, IfAny, IsPrintableExpression, IsPrintableConst, IsPrintableRange, IsPrintableVar, IsPrintableLabel, IsPrintableWrite, IsPrintableBranch, AreBranches, IsPrintableCommand, IsPrintableModule, IsPrintableItem, IsPrintableRewards}
 use Rattle.prism_check.specs.Demands.{Demand, fixed, written, wanted_by, var_type, const_demands, range_demands, var_demands, branch_demands, command_demands, part_demands, label_demands, item_demands, rewards_demands, formula_demands, outer_demands}
-use Rattle.prism_check.specs.NameFaults.{is_among, module_vars, values, names_of, unless_known, unknown, unknown_in, unknown_names, doubled_names, circles, copy_faults, no_module, name_faults}
-use Rattle.prism_check.specs.SizeFaults.{size_faults}
-use Rattle.prism_check.specs.TypeFaults.{type_faults}
-use Rattle.prism_check.specs.Faults.{or_else}
-use Rattle.prism_check.proofs.Each.{each_then, each_with, map_each, each_join, each_parts, each_of, empty_parts, empty_each, no_fault}
+use Rattle.prism_check.specs.NameFaults.{is_among, values, unless_known, unknown, unknown_in}
+use Rattle.prism_check.proofs.Each.{no_fault}
 use Rattle.prism_check.proofs.NamesIn.{listed_names}
-use Rattle.prism_clean.specs.Flattened.{IsFlat}
+use Rattle.prism_places.specs.Flattened.{IsFlat}
 use Rattle.name_table.specs.Asks.{contents, bodies, variables, value_names}
+use Rattle.jani_translation.proofs.Clean.{value_names_are, no_faults}
 
 -- ---- what is known
 -- some constant or variable has the name
@@ -75,64 +74,17 @@ pub record IsGood (file : File) : Type 0 where
   pub labels : Each (GoodLabel file) file.labels
   pub rewards : Each (GoodRewards file) file.rewards
 
--- ---- truth values
-pub both_true : (a b : Bool) → (a && b) ≡ true → (a ≡ true) × (b ≡ true)
-both_true true b h = (refl, h)
-both_true false b h = absurd cc
-
-not_false : (b : Bool) → not b ≡ false → b ≡ true
-not_false true e = refl
-not_false false e = absurd cc
-
 -- ---- the names of constants and variables
 among_names : (ns : List Named) (x : Name) → is_among ns x ≡ list_any (λ y. bytes_eq y x) (map (λ n. n.name) ns)
 among_names [] x = refl
 among_names (n ∷ ns) x = ap (λ b. bytes_eq n.name x || b) (among_names ns x)
-
-module_values : (file : File) (ms : List Module) → list_all is_plain ms ≡ true →
-    map (λ n. n.name) (flat_map (module_vars file) ms) ≡ map (λ x. x.name.name) (flat_map (λ m. m.vars) (map contents ms))
-module_values file [] h = refl
-module_values file (plain m ∷ ms) h =
-    map-append (λ n. n.name) (map (λ x. x.name) m.vars) (flat_map (module_vars file) ms)
-    ∙ ap₂ (λ a b. a ++ b) (map-map (λ n. n.name) (λ x. x.name) m.vars) (module_values file ms h)
-    ∙ sym (map-append (λ x. x.name.name) m.vars (flat_map (λ m. m.vars) (map contents ms)))
-module_values file (copied m ∷ ms) h = absurd cc
-
-pub value_names_are : (file : File) → IsWrittenOut file → map (λ n. n.name) (values file) ≡ value_names file
-value_names_are file w =
-    map-append (λ n. n.name) (map (λ c. c.name) file.constants) _
-    ∙ ap₂ (λ a b. a ++ b) (map-map (λ n. n.name) (λ c. c.name) file.constants)
-    (ap (λ fs. map (λ n. n.name) (map (λ f. f.name) fs ++ (map (λ x. x.name) file.globals ++ flat_map (module_vars file) file.modules))) w.formulas
-    ∙ map-append (λ n. n.name) (map (λ x. x.name) file.globals) (flat_map (module_vars file) file.modules)
-    ∙ ap₂ (λ a b. a ++ b) (map-map (λ n. n.name) (λ x. x.name) file.globals) (module_values file file.modules w.modules)
-    ∙ sym (map-append (λ x. x.name.name) file.globals (flat_map (λ m. m.vars) (bodies file))))
-
--- ---- the faults of names
-no_either : (xs ys : List Fault) → or_else xs ys ≡ [] → xs ≡ []
-no_either [] ys e = refl
-no_either (x ∷ xs) ys e = absurd cc
-
-pub record NoFaults (file : File) : Type 0 where
-  pub doubled : doubled_names file ≡ []
-  pub unknown : unknown_names file ≡ []
-  pub circles : circles file ≡ []
-  pub modules : no_module file ≡ []
-
-pub no_faults : (file : File) → IsFlat file → NoFaults file
-no_faults file h =
-    let names = no_either (name_faults file) (or_else (size_faults file) (type_faults file)) h.checked.sound in
-    let a = empty_parts (doubled_names file) (unknown_names file ++ (circles file ++ (flat_map (copy_faults file) file.modules ++ no_module file))) names in
-    let b = empty_parts (unknown_names file) (circles file ++ (flat_map (copy_faults file) file.modules ++ no_module file)) a.1 in
-    let c = empty_parts (circles file) (flat_map (copy_faults file) file.modules ++ no_module file) b.1 in
-    let d = empty_parts (flat_map (copy_faults file) file.modules) (no_module file) c.1 in
-    record { doubled = a.0; unknown = b.0; circles = c.0; modules = d.1 }
 
 -- ---- expressions
 module _ (file : File) (w : IsWrittenOut file) where
   known_one : (n : Named) → unless_known (is_among (values file)) n ≡ [] → IsKnown file n.name
   known_one n e =
       ap (λ ns. list_any (λ y. bytes_eq y n.name) ns) (sym (value_names_are file w)) ∙ sym (among_names (values file) n.name)
-      ∙ not_false (is_among (values file) n.name) (no_fault (not (is_among (values file) n.name)) n.at Unknown e)
+      ∙ not-false (is_among (values file) n.name) (no_fault (not (is_among (values file) n.name)) n.at Unknown e)
 
   good : (e : Expression) → IsPrintableExpression e → flat_map (unless_known (is_among (values file))) (names_of e) ≡ [] → Good file e
   good e p k = (
@@ -173,7 +125,7 @@ module _ (file : File) (w : IsWrittenOut file) where
 
   good_write : (acts : Bool) (x : Write) → IsPrintableWrite x → Fine (written acts x) → GoodWrite file x
   good_write acts x p k =
-      let r = empty_parts (unless_known (is_among (values file)) x.name) (flat_map (unless_known (is_among (values file))) (names_of x.value)) k in
+      let r = append_parts (unless_known (is_among (values file)) x.name) (flat_map (unless_known (is_among (values file))) (names_of x.value)) k in
       (known_one x.name r.0, good x.value p.1 r.1)
 
   good_writes : (acts : Bool) (xs : List Write) → Each IsPrintableWrite xs → Each Fine (map (written acts) xs) → Each (GoodWrite file) xs
@@ -207,7 +159,7 @@ module _ (file : File) (w : IsWrittenOut file) where
   good_bodies : (ms : List Module) → list_all is_plain ms ≡ true → Each IsPrintableModule ms → Each (λ m. unknown_in file m ≡ []) ms → Each (GoodBody file) (map contents ms)
   good_bodies [] q p k = tt
   good_bodies (m ∷ ms) q p k =
-      let r = both_true (is_plain m) (list_all is_plain ms) q in
+      let r = and_parts (is_plain m) (list_all is_plain ms) q in
       (good_body m r.0 p.0 k.0, good_bodies ms r.1 p.1 k.1)
 
   body_vars : (ms : List Body) → Each (GoodBody file) ms → Each (GoodVar file) (flat_map (λ m. m.vars) ms)
@@ -218,8 +170,8 @@ pub is_good : (file : File) → IsFlat file → IsGood file
 is_good file h =
     let w = h.form in
     let p = h.checked.form in
-    let u = empty_parts (flat_map (unknown file) (outer_demands file)) (flat_map (unknown file) (flat_map formula_demands file.formulas) ++ flat_map (unknown_in file) file.modules) (no_faults file h).unknown in
-    let v = empty_parts (flat_map (unknown file) (flat_map formula_demands file.formulas)) (flat_map (unknown_in file) file.modules) u.1 in
+    let u = append_parts (flat_map (unknown file) (outer_demands file)) (flat_map (unknown file) (flat_map formula_demands file.formulas) ++ flat_map (unknown_in file) file.modules) (no_faults file h).unknown in
+    let v = append_parts (flat_map (unknown file) (flat_map formula_demands file.formulas)) (flat_map (unknown_in file) file.modules) u.1 in
     let F : Demand → Type 0 = λ d. unknown file d ≡ [] in
     let a = each_parts F (flat_map const_demands file.constants) (flat_map var_demands file.globals ++ (flat_map label_demands file.labels ++ flat_map rewards_demands file.rewards)) (empty_each (unknown file) (outer_demands file) u.0) in
     let b = each_parts F (flat_map var_demands file.globals) (flat_map label_demands file.labels ++ flat_map rewards_demands file.rewards) a.1 in

@@ -5,36 +5,39 @@ use Rattle.std.specs.Option.{option_map}
 use Rattle.std.proofs.Common.{refl, sym, ap, subst, ◌∙◌, arith, length-append}
 use Rattle.std.proofs.lemmas.List.{length-map}
 use Rattle.std.proofs.lemmas.List.Concat.{flat_map-append}
+use Rattle.std.proofs.lemmas.Bool.{or_right}
+use Rattle.basics.specs.Texts.{bytes_eq-self, bytes_eq-true}
+use Rattle.basics.specs.Lists.{append_both}
+use Rattle.basics.specs.Each.{each_then, each_map, map_each, each_join, each_empty, each_zip, each_filter, each_flat, each_any}
 use Rattle.bridge_io.specs.declared.reason.Named.{Named}
 use Rattle.bridge_io.specs.declared.reason.Reason.TheVariants.{Unknown}
 use Rattle.bridge_io.specs.declared.reason.Fault.{Fault}
 use Rattle.op_trees.specs.declared.tree.Ty.{Ty}
 use Rattle.op_trees.specs.Tree.{Tree, Truth, Number, Name as At, One, Two, Three, AllNames}
+use Rattle.op_trees.specs.Names.{names_of as names_in}
 use Rattle.process_core.specs.Ready.{Name}
 use Rattle.prism_tree.specs.declared.operator.PrismOp.{PrismOp}
 use Rattle.prism_tree.specs.declared.operator.PrismOp.TheVariants as P
 use Rattle.prism_tree.specs.declared.syntax.ItemOn.{ItemOn}
 use Rattle.prism_tree.specs.Syntax as prism
-use Rattle.prism_flat.specs.Instance.{numbered, only_if}
+use Rattle.process_core.specs.Instance.{numbered, only_if}
 use Rattle.prism_print.specs.Printable.{Each, IfAny}
-use Rattle.prism_check.proofs.Each.{each_then, each_map, map_each, each_join, empty_join, each_empty}
 use Rattle.jani_table.specs.declared.operator.JaniOp.{JaniOp}
 use Rattle.jani_table.specs.declared.operator.JaniOp.TheVariants.{Add}
 use Rattle.jani_tree.specs.Syntax.{Expression, Const, Var, Write, Destination, Edge, Automaton, Vector}
 use Rattle.jani_check.specs.Demands.{Demand, fixed, assigned, given, if_some, wanted_by, const_demands, bound_demands, var_demands, destination_demands, edge_demands, automaton_demands, outer_demands}
-use Rattle.jani_check.specs.NameFaults.{is_among, global_names, automaton_names, names_of as names_in, unless_known, unknown_by, edge_locations, locations_used, actions_used, unknown_in, vector_actions}
+use Rattle.jani_check.specs.NameFaults.{is_among, global_names, automaton_names, unless_known, unknown_by, edge_locations, locations_used, actions_used, unknown_in, vector_actions}
 use Rattle.name_table.specs.declared.entry.Entry.{Entry}
 use Rattle.prism_images.specs.Image.{image, image_one}
 use Rattle.name_table.specs.Asks.{bodies, variables, actions, new_name, value_names, entries, some_from, labels_at, rewards_at}
 use Rattle.jani_translation.specs.Parts.{made, instead, instead_if, kind_of, start_of, constant, variable, label, structure}
 use Rattle.jani_translation.specs.Automata.{loc, zz_silent, zz_monitor, for_states, for_silent, for_action, earning_actions, earns_silently, has_monitor, item_value, sum_behind, sum_to, reward_of, rewards_of, label_value, location_values, write, destination, edge_action, edge, automaton, module_automata, monitor_edge, monitor_edges, monitor, has_silent, has_items}
 use Rattle.jani_translation.specs.Translated.{has_command, part_if, silent_vector, silent_vectors, action_vector, translated}
-use Rattle.jani_translation.proofs.Fresh.{same_bytes, equal_bytes, enough}
+use Rattle.jani_translation.proofs.Fresh.{enough}
 use Rattle.jani_translation_names.specs.Laws.{NoUnknownNames}
 use Rattle.jani_translation_names.proofs.Known.{IsKnown, Good, GoodConst, GoodRange, GoodVar, GoodLabel, GoodWrite, GoodBranch, GoodCommand, GoodBody, GoodItem, GoodRewards, IsGood, is_good}
-use Rattle.jani_translation_names.proofs.Entries.{each_zip, each_filter}
 use Rattle.jani_translation_names.proofs.Actions.{Has, IsAction, HasAction, front, back, each_among, actions_among, actions_of_commands}
-use Rattle.jani_translation_names.proofs.Form.{each_only, each_flat, each_any, each_numbered}
+use Rattle.jani_translation_names.proofs.Form.{each_only, each_numbered}
 use Rattle.jani_translation_names.proofs.Doubled.{names_of, entry_names, no_fault, names, cs, vs, ls, rs, values_named, actions_named}
 
 -- ---- names that are declared
@@ -75,16 +78,12 @@ has_image : (f : Name → Name) (a : Name) (xs : List Name) → Has xs a → Has
 has_image f a [] h = absurd cc
 has_image f a (x ∷ xs) h = by_test (bytes_eq x a) refl h (has_image f a xs)
   where
-    or_true : (c d : Bool) → d ≡ true → (c || d) ≡ true
-    or_true true d e = refl
-    or_true false d e = e
-
     by_test : (b : Bool) → bytes_eq x a ≡ b → (b || list_any (λ y. bytes_eq y a) xs) ≡ true → (Has xs a → Has (map f xs) (f a)) →
         (bytes_eq (f x) (f a) || list_any (λ y. bytes_eq y (f a)) (map f xs)) ≡ true
     by_test true e q r =
-        let s : bytes_eq (f x) (f a) ≡ true = ap (λ u. bytes_eq (f u) (f a)) (equal_bytes x a e) ∙ same_bytes (f a) in
+        let s : bytes_eq (f x) (f a) ≡ true = ap (λ u. bytes_eq (f u) (f a)) (bytes_eq-true x a e) ∙ bytes_eq-self (f a) in
         ap (λ b. b || list_any (λ y. bytes_eq y (f a)) (map f xs)) s
-    by_test false e q r = or_true (bytes_eq (f x) (f a)) (list_any (λ y. bytes_eq y (f a)) (map f xs)) (r q)
+    by_test false e q r = or_right (bytes_eq (f x) (f a)) (list_any (λ y. bytes_eq y (f a)) (map f xs)) (r q)
 
 -- minus, which takes its operand from 0, has the operand's names
 pub one_names : (at : ℕ) (o : PrismOp) (a : Tree JaniOp) → names_in (image_one at o a) ≡ names_in a
@@ -146,13 +145,13 @@ module _ (file : prism.File) where
     Clean e = flat_map (unless_known known) (names_in e) ≡ []
 
     join : (xs ys : List Named) → flat_map (unless_known known) xs ≡ [] → flat_map (unless_known known) ys ≡ [] → flat_map (unless_known known) (xs ++ ys) ≡ []
-    join xs ys h k = flat_map-append (unless_known known) xs ys ∙ empty_join (flat_map (unless_known known) xs) (flat_map (unless_known known) ys) h k
+    join xs ys h k = flat_map-append (unless_known known) xs ys ∙ append_both (flat_map (unless_known known) xs) (flat_map (unless_known known) ys) h k
 
     clean_names : (e : prism.Expression) → AllNames (IsKnown file) e → Clean (image (names file).value e)
     clean_names (Truth at b) h = refl
     clean_names (Number at d) h = refl
     clean_names (At at x) h =
-        empty_join (unless_known known (record { name = (names file).value x; at = at })) []
+        append_both (unless_known known (record { name = (names file).value x; at = at })) []
         (is_known known (record { name = (names file).value x; at = at }) (all ((names file).value x) (new_in x h))) refl
     clean_names (One at o a) h = ap (λ l. flat_map (unless_known known) l) (one_names at o (image (names file).value a)) ∙ clean_names a h
     clean_names (Two at o a b) h = join (names_in (image (names file).value a)) (names_in (image (names file).value b)) (clean_names a h.0) (clean_names b h.1)
@@ -199,10 +198,10 @@ module _ (file : prism.File) where
     WriteFine w = (known w.target.name ≡ true) × Clean w.value
 
     given_fine : (w : Write) → WriteFine w → Fine (given w)
-    given_fine w h = empty_join (unless_known known w.target) (flat_map (unless_known known) (names_in w.value)) (is_known known w.target h.0) h.1
+    given_fine w h = append_both (unless_known known w.target) (flat_map (unless_known known) (names_in w.value)) (is_known known w.target h.0) h.1
 
     assigned_fine : (w : Write) → WriteFine w → Fine (assigned w)
-    assigned_fine w h = empty_join (unless_known known w.target) (flat_map (unless_known known) (names_in w.value)) (is_known known w.target h.0) h.1
+    assigned_fine w h = append_both (unless_known known w.target) (flat_map (unless_known known) (names_in w.value)) (is_known known w.target h.0) h.1
 
     sum_fine : (x : Named) (is : List prism.Item) → known x.name ≡ true → Each (GoodItem file) is → Each WriteFine (sum_to (names file) x is)
     sum_fine x [] n g = tt
@@ -333,8 +332,8 @@ module _ (file : prism.File) where
 
   automaton_known : (x : Named) (ws : List Write) (es : List Edge) → Each (WriteFine inside all_inside) ws → Each (EdgeFine inside all_inside) es → faults_in (automaton (names file) x ws es) ≡ []
   automaton_known x ws es w e =
-      empty_join (flat_map (unknown_by inside) (automaton_demands (automaton (names file) x ws es))) _ (automaton_demanded inside all_inside x ws es w e)
-      (empty_join (flat_map (unless_known (is_among (loc ∷ []))) (locations_used (automaton (names file) x ws es))) _ (automaton_placed inside all_inside x ws es e)
+      append_both (flat_map (unknown_by inside) (automaton_demands (automaton (names file) x ws es))) _ (automaton_demanded inside all_inside x ws es w e)
+      (append_both (flat_map (unless_known (is_among (loc ∷ []))) (locations_used (automaton (names file) x ws es))) _ (automaton_placed inside all_inside x ws es e)
       (automaton_acting inside all_inside x ws es e))
 
   modules_known : (ws : List Write) (ms : List prism.Body) (es : List Entry) → Each (WriteFine inside all_inside) ws → Each (GoodBody file) ms → Each (λ m. Each (HasAction file) m.commands) ms →
@@ -342,13 +341,13 @@ module _ (file : prism.File) where
   modules_known ws [] es w g a = refl
   modules_known ws (m ∷ ms) [] w g a = refl
   modules_known ws (m ∷ ms) (e ∷ es) w g a =
-      empty_join (faults_in (automaton (names file) (instead m.name e.name) ws (map (edge (names file) (earns_silently file)) m.commands))) _
+      append_both (faults_in (automaton (names file) (instead m.name e.name) ws (map (edge (names file) (earns_silently file)) m.commands))) _
       (automaton_known (instead m.name e.name) ws (map (edge (names file) (earns_silently file)) m.commands) w (edges_fine inside all_inside m.commands g.0.1 a.0))
       (modules_known [] ms es tt g.1 a.1)
 
   monitor_known : (b : Bool) → Each (GoodRewards file) file.rewards → flat_map faults_in (only_if b (automaton (names file) zz_monitor [] (monitor_edges (names file) file))) ≡ []
   monitor_known true g =
-      empty_join (faults_in (automaton (names file) zz_monitor [] (monitor_edges (names file) file))) []
+      append_both (faults_in (automaton (names file) zz_monitor [] (monitor_edges (names file) file))) []
       (automaton_known zz_monitor [] (monitor_edges (names file) file) tt (monitor_edges_fine inside all_inside g)) refl
   monitor_known false g = refl
 
@@ -356,7 +355,7 @@ module _ (file : prism.File) where
   automata_known g =
       let as_ = module_automata (names file) (earns_silently file) (location_values (names file) file) (bodies file) (names file).modules in
       flat_map-append faults_in as_ (monitor (names file) file)
-      ∙ empty_join (flat_map faults_in as_) (flat_map faults_in (monitor (names file) file))
+      ∙ append_both (flat_map faults_in as_) (flat_map faults_in (monitor (names file) file))
       (modules_known (location_values (names file) file) (bodies file) (names file).modules (values_fine inside all_inside g.labels g.rewards) g.bodies (actions_of_commands file))
       (monitor_known (has_monitor file) g.rewards)
 
@@ -448,6 +447,6 @@ pub none_unknown : (file : prism.File) → NoUnknownNames file
 none_unknown file flat =
     let g = is_good file flat in
     let t = translated file in
-    empty_join (flat_map (unknown_by (is_among (global_names t))) (outer_demands t)) _ (outer_known file g)
-    (empty_join (flat_map (unknown_in (is_among (global_names t)) (is_among t.actions)) t.automata) _ (automata_known file g)
-    (empty_join (flat_map (unless_known (is_among (automaton_names t))) t.elements) _ (elements_known file) (vectors_known file)))
+    append_both (flat_map (unknown_by (is_among (global_names t))) (outer_demands t)) _ (outer_known file g)
+    (append_both (flat_map (unknown_in (is_among (global_names t)) (is_among t.actions)) t.automata) _ (automata_known file g)
+    (append_both (flat_map (unless_known (is_among (automaton_names t))) t.elements) _ (elements_known file) (vectors_known file)))

@@ -3,6 +3,7 @@ use Rattle.std.specs.Prelude.{◌≡◌, ℕ, zero, suc, List, [], ◌∷◌, �
 use Rattle.std.specs.List.{find, zip}
 use Rattle.std.specs.Option.{option_map}
 use Rattle.std.proofs.Common.{refl, sym, ap, ap₂, ◌∙◌, append-nil}
+use Rattle.basics.specs.Texts.{bytes_ne}
 use Rattle.bridge_io.specs.declared.reason.Named.{Named}
 use Rattle.op_trees.specs.declared.tree.Ty.{Ty}
 use Rattle.process_core.specs.Ready.{Name}
@@ -11,7 +12,7 @@ use Rattle.prism_names.specs.Names as source_names
 use Rattle.prism_check.specs.Demands.{type_by, var_type}
 use Rattle.prism_check.specs.TypeFaults as source
 use Rattle.prism_check.specs.TypeFaults.{types}
-use Rattle.prism_clean.specs.Flattened.{IsFlat}
+use Rattle.prism_places.specs.Flattened.{IsFlat}
 use Rattle.jani_tree.specs.Syntax.{Expression, Const, VarKind, boolean, integer, Var}
 use Rattle.jani_check.specs.Things.{is_called, kind_type, const_thing, var_thing, or_else, thing_type, global_thing, types_by, is_transient}
 use Rattle.jani_check.specs.TypeFaults.{is_variable}
@@ -19,10 +20,10 @@ use Rattle.name_table.specs.declared.entry.Entry.{Entry}
 use Rattle.name_table.specs.Asks.{variables, entries, new_name, value_names, new_names, labels_at, rewards_at}
 use Rattle.jani_translation.specs.Parts.{instead_if, kind_of, constant, variable, label, structure}
 use Rattle.jani_translation.specs.Translated.{translated}
-use Rattle.jani_translation.proofs.Fresh.{other_bytes, Agrees, no_empty, values_agree, agrees_front, agrees_back}
+use Rattle.jani_translation.proofs.Fresh.{Agrees, no_empty, values_agree, agrees_front, agrees_back}
 use Rattle.jani_translation.proofs.SameSeen.{zip-take}
 use Rattle.jani_translation_types.specs.TypeLaws.{NamesTypedAlike, NamesStayConstant, NamesAreNotTransient}
-use Rattle.jani_translation_types.proofs.Clean.{values_distinct, no_formula, types_declared, variable_types}
+use Rattle.jani_translation.proofs.Clean.{values_distinct, no_formula, types_declared, variable_types}
 
 -- ---- what names of the source become: constants, and variables that are not transient
 abbrev pub kind_by : Option prism.Range → VarKind
@@ -114,7 +115,7 @@ none_called z made n none [] es rest h r = r
 none_called z made n none (x ∷ xs) [] rest h r = r
 none_called z made n none (x ∷ xs) (e ∷ es) rest h r =
     ap (λ b. cond b (Some (made x e)) (find (λ v. is_called z v.name) (map (λ p. made p.0 p.1) (zip xs es) ++ rest)))
-    (ap (λ y. bytes_eq y z) (n x e) ∙ other_bytes e.name z (λ q. h 0 e refl (q ∙ none)))
+    (ap (λ y. bytes_eq y z) (n x e) ∙ bytes_ne e.name z (λ q. h 0 e refl (q ∙ none)))
     ∙ none_called z made n none xs es rest (λ i u g. h (suc i) u g) r
 
 -- ---- both

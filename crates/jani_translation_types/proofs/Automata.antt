@@ -4,16 +4,16 @@ use Rattle.std.specs.List.{flat_map, zip}
 use Rattle.std.proofs.Common.{refl, ap, ◌∙◌, append-nil}
 use Rattle.std.proofs.Math.Path.{fun_ext}
 use Rattle.std.proofs.lemmas.List.{map-append}
+use Rattle.basics.specs.Lists.{append_both, flat_map_both}
 use Rattle.bridge_io.specs.declared.reason.Named.{Named}
 use Rattle.bridge_io.specs.declared.reason.Fault.{Fault}
 use Rattle.process_core.specs.Product.{flat_map-flat_map}
 use Rattle.process_core.specs.Ready.{Name}
 use Rattle.prism_tree.specs.declared.syntax.ItemOn.{ItemOn}
 use Rattle.prism_tree.specs.Syntax as prism
-use Rattle.prism_flat.specs.Instance.{only_if}
+use Rattle.process_core.specs.Instance.{only_if}
 use Rattle.prism_print.specs.Printable.{Each}
-use Rattle.prism_check.proofs.Each.{empty_join}
-use Rattle.prism_clean.specs.Flattened.{IsFlat}
+use Rattle.prism_places.specs.Flattened.{IsFlat}
 use Rattle.jani_tree.specs.Syntax.{Write, Edge, Automaton}
 use Rattle.jani_check.specs.Things.{or_else, global_thing, beside}
 use Rattle.jani_check.specs.Demands.{given, assigned, edge_demands, automaton_demands}
@@ -25,7 +25,6 @@ use Rattle.jani_translation.specs.Automata.{zz_silent, zz_monitor, for_states, f
 use Rattle.jani_translation.specs.Translated.{translated}
 use Rattle.jani_translation_types.specs.TypeLaws.{AutomataTypesFit}
 use Rattle.jani_translation_types.proofs.Sources.{bodies_fine}
-use Rattle.jani_translation_types.proofs.Outer.{nothing_joined}
 use Rattle.jani_translation_types.proofs.Edges.{IsFineCommand, commands_fine, edges_clean, nothing_mapped}
 use Rattle.jani_translation_types.proofs.Rewarding.{IsReward, rewards_given, reward_given, reward_assigned, location_labels_clean}
 
@@ -51,7 +50,7 @@ module _ (file : prism.File) (flat : IsFlat file) where
       let labels = map (λ p. label_value (new_names file) p.0 p.1) (zip file.labels (new_names file).labels) in
       let rewards = rewards_of (new_names file) for_states file.rewards in
       ap (flat_map F) (map-append given labels rewards)
-      ∙ nothing_joined F (map given labels) (map given rewards) (location_labels_clean file flat) (all_given rewards (rewards_given file flat for_states))
+      ∙ flat_map_both F (map given labels) (map given rewards) (location_labels_clean file flat) (all_given rewards (rewards_given file flat for_states))
 
   automaton_clean : (x : Named) (values : List Write) (edges : List Edge) → flat_map (demand_faults (global_thing (translated file))) (map given values) ≡ [] →
       flat_map (demand_faults (global_thing (translated file))) (flat_map edge_demands edges) ≡ [] →
@@ -59,7 +58,7 @@ module _ (file : prism.File) (flat : IsFlat file) where
   automaton_clean x values edges h k =
       let F = demand_faults (global_thing (translated file)) in
       ap (λ g. flat_map (demand_faults g) ((map given values ++ []) ++ flat_map edge_demands edges)) (beside_none file)
-      ∙ nothing_joined F (map given values ++ []) (flat_map edge_demands edges) (ap (flat_map F) (append-nil (map given values)) ∙ h) k
+      ∙ flat_map_both F (map given values ++ []) (flat_map edge_demands edges) (ap (flat_map F) (append-nil (map given values)) ∙ h) k
 
   abbrev faults_in : Automaton → List Fault
   faults_in a = flat_map (demand_faults (beside (global_thing (translated file)) a.variables)) (automaton_demands a)
@@ -70,7 +69,7 @@ module _ (file : prism.File) (flat : IsFlat file) where
   modules_clean silently values [] es h k = refl
   modules_clean silently values (m ∷ ms) [] h k = refl
   modules_clean silently values (m ∷ ms) (e ∷ es) h k =
-      empty_join _ (flat_map faults_in (module_automata (new_names file) silently [] ms es))
+      append_both _ (flat_map faults_in (module_automata (new_names file) silently [] ms es))
       (automaton_clean m.name values (map (edge (new_names file) silently) m.commands) h (edges_clean file flat silently m.commands k.0))
       (modules_clean silently [] ms es refl k.1)
 
@@ -83,26 +82,26 @@ module _ (file : prism.File) (flat : IsFlat file) where
   earning_all : (as_ : List Name) →
       flat_map (λ e. flat_map (demand_faults (global_thing (translated file))) (edge_demands e)) (map (λ a. monitor_edge (new_names file) file (made ((new_names file).action a)) (for_action a)) as_) ≡ []
   earning_all [] = refl
-  earning_all (a ∷ as_) = empty_join _ _ (earning_clean (made ((new_names file).action a)) (for_action a)) (earning_all as_)
+  earning_all (a ∷ as_) = append_both _ _ (earning_clean (made ((new_names file).action a)) (for_action a)) (earning_all as_)
 
   earning_last : (b : Bool) → flat_map (λ e. flat_map (demand_faults (global_thing (translated file))) (edge_demands e)) (only_if b (monitor_edge (new_names file) file zz_silent for_silent)) ≡ []
-  earning_last true = empty_join _ [] (earning_clean zz_silent for_silent) refl
+  earning_last true = append_both _ [] (earning_clean zz_silent for_silent) refl
   earning_last false = refl
 
   monitor_clean : (b : Bool) → flat_map faults_in (only_if b (automaton (new_names file) zz_monitor [] (monitor_edges (new_names file) file))) ≡ []
   monitor_clean true =
       let F = demand_faults (global_thing (translated file)) in
-      empty_join _ []
+      append_both _ []
       (automaton_clean zz_monitor [] (monitor_edges (new_names file) file) refl
       (flat_map-flat_map F edge_demands (monitor_edges (new_names file) file)
-      ∙ nothing_joined (λ e. flat_map F (edge_demands e)) (map (λ a. monitor_edge (new_names file) file (made ((new_names file).action a)) (for_action a)) (earning_actions file))
+      ∙ flat_map_both (λ e. flat_map F (edge_demands e)) (map (λ a. monitor_edge (new_names file) file (made ((new_names file).action a)) (for_action a)) (earning_actions file))
       (only_if (earns_silently file) (monitor_edge (new_names file) file zz_silent for_silent))
       (earning_all (earning_actions file)) (earning_last (earns_silently file)))) refl
   monitor_clean false = refl
 
   automata_clean : flat_map faults_in (translated file).automata ≡ []
   automata_clean =
-      nothing_joined faults_in (module_automata (new_names file) (earns_silently file) (location_values (new_names file) file) (bodies file) (new_names file).modules) (monitor (new_names file) file)
+      flat_map_both faults_in (module_automata (new_names file) (earns_silently file) (location_values (new_names file) file) (bodies file) (new_names file).modules) (monitor (new_names file) file)
       (modules_clean (earns_silently file) (location_values (new_names file) file) (bodies file) (new_names file).modules values_clean (commands_fine file flat 0 (bodies file) (bodies_fine file flat)))
       (monitor_clean (has_monitor file))
 

@@ -4,26 +4,27 @@ use Rattle.std.specs.List.{flat_map, filter, find, zip, list_any}
 use Rattle.std.specs.Option.{option_map}
 use Rattle.std.proofs.Common.{refl, ap, ap₂, ◌∙◌, append-nil}
 use Rattle.std.proofs.lemmas.List.{map-append}
+use Rattle.basics.specs.Lists.{append_both, flat_map_both}
+use Rattle.basics.specs.Each.{each_join}
 use Rattle.bridge_io.specs.declared.reason.Fault.{Fault}
 use Rattle.bridge_io.specs.declared.reason.Named.{Named}
 use Rattle.bridge_io.specs.declared.reason.Reason.TheVariants.{LabelOnEdge, BranchReward}
 use Rattle.op_trees.specs.Tree.{Two}
+use Rattle.op_trees.specs.Names.{names_of}
 use Rattle.process_core.specs.Product.{flat_map-flat_map}
 use Rattle.process_core.specs.Ready.{Name}
 use Rattle.prism_tree.specs.declared.syntax.ItemOn.{ItemOn}
 use Rattle.prism_tree.specs.Syntax as prism
 use Rattle.prism_names.specs.Names as source_names
-use Rattle.prism_flat.specs.Instance.{only_if}
+use Rattle.process_core.specs.Instance.{only_if}
 use Rattle.prism_print.specs.Printable.{Each}
-use Rattle.prism_check.proofs.Each.{empty_join, each_join}
-use Rattle.prism_clean.specs.Flattened.{IsFlat}
+use Rattle.prism_places.specs.Flattened.{IsFlat}
 use Rattle.jani_table.specs.declared.operator.JaniOp.TheVariants.{Add}
 use Rattle.jani_tree.specs.Syntax.{Expression, Write, Edge, Automaton}
 use Rattle.jani_check.specs.Least.{fault_if}
 use Rattle.jani_check.specs.Things.{const_thing, var_thing, or_else, global_thing, beside, is_label, is_reward}
 use Rattle.jani_check.specs.Demands.{assigned, given, destination_demands, edge_demands, automaton_demands}
 use Rattle.jani_check.specs.ProfileFaults.{reads, read_fault, demand_profile, value_for, lacks, rewards_by, differ, some_differ, branch_rewards}
-use Rattle.jani_check.specs.NameFaults.{names_of}
 use Rattle.name_table.specs.declared.entry.Entry.{Entry}
 use Rattle.prism_images.specs.Image.{image}
 use Rattle.name_table.specs.Asks.{bodies, variables, new_names}
@@ -32,7 +33,6 @@ use Rattle.jani_translation.specs.Automata.{zz_silent, zz_monitor, for_states, f
 use Rattle.jani_translation.specs.Translated.{translated}
 use Rattle.jani_translation_types.specs.ProfileLaws.{AutomataReadsFit, BranchesFit}
 use Rattle.jani_translation_types.proofs.Alike.{source_const, source_var, stand_alike}
-use Rattle.jani_translation_types.proofs.Outer.{nothing_joined}
 use Rattle.jani_translation_types.proofs.Rewarding.{IsReward, rewards_given}
 use Rattle.jani_translation_types.proofs.Automata.{beside_none}
 use Rattle.jani_translation_types.proofs.Reading.{none_read}
@@ -40,7 +40,7 @@ use Rattle.jani_translation_types.proofs.Reading.{none_read}
 -- nothing comes of a mapped list, where nothing comes of anything
 nothing_of : {A B C : Type 0} (F : B → List C) (g : A → B) → ((x : A) → F (g x) ≡ []) → (xs : List A) → flat_map F (map g xs) ≡ []
 nothing_of F g h [] = refl
-nothing_of F g h (x ∷ xs) = empty_join (F (g x)) _ (h x) (nothing_of F g h xs)
+nothing_of F g h (x ∷ xs) = append_both (F (g x)) _ (h x) (nothing_of F g h xs)
 
 module _ (file : prism.File) (flat : IsFlat file) where
   -- ---- commands write neither labels nor structures
@@ -69,22 +69,22 @@ module _ (file : prism.File) (flat : IsFlat file) where
   -- ---- the edges of modules
   write_reads : (w : prism.Write) → demand_profile (global_thing (translated file)) (assigned (write (new_names file) w)) ≡ []
   write_reads w =
-      empty_join (fault_if (is_label (global_thing (translated file) ((new_names file).value w.name.name))) w.name.at LabelOnEdge) _
+      append_both (fault_if (is_label (global_thing (translated file) ((new_names file).value w.name.name))) w.name.at LabelOnEdge) _
       (ap (λ b. fault_if b w.name.at LabelOnEdge) (no_label w.name.name)) (none_read file flat w.value)
 
   writes_read : (ws : List prism.Write) → flat_map (demand_profile (global_thing (translated file))) (map assigned (map (write (new_names file)) ws)) ≡ []
   writes_read [] = refl
-  writes_read (w ∷ ws) = empty_join (demand_profile (global_thing (translated file)) (assigned (write (new_names file) w))) _ (write_reads w) (writes_read ws)
+  writes_read (w ∷ ws) = append_both (demand_profile (global_thing (translated file)) (assigned (write (new_names file) w))) _ (write_reads w) (writes_read ws)
 
   branch_reads : (o : Option prism.Expression) (ws : List prism.Write) →
       flat_map (demand_profile (global_thing (translated file))) (destination_demands (destination (new_names file) (record { weight = o; writes = ws }))) ≡ []
   branch_reads None ws = writes_read ws
-  branch_reads (Some e) ws = empty_join (reads (global_thing (translated file)) (image (new_names file).value e)) _ (none_read file flat e) (writes_read ws)
+  branch_reads (Some e) ws = append_both (reads (global_thing (translated file)) (image (new_names file).value e)) _ (none_read file flat e) (writes_read ws)
 
   edge_reads : (silently : Bool) (c : prism.Command) → flat_map (demand_profile (global_thing (translated file))) (edge_demands (edge (new_names file) silently c)) ≡ []
   edge_reads silently c =
       let F = demand_profile (global_thing (translated file)) in
-      empty_join (reads (global_thing (translated file)) (image (new_names file).value c.guard)) (flat_map F (flat_map destination_demands (map (destination (new_names file)) c.branches)))
+      append_both (reads (global_thing (translated file)) (image (new_names file).value c.guard)) (flat_map F (flat_map destination_demands (map (destination (new_names file)) c.branches)))
       (none_read file flat c.guard)
       (flat_map-flat_map F destination_demands (map (destination (new_names file)) c.branches)
       ∙ nothing_of (λ d. flat_map F (destination_demands d)) (destination (new_names file)) (λ b. branch_reads b.weight b.writes) c.branches)
@@ -99,14 +99,14 @@ module _ (file : prism.File) (flat : IsFlat file) where
   item_reads : (i : prism.Item) → reads (global_thing (translated file)) (item_value (new_names file) i) ≡ []
   item_reads i =
       let R = read_fault (global_thing (translated file)) in
-      nothing_joined R (names_of (image (new_names file).value i.guard)) (names_of (image (new_names file).value i.value) ++ []) (none_read file flat i.guard)
+      flat_map_both R (names_of (image (new_names file).value i.guard)) (names_of (image (new_names file).value i.value) ++ []) (none_read file flat i.guard)
       (ap (flat_map R) (append-nil (names_of (image (new_names file).value i.value))) ∙ none_read file flat i.value)
 
   sum_reads : (is : List prism.Item) (e : Expression) → reads (global_thing (translated file)) e ≡ [] → reads (global_thing (translated file)) (sum_behind (new_names file) e is) ≡ []
   sum_reads [] e h = h
   sum_reads (i ∷ is) e h =
       sum_reads is (Two 0 Add e (item_value (new_names file) i))
-      (nothing_joined (read_fault (global_thing (translated file))) (names_of e) (names_of (item_value (new_names file) i)) h (item_reads i))
+      (flat_map_both (read_fault (global_thing (translated file))) (names_of e) (names_of (item_value (new_names file) i)) h (item_reads i))
 
   abbrev ReadsNone : Write → Type 0
   ReadsNone w = reads (global_thing (translated file)) w.value ≡ []
@@ -122,18 +122,18 @@ module _ (file : prism.File) (flat : IsFlat file) where
 
   given_reads : (ws : List Write) → Each ReadsNone ws → flat_map (demand_profile (global_thing (translated file))) (map given ws) ≡ []
   given_reads [] h = refl
-  given_reads (w ∷ ws) h = empty_join (reads (global_thing (translated file)) w.value) _ h.0 (given_reads ws h.1)
+  given_reads (w ∷ ws) h = append_both (reads (global_thing (translated file)) w.value) _ h.0 (given_reads ws h.1)
 
   assigned_reads : (ws : List Write) → Each ReadsNone ws → Each (IsReward file flat) ws → flat_map (demand_profile (global_thing (translated file))) (map assigned ws) ≡ []
   assigned_reads [] h k = refl
   assigned_reads (w ∷ ws) h k =
-      empty_join (demand_profile (global_thing (translated file)) (assigned w)) _
-      (empty_join (fault_if (is_label (global_thing (translated file) w.target.name)) w.target.at LabelOnEdge) _
+      append_both (demand_profile (global_thing (translated file)) (assigned w)) _
+      (append_both (fault_if (is_label (global_thing (translated file) w.target.name)) w.target.at LabelOnEdge) _
       (ap (λ b. fault_if b w.target.at LabelOnEdge) (ap is_label k.0.0)) h.0) (assigned_reads ws h.1 k.1)
 
   labels_read : (ps : List (prism.Label × Entry)) → flat_map (demand_profile (global_thing (translated file))) (map given (map (λ p. label_value (new_names file) p.0 p.1) ps)) ≡ []
   labels_read [] = refl
-  labels_read (p ∷ ps) = empty_join (reads (global_thing (translated file)) (image (new_names file).value p.0.body)) _ (none_read file flat p.0.body) (labels_read ps)
+  labels_read (p ∷ ps) = append_both (reads (global_thing (translated file)) (image (new_names file).value p.0.body)) _ (none_read file flat p.0.body) (labels_read ps)
 
   values_read : flat_map (demand_profile (global_thing (translated file))) (map given (location_values (new_names file) file)) ≡ []
   values_read =
@@ -141,7 +141,7 @@ module _ (file : prism.File) (flat : IsFlat file) where
       let labels = map (λ p. label_value (new_names file) p.0 p.1) (zip file.labels (new_names file).labels) in
       let rewards = rewards_of (new_names file) for_states file.rewards in
       ap (flat_map F) (map-append given labels rewards)
-      ∙ nothing_joined F (map given labels) (map given rewards) (labels_read (zip file.labels (new_names file).labels))
+      ∙ flat_map_both F (map given labels) (map given rewards) (labels_read (zip file.labels (new_names file).labels))
       (given_reads rewards (rewards_read for_states (zip file.rewards (new_names file).rewards)))
 
   -- ---- automata
@@ -151,7 +151,7 @@ module _ (file : prism.File) (flat : IsFlat file) where
   automaton_reads x values edges h k =
       let F = demand_profile (global_thing (translated file)) in
       ap (λ g. flat_map (demand_profile g) ((map given values ++ []) ++ flat_map edge_demands edges)) (beside_none file)
-      ∙ nothing_joined F (map given values ++ []) (flat_map edge_demands edges) (ap (flat_map F) (append-nil (map given values)) ∙ h) k
+      ∙ flat_map_both F (map given values ++ []) (flat_map edge_demands edges) (ap (flat_map F) (append-nil (map given values)) ∙ h) k
 
   abbrev read_in : Automaton → List Fault
   read_in a = flat_map (demand_profile (beside (global_thing (translated file)) a.variables)) (automaton_demands a)
@@ -161,7 +161,7 @@ module _ (file : prism.File) (flat : IsFlat file) where
   modules_read silently values [] es h = refl
   modules_read silently values (m ∷ ms) [] h = refl
   modules_read silently values (m ∷ ms) (e ∷ es) h =
-      empty_join _ (flat_map read_in (module_automata (new_names file) silently [] ms es))
+      append_both _ (flat_map read_in (module_automata (new_names file) silently [] ms es))
       (automaton_reads m.name values (map (edge (new_names file) silently) m.commands) h (edges_read silently m.commands)) (modules_read silently [] ms es refl)
 
   earning_reads : (a : Named) (wanted : ItemOn → Bool) → flat_map (demand_profile (global_thing (translated file))) (edge_demands (monitor_edge (new_names file) file a wanted)) ≡ []
@@ -171,16 +171,16 @@ module _ (file : prism.File) (flat : IsFlat file) where
       ∙ assigned_reads ws (rewards_read wanted (zip file.rewards (new_names file).rewards)) (rewards_given file flat wanted)
 
   last_reads : (b : Bool) → flat_map (λ e. flat_map (demand_profile (global_thing (translated file))) (edge_demands e)) (only_if b (monitor_edge (new_names file) file zz_silent for_silent)) ≡ []
-  last_reads true = empty_join _ [] (earning_reads zz_silent for_silent) refl
+  last_reads true = append_both _ [] (earning_reads zz_silent for_silent) refl
   last_reads false = refl
 
   monitor_reads : (b : Bool) → flat_map read_in (only_if b (automaton (new_names file) zz_monitor [] (monitor_edges (new_names file) file))) ≡ []
   monitor_reads true =
       let F = demand_profile (global_thing (translated file)) in
-      empty_join _ []
+      append_both _ []
       (automaton_reads zz_monitor [] (monitor_edges (new_names file) file) refl
       (flat_map-flat_map F edge_demands (monitor_edges (new_names file) file)
-      ∙ nothing_joined (λ e. flat_map F (edge_demands e)) (map (λ a. monitor_edge (new_names file) file (made ((new_names file).action a)) (for_action a)) (earning_actions file))
+      ∙ flat_map_both (λ e. flat_map F (edge_demands e)) (map (λ a. monitor_edge (new_names file) file (made ((new_names file).action a)) (for_action a)) (earning_actions file))
       (only_if (earns_silently file) (monitor_edge (new_names file) file zz_silent for_silent))
       (nothing_of (λ e. flat_map F (edge_demands e)) (λ a. monitor_edge (new_names file) file (made ((new_names file).action a)) (for_action a)) (λ a. earning_reads (made ((new_names file).action a)) (for_action a)) (earning_actions file))
       (last_reads (earns_silently file)))) refl
@@ -188,7 +188,7 @@ module _ (file : prism.File) (flat : IsFlat file) where
 
   automata_read : flat_map read_in (translated file).automata ≡ []
   automata_read =
-      nothing_joined read_in (module_automata (new_names file) (earns_silently file) (location_values (new_names file) file) (bodies file) (new_names file).modules) (monitor (new_names file) file)
+      flat_map_both read_in (module_automata (new_names file) (earns_silently file) (location_values (new_names file) file) (bodies file) (new_names file).modules) (monitor (new_names file) file)
       (modules_read (earns_silently file) (location_values (new_names file) file) (bodies file) (new_names file).modules values_read)
       (monitor_reads (has_monitor file))
 
@@ -227,7 +227,7 @@ module _ (file : prism.File) (flat : IsFlat file) where
   modules_alike silently values [] es = refl
   modules_alike silently values (m ∷ ms) [] = refl
   modules_alike silently values (m ∷ ms) (e ∷ es) =
-      empty_join _ (flat_map alike_in (module_automata (new_names file) silently [] ms es))
+      append_both _ (flat_map alike_in (module_automata (new_names file) silently [] ms es))
       (ap (λ g. flat_map (branch_rewards g) (map (edge (new_names file) silently) m.commands)) (beside_none file)
       ∙ nothing_of (branch_rewards (global_thing (translated file))) (edge (new_names file) silently) (edge_alike silently) m.commands)
       (modules_alike silently [] ms es)
@@ -239,8 +239,8 @@ module _ (file : prism.File) (flat : IsFlat file) where
   monitor_alike : (b : Bool) → flat_map alike_in (only_if b (automaton (new_names file) zz_monitor [] (monitor_edges (new_names file) file))) ≡ []
   monitor_alike true =
       let F = branch_rewards (beside (global_thing (translated file)) []) in
-      empty_join _ []
-      (nothing_joined F (map (λ a. monitor_edge (new_names file) file (made ((new_names file).action a)) (for_action a)) (earning_actions file))
+      append_both _ []
+      (flat_map_both F (map (λ a. monitor_edge (new_names file) file (made ((new_names file).action a)) (for_action a)) (earning_actions file))
       (only_if (earns_silently file) (monitor_edge (new_names file) file zz_silent for_silent))
       (nothing_of F (λ a. monitor_edge (new_names file) file (made ((new_names file).action a)) (for_action a)) (λ a. refl) (earning_actions file))
       (last_alike (earns_silently file))) refl
@@ -248,7 +248,7 @@ module _ (file : prism.File) (flat : IsFlat file) where
 
   automata_alike : flat_map alike_in (translated file).automata ≡ []
   automata_alike =
-      nothing_joined alike_in (module_automata (new_names file) (earns_silently file) (location_values (new_names file) file) (bodies file) (new_names file).modules) (monitor (new_names file) file)
+      flat_map_both alike_in (module_automata (new_names file) (earns_silently file) (location_values (new_names file) file) (bodies file) (new_names file).modules) (monitor (new_names file) file)
       (modules_alike (earns_silently file) (location_values (new_names file) file) (bodies file) (new_names file).modules) (monitor_alike (has_monitor file))
 
 pub branches_fit : (file : prism.File) → BranchesFit file

@@ -3,6 +3,8 @@ use Rattle.std.specs.Prelude.{◌≡◌, ℕ, ◌+◌, List, [], ◌∷◌, map,
 use Rattle.std.specs.List.{flat_map}
 use Rattle.std.specs.Option.{option_map}
 use Rattle.std.proofs.Common.{refl, ◌∙◌}
+use Rattle.basics.specs.Lists.{append_both, flat_map_both}
+use Rattle.basics.specs.Each.{each_then, map_each, each_parts, each_of}
 use Rattle.op_trees.specs.declared.tree.Ty.{Ty}
 use Rattle.op_trees.specs.declared.tree.Ty.TheVariants as T
 use Rattle.process_core.specs.Product.{flat_map-flat_map}
@@ -10,8 +12,7 @@ use Rattle.process_core.specs.Ready.{if_some}
 use Rattle.prism_tree.specs.Syntax as prism
 use Rattle.prism_print.specs.Printable.{Each, IfAny}
 use Rattle.prism_check.specs.Demands as source_demands
-use Rattle.prism_check.proofs.Each.{empty_join, each_then, each_of, each_parts, map_each}
-use Rattle.prism_clean.specs.Flattened.{IsFlat}
+use Rattle.prism_places.specs.Flattened.{IsFlat}
 use Rattle.jani_check.specs.Things.{global_thing}
 use Rattle.jani_check.specs.Demands as jani_demands
 use Rattle.jani_check.specs.Demands.{varying, assigned, wanted_by, destination_demands, edge_demands}
@@ -23,12 +24,11 @@ use Rattle.jani_translation.specs.Translated.{translated}
 use Rattle.jani_translation_types.proofs.Expressions.{HasType, has_type, known_names, image_fits}
 use Rattle.jani_translation_types.proofs.Sources.{IsFine, IsFineBody, EachFrom}
 use Rattle.jani_translation_types.proofs.Writes.{IsFineWrite, written_fine, assigned_clean}
-use Rattle.jani_translation_types.proofs.Outer.{nothing_joined}
 
 -- nothing comes of a mapped list, where nothing comes of each
 pub nothing_mapped : {A B C : Type 0} (F : B → List C) (g : A → B) (P : A → Type 0) → ((x : A) → P x → F (g x) ≡ []) → (xs : List A) → Each P xs → flat_map F (map g xs) ≡ []
 nothing_mapped F g P h [] p = refl
-nothing_mapped F g P h (x ∷ xs) p = empty_join (F (g x)) _ (h x p.0) (nothing_mapped F g P h xs p.1)
+nothing_mapped F g P h (x ∷ xs) p = append_both (F (g x)) _ (h x p.0) (nothing_mapped F g P h xs p.1)
 
 module _ (file : prism.File) (flat : IsFlat file) where
   -- ---- a command without faults
@@ -76,21 +76,21 @@ module _ (file : prism.File) (flat : IsFlat file) where
   weight_clean : (o : Option prism.Expression) → IfAny (HasType file flat T.Real) o →
       flat_map (demand_faults (global_thing (translated file))) (map (varying (wanted_by T.Real)) (jani_demands.if_some (option_map (image (new_names file).value) o))) ≡ []
   weight_clean None h = refl
-  weight_clean (Some e) h = empty_join (demand_faults (global_thing (translated file)) (varying (wanted_by T.Real) (image (new_names file).value e))) [] (varying_clean T.Real e h) refl
+  weight_clean (Some e) h = append_both (demand_faults (global_thing (translated file)) (varying (wanted_by T.Real) (image (new_names file).value e))) [] (varying_clean T.Real e h) refl
 
   writes_clean : (ws : List prism.Write) → Each (IsFineWrite file flat) ws → flat_map (demand_faults (global_thing (translated file))) (map assigned (map (write (new_names file)) ws)) ≡ []
   writes_clean [] h = refl
-  writes_clean (w ∷ ws) h = empty_join (demand_faults (global_thing (translated file)) (assigned (write (new_names file) w))) _ (assigned_clean file flat w h.0) (writes_clean ws h.1)
+  writes_clean (w ∷ ws) h = append_both (demand_faults (global_thing (translated file)) (assigned (write (new_names file) w))) _ (assigned_clean file flat w h.0) (writes_clean ws h.1)
 
   branch_clean : (b : prism.Branch) → IsFineBranch b → flat_map (demand_faults (global_thing (translated file))) (destination_demands (destination (new_names file) b)) ≡ []
   branch_clean b h =
-      nothing_joined (demand_faults (global_thing (translated file))) (map (varying (wanted_by T.Real)) (jani_demands.if_some (option_map (image (new_names file).value) b.weight)))
+      flat_map_both (demand_faults (global_thing (translated file))) (map (varying (wanted_by T.Real)) (jani_demands.if_some (option_map (image (new_names file).value) b.weight)))
       (map assigned (map (write (new_names file)) b.writes)) (weight_clean b.weight h.0) (writes_clean b.writes h.1)
 
   pub edge_clean : (silently : Bool) (c : prism.Command) → IsFineCommand c → flat_map (demand_faults (global_thing (translated file))) (edge_demands (edge (new_names file) silently c)) ≡ []
   edge_clean silently c h =
       let F = demand_faults (global_thing (translated file)) in
-      empty_join (F (varying (wanted_by T.Bool) (image (new_names file).value c.guard))) (flat_map F (flat_map destination_demands (map (destination (new_names file)) c.branches)))
+      append_both (F (varying (wanted_by T.Bool) (image (new_names file).value c.guard))) (flat_map F (flat_map destination_demands (map (destination (new_names file)) c.branches)))
       (varying_clean T.Bool c.guard h.0)
       (flat_map-flat_map F destination_demands (map (destination (new_names file)) c.branches)
       ∙ nothing_mapped (λ d. flat_map F (destination_demands d)) (destination (new_names file)) IsFineBranch branch_clean c.branches h.1)

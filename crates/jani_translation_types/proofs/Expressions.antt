@@ -3,6 +3,8 @@ use Rattle.std.specs.Prelude.{◌≡◌, ℕ, List, [], ◌∷◌, ◌++◌, map
 use Rattle.std.specs.List.{find, flat_map, list_any}
 use Rattle.std.specs.Option.{option_map}
 use Rattle.std.proofs.Common.{refl, sym, ap, ap₂, subst, ◌∙◌}
+use Rattle.basics.specs.Lists.{append_parts, append_both}
+use Rattle.basics.specs.Each.{each_then, empty_each}
 use Rattle.bridge_io.specs.declared.reason.Named.{Named}
 use Rattle.bridge_io.specs.declared.reason.Reason.TheVariants.{WrongType, NotConstant, Unknown}
 use Rattle.op_trees.specs.declared.tree.Ty.{Ty}
@@ -12,6 +14,8 @@ use Rattle.op_trees.specs.SeenLaws.{names_then, names_all}
 use Rattle.op_trees.specs.Types as trees
 use Rattle.op_trees.specs.Types.{Types, type_in, misfit_at}
 use Rattle.op_trees.specs.TypeLaws.{misfits_none}
+use Rattle.op_trees.specs.Names.{offset_of, names_of, some_name}
+use Rattle.op_trees.specs.NameLaws.{none_named}
 use Rattle.process_core.specs.Ready.{Name}
 use Rattle.prism_tree.specs.declared.operator.PrismOp.{PrismOp}
 use Rattle.prism_tree.specs.declared.operator.PrismOp.TheVariants as P
@@ -19,25 +23,25 @@ use Rattle.prism_tree.specs.Operators.{prism_meaning}
 use Rattle.prism_tree.specs.Syntax as prism
 use Rattle.prism_names.specs.Names as source_names
 use Rattle.prism_check.specs.Demands as source_demands
-use Rattle.prism_check.specs.NameFaults.{is_among, values, names_of, unless_known}
+use Rattle.prism_check.specs.NameFaults.{is_among, values, unless_known}
 use Rattle.prism_check.specs.NameFaults as source_some
 use Rattle.prism_check.specs.TypeFaults as source
 use Rattle.prism_check.specs.TypeFaults.{types}
-use Rattle.prism_check.proofs.Each.{each_then, empty_parts, empty_join, empty_each, empty_map, no_fault}
-use Rattle.prism_check.proofs.NamesIn.{listed_names, none_named}
+use Rattle.prism_check.proofs.Each.{empty_map, no_fault}
+use Rattle.prism_check.proofs.NamesIn.{listed_names}
 use Rattle.prism_check.proofs.CleanTypes.{IsFree, free_whole}
-use Rattle.prism_clean.specs.Flattened.{IsFlat}
+use Rattle.prism_places.specs.Flattened.{IsFlat}
 use Rattle.jani_table.specs.declared.operator.JaniOp.{JaniOp}
 use Rattle.jani_table.specs.Operators.{jani_meaning}
 use Rattle.jani_check.specs.Least.{fault, fault_if}
-use Rattle.jani_check.specs.Things.{offset_of, global_thing, types_by}
+use Rattle.jani_check.specs.Things.{global_thing, types_by}
 use Rattle.jani_check.specs.Demands.{wanted_by, fixed}
-use Rattle.jani_check.specs.TypeFaults.{some_name, is_variable, has_variable, is_wanted, is_unwanted, type_faults_of, demand_faults}
+use Rattle.jani_check.specs.TypeFaults.{is_variable, has_variable, is_wanted, is_unwanted, type_faults_of, demand_faults}
 use Rattle.prism_images.specs.Image.{image, image_one}
 use Rattle.prism_images.proofs.Types.{typed_alike}
 use Rattle.name_table.specs.Asks.{variables, new_names}
 use Rattle.jani_translation.specs.Translated.{translated}
-use Rattle.jani_translation_types.proofs.Clean.{no_formula, types_declared, variable_types, declared_type, value_names_are}
+use Rattle.jani_translation.proofs.Clean.{no_formula, types_declared, variable_types, declared_type, value_names_are}
 use Rattle.jani_translation_types.proofs.Alike as names
 
 -- ---- a name that is declared has a type
@@ -117,7 +121,7 @@ module _ (file : prism.File) (flat : IsFlat file) where
       subst (λ o. IsTrue (is_some o))
       (ap (λ w. source.or_else (option_map (λ c. c.ty) (find (λ c. source_names.is_called x c.name) file.constants)) w) (sym (variable_types file flat x))
       ∙ sym (types_declared file flat x))
-      (among_values x file.constants (variables file) (sym (any_named x (values file) ∙ ap (list_any (λ y. bytes_eq y x)) (value_names_are file flat)) ∙ h))
+      (among_values x file.constants (variables file) (sym (any_named x (values file) ∙ ap (list_any (λ y. bytes_eq y x)) (value_names_are file flat.form)) ∙ h))
 
   -- the names that are used are known
   not_false : (b : Bool) → not b ≡ false → b ≡ true
@@ -156,7 +160,7 @@ module _ (file : prism.File) (flat : IsFlat file) where
   pub has_type : (w : Ty) (e : prism.Expression) → AllNames IsKnown e → source.type_faults_of (types file) (source_demands.wanted_by w) e ≡ [] → HasType w e
   has_type w e k h =
       let t = type_in prism_meaning (types file) e in
-      let r = empty_parts (map (λ at. fault at WrongType) (source.misfits (types file) e)) (fault_if (source.is_unwanted (source_demands.wanted_by w) t) (prism.offset_of e) WrongType) h in
+      let r = append_parts (map (λ at. fault at WrongType) (source.misfits (types file) e)) (fault_if (source.is_unwanted (source_demands.wanted_by w) t) (offset_of e) WrongType) h in
       let typed = names_then IsKnown (λ x. IsTrue (is_some (types file x))) known_typed e k in
       let s = has_some t ((misfits_none prism_meaning (types file) e).0 (same_misfits (types file) e typed ∙ empty_map (λ at. fault at WrongType) (source.misfits (types file) e) r.0)) in
       record {
@@ -164,7 +168,7 @@ module _ (file : prism.File) (flat : IsFlat file) where
         is = s.1;
         wanted =
             unwanted_not (source.is_wanted (source_demands.wanted_by w) s.0)
-            (sym (ap (source.is_unwanted (source_demands.wanted_by w)) s.1) ∙ no_fault (source.is_unwanted (source_demands.wanted_by w) t) (prism.offset_of e) WrongType r.1);
+            (sym (ap (source.is_unwanted (source_demands.wanted_by w)) s.1) ∙ no_fault (source.is_unwanted (source_demands.wanted_by w) t) (offset_of e) WrongType r.1);
       }
 
   -- a JANI expression that has a type which is wanted has no fault
@@ -172,7 +176,7 @@ module _ (file : prism.File) (flat : IsFlat file) where
       type_faults_of (types_by (global_thing (translated file))) (wanted_by w) e ≡ []
   no_faults_of w t e h k =
       let types = types_by (global_thing (translated file)) in
-      empty_join (map (λ at. fault at WrongType) (trees.misfits jani_meaning types e)) _
+      append_both (map (λ at. fault at WrongType) (trees.misfits jani_meaning types e)) _
       (ap (map (λ at. fault at WrongType)) ((misfits_none jani_meaning types e).1 (subst (λ o. IsTrue (is_some o)) (sym h) refl)))
       (ap (λ b. fault_if b (offset_of e) WrongType) (ap (is_unwanted (wanted_by w)) h ∙ ap not k))
 
@@ -185,7 +189,7 @@ module _ (file : prism.File) (flat : IsFlat file) where
       let free = names_all (IsFree file) (no_formula file flat) e in
       none_image (λ x. is_variable (global_thing (translated file) x)) (new_names file).value e
       (names_then (λ x. source.is_variable file x ≡ false) (λ x. is_variable (global_thing (translated file) ((new_names file).value x)) ≡ false) (names.stays file flat) e
-      (none_named (source.is_variable file) e (ap (source_some.some_name (source.is_variable file)) (sym (free_whole file e free)) ∙ h)))
+      (none_named (source.is_variable file) e (ap (some_name (source.is_variable file)) (sym (free_whole file e free)) ∙ h)))
 
   -- ---- what the file's own judgement says of an expression
   abbrev pub IsFixed : Ty → prism.Expression → Type 0
@@ -193,5 +197,5 @@ module _ (file : prism.File) (flat : IsFlat file) where
 
   pub fixed_clean : (w : Ty) (e : prism.Expression) → IsFixed w e → demand_faults (global_thing (translated file)) (fixed (wanted_by w) (image (new_names file).value e)) ≡ []
   fixed_clean w e h =
-      empty_join (type_faults_of (types_by (global_thing (translated file))) (wanted_by w) (image (new_names file).value e)) _ (image_fits w e h.0)
+      append_both (type_faults_of (types_by (global_thing (translated file))) (wanted_by w) (image (new_names file).value e)) _ (image_fits w e h.0)
       (ap (λ b. fault_if b (offset_of (image (new_names file).value e)) NotConstant) (image_constant e h.1))

@@ -1,4 +1,3 @@
-pub mod Clean
 pub mod Alike
 pub mod Expressions
 pub mod Sources

@@ -1,35 +1,15 @@
 -- The automata of a translated file are found by their names: no two have one name.
-use Rattle.std.specs.Prelude.{◌≡◌, ℕ, zero, suc, ◌+◌, ◌<◌, List, [], ◌∷◌, ◌++◌, map, length, take, drop, Bool, true, false, cond, Option, Some, None, slice_get, get_or, bytes_eq}
+use Rattle.std.specs.Prelude.{◌≡◌, List, [], ◌∷◌, cond, Some}
 use Rattle.std.specs.List.{find, AllByRecursion}
-use Rattle.std.proofs.Common.{refl, sym, ap, ◌∙◌, arith}
-use Rattle.std.proofs.lemmas.List.{length-map}
+use Rattle.std.proofs.Common.{ap, ◌∙◌}
+use Rattle.basics.specs.Texts.{bytes_eq-self}
 use Rattle.prism_tree.specs.Syntax as prism
-use Rattle.prism_flat.specs.Instance.{only_if}
 use Rattle.prism_print.specs.Printable.{Each}
-use Rattle.jani_tree.specs.Syntax.{Automaton, Write}
+use Rattle.jani_tree.specs.Syntax.{Automaton}
 use Rattle.jani_check.specs.Things.{automaton_called}
 use Rattle.jani_check.specs.Things as things
-use Rattle.name_table.specs.declared.class.NameClass.{NameClass}
-use Rattle.name_table.specs.declared.class.NameClass.TheVariants.{Module as OfModule}
-use Rattle.name_table.specs.declared.class.Target.TheVariants.{Jani}
-use Rattle.name_table.specs.declared.entry.Entry.{Entry}
-use Rattle.name_table.specs.Rule.{space, begins_zz, made_name}
-use Rattle.name_table.specs.Entries.{Ask, count_of}
-use Rattle.name_table.proofs.EntryLemmas.{Comes, was_kept, was_made, placed, kept_is_old, no_two_alike}
-use Rattle.name_table.specs.Asks.{ask, bodies, variables, constant_asks, variable_asks, label_asks, reward_asks, module_asks, action_asks, asks, entries, modules_at, NewNames, new_names}
-use Rattle.jani_translation.specs.Automata.{zz_monitor, automaton, module_automaton, module_automata, monitor, monitor_edges, earns_silently, has_monitor, location_values}
 use Rattle.jani_translation.specs.Translated.{translated}
-use Rattle.jani_translation.proofs.Each.{n_bodies}
-use Rattle.jani_translation.proofs.Fresh.{same_bytes, other_bytes}
-use Rattle.jani_translation_types.proofs.Transients.{skipped}
-
--- ---- automata of different names are found by their names
-abbrev IsOther : Automaton → Automaton → Type 0
-IsOther a b = bytes_eq a.name.name b.name.name ≡ false
-
-abbrev AreLone : List Automaton → Type 0
-AreLone [] = Unit {0}
-AreLone (a ∷ as_) = AllByRecursion (IsOther a) as_ × AreLone as_
+use Rattle.jani_translation.proofs.Elements.{IsOther, AreLone, automata_lone}
 
 abbrev FoundIn : List Automaton → Automaton → Type 0
 FoundIn whole a = find (λ b. things.is_called a.name.name b.name) whole ≡ Some a
@@ -44,130 +24,9 @@ found_behind b whole (a ∷ as_) h k = (
 all_found : (as_ : List Automaton) → AreLone as_ → Each (FoundIn as_) as_
 all_found [] h = tt
 all_found (a ∷ as_) h = (
-  ap (λ c. cond c (Some a) (find (λ b. things.is_called a.name.name b.name) as_)) (same_bytes a.name.name),
+  ap (λ c. cond c (Some a) (find (λ b. things.is_called a.name.name b.name) as_)) (bytes_eq-self a.name.name),
   found_behind a as_ as_ h.0 (all_found as_ h.1),
 )
-
--- ---- members of cut lists
-get_taken : {X : Type 0} (n i : ℕ) (xs : List X) (x : X) → slice_get (take n xs) i ≡ Some x → (i < n) × (slice_get xs i ≡ Some x)
-get_taken zero i xs x h = absurd cc
-get_taken (suc n) i [] x h = absurd cc
-get_taken (suc n) zero (y ∷ xs) x h = (omega arith, h)
-get_taken (suc n) (suc i) (y ∷ xs) x h = let r = get_taken n i xs x h in (let low = r.0 in omega arith, r.1)
-
--- ---- the entries of modules
-skip : {X : Type 0} (xs ys : List X) (n i : ℕ) → length xs ≡ n → slice_get (xs ++ ys) (n + i) ≡ slice_get ys i
-skip [] ys n i l = let on : n + i ≡ i = omega arith in ap (slice_get ys) on
-skip (x ∷ xs) ys zero i l = absurd (omega arith)
-skip (x ∷ xs) ys (suc n) i l =
-    let on : suc n + i ≡ suc (n + i) = omega arith in
-    ap (slice_get (x ∷ (xs ++ ys))) on ∙ skip xs ys n i (omega arith)
-
-module_asked : (ms : List prism.Body) (rest : List Ask) (i : ℕ) (a : Ask) → i < length ms → slice_get (map (λ m. ask OfModule m.name.name) ms ++ rest) i ≡ Some a → a.0 ≡ OfModule
-module_asked [] rest i a l h = absurd (omega arith)
-module_asked (m ∷ ms) rest zero a l h = ap from (sym h)
-  where
-    from : Option Ask → NameClass
-    from None = OfModule
-    from (Some a) = a.0
-module_asked (m ∷ ms) rest (suc i) a l h = module_asked ms rest i a (omega arith) h
-
-made_other : (c : NameClass) (n : ℕ) → c ≡ OfModule → made_name c n ≡ zz_monitor.name → ⊥
-made_other c n e h =
-    let q : made_name OfModule n ≡ zz_monitor.name = ap (λ d. made_name d n) (sym e) ∙ h in
-    let r : ◌≡◌ {A = ℕ} 95 111 = ap (λ l. get_or l 4 0) q in
-    omega arith
-
-not_monitor : (es : List Entry) (a : Ask) (e : Entry) → Comes Jani es a.0 a.1 e → a.0 ≡ OfModule → e.name ≡ zz_monitor.name → ⊥
-not_monitor es a e (was_kept x p k h) c q =
-    let r : true ≡ false = sym (ap begins_zz (sym (ap (λ (u : Entry). u.name) h) ∙ q)) ∙ k.plain in
-    absurd cc
-not_monitor es a e (was_made h) c q = made_other a.0 (count_of a.0 es) c (sym (ap (λ (u : Entry). u.name) h) ∙ q)
-
-module _ (file : prism.File) where
-  asked_at : (i : ℕ) → slice_get (asks file) (modules_at file (entries file) + i) ≡ slice_get (module_asks file ++ action_asks file) i
-  asked_at i =
-      let cs = length file.constants in
-      let vs = length (variables file) in
-      let ls = length file.labels in
-      let rs = length file.rewards in
-      let re : modules_at file (entries file) + i ≡ cs + (vs + (ls + (rs + i))) = omega arith in
-      ap (slice_get (asks file)) re
-      ∙ skip (constant_asks file) _ cs _ (length-map file.constants _)
-      ∙ skip (variable_asks file) _ vs _ (length-map (variables file) _)
-      ∙ skip (label_asks file) _ ls _ (length-map file.labels _)
-      ∙ skip (reward_asks file) (module_asks file ++ action_asks file) rs i (length-map file.rewards _)
-
-  -- the entry of a module among all entries
-  record IsModules (i : ℕ) (e : Entry) : Type 0 where
-    low : i < length (bodies file)
-    at_place : slice_get (entries file) (modules_at file (entries file) + i) ≡ Some e
-
-  of_module : (i : ℕ) (e : Entry) → slice_get (new_names file).modules i ≡ Some e → IsModules i e
-  of_module i e h =
-      let t = get_taken (length file.modules) i (drop (modules_at file (entries file)) (entries file)) e h in
-      let n = n_bodies file in
-      let l = t.0 in
-      record { low = omega arith; at_place = sym (skipped (modules_at file (entries file)) i (entries file)) ∙ t.1 }
-
-  asked_module : (i : ℕ) (e : Entry) (h : IsModules i e) → (placed Jani (asks file) (modules_at file (entries file) + i) e h.at_place).asked.0 ≡ OfModule
-  asked_module i e h =
-      let p = placed Jani (asks file) (modules_at file (entries file) + i) e h.at_place in
-      module_asked (bodies file) (action_asks file) i p.asked h.low (sym (asked_at i) ∙ p.ask)
-
-  module_class : (i : ℕ) (e : Entry) → IsModules i e → e.class ≡ OfModule
-  module_class i e h =
-      let p = placed Jani (asks file) (modules_at file (entries file) + i) e h.at_place in
-      (kept_is_old Jani (asks file) (modules_at file (entries file) + i) p.asked e (record { entry = h.at_place; ask = p.ask })).0 ∙ asked_module i e h
-
-  modules_apart : (i j : ℕ) (e u : Entry) → (i ≡ j → ⊥) → slice_get (new_names file).modules i ≡ Some e → slice_get (new_names file).modules j ≡ Some u → bytes_eq e.name u.name ≡ false
-  modules_apart i j e u d g h =
-      let a = of_module i e g in
-      let b = of_module j u h in
-      other_bytes e.name u.name
-      (λ q. no_two_alike Jani (asks file) (modules_at file (entries file) + i) (modules_at file (entries file) + j) e u a.at_place b.at_place
-      (λ r. d (omega arith)) (ap (space Jani) (module_class i e a ∙ sym (module_class j u b))) q)
-
-  module_no_monitor : (i : ℕ) (e : Entry) → slice_get (new_names file).modules i ≡ Some e → bytes_eq e.name zz_monitor.name ≡ false
-  module_no_monitor i e h =
-      let a = of_module i e h in
-      let p = placed Jani (asks file) (modules_at file (entries file) + i) e a.at_place in
-      other_bytes e.name zz_monitor.name (λ q. not_monitor _ p.asked e p.comes (asked_module i e a) q)
-
--- ---- automata by their names
-module _ (names : NewNames) (silently : Bool) where
-  others : (a : Automaton) (ws : List Write) (ms : List prism.Body) (es : List Entry) (rest : List Automaton) →
-      ((i : ℕ) (e : Entry) → slice_get es i ≡ Some e → bytes_eq a.name.name e.name ≡ false) → AllByRecursion (IsOther a) rest →
-      AllByRecursion (IsOther a) (module_automata names silently ws ms es ++ rest)
-  others a ws [] es rest h k = k
-  others a ws (m ∷ ms) [] rest h k = k
-  others a ws (m ∷ ms) (e ∷ es) rest h k = (h 0 e refl, others a [] ms es rest (λ i u g. h (suc i) u g) k)
-
-  lone : (ws : List Write) (ms : List prism.Body) (es : List Entry) (rest : List Automaton) →
-      ((i j : ℕ) (e u : Entry) → (i ≡ j → ⊥) → slice_get es i ≡ Some e → slice_get es j ≡ Some u → bytes_eq e.name u.name ≡ false) →
-      ((i : ℕ) (e : Entry) (a : Automaton) → slice_get es i ≡ Some e → a.name.name ≡ e.name → AllByRecursion (IsOther a) rest) → AreLone rest →
-      AreLone (module_automata names silently ws ms es ++ rest)
-  lone ws [] es rest h k l = l
-  lone ws (m ∷ ms) [] rest h k l = l
-  lone ws (m ∷ ms) (e ∷ es) rest h k l = (
-    others (module_automaton names silently ws m e) [] ms es rest (λ i u g. h 0 (suc i) e u (λ q. absurd (omega arith)) refl g) (k 0 e (module_automaton names silently ws m e) refl refl),
-    lone [] ms es rest (λ i j x y d p q. h (suc i) (suc j) x y (λ r. d (omega arith)) p q) (λ i u a g q. k (suc i) u a g q) l,
-  )
-
-other_monitor : (b : Bool) (m a : Automaton) (x : List ℕ) → a.name.name ≡ x → bytes_eq x m.name.name ≡ false → AllByRecursion (IsOther a) (only_if b m)
-other_monitor true m a x e h = (ap (λ n. bytes_eq n m.name.name) e ∙ h, tt)
-other_monitor false m a x e h = tt
-
-lone_one : (b : Bool) (a : Automaton) → AreLone (only_if b a)
-lone_one true a = (tt, tt)
-lone_one false a = tt
-
-automata_lone : (file : prism.File) → AreLone (translated file).automata
-automata_lone file =
-    let names = new_names file in
-    lone names (earns_silently file) (location_values names file) (bodies file) names.modules (monitor names file) (modules_apart file)
-    (λ i e a g q. other_monitor (has_monitor file) (automaton names zz_monitor [] (monitor_edges names file)) a e.name q (module_no_monitor file i e g))
-    (lone_one (has_monitor file) (automaton names zz_monitor [] (monitor_edges names file)))
 
 pub automata_found : (file : prism.File) → Each (λ a. automaton_called (translated file) a.name.name ≡ Some a) (translated file).automata
 automata_found file = all_found (translated file).automata (automata_lone file)

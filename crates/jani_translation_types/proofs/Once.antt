@@ -4,6 +4,9 @@ use Rattle.std.specs.List.{AllByRecursion, IsDistinct, flat_map, filter, find, z
 use Rattle.std.specs.Option.{option_map}
 use Rattle.std.proofs.Common.{refl, sym, ap, subst, ◌∙◌, arith, append-nil}
 use Rattle.std.proofs.lemmas.List.Elements.{Contains-append_right}
+use Rattle.basics.specs.Texts.{bytes_ne, bytes_eq-self, bytes_eq-true}
+use Rattle.basics.specs.Lists.{append_both, slice_get-drop, flat_map_both}
+use Rattle.basics.specs.Each.{each_then, each_with, empty_each, each_empty}
 use Rattle.bridge_io.specs.declared.reason.Named.{Named}
 use Rattle.bridge_io.specs.declared.reason.Reason.{Reason}
 use Rattle.bridge_io.specs.declared.reason.Reason.TheVariants.{WrittenTwice}
@@ -12,39 +15,36 @@ use Rattle.process_core.specs.Ready.{Name}
 use Rattle.prism_tree.specs.declared.syntax.ItemOn.{ItemOn}
 use Rattle.prism_tree.specs.Syntax as prism
 use Rattle.prism_names.specs.Names as source_names
-use Rattle.prism_flat.specs.Instance.{only_if}
+use Rattle.process_core.specs.Instance.{only_if}
 use Rattle.prism_print.specs.Printable.{Each}
 use Rattle.prism_check.specs.Demands.{var_type}
 use Rattle.prism_check.specs.NameFaults as source
 use Rattle.prism_check.specs.TypeFaults as source_types
-use Rattle.prism_check.proofs.Each.{empty_join, empty_each, each_empty, each_then, each_with}
-use Rattle.prism_clean.specs.Flattened.{IsFlat}
+use Rattle.prism_places.specs.Flattened.{IsFlat}
 use Rattle.jani_tree.specs.Syntax.{Write}
 use Rattle.jani_check.specs.Least.{fault_if}
 use Rattle.jani_check.specs.NameFaults.{clash, doubled_after}
 use Rattle.jani_check.specs.TypeFaults.{repeated, edge_repeats, repeated_writes}
 use Rattle.name_table.specs.declared.entry.Entry.{Entry}
 use Rattle.name_table.specs.Asks.{bodies, variables, value_names, entries, new_names, labels_at, rewards_at}
+use Rattle.name_table.proofs.Parts.{values_apart}
 use Rattle.jani_translation.specs.Parts.{made, instead_if}
 use Rattle.jani_translation.specs.Automata.{zz_silent, zz_monitor, for_states, for_action, for_silent, earning_actions, earns_silently, has_monitor, sum_to, reward_of, rewards_of, write, destination, edge, automaton, label_value, location_values, module_automata, monitor_edge, monitor_edges, monitor}
-use Rattle.jani_translation.proofs.Fresh.{same_bytes, equal_bytes, other_bytes}
 use Rattle.jani_translation.proofs.SameSeen.{zip-take}
 use Rattle.jani_translation.proofs.Differ.{values_differ}
 use Rattle.jani_translation_types.specs.TypeLaws.{AutomataWriteOnce}
-use Rattle.jani_translation_types.proofs.Clean.{DiffersFrom, distinct_from, values_distinct, declared_type}
+use Rattle.jani_translation.proofs.Clean.{DiffersFrom, distinct_from, values_distinct, declared_type}
 use Rattle.jani_translation_types.proofs.Alike.{structure_name}
 use Rattle.jani_translation_types.proofs.Sources.{IsFineBody, EachFrom, bodies_fine}
-use Rattle.jani_translation_types.proofs.Outer.{nothing_joined}
 use Rattle.jani_translation_types.proofs.Writes.{IsFineWrite}
 use Rattle.jani_translation_types.proofs.Edges.{IsFineBranch, IsFineCommand, commands_fine, nothing_mapped}
-use Rattle.jani_translation_types.proofs.Transients.{skipped, other_names}
 
 -- names that are distinct are not doubled
 not_doubled : (reason : Reason) (earlier ns : List Named) → IsDistinct bytes_eq (map (λ n. n.name) ns) → Each (DiffersFrom ns) earlier → doubled_after reason earlier ns ≡ []
 unfolding IsDistinct
 not_doubled reason earlier [] d h = refl
 not_doubled reason earlier (n ∷ ns) d h =
-    empty_join (flat_map (clash reason n) earlier) (doubled_after reason (n ∷ earlier) ns)
+    append_both (flat_map (clash reason n) earlier) (doubled_after reason (n ∷ earlier) ns)
     (each_empty (clash reason n) earlier
     (each_then (DiffersFrom (n ∷ ns)) (λ m. clash reason n m ≡ []) (λ m k. ap (λ b. fault_if b (max m.at n.at) reason) k.0) earlier h))
     (not_doubled reason (n ∷ earlier) ns d.1 (d.0, each_then (DiffersFrom (n ∷ ns)) (DiffersFrom ns) (λ m k. k.1) earlier h))
@@ -62,7 +62,7 @@ contains_var x t (v ∷ vs) h = by_answer (bytes_eq v.name.name x) refl (contain
   where
     by_answer : (b : Bool) → bytes_eq v.name.name x ≡ b → (declared_type x vs ≡ Some t → Contains (map (λ v. v.name.name) vs) x) →
         option_map var_type (cond b (Some v) (find (λ v. source_names.is_called x v.name) vs)) ≡ Some t → Contains (map (λ v. v.name.name) (v ∷ vs)) x
-    by_answer true e r h = (0, omega arith, equal_bytes v.name.name x e)
+    by_answer true e r h = (0, omega arith, bytes_eq-true v.name.name x e)
     by_answer false e r h = let k = r h in let l = k.1 in (suc k.0, omega arith, k.2)
 
 module _ (file : prism.File) (flat : IsFlat file) where
@@ -75,9 +75,9 @@ module _ (file : prism.File) (flat : IsFlat file) where
       AllByRecursion (λ y. bytes_eq ((new_names file).value x) y ≡ false) (names_of (map (write (new_names file)) ws))
   others_renamed x [] c h = tt
   others_renamed x (w ∷ ws) c h = (
-    other_bytes ((new_names file).value x) ((new_names file).value w.name.name)
+    bytes_ne ((new_names file).value x) ((new_names file).value w.name.name)
         (λ q. let e = values_differ file (values_distinct file flat) x w.name.name c (sym q) in
-        let r : true ≡ false = sym (ap (bytes_eq x) e ∙ same_bytes x) ∙ h.0 in absurd cc),
+        let r : true ≡ false = sym (ap (bytes_eq x) e ∙ bytes_eq-self x) ∙ h.0 in absurd cc),
     others_renamed x ws c h.1,
   )
 
@@ -164,7 +164,7 @@ module _ (file : prism.File) where
       let at = rewards_at file (entries file) in
       subst (λ ps. IsDistinct bytes_eq (names_of (flat_map (λ p. reward_of (new_names file) wanted p.0 p.1) ps))) (sym (zip-take file.rewards (drop at (entries file))))
       (rewards_distinct wanted file.rewards (drop at (entries file))
-      (λ i j e u k l d g h. other_names file (at + i) (at + j) e u (omega arith) (omega arith) (λ q. d (omega arith)) (sym (skipped at i (entries file)) ∙ g) (sym (skipped at j (entries file)) ∙ h)))
+      (λ i j e u k l d g h. values_apart file (at + i) (at + j) e u (omega arith) (omega arith) (λ q. d (omega arith)) (sym (slice_get-drop at i (entries file)) ∙ g) (sym (slice_get-drop at j (entries file)) ∙ h)))
 
   values_once : IsDistinct bytes_eq (names_of (location_values (new_names file) file))
   values_once =
@@ -173,29 +173,29 @@ module _ (file : prism.File) where
       let ws = rewards_of (new_names file) for_states file.rewards in
       subst (λ ps. IsDistinct bytes_eq (names_of (map (λ p. label_value (new_names file) p.0 p.1) ps ++ ws))) (sym (zip-take file.labels (drop at (entries file))))
       (labels_distinct file.labels (drop at (entries file)) ws
-      (λ i j e u k l d g h. other_names file (at + i) (at + j) e u (omega arith) (omega arith) (λ q. d (omega arith)) (sym (skipped at i (entries file)) ∙ g) (sym (skipped at j (entries file)) ∙ h))
+      (λ i j e u k l d g h. values_apart file (at + i) (at + j) e u (omega arith) (omega arith) (λ q. d (omega arith)) (sym (slice_get-drop at i (entries file)) ∙ g) (sym (slice_get-drop at j (entries file)) ∙ h))
       (λ i e k g.
       subst (λ ps. AllByRecursion (λ y. bytes_eq e.name y ≡ false) (names_of (flat_map (λ p. reward_of (new_names file) for_states p.0 p.1) ps))) (sym (zip-take file.rewards (drop to (entries file))))
       (rewards_apart e.name for_states file.rewards (drop to (entries file))
-      (λ j u l h. other_names file (at + i) (to + j) e u (omega arith) (omega arith) (λ q. absurd (omega arith)) (sym (skipped at i (entries file)) ∙ g) (sym (skipped to j (entries file)) ∙ h))))
+      (λ j u l h. values_apart file (at + i) (to + j) e u (omega arith) (omega arith) (λ q. absurd (omega arith)) (sym (slice_get-drop at i (entries file)) ∙ g) (sym (slice_get-drop to j (entries file)) ∙ h))))
       (rewards_once for_states))
 
   -- ---- the monitor
   earning_once : (a : Named) (wanted : ItemOn → Bool) → edge_repeats (monitor_edge (new_names file) file a wanted) ≡ []
-  earning_once a wanted = empty_join (repeated (rewards_of (new_names file) wanted file.rewards)) [] (not_repeated (rewards_of (new_names file) wanted file.rewards) (rewards_once wanted)) refl
+  earning_once a wanted = append_both (repeated (rewards_of (new_names file) wanted file.rewards)) [] (not_repeated (rewards_of (new_names file) wanted file.rewards) (rewards_once wanted)) refl
 
   earning_all_once : (as_ : List Name) → flat_map edge_repeats (map (λ a. monitor_edge (new_names file) file (made ((new_names file).action a)) (for_action a)) as_) ≡ []
   earning_all_once [] = refl
-  earning_all_once (a ∷ as_) = empty_join _ _ (earning_once (made ((new_names file).action a)) (for_action a)) (earning_all_once as_)
+  earning_all_once (a ∷ as_) = append_both _ _ (earning_once (made ((new_names file).action a)) (for_action a)) (earning_all_once as_)
 
   last_once : (b : Bool) → flat_map edge_repeats (only_if b (monitor_edge (new_names file) file zz_silent for_silent)) ≡ []
-  last_once true = empty_join _ [] (earning_once zz_silent for_silent) refl
+  last_once true = append_both _ [] (earning_once zz_silent for_silent) refl
   last_once false = refl
 
   monitor_once : (b : Bool) → flat_map repeated_writes (only_if b (automaton (new_names file) zz_monitor [] (monitor_edges (new_names file) file))) ≡ []
   monitor_once true =
-      empty_join _ []
-      (nothing_joined edge_repeats (map (λ a. monitor_edge (new_names file) file (made ((new_names file).action a)) (for_action a)) (earning_actions file))
+      append_both _ []
+      (flat_map_both edge_repeats (map (λ a. monitor_edge (new_names file) file (made ((new_names file).action a)) (for_action a)) (earning_actions file))
       (only_if (earns_silently file) (monitor_edge (new_names file) file zz_silent for_silent)) (earning_all_once (earning_actions file)) (last_once (earns_silently file))) refl
   monitor_once false = refl
 
@@ -205,13 +205,13 @@ module _ (file : prism.File) (flat : IsFlat file) where
   modules_once silently values i [] es h k c = refl
   modules_once silently values i (m ∷ ms) [] h k c = refl
   modules_once silently values i (m ∷ ms) (e ∷ es) h k c =
-      empty_join _ (flat_map repeated_writes (module_automata (new_names file) silently [] ms es))
-      (empty_join (repeated values ++ []) (flat_map edge_repeats (map (edge (new_names file) silently) m.commands)) (append-nil (repeated values) ∙ h) (edges_once file flat silently m.commands c.0 k.0.2))
+      append_both _ (flat_map repeated_writes (module_automata (new_names file) silently [] ms es))
+      (append_both (repeated values ++ []) (flat_map edge_repeats (map (edge (new_names file) silently) m.commands)) (append-nil (repeated values) ∙ h) (edges_once file flat silently m.commands c.0 k.0.2))
       (modules_once silently [] (i + 1) ms es refl k.1 c.1)
 
 pub automata_write_once : (file : prism.File) → AutomataWriteOnce file
 automata_write_once file flat =
-    nothing_joined repeated_writes (module_automata (new_names file) (earns_silently file) (location_values (new_names file) file) (bodies file) (new_names file).modules) (monitor (new_names file) file)
+    flat_map_both repeated_writes (module_automata (new_names file) (earns_silently file) (location_values (new_names file) file) (bodies file) (new_names file).modules) (monitor (new_names file) file)
     (modules_once file flat (earns_silently file) (location_values (new_names file) file) 0 (bodies file) (new_names file).modules
     (not_repeated (location_values (new_names file) file) (values_once file)) (bodies_fine file flat) (commands_fine file flat 0 (bodies file) (bodies_fine file flat)))
     (monitor_once file (has_monitor file))

@@ -3,14 +3,16 @@ use Rattle.std.specs.Prelude.{◌≡◌, List, [], ◌∷◌, ◌++◌, map, Boo
 use Rattle.std.specs.List.{flat_map, find, list_any}
 use Rattle.std.proofs.Common.{refl, ap, ap₂, ◌∙◌}
 use Rattle.std.proofs.lemmas.List.{map-append}
+use Rattle.std.proofs.lemmas.Bool.{or_left, or_right}
+use Rattle.basics.specs.Texts.{bytes_eq-self}
+use Rattle.basics.specs.Lists.{append_both}
 use Rattle.bridge_io.specs.declared.reason.Named.{Named}
 use Rattle.bridge_io.specs.declared.reason.Reason.TheVariants.{TwoRewardWriters}
 use Rattle.process_core.specs.Ready.{Name}
 use Rattle.prism_tree.specs.Syntax as prism
-use Rattle.prism_flat.specs.Instance.{only_if}
+use Rattle.process_core.specs.Instance.{only_if}
 use Rattle.prism_print.specs.Printable.{Each}
-use Rattle.prism_check.proofs.Each.{empty_join}
-use Rattle.prism_clean.specs.Flattened.{IsFlat}
+use Rattle.prism_places.specs.Flattened.{IsFlat}
 use Rattle.jani_tree.specs.Syntax.{Write, Automaton, Vector}
 use Rattle.jani_check.specs.Least.{fault_if}
 use Rattle.jani_check.specs.Things.{is_called, global_thing, is_reward}
@@ -20,7 +22,6 @@ use Rattle.name_table.specs.declared.entry.Entry.{Entry}
 use Rattle.name_table.specs.Asks.{bodies, new_names}
 use Rattle.jani_translation.specs.Automata.{zz_monitor, earns_silently, has_monitor, write, destination, edge, automaton, location_values, module_automata, monitor_edges, monitor}
 use Rattle.jani_translation.specs.Translated.{translated}
-use Rattle.jani_translation.proofs.Fresh.{same_bytes}
 use Rattle.jani_translation_types.specs.ProfileLaws.{OneRewardWriter}
 use Rattle.jani_translation_types.proofs.Automata.{beside_none}
 use Rattle.jani_translation_types.proofs.EdgeProfile.{no_reward}
@@ -39,18 +40,10 @@ found_first P z (a ∷ as_) rest h k = by_answer (bytes_eq a.name.name z) h (λ 
     by_answer true g r = k.0
     by_answer false g r = r g
 
-or_left : (a b : Bool) → a ≡ true → (a || b) ≡ true
-or_left true b h = refl
-or_left false b h = absurd cc
-
-or_right : (a b : Bool) → b ≡ true → (a || b) ≡ true
-or_right true b h = refl
-or_right false b h = h
-
 each_called : (as_ whole : List Automaton) → ((z : Name) → has_called z as_ ≡ true → has_called z whole ≡ true) → Each (λ a. has_called a.name.name whole ≡ true) as_
 each_called [] whole h = tt
 each_called (a ∷ as_) whole h = (
-  h a.name.name (or_left (bytes_eq a.name.name a.name.name) (has_called a.name.name as_) (same_bytes a.name.name)),
+  h a.name.name (or_left (bytes_eq a.name.name a.name.name) (has_called a.name.name as_) (bytes_eq-self a.name.name)),
   each_called as_ whole (λ z g. h z (or_right (bytes_eq a.name.name z) (has_called z as_) g)),
 )
 
@@ -139,7 +132,7 @@ module _ (file : prism.File) (flat : IsFlat file) where
 
   all_vectors : (vs : List Vector) → flat_map (two_writers (translated file)) vs ≡ []
   all_vectors [] = refl
-  all_vectors (v ∷ vs) = empty_join (two_writers (translated file) v) _ (one_writer v) (all_vectors vs)
+  all_vectors (v ∷ vs) = append_both (two_writers (translated file) v) _ (one_writer v) (all_vectors vs)
 
 pub one_reward_writer : (file : prism.File) → OneRewardWriter file
 one_reward_writer file flat = all_vectors file flat (translated file).vectors

@@ -1,7 +1,9 @@
 -- What labels and reward structures are given has their types.
-use Rattle.std.specs.Prelude.{◌≡◌, List, [], ◌∷◌, map, Bool, true, false, not, Option, Some, None, if◌then◌else◌}
+use Rattle.std.specs.Prelude.{◌≡◌, List, [], ◌∷◌, map, Bool, true, not, Option, Some, None}
 use Rattle.std.specs.List.{flat_map, filter, zip}
 use Rattle.std.proofs.Common.{refl, ap, ap₂, ◌∙◌}
+use Rattle.basics.specs.Lists.{append_both}
+use Rattle.basics.specs.Each.{each_join, each_filter}
 use Rattle.bridge_io.specs.declared.reason.Reason.TheVariants.{ForeignWrite}
 use Rattle.op_trees.specs.declared.tree.Ty.{Ty}
 use Rattle.op_trees.specs.declared.tree.Ty.TheVariants as T
@@ -10,8 +12,7 @@ use Rattle.op_trees.specs.Types.{type_in, sort_two, sort_three}
 use Rattle.prism_tree.specs.declared.syntax.ItemOn.{ItemOn}
 use Rattle.prism_tree.specs.Syntax as prism
 use Rattle.prism_print.specs.Printable.{Each}
-use Rattle.prism_check.proofs.Each.{empty_join, each_join}
-use Rattle.prism_clean.specs.Flattened.{IsFlat}
+use Rattle.prism_places.specs.Flattened.{IsFlat}
 use Rattle.jani_table.specs.declared.operator.JaniOp.TheVariants.{Add, Ite}
 use Rattle.jani_table.specs.Operators.{jani_meaning}
 use Rattle.jani_tree.specs.Syntax.{Expression, Var, number, Write}
@@ -63,14 +64,6 @@ add_typed x y T.Bool b p q h k = absurd cc
 add_typed x y T.Int T.Bool p q h k = absurd cc
 add_typed x y T.Real T.Bool p q h k = absurd cc
 
-pub each_filter : {A : Type 0} (P : A → Type 0) (test : A → Bool) (xs : List A) → Each P xs → Each P (filter test xs)
-each_filter P test [] h = tt
-each_filter P test (x ∷ xs) h = by_test (test x) (each_filter P test xs h.1)
-  where
-    by_test : (b : Bool) → Each P (filter test xs) → Each P (if b then (x ∷ filter test xs) else filter test xs)
-    by_test true r = (h.0, r)
-    by_test false r = r
-
 module _ (file : prism.File) (flat : IsFlat file) where
   pub record Numeric (e : Expression) : Type 0 where
     pub ty : Ty
@@ -116,7 +109,7 @@ module _ (file : prism.File) (flat : IsFlat file) where
       wanted_at (Some (var_thing k)) ≡ wanted_by t → type_faults_of (types_by (global_thing (translated file))) (wanted_by t) w.value ≡ [] →
       demand_faults (global_thing (translated file)) (given w) ≡ []
   given_by t w k s a b f =
-      empty_join (fault_if (not (is_transient (global_thing (translated file) w.target.name))) w.target.at ForeignWrite) _
+      append_both (fault_if (not (is_transient (global_thing (translated file) w.target.name))) w.target.at ForeignWrite) _
       (ap (λ b. fault_if (not b) w.target.at ForeignWrite) (ap is_transient s ∙ a))
       (ap (λ u. type_faults_of (types_by (global_thing (translated file))) u w.value) (ap wanted_at s ∙ b) ∙ f)
 
@@ -125,7 +118,7 @@ module _ (file : prism.File) (flat : IsFlat file) where
 
   pub reward_assigned : (w : Write) → IsReward w → demand_faults (global_thing (translated file)) (assigned w) ≡ []
   reward_assigned w h =
-      empty_join (fault_if (is_constant (global_thing (translated file) w.target.name)) w.target.at ForeignWrite) _
+      append_both (fault_if (is_constant (global_thing (translated file) w.target.name)) w.target.at ForeignWrite) _
       (ap (λ b. fault_if b w.target.at ForeignWrite) (ap is_constant h.0))
       (ap (λ u. type_faults_of (types_by (global_thing (translated file))) u w.value) (ap wanted_at h.0) ∙ no_faults_of file flat T.Real h.1.ty w.value h.1.is h.1.number)
 
@@ -134,7 +127,7 @@ module _ (file : prism.File) (flat : IsFlat file) where
   labels_clean [] es s h = refl
   labels_clean (l ∷ ls) [] s h = refl
   labels_clean (l ∷ ls) (e ∷ es) s h =
-      empty_join (demand_faults (global_thing (translated file)) (given (label_value (new_names file) l e))) _
+      append_both (demand_faults (global_thing (translated file)) (given (label_value (new_names file) l e))) _
       (given_by T.Bool (label_value (new_names file) l e) (label l e) s.0 refl refl (image_fits file flat T.Bool l.body h.0)) (labels_clean ls es s.1 h.1)
 
   pub location_labels_clean : flat_map (demand_faults (global_thing (translated file))) (map given (map (λ p. label_value (new_names file) p.0 p.1) (zip file.labels (new_names file).labels))) ≡ []

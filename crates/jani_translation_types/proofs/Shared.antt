@@ -5,6 +5,9 @@ use Rattle.std.specs.List.{flat_map, filter, list_any}
 use Rattle.std.specs.Option.{option_map}
 use Rattle.std.proofs.Common.{refl, sym, ap, ap₂, subst, ◌∙◌, arith, append-nil}
 use Rattle.std.proofs.lemmas.Bool.Decides.{nat_tests}
+use Rattle.basics.specs.Texts.{bytes_ne}
+use Rattle.basics.specs.Lists.{append_parts, append_both, flat_map_both}
+use Rattle.basics.specs.Each.{each_join, each_parts, each_of, each_filter}
 use Rattle.bridge_io.specs.declared.reason.Named.{Named}
 use Rattle.bridge_io.specs.declared.reason.Reason.TheVariants.{WrittenTwice}
 use Rattle.op_trees.specs.declared.tree.Ty.TheVariants as T
@@ -12,13 +15,12 @@ use Rattle.process_core.specs.Ready.{Name}
 use Rattle.process_core.specs.Ready as ready
 use Rattle.prism_tree.specs.declared.syntax.ItemOn.{ItemOn}
 use Rattle.prism_tree.specs.Syntax as prism
-use Rattle.prism_flat.specs.Instance.{numbered, only_if}
+use Rattle.process_core.specs.Instance.{numbered, only_if}
 use Rattle.prism_print.specs.Printable.{Each, IfAny}
 use Rattle.prism_check.specs.Demands.{varying, written, wanted_by, branch_demands, command_demands}
 use Rattle.prism_check.specs.TypeFaults.{Variable, variable_called, types, type_faults_of, target_of, target_by, target, wanted_at, write_faults}
 use Rattle.prism_check.specs.TypeFaults as source
-use Rattle.prism_check.proofs.Each.{empty_parts, empty_join, each_join, each_parts, each_of}
-use Rattle.prism_clean.specs.Flattened.{IsFlat}
+use Rattle.prism_places.specs.Flattened.{IsFlat}
 use Rattle.jani_tree.specs.Syntax.{Write, Automaton, Vector}
 use Rattle.jani_check.specs.Least.{fault_if}
 use Rattle.jani_check.specs.Things.{is_called, automaton_called, global_thing, is_lasting}
@@ -29,14 +31,12 @@ use Rattle.name_table.specs.Asks.{bodies, actions, value_names, new_names}
 use Rattle.jani_translation.specs.Parts.{made}
 use Rattle.jani_translation.specs.Automata.{zz_silent, zz_monitor, for_action, for_silent, has_items, has_silent, earning_actions, earns_silently, has_monitor, rewards_of, write, destination, edge_action, edge, automaton, module_automaton, location_values, module_automata, monitor_edge, monitor_edges, monitor}
 use Rattle.jani_translation.specs.Translated.{has_command, part_if, silent_vector, silent_vectors, action_vector, translated}
-use Rattle.jani_translation.proofs.Fresh.{other_bytes}
 use Rattle.jani_translation.proofs.Differ.{values_differ, actions_are_not_silent}
 use Rattle.jani_translation_types.specs.TypeLaws.{NoClashingWrites}
-use Rattle.jani_translation_types.proofs.Clean.{no_formula, values_distinct}
+use Rattle.jani_translation.proofs.Clean.{no_formula, values_distinct}
 use Rattle.jani_translation_types.proofs.Sources.{IsFine, IsFineBody, EachFrom, bodies_fine}
-use Rattle.jani_translation_types.proofs.Outer.{nothing_joined}
 use Rattle.jani_translation_types.proofs.Writes.{written_fine}
-use Rattle.jani_translation_types.proofs.Rewarding.{IsReward, rewards_given, each_filter}
+use Rattle.jani_translation_types.proofs.Rewarding.{IsReward, rewards_given}
 use Rattle.jani_translation_types.proofs.Once.{is_value}
 use Rattle.jani_translation_types.proofs.Lone.{automata_found}
 
@@ -129,7 +129,7 @@ module _ (file : prism.File) (flat : IsFlat file) where
   writes_own i w h =
       own_by i w.name.at (variable_called file w.name.name)
       (ap (λ o. write_faults (target_of i (if is_some o then None else variable_called file w.name.name)) true w.name.at) (sym (no_formula file flat w.name.name))
-      ∙ (empty_parts (write_faults (target file i w.name.name) true w.name.at) (type_faults_of (types file) (wanted_at (target file i w.name.name)) w.value) h.0).0)
+      ∙ (append_parts (write_faults (target file i w.name.name) true w.name.at) (type_faults_of (types file) (wanted_at (target file i w.name.name)) w.value) h.0).0)
 
   -- ---- the monitor shares nothing
   earning_shares : (x : Name) (a : Named) (wanted : ItemOn → Bool) → edge_shared (λ y. is_lasting (global_thing (translated file) y)) (monitor_edge (new_names file) file a wanted) x ≡ []
@@ -140,15 +140,15 @@ module _ (file : prism.File) (flat : IsFlat file) where
   earning_all_share : (x : Name) (as_ : List Name) →
       flat_map (λ e. edge_shared (λ y. is_lasting (global_thing (translated file) y)) e x) (map (λ a. monitor_edge (new_names file) file (made ((new_names file).action a)) (for_action a)) as_) ≡ []
   earning_all_share x [] = refl
-  earning_all_share x (a ∷ as_) = empty_join _ _ (earning_shares x (made ((new_names file).action a)) (for_action a)) (earning_all_share x as_)
+  earning_all_share x (a ∷ as_) = append_both _ _ (earning_shares x (made ((new_names file).action a)) (for_action a)) (earning_all_share x as_)
 
   last_shares : (x : Name) (b : Bool) → flat_map (λ e. edge_shared (λ y. is_lasting (global_thing (translated file) y)) e x) (only_if b (monitor_edge (new_names file) file zz_silent for_silent)) ≡ []
-  last_shares x true = empty_join _ [] (earning_shares x zz_silent for_silent) refl
+  last_shares x true = append_both _ [] (earning_shares x zz_silent for_silent) refl
   last_shares x false = refl
 
   monitor_none : (x : Name) → shared_by (global_thing (translated file)) (automaton (new_names file) zz_monitor [] (monitor_edges (new_names file) file)) x ≡ []
   monitor_none x =
-      nothing_joined (λ e. edge_shared (λ y. is_lasting (global_thing (translated file) y)) e x)
+      flat_map_both (λ e. edge_shared (λ y. is_lasting (global_thing (translated file) y)) e x)
       (map (λ a. monitor_edge (new_names file) file (made ((new_names file).action a)) (for_action a)) (earning_actions file))
       (only_if (earns_silently file) (monitor_edge (new_names file) file zz_silent for_silent)) (earning_all_share x (earning_actions file)) (last_shares x (earns_silently file))
 
@@ -171,7 +171,7 @@ module _ (file : prism.File) (flat : IsFlat file) where
 
   own_apart : AreApart IsOwn
   own_apart i j y z d p q =
-      other_bytes y z
+      bytes_ne y z
       (λ e. let s : q.old ≡ p.old = values_differ file (values_distinct file flat) p.old q.old p.known (sym q.is ∙ sym e ∙ p.is) in
       let r : Some (Some i) ≡ Some (Some j) = sym p.owner ∙ ap (λ x. option_map (λ v. v.owner) (variable_called file x)) (sym s) ∙ q.owner in
       let t : i ≡ j = cc in
@@ -204,7 +204,7 @@ module _ (file : prism.File) (flat : IsFlat file) where
   edge_own i x silently c d h = by_action c.action h.1
     where
       by_silently : (s : Bool) → Each (IsOwn i) (if (list_any (is_called x) (if_some (edge_action (new_names file) s None))) then (assigns c) else [])
-      by_silently true = none_if (IsOwn i) (bytes_eq zz_silent.name x) (assigns c) (other_bytes zz_silent.name x (λ e. d (sym e)))
+      by_silently true = none_if (IsOwn i) (bytes_eq zz_silent.name x) (assigns c) (bytes_ne zz_silent.name x (λ e. d (sym e)))
       by_silently false = tt
 
       by_action : (o : Option Named) → Each (IsFine file flat i) (flat_map (branch_demands (is_some o)) c.branches) →
@@ -266,7 +266,7 @@ module _ (file : prism.File) (flat : IsFlat file) where
 
   actions_clash : (as_ : List Name) → flat_map (clashing_writes (translated file)) (map (action_vector (new_names file) file) as_) ≡ []
   actions_clash [] = refl
-  actions_clash (a ∷ as_) = empty_join _ _ (action_clash a) (actions_clash as_)
+  actions_clash (a ∷ as_) = append_both _ _ (action_clash a) (actions_clash as_)
 
   -- ---- in vectors without action one module takes part
   abbrev IsAt : ℕ → ℕ → Name → Type 0
@@ -299,13 +299,13 @@ module _ (file : prism.File) (flat : IsFlat file) where
       (silent_lists i 0 (earns_silently file) (location_values (new_names file) file) (bodies file) (new_names file).modules))
 
   silent_one : (i : ℕ) (b : Bool) → flat_map (clashing_writes (translated file)) (only_if b (silent_vector file i)) ≡ []
-  silent_one i true = empty_join _ [] (silent_clash i) refl
+  silent_one i true = append_both _ [] (silent_clash i) refl
   silent_one i false = refl
 
   silent_all : (i : ℕ) (ms : List prism.Body) → flat_map (clashing_writes (translated file)) (numbered (λ i m. only_if (has_silent m) (silent_vector file i)) i ms) ≡ []
   silent_all i [] = refl
   silent_all i (m ∷ ms) =
-      nothing_joined (clashing_writes (translated file)) (only_if (has_silent m) (silent_vector file i)) (numbered (λ i m. only_if (has_silent m) (silent_vector file i)) (i + 1) ms)
+      flat_map_both (clashing_writes (translated file)) (only_if (has_silent m) (silent_vector file i)) (numbered (λ i m. only_if (has_silent m) (silent_vector file i)) (i + 1) ms)
       (silent_one i (has_silent m)) (silent_all (i + 1) ms)
 
   silent_if : (b : Bool) → flat_map (clashing_writes (translated file)) (if b then silent_vectors file else []) ≡ []
@@ -314,7 +314,7 @@ module _ (file : prism.File) (flat : IsFlat file) where
 
   pub none_clash : flat_map (clashing_writes (translated file)) (translated file).vectors ≡ []
   none_clash =
-      nothing_joined (clashing_writes (translated file)) (map (action_vector (new_names file) file) (actions file)) (if earns_silently file then silent_vectors file else [])
+      flat_map_both (clashing_writes (translated file)) (map (action_vector (new_names file) file) (actions file)) (if earns_silently file then silent_vectors file else [])
       (actions_clash (actions file)) (silent_if (earns_silently file))
 
 pub no_clashing_writes : (file : prism.File) → NoClashingWrites file

@@ -1,22 +1,25 @@
 -- What a file without faults has of its demands, part by part.
 use Rattle.std.specs.Prelude.{◌≡◌, ℕ, ◌+◌, List, [], ◌∷◌, map, true, Option, Some, None}
 use Rattle.std.specs.List.{flat_map, list_all}
+use Rattle.basics.specs.Lists.{append_parts}
+use Rattle.basics.specs.Each.{each_then, each_with, each_join, each_parts, each_of, empty_each}
 use Rattle.bridge_io.specs.declared.reason.Reason.TheVariants.{NotConstant}
 use Rattle.op_trees.specs.declared.tree.Ty.{Ty}
 use Rattle.op_trees.specs.declared.tree.Ty.TheVariants as T
+use Rattle.op_trees.specs.Names.{offset_of}
 use Rattle.process_core.specs.Ready.{if_some}
-use Rattle.prism_tree.specs.Syntax.{Expression, offset_of, Const, Range, Var, Label, Body, Module, plain, copied, Item, File}
+use Rattle.prism_tree.specs.Syntax.{Expression, Const, Range, Var, Label, Body, Module, plain, copied, Item, File}
 use Rattle.prism_names.specs.Names.{part_of}
 use Rattle.prism_flat.specs.Kept.{is_plain}
 use Rattle.prism_print.specs.Printable.{Each, IfAny}
 use Rattle.prism_check.specs.Demands.{Demand, fixed, varying, wanted_by, var_type, const_demands, range_demands, var_demands, command_demands, label_demands, item_demands, rewards_demands, part_demands, formula_demands, outer_demands}
-use Rattle.prism_check.specs.NameFaults.{unknown, unknown_in, unknown_names, doubled_names}
+use Rattle.prism_check.specs.NameFaults.{unknown, unknown_in}
 use Rattle.prism_check.specs.TypeFaults.{types, type_faults_of, has_variable, demand_faults, repeated_writes, part_faults, numbered_faults}
-use Rattle.prism_check.specs.Least.{fault_if}
-use Rattle.prism_check.proofs.Each.{each_join, each_with, each_of, each_then, each_parts, empty_parts, empty_each, no_fault}
-use Rattle.prism_clean.specs.Flattened.{IsFlat}
+use Rattle.name_rules.specs.Least.{fault_if}
+use Rattle.prism_check.proofs.Each.{no_fault}
+use Rattle.prism_places.specs.Flattened.{IsFlat}
 use Rattle.name_table.specs.Asks.{contents, bodies, variables}
-use Rattle.jani_translation_types.proofs.Clean.{no_name_fault, no_type_fault}
+use Rattle.jani_translation.proofs.Clean.{no_faults, no_type_fault}
 use Rattle.jani_translation_types.proofs.Expressions.{HasType, has_type, known_names, IsFixed}
 
 -- what holds of each of the modules and its number
@@ -31,7 +34,7 @@ module _ (file : File) (flat : IsFlat file) where
 
   fixed_fine : (i : ℕ) (w : Ty) (e : Expression) → IsFine i (fixed (wanted_by w) e) → IsFixed file flat w e
   fixed_fine i w e h =
-      let r = empty_parts (type_faults_of (types file) (wanted_by w) e) (fault_if (has_variable file e) (offset_of e) NotConstant) h.0 in
+      let r = append_parts (type_faults_of (types file) (wanted_by w) e) (fault_if (has_variable file e) (offset_of e) NotConstant) h.0 in
       (has_type file flat w e (known_names file flat e h.1) r.0, no_fault (has_variable file e) (offset_of e) NotConstant r.1)
 
   varying_fine : (i : ℕ) (w : Ty) (e : Expression) → IsFine i (varying (wanted_by w) e) → HasType file flat w e
@@ -45,15 +48,13 @@ module _ (file : File) (flat : IsFlat file) where
 
   all_types : (flat_map (demand_faults file 0) (outer_demands file) ≡ []) × (numbered_faults file 0 file.modules ≡ [])
   all_types =
-      let r = empty_parts (flat_map (demand_faults file 0) (outer_demands file)) _ (no_type_fault file flat) in
-      (r.0, (empty_parts (flat_map (demand_faults file 0) (flat_map formula_demands file.formulas)) (numbered_faults file 0 file.modules) r.1).1)
+      let r = append_parts (flat_map (demand_faults file 0) (outer_demands file)) _ (no_type_fault file flat) in
+      (r.0, (append_parts (flat_map (demand_faults file 0) (flat_map formula_demands file.formulas)) (numbered_faults file 0 file.modules) r.1).1)
 
   all_names : (flat_map (unknown file) (outer_demands file) ≡ []) × (flat_map (unknown_in file) file.modules ≡ [])
   all_names =
-      let a = (empty_parts (doubled_names file) _ (no_name_fault file flat)).1 in
-      let b = (empty_parts (unknown_names file) _ a).0 in
-      let r = empty_parts (flat_map (unknown file) (outer_demands file)) _ b in
-      (r.0, (empty_parts (flat_map (unknown file) (flat_map formula_demands file.formulas)) (flat_map (unknown_in file) file.modules) r.1).1)
+      let r = append_parts (flat_map (unknown file) (outer_demands file)) _ (no_faults file flat).unknown in
+      (r.0, (append_parts (flat_map (unknown file) (flat_map formula_demands file.formulas)) (flat_map (unknown_in file) file.modules) r.1).1)
 
   outer_fine : Each (IsFine 0) (outer_demands file)
   outer_fine = fine_all 0 (outer_demands file) all_types.0 all_names.0
@@ -67,9 +68,9 @@ module _ (file : File) (flat : IsFlat file) where
       EachFrom IsFineBody i (map contents ms)
   modules_fine i [] p h k = tt
   modules_fine i (plain m ∷ ms) p h k =
-      let r = empty_parts (part_faults file i (part_of file (plain m))) (numbered_faults file (i + 1) ms) h in
-      let s = empty_parts (flat_map (unknown file) (part_demands (part_of file (plain m)))) (flat_map (unknown_in file) ms) k in
-      let t = empty_parts (flat_map (demand_faults file i) (part_demands (part_of file (plain m)))) (flat_map repeated_writes m.commands) r.0 in
+      let r = append_parts (part_faults file i (part_of file (plain m))) (numbered_faults file (i + 1) ms) h in
+      let s = append_parts (flat_map (unknown file) (part_demands (part_of file (plain m)))) (flat_map (unknown_in file) ms) k in
+      let t = append_parts (flat_map (demand_faults file i) (part_demands (part_of file (plain m)))) (flat_map repeated_writes m.commands) r.0 in
       let u = each_parts (IsFine i) (flat_map var_demands m.vars) (flat_map command_demands m.commands) (fine_all i (part_demands (part_of file (plain m))) t.0 s.0) in
       ((u.0, u.1, t.1), modules_fine (i + 1) ms p r.1 s.1)
   modules_fine i (copied m ∷ ms) p h k = absurd cc

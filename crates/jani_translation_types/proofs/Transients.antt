@@ -1,46 +1,25 @@
 -- What the new names of labels and reward structures stand for.
-use Rattle.std.specs.Prelude.{◌≡◌, ℕ, zero, suc, ◌+◌, ◌<◌, List, [], ◌∷◌, ◌++◌, map, length, drop, false, cond, unwrap_or, Option, Some, None, slice_get, bytes_eq}
+use Rattle.std.specs.Prelude.{◌≡◌, ℕ, zero, suc, ◌+◌, ◌<◌, List, [], ◌∷◌, ◌++◌, map, length, drop, false, cond, unwrap_or, Some, None, slice_get, bytes_eq}
 use Rattle.std.specs.List.{find, zip}
 use Rattle.std.specs.Option.{option_map}
 use Rattle.std.proofs.Common.{refl, sym, ap, ap₂, subst, ◌∙◌, arith, append-nil}
+use Rattle.basics.specs.Each.{each_at}
+use Rattle.basics.specs.Texts.{bytes_eq-self}
+use Rattle.basics.specs.Lists.{slice_get-drop}
 use Rattle.bridge_io.specs.declared.reason.Named.{Named}
 use Rattle.process_core.specs.Ready.{Name}
 use Rattle.prism_tree.specs.Syntax as prism
 use Rattle.prism_print.specs.Printable.{Each}
 use Rattle.jani_tree.specs.Syntax.{Const, Var}
 use Rattle.jani_check.specs.Things.{is_called, const_thing, var_thing, or_else, global_thing}
-use Rattle.name_table.specs.declared.class.NameClass.{NameClass}
-use Rattle.name_table.specs.declared.class.NameClass.TheVariants.{Constant, Variable, Label, Reward}
-use Rattle.name_table.specs.declared.class.Target.TheVariants.{Jani}
+use Rattle.name_table.specs.declared.class.NameClass.TheVariants.{Label}
 use Rattle.name_table.specs.declared.entry.Entry.{Entry}
-use Rattle.name_table.specs.Rule.{space}
-use Rattle.name_table.specs.Entries.{Ask}
-use Rattle.name_table.proofs.EntryLemmas.{placed, kept_is_old, no_two_alike}
-use Rattle.name_table.specs.Asks.{ask, called, variables, module_asks, action_asks, reward_asks, label_asks, variable_asks, asks, entries, new_names, labels_at, rewards_at, modules_at}
+use Rattle.name_table.proofs.Parts.{values_apart}
+use Rattle.name_table.specs.Asks.{variables, entries, new_names, labels_at, rewards_at, modules_at}
 use Rattle.jani_translation.specs.Parts.{constant, variable, label, structure}
 use Rattle.jani_translation.specs.Translated.{translated}
-use Rattle.jani_translation.proofs.Fresh.{same_bytes, other_bytes}
 use Rattle.jani_translation.proofs.SameSeen.{zip-take}
 use Rattle.jani_translation_types.proofs.Alike.{structure_name}
-
--- ---- the first entries have one space
-abbrev from_ask : Option Ask → NameClass
-from_ask None = Constant
-from_ask (Some a) = a.0
-
-front_space : {X : Type 0} (f : X → Ask) → ((x : X) → space Jani (f x).0 ≡ space Jani Constant) → (xs : List X) (rest : List Ask) (n : ℕ) →
-    ((i : ℕ) (a : Ask) → i < n → slice_get rest i ≡ Some a → space Jani a.0 ≡ space Jani Constant) →
-    (i : ℕ) (a : Ask) → i < length xs + n → slice_get (map f xs ++ rest) i ≡ Some a → space Jani a.0 ≡ space Jani Constant
-front_space f h [] rest n k i a l g = k i a (omega arith) g
-front_space f h (x ∷ xs) rest n k zero a l g = ap (λ o. space Jani (from_ask o)) (sym g) ∙ h x
-front_space f h (x ∷ xs) rest n k (suc i) a l g = front_space f h xs rest n k i a (omega arith) g
-
-pub skipped : {X : Type 0} (n i : ℕ) (xs : List X) → slice_get (drop n xs) i ≡ slice_get xs (n + i)
-skipped zero i xs = let on : i ≡ zero + i = omega arith in ap (slice_get xs) on
-skipped (suc n) i [] = refl
-skipped (suc n) i (x ∷ xs) =
-    let on : suc n + i ≡ suc (n + i) = omega arith in
-    skipped n i xs ∙ ap (slice_get (x ∷ xs)) (sym on)
 
 -- ---- lists that are searched
 none_before : {X B : Type 0} (name : B → Named) (made : X → Entry → B) → ((x : X) (e : Entry) → (name (made x e)).name ≡ e.name) → (z : Name) (xs : List X) (es : List Entry) (rest : List B) →
@@ -62,7 +41,7 @@ found_at made n z (x ∷ xs) [] rest k p g q h = absurd cc
 found_at made n z (x ∷ xs) (e ∷ es) rest zero p g q h =
     let s : (x, e) ≡ p = ap (λ o. unwrap_or o (x, e)) g in
     ap (λ b. cond b (Some (made x e)) (find (λ v. is_called z v.name) (map (λ p. made p.0 p.1) (zip xs es) ++ rest)))
-    (ap (λ y. bytes_eq y z) (n x e ∙ ap (λ r. r.1.name) s ∙ q) ∙ same_bytes z)
+    (ap (λ y. bytes_eq y z) (n x e ∙ ap (λ r. r.1.name) s ∙ q) ∙ bytes_eq-self z)
     ∙ ap (λ r. Some (made r.0 r.1)) s
 found_at made n z (x ∷ xs) (e ∷ es) rest (suc k) p g q h =
     ap (λ b. cond b (Some (made x e)) (find (λ v. is_called z v.name) (map (λ p. made p.0 p.1) (zip xs es) ++ rest)))
@@ -79,32 +58,7 @@ zip_at (x ∷ xs) [] k p g = absurd cc
 zip_at (x ∷ xs) (e ∷ es) zero p g = record { within = omega arith; entry = ap (option_map (λ r. r.1)) g }
 zip_at (x ∷ xs) (e ∷ es) (suc k) p g = let r = zip_at xs es k p g in let l = r.within in record { within = omega arith; entry = r.entry }
 
-each_at : {A : Type 0} (P : A → Type 0) (xs : List A) → ((k : ℕ) (x : A) → slice_get xs k ≡ Some x → P x) → Each P xs
-each_at P [] h = tt
-each_at P (x ∷ xs) h = (h 0 x refl, each_at P xs (λ k y g. h (suc k) y g))
-
 module _ (file : prism.File) where
-  first_space : (i : ℕ) (e : Entry) → i < modules_at file (entries file) → slice_get (entries file) i ≡ Some e → space Jani e.class ≡ space Jani Constant
-  first_space i e l h =
-      let p = placed Jani (asks file) i e h in
-      let k = kept_is_old Jani (asks file) i p.asked e (record { entry = h; ask = p.ask }) in
-      let rs = length file.rewards in
-      let ls = length file.labels in
-      let vs = length (variables file) in
-      let rest = module_asks file ++ action_asks file in
-      ap (space Jani) k.0
-      ∙ front_space (λ c. ask Constant c.name.name) (λ c. refl) file.constants (variable_asks file ++ (label_asks file ++ (reward_asks file ++ rest))) (vs + (ls + (rs + 0)))
-      (front_space (λ x. ask Variable x.name.name) (λ x. refl) (variables file) (label_asks file ++ (reward_asks file ++ rest)) (ls + (rs + 0))
-      (front_space (λ l. ask Label l.name.name) (λ l. refl) file.labels (reward_asks file ++ rest) (rs + 0)
-      (front_space (λ r. (Reward, called r.name)) (λ r. refl) file.rewards rest 0 (λ j a b g. absurd (omega arith)))))
-      i p.asked (omega arith) p.ask
-
-  -- the names of two of them differ
-  pub other_names : (i j : ℕ) (e u : Entry) → i < modules_at file (entries file) → j < modules_at file (entries file) → (i ≡ j → ⊥) →
-      slice_get (entries file) i ≡ Some e → slice_get (entries file) j ≡ Some u → bytes_eq e.name u.name ≡ false
-  other_names i j e u l k d g h =
-      other_bytes e.name u.name (λ q. no_two_alike Jani (asks file) i j e u g h d (first_space i e l g ∙ sym (first_space j u k h)) q)
-
   -- ---- before labels stand constants and variables
   consts_before : (j : ℕ) (e : Entry) → labels_at file (entries file) < j + 1 → j < modules_at file (entries file) → slice_get (entries file) j ≡ Some e →
       find (λ c. is_called e.name c.name) (translated file).constants ≡ None
@@ -112,7 +66,7 @@ module _ (file : prism.File) where
       ap (λ ps. find (λ c. is_called e.name c.name) (map (λ p. constant (new_names file).value p.0 p.1) ps)) (zip-take file.constants (entries file))
       ∙ ap (find (λ c. is_called e.name c.name)) (sym (append-nil (map (λ p. constant (new_names file).value p.0 p.1) (zip file.constants (entries file)))))
       ∙ none_before (λ (c : Const). c.name) (constant (new_names file).value) (λ c e. refl) e.name file.constants (entries file) []
-      (λ i u l h. other_names i j u e (omega arith) b (λ q. absurd (omega arith)) h g)
+      (λ i u l h. values_apart file i j u e (omega arith) b (λ q. absurd (omega arith)) h g)
 
   vars_before : (j : ℕ) (e : Entry) (rest : List Var) → labels_at file (entries file) < j + 1 → j < modules_at file (entries file) → slice_get (entries file) j ≡ Some e →
       find (λ v. is_called e.name v.name) (map (λ p. variable (new_names file).value p.0 p.1) (zip (variables file) (new_names file).variables) ++ rest) ≡ find (λ v. is_called e.name v.name) rest
@@ -120,7 +74,7 @@ module _ (file : prism.File) where
       let at = length file.constants in
       ap (λ ps. find (λ v. is_called e.name v.name) (map (λ p. variable (new_names file).value p.0 p.1) ps ++ rest)) (zip-take (variables file) (drop at (entries file)))
       ∙ none_before (λ (v : Var). v.name) (variable (new_names file).value) (λ v e. refl) e.name (variables file) (drop at (entries file)) rest
-      (λ i u l h. other_names (at + i) j u e (omega arith) b (λ q. absurd (omega arith)) (sym (skipped at i (entries file)) ∙ h) g)
+      (λ i u l h. values_apart file (at + i) j u e (omega arith) b (λ q. absurd (omega arith)) (sym (slice_get-drop at i (entries file)) ∙ h) g)
 
   label_stands : (k : ℕ) (p : prism.Label × Entry) → slice_get (zip file.labels (drop (labels_at file (entries file)) (entries file))) k ≡ Some p →
       global_thing (translated file) p.1.name ≡ Some (var_thing (label p.0 p.1))
@@ -128,7 +82,7 @@ module _ (file : prism.File) where
       let at = labels_at file (entries file) in
       let r = zip_at file.labels (drop at (entries file)) k p g in
       let l = r.within in
-      let here : slice_get (entries file) (at + k) ≡ Some p.1 = sym (skipped at k (entries file)) ∙ r.entry in
+      let here : slice_get (entries file) (at + k) ≡ Some p.1 = sym (slice_get-drop at k (entries file)) ∙ r.entry in
       let structures = map (λ p. structure p.0 p.1) (zip file.rewards (new_names file).rewards) in
       let labels = map (λ p. label p.0 p.1) (zip file.labels (new_names file).labels) in
       ap₂ or_else (ap (option_map const_thing) (consts_before (at + k) p.1 (omega arith) (omega arith) here))
@@ -136,7 +90,7 @@ module _ (file : prism.File) where
       (vars_before (at + k) p.1 (labels ++ structures) (omega arith) (omega arith) here
       ∙ ap (λ ps. find (λ v. is_called p.1.name v.name) (map (λ p. label p.0 p.1) ps ++ structures)) (zip-take file.labels (drop at (entries file)))
       ∙ found_at label (λ l e. refl) p.1.name file.labels (drop at (entries file)) structures k p g refl
-      (λ i u m h. other_names (at + i) (at + k) u p.1 (omega arith) (omega arith) (λ q. absurd (omega arith)) (sym (skipped at i (entries file)) ∙ h) here)))
+      (λ i u m h. values_apart file (at + i) (at + k) u p.1 (omega arith) (omega arith) (λ q. absurd (omega arith)) (sym (slice_get-drop at i (entries file)) ∙ h) here)))
 
   pub labels_stand : Each (λ p. global_thing (translated file) p.1.name ≡ Some (var_thing (label p.0 p.1))) (zip file.labels (new_names file).labels)
   labels_stand =
@@ -150,7 +104,7 @@ module _ (file : prism.File) where
       let before = labels_at file (entries file) in
       let r = zip_at file.rewards (drop at (entries file)) k p g in
       let l = r.within in
-      let here : slice_get (entries file) (at + k) ≡ Some p.1 = sym (skipped at k (entries file)) ∙ r.entry in
+      let here : slice_get (entries file) (at + k) ≡ Some p.1 = sym (slice_get-drop at k (entries file)) ∙ r.entry in
       let structures = map (λ p. structure p.0 p.1) (zip file.rewards (new_names file).rewards) in
       let labels = map (λ p. label p.0 p.1) (zip file.labels (new_names file).labels) in
       ap₂ or_else (ap (option_map const_thing) (consts_before (at + k) p.1 (omega arith) (omega arith) here))
@@ -158,11 +112,11 @@ module _ (file : prism.File) where
       (vars_before (at + k) p.1 (labels ++ structures) (omega arith) (omega arith) here
       ∙ ap (λ ps. find (λ v. is_called p.1.name v.name) (map (λ p. label p.0 p.1) ps ++ structures)) (zip-take file.labels (drop before (entries file)))
       ∙ none_before (λ (v : Var). v.name) label (λ l e. refl) p.1.name file.labels (drop before (entries file)) structures
-      (λ i u m h. other_names (before + i) (at + k) u p.1 (omega arith) (omega arith) (λ q. absurd (omega arith)) (sym (skipped before i (entries file)) ∙ h) here)
+      (λ i u m h. values_apart file (before + i) (at + k) u p.1 (omega arith) (omega arith) (λ q. absurd (omega arith)) (sym (slice_get-drop before i (entries file)) ∙ h) here)
       ∙ ap (λ ps. find (λ v. is_called p.1.name v.name) (map (λ p. structure p.0 p.1) ps)) (zip-take file.rewards (drop at (entries file)))
       ∙ ap (find (λ v. is_called p.1.name v.name)) (sym (append-nil (map (λ p. structure p.0 p.1) (zip file.rewards (drop at (entries file))))))
       ∙ found_at structure structure_name p.1.name file.rewards (drop at (entries file)) [] k p g refl
-      (λ i u m h. other_names (at + i) (at + k) u p.1 (omega arith) (omega arith) (λ q. absurd (omega arith)) (sym (skipped at i (entries file)) ∙ h) here)))
+      (λ i u m h. values_apart file (at + i) (at + k) u p.1 (omega arith) (omega arith) (λ q. absurd (omega arith)) (sym (slice_get-drop at i (entries file)) ∙ h) here)))
 
   pub structures_stand : Each (λ p. global_thing (translated file) p.1.name ≡ Some (var_thing (structure p.0 p.1))) (zip file.rewards (new_names file).rewards)
   structures_stand =

@@ -3,17 +3,20 @@ use Rattle.std.specs.Prelude.{◌≡◌, ℕ, List, [], ◌∷◌, ◌++◌, map
 use Rattle.std.specs.List.{AllByRecursion, IsDistinct, find, flat_map}
 use Rattle.std.specs.Option.{option_map}
 use Rattle.std.proofs.Common.{refl, sym, ap, subst, ◌∙◌}
+use Rattle.basics.specs.Each.{each_rest}
+use Rattle.basics.specs.Texts.{bytes_eq-true, bytes_eq-false_comm}
+use Rattle.basics.specs.Lists.{append_parts, append_both}
 use Rattle.bridge_io.specs.declared.reason.Reason.TheVariants.{ForeignWrite}
 use Rattle.op_trees.specs.declared.tree.Ty.{Ty}
+use Rattle.op_trees.specs.Names.{names_of}
 use Rattle.process_core.specs.Ready.{Name}
 use Rattle.prism_tree.specs.Syntax as prism
 use Rattle.prism_names.specs.Names as source_names
 use Rattle.prism_check.specs.Demands.{written, wanted_by, type_by, var_type}
-use Rattle.prism_check.specs.NameFaults.{is_among, values, names_of, unless_known}
-use Rattle.prism_check.specs.TypeFaults.{Variable, variable_called, types, type_faults_of, target_of, target_by, target, wanted_at, write_faults}
+use Rattle.prism_check.specs.NameFaults.{is_among, values, unless_known}
+use Rattle.prism_check.specs.TypeFaults.{Variable, variable_called, types, type_faults_of, target_of, target_by, wanted_at, write_faults}
 use Rattle.prism_check.specs.TypeFaults as source
-use Rattle.prism_check.proofs.Each.{empty_parts, empty_join}
-use Rattle.prism_clean.specs.Flattened.{IsFlat}
+use Rattle.prism_places.specs.Flattened.{IsFlat}
 use Rattle.jani_check.specs.Least.{fault_if}
 use Rattle.jani_check.specs.Things.{var_thing, or_else, const_thing, global_thing, types_by, is_constant}
 use Rattle.jani_check.specs.Demands as jani_demands
@@ -24,29 +27,17 @@ use Rattle.prism_images.specs.Image.{image}
 use Rattle.name_table.specs.Asks.{variables, new_names}
 use Rattle.jani_translation.specs.Automata.{write}
 use Rattle.jani_translation.specs.Translated.{translated}
-use Rattle.jani_translation.proofs.Fresh.{same_bytes, equal_bytes}
-use Rattle.jani_translation_types.proofs.Clean.{no_formula, values_distinct, variable_types, declared_type}
+use Rattle.jani_translation.proofs.Clean.{no_formula, values_distinct, variable_types, declared_type}
 use Rattle.jani_translation_types.proofs.Alike.{source_const, source_var, kind_typed, stand_alike}
 use Rattle.jani_translation_types.proofs.Expressions.{HasType, has_type, known_names, image_fits}
 use Rattle.jani_translation_types.proofs.Sources.{IsFine}
 
 -- ---- a variable's name is no constant's
-turned : (x y : Name) → bytes_eq x y ≡ false → bytes_eq y x ≡ false
-turned x y h = by_answer (bytes_eq y x) refl
-  where
-    by_answer : (b : Bool) → bytes_eq y x ≡ b → b ≡ false
-    by_answer true e = absurd (let r : true ≡ false = sym (ap (bytes_eq x) (equal_bytes y x e) ∙ same_bytes x) ∙ h in cc)
-    by_answer false e = refl
-
-none_typed : (x : Name) (vs : List prism.Var) → AllByRecursion (λ y. bytes_eq x y ≡ false) (map (λ v. v.name.name) vs) → declared_type x vs ≡ None
+pub none_typed : (x : Name) (vs : List prism.Var) → AllByRecursion (λ y. bytes_eq x y ≡ false) (map (λ v. v.name.name) vs) → declared_type x vs ≡ None
 none_typed x [] h = refl
-none_typed x (v ∷ vs) h = ap (λ b. option_map var_type (cond b (Some v) (find (λ v. source_names.is_called x v.name) vs))) (turned x v.name.name h.0) ∙ none_typed x vs h.1
+none_typed x (v ∷ vs) h = ap (λ b. option_map var_type (cond b (Some v) (find (λ v. source_names.is_called x v.name) vs))) (bytes_eq-false_comm x v.name.name h.0) ∙ none_typed x vs h.1
 
-last_of : {A : Type 0} (P : A → Type 0) (xs ys : List A) → AllByRecursion P (xs ++ ys) → AllByRecursion P ys
-last_of P [] ys h = h
-last_of P (x ∷ xs) ys h = last_of P xs ys h.1
-
-no_constant : (x : Name) (cs : List prism.Const) (vs : List prism.Var) → IsDistinct bytes_eq (map (λ c. c.name.name) cs ++ map (λ v. v.name.name) vs) →
+pub no_constant : (x : Name) (cs : List prism.Const) (vs : List prism.Var) → IsDistinct bytes_eq (map (λ c. c.name.name) cs ++ map (λ v. v.name.name) vs) →
     IsTrue (is_some (declared_type x vs)) → find (λ c. source_names.is_called x c.name) cs ≡ None
 unfolding IsDistinct
 no_constant x [] vs d h = refl
@@ -55,8 +46,8 @@ no_constant x (c ∷ cs) vs d h = by_answer (bytes_eq c.name.name x) refl (no_co
     by_answer : (b : Bool) → bytes_eq c.name.name x ≡ b → find (λ c. source_names.is_called x c.name) cs ≡ None → cond b (Some c) (find (λ c. source_names.is_called x c.name) cs) ≡ None
     by_answer true e r =
         absurd
-        (let none = none_typed c.name.name vs (last_of (λ y. bytes_eq c.name.name y ≡ false) (map (λ c. c.name.name) cs) (map (λ v. v.name.name) vs) d.0) in
-        let r : IsTrue (is_some (declared_type c.name.name vs)) = subst (λ y. IsTrue (is_some (declared_type y vs))) (sym (equal_bytes c.name.name x e)) h in
+        (let none = none_typed c.name.name vs (each_rest (λ y. bytes_eq c.name.name y ≡ false) (map (λ c. c.name.name) cs) (map (λ v. v.name.name) vs) d.0) in
+        let r : IsTrue (is_some (declared_type c.name.name vs)) = subst (λ y. IsTrue (is_some (declared_type y vs))) (sym (bytes_eq-true c.name.name x e)) h in
         let s : IsTrue false = subst (λ o. IsTrue (is_some o)) none r in cc)
     by_answer false e r = r
 
@@ -88,9 +79,9 @@ module _ (file : prism.File) (flat : IsFlat file) where
   by_variable : (i : ℕ) (acts : Bool) (w : prism.Write) (o : Option Variable) → variable_called file w.name.name ≡ o →
       flat_map (unless_known (is_among (values file))) (names_of w.value) ≡ [] →
       write_faults (target_of i o) acts w.name.at ++ type_faults_of (types file) (wanted_at (target_of i o)) w.value ≡ [] → IsFineWrite w
-  by_variable i acts w None e k h = absurd (let r = (empty_parts (write_faults (target_of i None) acts w.name.at) (type_faults_of (types file) (wanted_at (target_of i None)) w.value) h).0 in cc)
+  by_variable i acts w None e k h = absurd (let r = (append_parts (write_faults (target_of i None) acts w.name.at) (type_faults_of (types file) (wanted_at (target_of i None)) w.value) h).0 in cc)
   by_variable i acts w (Some v) e k h =
-      let r = empty_parts (write_faults (target_by v.owner i v.ty) acts w.name.at) (type_faults_of (types file) (wanted_at (target_by v.owner i v.ty)) w.value) h in
+      let r = append_parts (write_faults (target_by v.owner i v.ty) acts w.name.at) (type_faults_of (types file) (wanted_at (target_by v.owner i v.ty)) w.value) h in
       record {
         ty = v.ty;
         variable = sym (variable_types file flat w.name.name) ∙ ap (option_map (λ v. v.ty)) e;
@@ -111,7 +102,7 @@ module _ (file : prism.File) (flat : IsFlat file) where
   pub written_fine : (i : ℕ) (acts : Bool) (w : prism.Write) → IsFine file flat i (written acts w) → IsFineWrite w
   written_fine i acts w h =
       by_variable i acts w (variable_called file w.name.name) refl
-      (empty_parts (unless_known (is_among (values file)) w.name) (flat_map (unless_known (is_among (values file))) (names_of w.value)) h.1).1
+      (append_parts (unless_known (is_among (values file)) w.name) (flat_map (unless_known (is_among (values file))) (names_of w.value)) h.1).1
       (ap (λ o. write_faults (target_of i (if is_some o then None else variable_called file w.name.name)) acts w.name.at
       ++ type_faults_of (types file) (wanted_at (target_of i (if is_some o then None else variable_called file w.name.name))) w.value) (sym (no_formula file flat w.name.name))
       ∙ h.0)
@@ -122,7 +113,7 @@ module _ (file : prism.File) (flat : IsFlat file) where
       let stands = variable_stands w.name.name h.ty h.variable in
       let o = find (λ v. source_names.is_called w.name.name v.name) (variables file) in
       let new = (new_names file).value in
-      empty_join (fault_if (is_constant (global_thing (translated file) (new w.name.name))) w.name.at ForeignWrite) _
+      append_both (fault_if (is_constant (global_thing (translated file) (new w.name.name))) w.name.at ForeignWrite) _
       (ap (λ b. fault_if b w.name.at ForeignWrite) (ap is_constant stands ∙ no_const_of o))
       (ap (λ t. jani_types.type_faults_of (types_by (global_thing (translated file))) t (image new w.value)) (ap jani_types.wanted_at stands ∙ wanted_of o h.ty h.variable)
       ∙ image_fits file flat h.ty w.value h.value)

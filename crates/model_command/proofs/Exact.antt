@@ -8,7 +8,7 @@ use Rattle.bridge_io.specs.declared.reason.Fault.{Fault}
 use Rattle.bridge_io.specs.declared.reason.Reason.{Reason}
 use Rattle.bridge_io.specs.declared.place.Place.{Place}
 use Rattle.prism_tree.specs.Syntax.{File}
-use Rattle.prism_check.specs.Least.{IsLeast}
+use Rattle.name_rules.specs.Least.{IsLeast}
 use Rattle.prism_check.specs.Faults.{faults}
 use Rattle.model_command.specs.declared.words.Task.{Task}
 use Rattle.model_command.specs.declared.words.Task.TheVariants.{ToJani, ToPrism, CheckPrism, CheckJani}

@@ -5,7 +5,7 @@ use Rattle.bridge_io.specs.declared.reason.Refused.{Refused}
 use Rattle.bridge_io.specs.declared.reason.Refused.TheVariants as R
 use Rattle.prism_tree.specs.Syntax.{File}
 use Rattle.prism_parse.specs.Parsed.{IsSpelled, IsLeastFault}
-use Rattle.prism_check.specs.Least.{IsLeast}
+use Rattle.name_rules.specs.Least.{IsLeast}
 use Rattle.prism_check.specs.Faults.{faults}
 
 -- The bytes have no fault of tokens or grammar, they spell this tree and no other, and the tree has no fault of names, size or

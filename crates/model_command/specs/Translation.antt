@@ -1,4 +1,4 @@
--- What is written for a PRISM file: the text of a JANI file that means the same.
+-- What is written for a PRISM file: the text of a JANI file that means the same (this project's own rule).
 use Rattle.std.specs.Prelude.{◌≡◌, ℕ, List, [], ◌∷◌, ◌++◌}
 use Rattle.prism_tree.specs.Syntax as prism
 use Rattle.jani_tree.specs.Syntax as jani

@@ -2,20 +2,14 @@
 use Rattle.std.proofs.Common.{◌≡◌, ℕ, zero, suc, ◌+◌, ◌*◌, ◌/◌, ◌%◌, ◌^◌, ◌<◌, ◌≤◌, Bool, true, false, cond, nat_lt, List, [], ◌∷◌, ◌++◌, refl, sym, ap, ◌∙◌, arith}
 use Rattle.std.specs.Prelude.{decimal}
 use Rattle.std.specs.Char.{digit_value}
-use Rattle.std.specs.Str.Parse.{digits_value, digits_value_after}
+use Rattle.std.specs.Str.Parse.{digits_value}
 use Rattle.std.proofs.Math.Nat.{pow-suc}
 use Rattle.std.proofs.lemmas.Bool.Decides.{nat_tests}
 use Rattle.std.proofs.lemmas.Fmt.{decimal_step_wide, decimal_digit}
+use Rattle.frac_core.proofs.Digits.{above, digit_of, value_push}
 use Rattle.name_table.specs.Rule.{digits_of, digits}
 
 -- ---- as std writes a number
-
-above_power : (n : ℕ) → n < 10 ^ n
-above_power zero = omega arith
-above_power (suc n) = let h = above_power n in let e = pow-suc 10 n in omega arith
-
-above : (n : ℕ) → n < 10 ^ suc n
-above n = let h = above_power n in let e = pow-suc 10 n in omega arith
 
 some : (k m : ℕ) → m < 10 ^ k → 0 < m → 0 < k
 some zero m r l = omega arith
@@ -38,13 +32,6 @@ unfolding digits
 digits_decimal n h = digits_of_decimal (suc n) n (above n) (omega arith) (omega arith)
 
 -- ---- different numbers
-
-digit_of : (n : ℕ) → n < 10 → digit_value (48 + n) ≡ n
-digit_of n h = grind (arith, nat_tests)
-
-value_push : (a : ℕ) (xs : List ℕ) (c : ℕ) → digits_value_after 10 a (xs ++ c ∷ []) ≡ digits_value_after 10 a xs * 10 + digit_value c
-value_push a [] c = refl
-value_push a (x ∷ xs) c = value_push (a * 10 + digit_value x) xs c
 
 value_of_digits : (k n : ℕ) → n < 10 ^ k → 0 < k → digits_value 10 (digits_of k n) ≡ n
 value_of_digits zero n h p = absurd (omega arith)

@@ -1,12 +1,13 @@
 -- The entries of asks, place by place.
-use Rattle.std.proofs.Common.{◌≡◌, ◌≢◌, ◌⊎◌, inl, inr, ℕ, zero, suc, ◌+◌, ◌<◌, Bool, true, false, cond, List, [], ◌∷◌, ◌++◌, length, take, Option, Some, None, refl, sym, ap, subst, ◌∙◌, arith, append-nil, append_assoc, length-append}
-use Rattle.std.specs.Prelude.{◌&&◌, ◌||◌, not, slice_get, count_by, nat_eq, bytes_eq}
-use Rattle.std.specs.List.{list_any}
-use Rattle.std.proofs.lemmas.Option.{slice_get_past}
+use Rattle.std.proofs.Common.{◌≡◌, ◌≢◌, ℕ, zero, suc, ◌+◌, ◌<◌, Bool, true, false, cond, List, [], ◌∷◌, ◌++◌, length, take, Option, Some, None, refl, sym, ap, subst, ◌∙◌, arith, append-nil, append_assoc, length-append, eq-eqb}
+use Rattle.std.specs.Prelude.{◌&&◌, not, slice_get, count_by, nat_lt, bytes_eq}
+use Rattle.std.proofs.lemmas.Option.{slice_get_past, same_Some}
 use Rattle.std.proofs.lemmas.Bool.Decides.{nat_tests}
 use Rattle.std.proofs.lemmas.Slice.Eq.{bytes_eq-Decides}
 use Rattle.std.proofs.Math.Seq.{take-append_seam}
 use Rattle.std.proofs.lemmas.List.Sums.{sum_by-append}
+use Rattle.std.proofs.lemmas.Bool.{and_parts, not-true}
+use Rattle.std.proofs.lemmas.Map.Keys.{any_passes_from_place}
 use Rattle.name_table.specs.declared.class.NameClass.{NameClass}
 use Rattle.name_table.specs.declared.class.NameClass.TheVariants.{Location}
 use Rattle.name_table.specs.declared.class.Target.{Target}
@@ -18,9 +19,6 @@ use Rattle.name_table.specs.Laws.{ComesOf}
 use Rattle.name_table.proofs.MadeNames.{made_begins, made_class, made_number}
 
 -- ---- lists
-
-some_is : {A : Type 0} (x y : A) → Some x ≡ Some y → x ≡ y
-some_is x y e = cc
 
 slice_mid : {A : Type 0} (xs : List A) (x : A) (ys : List A) (i : ℕ) → i ≡ length xs → slice_get ((xs ++ x ∷ []) ++ ys) i ≡ Some x
 slice_mid [] x ys zero e = refl
@@ -40,15 +38,6 @@ slice_take (y ∷ xs) i zero x l h = absurd (omega arith)
 slice_take (y ∷ xs) zero (suc j) x l h = h
 slice_take (y ∷ xs) (suc i) (suc j) x l h = slice_take xs i j x (omega arith) h
 
-or_true : (a b : Bool) → b ≡ true → (a || b) ≡ true
-or_true true b h = refl
-or_true false b h = h
-
-any_at : {A : Type 0} (p : A → Bool) (xs : List A) (i : ℕ) (x : A) → slice_get xs i ≡ Some x → p x ≡ true → list_any p xs ≡ true
-any_at p [] i x h t = absurd cc
-any_at p (y ∷ xs) zero x h t = let e : p y ≡ true = ap p (some_is y x h) ∙ t in rw e refl
-any_at p (y ∷ xs) (suc i) x h t = or_true (p y) (list_any p xs) (any_at p xs i x h t)
-
 pub count_push : {A : Type 0} (p : A → Bool) (xs ys : List A) → count_by p (xs ++ ys) ≡ count_by p xs + count_by p ys
 count_push p xs ys = sum_by-append (λ x. cond (p x) 1 0) xs ys
 
@@ -60,7 +49,7 @@ count_less p [] i j x l h t = absurd cc
 count_less p (y ∷ xs) i zero x l h t = absurd (omega arith)
 count_less p (y ∷ xs) zero (suc j) x l h t =
     let c = count_one p y (take j xs) in
-    let e = one (p y) (ap p (some_is y x h) ∙ t) in
+    let e = one (p y) (ap p (same_Some y x h) ∙ t) in
     omega arith
   where
     one : (b : Bool) → b ≡ true → 0 < cond b 1 0
@@ -123,7 +112,7 @@ stands t es (a ∷ asks) zero j e q h =
     let l : j ≡ length es = omega arith in
     let k : Some n ≡ Some e = sym (slice_mid es n f.0 j l) ∙ ap (λ (u : List Entry). slice_get u j) (sym f.1) ∙ h in
     let w : take j (entries_after t (es ++ n ∷ []) asks) ≡ es = ap (λ (u : List Entry). take j u) f.1 ∙ take_mid es n f.0 j l in
-    record { asked = a; ask = refl; is = sym (some_is n e k) ∙ ap (λ (u : List Entry). next t u a.0 a.1) (sym w) }
+    record { asked = a; ask = refl; is = sym (same_Some n e k) ∙ ap (λ (u : List Entry). next t u a.0 a.1) (sym w) }
 stands t es (a ∷ asks) (suc i) j e q h =
     let n = next t es a.0 a.1 in
     let l = length-append es (n ∷ []) in
@@ -144,20 +133,12 @@ pub data Comes (t : Target) (es : List Entry) (c : NameClass) (o : Option (List 
   was_kept : (x : List ℕ) → o ≡ Some x → Keeps t es c x → e ≡ kept_entry c x → Comes t es c o e
   was_made : e ≡ made_entry es c → Comes t es c o e
 
-both : (a b : Bool) → (a && b) ≡ true → (a ≡ true) × (b ≡ true)
-both true b h = (refl, h)
-both false b h = absurd cc
-
-not_is : (a : Bool) → not a ≡ true → a ≡ false
-not_is true h = absurd cc
-not_is false h = refl
-
 keeps_parts : (t : Target) (es : List Entry) (c : NameClass) (x : List ℕ) → keeps t es c x ≡ true → Keeps t es c x
 keeps_parts t es c x h =
-    let p = both (may_keep c) (is_valid t c x && (not (begins_zz x) && not (is_taken t es (space t c) x))) h in
-    let q = both (is_valid t c x) (not (begins_zz x) && not (is_taken t es (space t c) x)) p.1 in
-    let r = both (not (begins_zz x)) (not (is_taken t es (space t c) x)) q.1 in
-    record { may = p.0; valid = q.0; plain = not_is (begins_zz x) r.0; free = not_is (is_taken t es (space t c) x) r.1; is = h }
+    let p = and_parts (may_keep c) (is_valid t c x && (not (begins_zz x) && not (is_taken t es (space t c) x))) h in
+    let q = and_parts (is_valid t c x) (not (begins_zz x) && not (is_taken t es (space t c) x)) p.1 in
+    let r = and_parts (not (begins_zz x)) (not (is_taken t es (space t c) x)) q.1 in
+    record { may = p.0; valid = q.0; plain = not-true (begins_zz x) r.0; free = not-true (is_taken t es (space t c) x) r.1; is = h }
 
 pub comes : (t : Target) (es : List Entry) (c : NameClass) (o : Option (List ℕ)) (e : Entry) → e ≡ next t es c o → Comes t es c o e
 comes t es c None e h = was_made h
@@ -200,7 +181,7 @@ kept_by t es a e (was_made h) = (
 pub kept_is_old : (t : Target) (asks : List Ask) (i : ℕ) (a : Ask) (e : Entry) → ComesOf t asks i a e → Kept a e
 kept_is_old t asks i a e c =
     let p = placed t asks i e c.entry in
-    let s : p.asked ≡ a = some_is p.asked a (sym p.ask ∙ c.ask) in
+    let s : p.asked ≡ a = same_Some p.asked a (sym p.ask ∙ c.ask) in
     let F : Ask → Type 0 = λ u. Kept u e in
     subst F s (kept_by t (take i (entries_of t asks)) p.asked e p.comes)
 
@@ -231,13 +212,10 @@ locations_are_made t asks i e h l = let p = placed t asks i e h in location_by t
 
 -- ---- no two are alike
 
-nat_same : (m n : ℕ) → m ≡ n → nat_eq m n ≡ true
-nat_same m n e = grind (arith, nat_tests)
-
 taken_at : (t : Target) (es : List Entry) (i : ℕ) (e : Entry) (s : Space) (x : List ℕ) → slice_get es i ≡ Some e → space t e.class ≡ s → x ≡ e.name → is_taken t es s x ≡ true
 taken_at t es i e s x h k n =
-    any_at (λ (u : Entry). same_space (space t u.class) s && bytes_eq x u.name) es i e h
-    (let a : same_space (space t e.class) s ≡ true = nat_same _ _ (ap space_number k) in
+    any_passes_from_place (λ (u : Entry). same_space (space t u.class) s && bytes_eq x u.name) es i e h
+    (let a : same_space (space t e.class) s ≡ true = eq-eqb _ _ (ap space_number k) in
     let b : bytes_eq x e.name ≡ true = (bytes_eq-Decides x e.name).1 n in
     rw (a, b) refl)
 
@@ -246,7 +224,7 @@ made_alike : (es : List Entry) (i j : ℕ) (e : Entry) (c d : NameClass) → i <
 made_alike es i j e c d l h k q =
     let s : c ≡ d = made_class c d _ _ q in
     let n : count_of c (take i es) ≡ count_of d (take j es) = made_number c d _ _ q in
-    let m : same_class e.class c ≡ true = nat_same _ _ (ap class_number k) in
+    let m : same_class e.class c ≡ true = eq-eqb _ _ (ap class_number k) in
     let a : count_of c (take i es) < count_of c (take j es) = count_less (λ (u : Entry). same_class u.class c) es i j e l h m in
     let b : count_of c (take j es) ≡ count_of d (take j es) = ap (λ (u : NameClass). count_of u (take j es)) s in
     omega arith
@@ -265,22 +243,17 @@ alike t es i j c d o p e f l h (was_made r) (was_made m) s n =
     made_alike es i j e c d l h (ap (λ (u : Entry). u.class) r) (sym (ap (λ (u : Entry). u.name) r) ∙ n ∙ ap (λ (u : Entry). u.name) m)
 
 pub no_two_alike : (t : Target) (asks : List Ask) (i j : ℕ) (e f : Entry) → slice_get (entries_of t asks) i ≡ Some e → slice_get (entries_of t asks) j ≡ Some f → i ≢ j → space t e.class ≡ space t f.class → e.name ≡ f.name → ⊥
-no_two_alike t asks i j e f h k d s n =
-    let p = placed t asks i e h in
-    let q = placed t asks j f k in
-    let es = entries_of t asks in
-    pick (order i j d) p q
+no_two_alike t asks i j e f h k d s n = by_test (nat_lt i j) refl
   where
-    order : (i j : ℕ) → (i ≡ j → ⊥) → (i < j) ⊎ (j < i)
-    order zero zero d = absurd (d refl)
-    order zero (suc j) d = inl (omega arith)
-    order (suc i) zero d = inr (omega arith)
-    order (suc i) (suc j) d = up (order i j (λ e. d (ap (λ (u : ℕ). suc u) e)))
-      where
-        up : (i < j) ⊎ (j < i) → (suc i < suc j) ⊎ (suc j < suc i)
-        up (inl a) = inl (omega arith)
-        up (inr a) = inr (omega arith)
+    es : List Entry
+    es = entries_of t asks
 
-    pick : (i < j) ⊎ (j < i) → Placed t asks i e → Placed t asks j f → ⊥
-    pick (inl a) p q = alike t (entries_of t asks) i j p.asked.0 q.asked.0 p.asked.1 q.asked.1 e f a h p.comes q.comes s n
-    pick (inr a) p q = alike t (entries_of t asks) j i q.asked.0 p.asked.0 q.asked.1 p.asked.1 f e a k q.comes p.comes (sym s) (sym n)
+    p : Placed t asks i e
+    p = placed t asks i e h
+
+    q : Placed t asks j f
+    q = placed t asks j f k
+
+    by_test : (b : Bool) → nat_lt i j ≡ b → ⊥
+    by_test true l = let a : i < j = grind (arith, nat_tests) in alike t es i j p.asked.0 q.asked.0 p.asked.1 q.asked.1 e f a h p.comes q.comes s n
+    by_test false l = let a : j < i = grind (arith, nat_tests, d) in alike t es j i q.asked.0 p.asked.0 q.asked.1 p.asked.1 f e a k q.comes p.comes (sym s) (sym n)

@@ -1,9 +1,14 @@
 -- A text is an identifier exactly where its first token is an identifier and all of it.
-use Rattle.std.proofs.Common.{◌≡◌, ℕ, suc, ◌+◌, ◌-◌, ◌≤◌, Bool, true, false, cond, nat_lt, nat_eq, List, [], ◌∷◌, length, take, drop, Option, Some, None, refl, sym, ap, subst, ◌∙◌, arith, length-drop}
+use Rattle.std.proofs.Common.{◌≡◌, ℕ, suc, ◌+◌, ◌-◌, ◌≤◌, Bool, true, false, cond, nat_lt, nat_eq, List, [], ◌∷◌, length, take, drop, Some, None, refl, sym, ap, subst, ◌∙◌, arith, length-drop}
 use Rattle.std.proofs.lemmas.List.{length-take-le}
 use Rattle.std.specs.Prelude.{◌||◌, ◌&&◌, ◌==◌, ◌≢◌, nat_le, is_none, slice_range}
 use Rattle.std.specs.List.{list_all}
 use Rattle.std.proofs.lemmas.Bool.Decides.{nat_tests}
+use Rattle.std.proofs.lemmas.Bool.{and_parts}
+use Rattle.std.proofs.Math.Seq.{take-length, drop-length}
+use Rattle.basics.specs.Numbers.{nat_eq-self}
+use Rattle.basics.specs.Booleans.{same_test}
+use Rattle.basics.specs.Options.{none_is}
 use Rattle.bridge_io.specs.declared.reason.Fault.{Fault}
 use Rattle.bridge_io.specs.declared.reason.Reason.TheVariants.{TooLong}
 use Rattle.prism_lex.specs.declared.automaton.State.{State}
@@ -21,6 +26,7 @@ use Rattle.prism_lex.proofs.Shapes.{name_state}
 use Rattle.prism_lex.proofs.FrontLemmas.{begins_scanned}
 use Rattle.prism_lex.proofs.NextLemmas.{lexeme, next_is}
 use Rattle.prism_lex.proofs.Once.{next_one, end_next, reads_one}
+use Rattle.prism_print.proofs.Stands.{last_one, one_more}
 use Rattle.name_table.specs.Rule.{is_identifier}
 use Rattle.name_table.specs.State.{is_ident, is_whole}
 
@@ -32,18 +38,10 @@ pub record Named (x : List ℕ) : Type 0 where
   pub free : lookup x words ≡ None
   pub short : length x ≤ 255
 
-both : (a b : Bool) → (a && b) ≡ true → (a ≡ true) × (b ≡ true)
-both true b h = (refl, h)
-both false b h = absurd cc
-
-none_is : {A : Type 0} (o : Option A) → is_none o ≡ true → o ≡ None
-none_is None h = refl
-none_is (Some x) h = absurd cc
-
 pub named : (x : List ℕ) → is_identifier x ≡ true → Named x
 named x h =
-    let p = both (is_name x) (is_none (lookup x words) && nat_le (length x) 255) h in
-    let q = both (is_none (lookup x words)) (nat_le (length x) 255) p.1 in
+    let p = and_parts (is_name x) (is_none (lookup x words) && nat_le (length x) 255) h in
+    let q = and_parts (is_none (lookup x words)) (nat_le (length x) 255) p.1 in
     let r = q.1 in
     record { name = p.0; free = none_is (lookup x words) q.0; short = grind (arith, nat_tests) }
 
@@ -54,12 +52,6 @@ identifier x n = rw (n.name, n.free) (short (length x) n.short)
     short n h = grind (arith, nat_tests)
 
 -- ---- it is the first token
-
-last_one : (n : ℕ) (a : Bool) → n ≡ 0 → a ≡ true → cond (nat_lt 0 n) (suc n) (cond a 1 0) ≡ 1
-last_one n a e f = rw (e, f) refl
-
-one_more : (n k : ℕ) (a : Bool) → n ≡ suc k → cond (nat_lt 0 n) (suc n) (cond a 1 0) ≡ suc (suc k)
-one_more n k a e = grind (arith, nat_tests)
 
 longest_all : (s : State) (b : ℕ) (w : List ℕ) → accepts (after s (b ∷ w)) ≡ true → longest s (b ∷ w) ≡ length (b ∷ w)
 longest_all s b [] a = last_one 0 (accepts (step s b)) refl a
@@ -75,18 +67,14 @@ no_separator b h = grind (arith, nat_tests)
 no_slash : (b : ℕ) → is_letter b ≡ true → (b == 47) ≡ false
 no_slash b h = grind (arith, nat_tests)
 
-take_all : (x : List ℕ) → take (length x) x ≡ x
-take_all [] = refl
-take_all (b ∷ x) = ap (λ (u : List ℕ). b ∷ u) (take_all x)
-
 pub first : (x : List ℕ) → Named x → IsNext x 0 (lexeme Ident x 0)
 first [] n = let h = n.name in absurd cc
 first (b ∷ w) n =
     let x = b ∷ w in
-    let l = (both (is_letter b) (list_all (λ c. is_letter c || is_digit c) w) n.name).0 in
+    let l = (and_parts (is_letter b) (list_all (λ c. is_letter c || is_digit c) w) n.name).0 in
     let a : accepts (after Start x) ≡ true = ap accepts (name_state x n.name) in
     let F : List ℕ → Type 0 = λ u. IsKind u Ident in
-    let t = take_all x in
+    let t = take-length x in
     let g : Begins x Ident (length x) = begins_scanned x (length x) Ident (sym (longest_all Start b w a)) (omega arith) (subst F (sym t) (n.name, n.free)) in
     let G : List ℕ → Type 0 = λ u. IsNext x 0 (lexeme Ident u 0) in
     let p = no_separator b l in
@@ -139,7 +127,7 @@ short_is x h = go (nat_lt 255 (length x)) refl h
     go false e h = grind (arith, nat_tests)
 
 range_all : (x : List ℕ) → slice_range x 0 (length x) ≡ x
-range_all x = let e : length x - 0 ≡ length x = omega arith in ap (λ (n : ℕ). take n x) e ∙ take_all x
+range_all x = let e : length x - 0 ≡ length x = omega arith in ap (λ (n : ℕ). take n x) e ∙ take-length x
 
 pub whole_named : (x : List ℕ) (t : Token) → (t.kind ≢ End → Continues x 0 t) → Whole x t → Named x
 whole_named x t f w =
@@ -162,23 +150,14 @@ kind_is (Symbol w) h = absurd cc
 
 is_whole_is : (x : List ℕ) (t : Token) → is_whole t (length x) ≡ true → Whole x t
 is_whole_is x t h =
-    let p = both (is_ident t.kind) (nat_eq t.at 0 && nat_eq t.end (length x)) h in
-    let q = both (nat_eq t.at 0) (nat_eq t.end (length x)) p.1 in
+    let p = and_parts (is_ident t.kind) (nat_eq t.at 0 && nat_eq t.end (length x)) h in
+    let q = and_parts (nat_eq t.at 0) (nat_eq t.end (length x)) p.1 in
     let a = q.0 in
     let b = q.1 in
     record { kind = kind_is t.kind p.0; at = grind (arith, nat_tests); end = grind (arith, nat_tests) }
 
 whole_is : (x : List ℕ) (t : Token) → Whole x t → is_whole t (length x) ≡ true
-whole_is x t w = rw (w.kind, w.at, w.end) (same (length x))
-  where
-    same : (n : ℕ) → nat_eq n n ≡ true
-    same n = grind (arith, nat_tests)
-
-same_test : (a b : Bool) → (a ≡ true → b ≡ true) → (b ≡ true → a ≡ true) → a ≡ b
-same_test true true f g = refl
-same_test false false f g = refl
-same_test true false f g = sym (f refl)
-same_test false true f g = g refl
+whole_is x t w = rw (w.kind, w.at, w.end) (nat_eq-self (length x))
 
 -- what the code asks of the first token
 pub asked : (x : List ℕ) (t : Token) → (t.kind ≢ End → Continues x 0 t) → (t.kind ≡ End → Finishes x 0 t) → is_whole t (length x) ≡ is_identifier x
@@ -189,12 +168,8 @@ asked x t f g =
 
 -- ---- a fault
 
-drop_all : (x : List ℕ) → drop (length x) x ≡ []
-drop_all [] = refl
-drop_all (b ∷ x) = drop_all x
-
 ends : (x : List ℕ) → IsEnd x (length x)
-ends x = let F : List ℕ → Type 0 = λ u. IsGap u in subst F (sym (drop_all x)) refl
+ends x = let F : List ℕ → Type 0 = λ u. IsGap u in subst F (sym (drop-length x)) refl
 
 no_fault : (x : List ℕ) (f : Fault) → Named x → IsFault x 0 f → ⊥
 no_fault x f n (refused l next r a) =

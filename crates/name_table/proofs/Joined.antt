@@ -1,5 +1,9 @@
 -- Asks, one list after another.
-use Rattle.std.proofs.Common.{◌≡◌, List, refl, ◌++◌, ap, ap₂, ◌∙◌, append_assoc}
+use Rattle.std.proofs.Common.{◌≡◌, List, map, Option, refl, sym, ◌++◌, ap, ap₂, ◌∙◌}
+use Rattle.basics.specs.Lists.{map_agree}
+use Rattle.process_core.specs.Product.{map-map}
+use Rattle.process_core.specs.Ready.{Name}
+use Rattle.name_table.specs.declared.class.NameClass.{NameClass}
 use Rattle.name_table.specs.declared.class.Target.{Target}
 use Rattle.name_table.specs.Entries.{Ask, Table, no_entries, entries_of}
 use Rattle.name_table.specs.Gathered.{told}
@@ -13,15 +17,13 @@ joined t0 t1 t2 xs ys us vs h k a b =
     ∙ told_twice t0 xs ys
     ∙ ap (told t0) (ap₂ (λ (l m : List Ask). l ++ m) a b)
 
--- three pairs of lists
-pub three_pairs : (t0 t1 t2 t3 : Table) (a b c d e f : List Ask) → t1 ≡ told t0 (a ++ b) → t2 ≡ told t1 (c ++ d) → t3 ≡ told t2 (e ++ f) →
-    t3 ≡ told t0 (a ++ (b ++ (c ++ (d ++ (e ++ f)))))
-three_pairs t0 t1 t2 t3 a b c d e f h k m =
-    joined t0 t1 t3 (a ++ b) ((c ++ d) ++ (e ++ f)) (a ++ b) (c ++ (d ++ (e ++ f))) h
-    (m ∙ ap (λ (t : Table). told t (e ++ f)) k ∙ told_twice t1 (c ++ d) (e ++ f))
-    refl
-    (append_assoc c d (e ++ f))
-    ∙ ap (told t0) (append_assoc a b (c ++ (d ++ (e ++ f))))
+-- things of one class were asked for
+pub asked : {A B : Type 0} (c : NameClass) (name : A → Option Name) (f : B → Ask) (view : A → B) (old new : Table) (xs : List A) (zs : List B) →
+    new ≡ told old (map (λ o. (c, o)) (map name xs)) → map view xs ≡ zs → ((x : A) → ◌≡◌ {A = Ask} (c, name x) (f (view x))) → new ≡ told old (map f zs)
+asked c name f view old new xs zs h e k =
+    h
+    ∙ ap (told old)
+    (map-map (λ o. (c, o)) name xs ∙ map_agree (λ x. (c, name x)) (λ x. f (view x)) k xs ∙ sym (map-map f view xs) ∙ ap (map f) e)
 
 -- six lists
 pub six : (t0 t1 t2 t3 t4 t5 t6 : Table) (a b c d e f : List Ask) → t1 ≡ told t0 a → t2 ≡ told t1 b → t3 ≡ told t2 c → t4 ≡ told t3 d → t5 ≡ told t4 e → t6 ≡ told t5 f →

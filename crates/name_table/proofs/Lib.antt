@@ -2,6 +2,7 @@ pub mod Digits
 pub mod Identifiers
 pub mod MadeNames
 pub mod EntryLemmas
+pub mod Parts
 pub mod TableLemmas
 pub mod Valid
 pub mod Gathering

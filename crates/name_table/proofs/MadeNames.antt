@@ -6,15 +6,19 @@ use Rattle.name_table.specs.declared.class.NameClass.TheVariants.{Constant, Vari
 use Rattle.name_table.specs.Rule.{begins_zz, made_name, digits}
 use Rattle.name_table.proofs.Digits.{digits_differ}
 
+-- what holds of each class
+pub each_class : (P : NameClass → Type 0) → P Constant → P Variable → P Location → P Module → P Action → P Label → P Reward → P Property → (c : NameClass) → P c
+each_class P c v o m a l r p Constant = c
+each_class P c v o m a l r p Variable = v
+each_class P c v o m a l r p Location = o
+each_class P c v o m a l r p Module = m
+each_class P c v o m a l r p Action = a
+each_class P c v o m a l r p Label = l
+each_class P c v o m a l r p Reward = r
+each_class P c v o m a l r p Property = p
+
 pub made_begins : (c : NameClass) (n : ℕ) → begins_zz (made_name c n) ≡ true
-made_begins Constant n = refl
-made_begins Variable n = refl
-made_begins Location n = refl
-made_begins Module n = refl
-made_begins Action n = refl
-made_begins Label n = refl
-made_begins Reward n = refl
-made_begins Property n = refl
+made_begins c n = each_class (λ d. begins_zz (made_name d n) ≡ true) refl refl refl refl refl refl refl refl c
 
 -- the class of a made name, by its fourth byte and its fifth
 abbrev class_at : ℕ → ℕ → NameClass
@@ -27,14 +31,7 @@ class_in (a ∷ b ∷ z ∷ l ∷ u ∷ r) = class_at l u
 class_in _ = Location
 
 class_made : (c : NameClass) (n : ℕ) → class_in (made_name c n) ≡ c
-class_made Constant n = refl
-class_made Variable n = refl
-class_made Location n = refl
-class_made Module n = refl
-class_made Action n = refl
-class_made Label n = refl
-class_made Reward n = refl
-class_made Property n = refl
+class_made c n = each_class (λ d. class_in (made_name d n) ≡ d) refl refl refl refl refl refl refl refl c
 
 -- what stands behind zz_, the letter and _, or behind zz_loc_
 abbrev behind_two : List ℕ → List ℕ
@@ -49,14 +46,7 @@ digits_in (a ∷ b ∷ z ∷ l ∷ u ∷ r) = digits_at u r
 digits_in _ = []
 
 digits_made : (c : NameClass) (n : ℕ) → digits_in (made_name c n) ≡ digits n
-digits_made Constant n = refl
-digits_made Variable n = refl
-digits_made Location n = refl
-digits_made Module n = refl
-digits_made Action n = refl
-digits_made Label n = refl
-digits_made Reward n = refl
-digits_made Property n = refl
+digits_made c n = each_class (λ d. digits_in (made_name d n) ≡ digits n) refl refl refl refl refl refl refl refl c
 
 pub made_class : (c d : NameClass) (m n : ℕ) → made_name c m ≡ made_name d n → c ≡ d
 made_class c d m n e = sym (class_made c m) ∙ ap class_in e ∙ class_made d n

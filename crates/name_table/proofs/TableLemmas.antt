@@ -3,8 +3,7 @@ use Rattle.std.proofs.Common.{◌≡◌, ℕ, ◌+◌, Bool, true, false, cond, 
 use Rattle.std.specs.Prelude.{◌&&◌, ◌||◌, bytes_eq}
 use Rattle.std.proofs.lemmas.List.{map-append}
 use Rattle.std.proofs.lemmas.List.Folds.{list_any-append}
-use Rattle.std.proofs.lemmas.Slice.Eq.{bytes_eq-Decides}
-use Rattle.std.proofs.lemmas.Bool.Decides.{same_from_decides}
+use Rattle.basics.specs.Texts.{bytes_eq_comm}
 use Rattle.name_table.specs.declared.class.NameClass.{NameClass}
 use Rattle.name_table.specs.declared.class.Target.{Target}
 use Rattle.name_table.specs.declared.class.Space.{Space}
@@ -31,12 +30,6 @@ made_more t es c o e h m =
     ∙ ap (λ (u : List Entry). u ++ next t u (ask_of e).0 (ask_of e).1 ∷ []) m
     ∙ ap (λ (u : Entry). es ++ u ∷ []) (same_next t es c o e (comes t es c o e h))
 
-bytes_turned : (x y : List ℕ) → bytes_eq x y ≡ bytes_eq y x
-bytes_turned x y =
-    let p = bytes_eq-Decides x y in
-    let q = bytes_eq-Decides y x in
-    same_from_decides (bytes_eq x y) (bytes_eq y x) p ((λ h. sym (q.0 h)), (λ e. q.1 (sym e)))
-
 or_turned : (a b c : Bool) → cond (a && b) true c ≡ (c || ((a && b) || false))
 or_turned true true true = refl
 or_turned true true false = refl
@@ -47,7 +40,7 @@ or_turned false b false = refl
 
 taken_more : (t : Target) (es : List Entry) (e : Entry) (n : List ℕ) (s : Space) (x : List ℕ) → n ≡ e.name → cond (same_space (space t e.class) s && bytes_eq n x) true (is_taken t es s x) ≡ is_taken t (es ++ e ∷ []) s x
 taken_more t es e n s x h =
-    ap (λ (b : Bool). cond (same_space (space t e.class) s && b) true (is_taken t es s x)) (ap (λ (u : List ℕ). bytes_eq u x) h ∙ bytes_turned e.name x)
+    ap (λ (b : Bool). cond (same_space (space t e.class) s && b) true (is_taken t es s x)) (ap (λ (u : List ℕ). bytes_eq u x) h ∙ bytes_eq_comm e.name x)
     ∙ or_turned (same_space (space t e.class) s) (bytes_eq x e.name) (is_taken t es s x)
     ∙ sym (list_any-append (λ (u : Entry). same_space (space t u.class) s && bytes_eq x u.name) es (e ∷ []))
 

@@ -11,7 +11,6 @@ use Rattle.prism_lex.specs.Automaton.{is_letter, is_digit}
 use Rattle.prism_lex.specs.Tokens.{is_name}
 use Rattle.prism_lex.specs.Words.{lookup, words}
 use Rattle.name_table.specs.declared.class.NameClass.{NameClass}
-use Rattle.name_table.specs.declared.class.NameClass.TheVariants.{Constant, Variable, Location, Module, Action, Label, Reward, Property}
 use Rattle.name_table.specs.declared.class.Target.{Target}
 use Rattle.name_table.specs.declared.class.Target.TheVariants.{Prism, Jani}
 use Rattle.name_table.specs.declared.entry.Entry.{Entry}
@@ -20,6 +19,7 @@ use Rattle.name_table.specs.Entries.{Ask, count_of, entries_of}
 use Rattle.name_table.proofs.Digits.{digits_decimal}
 use Rattle.name_table.proofs.EntryLemmas.{Comes, was_kept, was_made, placed, one_each}
 use Rattle.name_table.proofs.Identifiers.{identifier}
+use Rattle.name_table.proofs.MadeNames.{each_class}
 
 -- ---- digits
 
@@ -53,58 +53,23 @@ digits_go_on n = digits_of_go_on (suc n) n
 digits_short : (n : ℕ) → n < 2 ^ 64 → length (digits n) ≤ 20
 digits_short n h = let e = ap length (digits_decimal n h) in let l = length-decimal-le 20 n (omega arith) (omega arith) h in omega arith
 
--- ---- made names
+-- ---- made names, however many there are
 
-made_named : (c : NameClass) (n : ℕ) → is_name (made_name c n) ≡ true
-made_named Constant n = digits_go_on n
-made_named Variable n = digits_go_on n
-made_named Location n = digits_go_on n
-made_named Module n = digits_go_on n
-made_named Action n = digits_go_on n
-made_named Label n = digits_go_on n
-made_named Reward n = digits_go_on n
-made_named Property n = digits_go_on n
+pub made_named : (c : NameClass) (n : ℕ) → is_name (made_name c n) ≡ true
+made_named c n = let d = digits_go_on n in each_class (λ k. is_name (made_name k n) ≡ true) d d d d d d d d c
 
-made_free : (c : NameClass) (n : ℕ) → lookup (made_name c n) words ≡ None
+pub made_free : (c : NameClass) (n : ℕ) → lookup (made_name c n) words ≡ None
 unfolding words
-made_free Constant n = refl
-made_free Variable n = refl
-made_free Location n = refl
-made_free Module n = refl
-made_free Action n = refl
-made_free Label n = refl
-made_free Reward n = refl
-made_free Property n = refl
+made_free c n = each_class (λ d. lookup (made_name d n) words ≡ None) refl refl refl refl refl refl refl refl c
 
 prefix_short : (c : NameClass) → length (prefix c) ≤ 7
-prefix_short Constant = omega arith
-prefix_short Variable = omega arith
-prefix_short Location = omega arith
-prefix_short Module = omega arith
-prefix_short Action = omega arith
-prefix_short Label = omega arith
-prefix_short Reward = omega arith
-prefix_short Property = omega arith
+prefix_short c = each_class (λ d. length (prefix d) ≤ 7) (omega arith) (omega arith) (omega arith) (omega arith) (omega arith) (omega arith) (omega arith) (omega arith) c
 
 some_prefix : (c : NameClass) → 0 < length (prefix c)
-some_prefix Constant = omega arith
-some_prefix Variable = omega arith
-some_prefix Location = omega arith
-some_prefix Module = omega arith
-some_prefix Action = omega arith
-some_prefix Label = omega arith
-some_prefix Reward = omega arith
-some_prefix Property = omega arith
+some_prefix c = each_class (λ d. 0 < length (prefix d)) (omega arith) (omega arith) (omega arith) (omega arith) (omega arith) (omega arith) (omega arith) (omega arith) c
 
-made_may : (c : NameClass) (n : ℕ) → may_be_called c (made_name c n) ≡ true
-made_may Constant n = refl
-made_may Variable n = refl
-made_may Location n = refl
-made_may Module n = refl
-made_may Action n = refl
-made_may Label n = refl
-made_may Reward n = refl
-made_may Property n = refl
+pub made_may : (c : NameClass) (n : ℕ) → may_be_called c (made_name c n) ≡ true
+made_may c n = each_class (λ d. may_be_called d (made_name d n) ≡ true) refl refl refl refl refl refl refl refl c
 
 made_valid : (t : Target) (c : NameClass) (n : ℕ) → n < 2 ^ 64 → is_valid t c (made_name c n) ≡ true
 made_valid Prism c n h =

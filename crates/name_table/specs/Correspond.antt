@@ -5,7 +5,7 @@ use Rattle.std.specs.List.{AllZip}
 use Rattle.op_trees.specs.Types.{AgreesWith}
 use Rattle.process_core.specs.Ready.{Name}
 use Rattle.prism_tree.specs.Syntax as prism
-use Rattle.prism_flat.specs.Instance.{Valuation}
+use Rattle.process_core.specs.Instance.{Valuation}
 use Rattle.jani_tree.specs.Syntax as jani
 
 -- a constant without an expression is given the same value, of its type, as this name is

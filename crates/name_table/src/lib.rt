@@ -3,6 +3,7 @@
 //! table of all that a PRISM file declares, `prism_names` that of a JANI file. The rule is this project's own.
 #![tactic(auto)]
 
+mod ask;
 mod asking;
 mod class;
 mod counts;
@@ -18,6 +19,7 @@ mod prism_asking;
 mod table;
 mod taken;
 
+pub use ask::{HasName, ask_each};
 pub use asking::{flat_names, jani_names};
 pub use class::{NameClass, Target};
 pub use entry::Entry;

@@ -1,13 +1,14 @@
 // The table of a translation to PRISM: the names of a JANI file, asked for one after another.
 
-ghost use Rattle.std.specs.Prelude.{◌≡◌, ◌++◌, map, IfOk, OnOk};
-ghost use Rattle.jani_tree.specs.Syntax.{automaton_of, const_of, file_of};
+ghost use Rattle.std.specs.Prelude.{◌≡◌, map, IfOk, OnOk};
+ghost use Rattle.jani_tree.specs.Syntax.{automaton_of, file_of};
 ghost use Rattle.jani_meaning.specs.Elements.{elements, lasting, labels, structures};
 ghost use Rattle.name_table.specs.declared.class.Target.TheVariants.{Prism};
 ghost use Rattle.name_table.specs.Gathered.{told};
 ghost use Rattle.name_table.specs.JaniParts.{owned_of};
-ghost use Rattle.name_table.specs.PrismAsks.{ask_for, asks, entries, constant_ask, location_ask, module_ask};
+ghost use Rattle.name_table.specs.PrismAsks.{asks, entries, location_ask};
 
+use crate::ask::{HasName, ask_each};
 use crate::class::{NameClass, Target};
 use crate::jani_parts::{OwnedVar, element_automata, labels, lasting, structures};
 use crate::table::NameTable;
@@ -80,36 +81,12 @@ fn ask_parts(
     requires rewards { map owned_of rewards.now ≡ structures (file_of file.now) }
     ensures { OnOk result (table.new ≡ told table.old (asks (file_of file.now))) }
 {
-    ask_constants(table, file.constants.as_slice())?;
-    ask_variables(table, NameClass::Variable, values)?;
+    ask_each(table, NameClass::Constant, file.constants.as_slice())?;
+    ask_each(table, NameClass::Variable, values)?;
     ask_locations(table, file.elements.as_slice())?;
-    ask_elements(table, file.elements.as_slice())?;
-    ask_variables(table, NameClass::Label, marks)?;
-    ask_variables(table, NameClass::Reward, rewards)?;
-    Ok(())
-}
-
-/// Asks for the names of constants.
-fn ask_constants(table: &mut NameTable, constants: &[JaniConst]) -> Result<(), AllocError>
-    ensures { OnOk result (table.new ≡ told table.old (map constant_ask (map const_of constants.now))) }
-{
-    for c in constants {
-        table.keep_or_make(NameClass::Constant, Some(c.name.name.as_str()))?;
-    }
-    Ok(())
-}
-
-/// Asks for the names of variables, labels or reward structures.
-fn ask_variables(
-    table: &mut NameTable,
-    class: NameClass,
-    vars: &[OwnedVar],
-) -> Result<(), AllocError>
-    ensures { OnOk result (table.new ≡ told table.old (map (ask_for class) (map owned_of vars.now))) }
-{
-    for x in vars {
-        table.keep_or_make(class, Some(x.var.name.name.as_str()))?;
-    }
+    ask_each(table, NameClass::Module, file.elements.as_slice())?;
+    ask_each(table, NameClass::Label, marks)?;
+    ask_each(table, NameClass::Reward, rewards)?;
     Ok(())
 }
 
@@ -123,12 +100,34 @@ fn ask_locations(table: &mut NameTable, elements: &[Named]) -> Result<(), AllocE
     Ok(())
 }
 
-/// Asks for the names of elements.
-fn ask_elements(table: &mut NameTable, elements: &[Named]) -> Result<(), AllocError>
-    ensures { OnOk result (table.new ≡ told table.old (map module_ask elements.now)) }
-{
-    for e in elements {
-        table.keep_or_make(NameClass::Module, Some(e.name.as_str()))?;
+impl HasName for JaniConst {
+    ghost use Rattle.std.specs.Prelude.{Some};
+    ghost use Rattle.jani_tree.specs.Syntax.{const_of};
+
+    ghost called = { λ c. Some (const_of c).name.name };
+
+    fn name(&self) -> Option<&str> {
+        Some(self.name.name.as_str())
     }
-    Ok(())
+}
+
+impl<'a> HasName for OwnedVar<'a> {
+    ghost use Rattle.std.specs.Prelude.{Some};
+    ghost use Rattle.name_table.specs.JaniParts.{owned_of};
+
+    ghost called = { λ x. Some (owned_of x).var.name.name };
+
+    fn name(&self) -> Option<&str> {
+        Some(self.var.name.name.as_str())
+    }
+}
+
+impl HasName for Named {
+    ghost use Rattle.std.specs.Prelude.{Some};
+
+    ghost called = { λ n. Some n.name };
+
+    fn name(&self) -> Option<&str> {
+        Some(self.name.as_str())
+    }
 }

@@ -4,24 +4,26 @@ use Rattle.std.specs.List.{filter, flat_map, list_any, range_with_len, All}
 use Rattle.std.specs.Option.{option_map}
 use Rattle.std.proofs.Common.{refl, sym, ap, ap₂, ◌∙◌, subst, arith, eq-eqb, eqb-true, append-nil, append_assoc, length-append}
 use Rattle.std.proofs.lemmas.List.{length-map}
-use Rattle.std.proofs.lemmas.List.Elements.{All-nil, All-cons, All-weaker, All-map, All-filter, All-append}
+use Rattle.std.proofs.lemmas.List.Elements.{All-nil, All-cons, All-weaker, All-map, All-filter, All-append, filter_passes}
 use Rattle.std.proofs.lemmas.List.Concat.{flat_map-append}
+use Rattle.std.proofs.Math.Bool.{or-false}
+use Rattle.basics.specs.Members.{none_passes}
+use Rattle.basics.specs.Numbers.{nat_eq-self}
 use Rattle.bridge_io.specs.declared.reason.Named.{Named}
 use Rattle.op_trees.specs.Tree.{capped}
 use Rattle.process_core.specs.Ready.{Name, same_label}
 use Rattle.jani_tree.specs.Syntax.{Edge, Automaton, Vector, File}
 use Rattle.jani_meaning.specs.Elements as jani
-use Rattle.process_core.proofs.Targets.{filter_passes}
-use Rattle.prism_flat.specs.Instance.{only_if}
+use Rattle.jani_meaning.proofs.Columns.{numbered-append}
+use Rattle.process_core.specs.Instance.{only_if}
 use Rattle.prism_translation.specs.Elements.{Element, elements, edges_of, Placed, placed_edges, action_of, some_write, is_reward, rewards}
 use Rattle.prism_translation.specs.Targets.{part_of, is_named, names, edges_named, reward_writer, Target, targets_by, vector_targets, silent_targets, targets, serves, has_part, is_blocked}
 use Rattle.prism_translation.proofs.Served.{made, plain, made_targets, ServesAll, other_serves}
-use Rattle.choice_laws.proofs.Truths.{same_number, or_false}
 use Rattle.prism_translation.proofs.Numbered.{placed_from, at_element, numbered_from}
-use Rattle.choice_laws.proofs.Walks.{any_agree_in, has_any, not_any, any-filter, found_has}
+use Rattle.choice_laws.proofs.Walks.{any_agree_in, has_any, any-filter, found_has}
 use Rattle.prism_targets.specs.Tables.{places_of, has_action, is_plain, ranked_from, table_in, split_in, split_count, Row, row_at, rows_from, all_numbers, edge_serves, has_edge, blocks, Served, element_serves, served_from}
 use Rattle.prism_targets.specs.Serving.{edge_in, served_in}
-use Rattle.prism_targets.proofs.Numbered.{numbered-append, places_from, places_if, no_places, any_place}
+use Rattle.prism_targets.proofs.Numbered.{places_from, places_if, no_places, any_place}
 use Rattle.prism_targets.proofs.EdgeTables.{any_kept, numbers_kept}
 use Rattle.prism_targets.proofs.Members.{all_get, not_found, IsElement, all_elements, same_element}
 use Rattle.prism_targets.proofs.Serves.{count_targets, ended, within}
@@ -58,7 +60,7 @@ module _ (file : File) (x : Element) (there : IsElement file x) (v : Vector) whe
       (All-filter (names v) (λ r. serves file (made file v x r) r ≡ true → some_serves (made file v x r) ≡ true) (placed_edges x)
       (All-weaker (λ r. (t : Target) → serves file t r ≡ true → some_serves t ≡ true) (λ r. serves file (made file v x r) r ≡ true → some_serves (made file v x r) ≡ true) (λ r h. h (made file v x r))
       (placed_edges x) (serving_some (placed_edges x))) k d l
-      (ap₂ (λ a b. (a && b) || (names v r && (false && not (rewards file r) || not (nat_eq r.element.number x.number)))) (same_number r.element.number) (same_number r.number)))
+      (ap₂ (λ a b. (a && b) || (names v r && (false && not (rewards file r) || not (nat_eq r.element.number x.number)))) (nat_eq-self r.element.number) (nat_eq-self r.number)))
       (All-filter (names v) (λ r. names v r ≡ true → some_named ≡ true) (placed_edges x) (has_any (names v) (placed_edges x)) k d l named))
     where
       serving_some : (ps : List Placed) → All (λ r. (t : Target) → serves file t r ≡ true → list_any (serves file t) ps ≡ true) ps
@@ -69,7 +71,7 @@ module _ (file : File) (x : Element) (there : IsElement file x) (v : Vector) whe
       both_some (some_serves (plain file v (Some x.number))) some_named
       (any_agree_in (serves file (plain file v (Some x.number))) (λ r. names v r && not (rewards file r)) (placed_edges x)
       (All-weaker (λ r. r.element ≡ x) (λ r. serves file (plain file v (Some x.number)) r ≡ (names v r && not (rewards file r)))
-      (λ r at. ap (λ b. names v r && (not (rewards file r) || not b)) (ap (λ (y : Element). nat_eq y.number x.number) at ∙ same_number x.number) ∙ ap (λ b. names v r && b) (or_false (not (rewards file r))))
+      (λ r at. ap (λ b. names v r && (not (rewards file r) || not b)) (ap (λ (y : Element). nat_eq y.number x.number) at ∙ nat_eq-self x.number) ∙ ap (λ b. names v r && b) (or-false (not (rewards file r))))
       (placed_edges x) (at_element x 0 (edges_of x)))
       ∙ plain_some)
       (weaker (names v) (λ r. not (rewards file r)) (placed_edges x) plain_some)
@@ -102,7 +104,7 @@ module _ (file : File) (x : Element) (there : IsElement file x) (v : Vector) whe
     where
       pays_not : All (λ r. (names v r && rewards file r) ≡ false) (placed_edges x)
       pays_not =
-          not_any (λ r. names v r && rewards file r) (placed_edges x)
+          none_passes (λ r. names v r && rewards file r) (placed_edges x)
           (sym (any-filter (rewards file) (names v) (placed_edges x))
           ∙ all_get (λ w. list_any (rewards file) (edges_named v w) ≡ false) (elements file) x.number x (not_found (λ w. list_any (rewards file) (edges_named v w)) (elements file) none) there)
 

@@ -8,7 +8,7 @@ use Rattle.std.proofs.lemmas.List.FromFn.{length-range_with_len}
 use Rattle.bridge_io.specs.declared.reason.Named.{Named}
 use Rattle.jani_tree.specs.Syntax.{Edge, Automaton, File}
 use Rattle.jani_meaning.specs.Elements as jani
-use Rattle.prism_flat.specs.Instance.{only_if}
+use Rattle.process_core.specs.Instance.{only_if}
 use Rattle.prism_translation.specs.Elements.{Element, elements, edges_of, Placed, placed_edges, action_of, some_write, is_reward, rewards}
 use Rattle.prism_translation.specs.Targets.{is_another, targets, serves, serves_silently, is_blocked}
 use Rattle.prism_translation.specs.Refused.{served, edge_nodes, result_nodes, result_commands}

@@ -1,57 +1,41 @@
 -- Boolean transient variables that the locations of an element give many values; and whether a translation is too large.
-use Rattle.std.specs.Prelude.{◌≡◌, ℕ, ◌+◌, ◌<◌, ◌≤◌, List, [], ◌∷◌, map, length, Bool, true, false, ◌&&◌, ◌||◌, Option, Some, None, is_some, is_none, nat_eq, nat_lt, bytes_eq, if◌then◌else◌}
+use Rattle.std.specs.Prelude.{◌≡◌, ℕ, ◌+◌, List, [], ◌∷◌, map, length, Bool, true, false, ◌&&◌, ◌||◌, Option, Some, None, is_some, is_none, nat_eq, nat_lt, bytes_eq, if◌then◌else◌}
 use Rattle.std.specs.List.{filter, flat_map, list_any, sum_by, position}
-use Rattle.std.specs.Option.{option_or}
 use Rattle.std.proofs.Common.{refl, sym, ap, ap₂, ◌∙◌, arith, length-append}
-use Rattle.std.proofs.Math.Path.{fun_ext}
 use Rattle.std.proofs.lemmas.List.{length-map}
 use Rattle.std.proofs.lemmas.List.Elements.{filter-append}
 use Rattle.std.proofs.lemmas.List.Sums.{sum_by-cons}
 use Rattle.std.proofs.lemmas.Slice.Eq.{bytes_eq-Decides}
+use Rattle.std.proofs.Math.Bool.{or-false, or_assoc}
+use Rattle.basics.specs.Texts.{bytes_eq_comm}
+use Rattle.basics.specs.Options.{is_some-or}
+use Rattle.basics.specs.Members.{any_agree, any_two, is_some-position}
 use Rattle.process_core.specs.Ready.{Name}
-use Rattle.process_core.proofs.Targets.{by_truth}
-use Rattle.choice_laws.proofs.Truths.{or_false, or_assoc}
-use Rattle.choice_laws.proofs.Walks.{any_agree, any-flat_map, any_two, any_and, any_exchange, any_left, has_some}
+use Rattle.choice_laws.proofs.Walks.{any-flat_map, any_and, any_exchange, any_left, has_some}
 use Rattle.jani_tree.specs.Syntax.{Write, Location, Automaton, File}
 use Rattle.jani_meaning.specs.Elements as jani
 use Rattle.jani_meaning.specs.Elements.{Owned, is_called, is_owner, is_own, is_global, place_of, labels}
-use Rattle.prism_flat.specs.Instance.{numbered}
+use Rattle.process_core.specs.Instance.{numbered}
 use Rattle.prism_translation.specs.Elements.{Element, elements, may_use}
 use Rattle.prism_translation.specs.Marks.{Given, given_by}
 use Rattle.prism_translation.specs.Refused.{values_given, result_commands, result_nodes, is_too_large}
 use Rattle.prism_translation.proofs.Numbered.{numbered_from}
 use Rattle.prism_targets.specs.Counts.{has_many_commands, value_count, is_crowded, some_crowded, crowded_from, usable_among}
-use Rattle.prism_targets.proofs.Found.{first_from, position_is}
 
 -- ---- a name that an element may use
-some_first : {X : Type 0} (p : X → Bool) (i : ℕ) (xs : List X) → is_some (first_from p i xs) ≡ list_any p xs
-some_first p i [] = refl
-some_first p i (x ∷ xs) = by_test (p x) (some_first p (i + 1) xs)
-  where
-    by_test : (b : Bool) → is_some (first_from p (i + 1) xs) ≡ list_any p xs → is_some (if b then Some i else first_from p (i + 1) xs) ≡ (b || list_any p xs)
-    by_test true e = refl
-    by_test false e = e
-
-some_place : {X : Type 0} (p : X → Bool) (xs : List X) → is_some (position p xs) ≡ list_any p xs
-some_place p xs = ap is_some (position_is p xs) ∙ some_first p 0 xs
-
-some_either : (a b : Option ℕ) → is_some (option_or a b) ≡ (is_some a || is_some b)
-some_either None b = refl
-some_either (Some i) b = refl
-
 abbrev is_usable : ℕ → Name → Owned → Bool
 is_usable k x o = may_use k o.owner && is_called x o.var.name
 
 usable_is : (vars : List Owned) (k : ℕ) (x : Name) → is_some (place_of vars k x) ≡ list_any (is_usable k x) vars
 usable_is vars k x =
-    some_either (position (is_own k x) vars) (position (is_global x) vars)
-    ∙ ap₂ (λ a b. a || b) (some_place (is_own k x) vars) (some_place (is_global x) vars)
+    is_some-or (position (is_own k x) vars) (position (is_global x) vars)
+    ∙ ap₂ (λ a b. a || b) (is_some-position (is_own k x) vars) (is_some-position (is_global x) vars)
     ∙ sym (any_two (is_own k x) (is_global x) vars)
     ∙ any_agree (λ o. is_own k x o || is_global x o) (is_usable k x) (λ o. by_owner o.owner (is_called x o.var.name)) vars
   where
     by_owner : (o : Option ℕ) (c : Bool) → ((is_owner k o && c) || (is_none o && c)) ≡ (may_use k o && c)
     by_owner None c = refl
-    by_owner (Some j) c = or_false (nat_eq k j && c)
+    by_owner (Some j) c = or-false (nat_eq k j && c)
 
 -- ---- how many values a name is given
 abbrev all_values : Automaton → List Write
@@ -83,12 +67,6 @@ given_count x el = from 0 el.automaton.locations
         ∙ sym (sum_by-cons (λ l. length (filter (is_for x) l.values)) l ls)
 
 -- ---- one element
-bytes_turned : (x y : Name) → bytes_eq x y ≡ bytes_eq y x
-bytes_turned x y =
-    let p = bytes_eq-Decides x y in
-    let q = bytes_eq-Decides y x in
-    by_truth (bytes_eq x y) (bytes_eq y x) (λ h. q.1 (sym (p.0 h))) (λ h. p.1 (sym (q.0 h)))
-
 and_all : {X : Type 0} (b : Bool) (p : X → Bool) (xs : List X) → (b && list_any p xs) ≡ list_any (λ x. b && p x) xs
 and_all true p xs = refl
 and_all false p [] = refl
@@ -107,7 +85,7 @@ module _ (vars : List Owned) (k : ℕ) (a : Automaton) where
       let same : o.var.name.name ≡ w.target.name = (bytes_eq-Decides o.var.name.name w.target.name).0 e in
       ap (λ x. is_many x && (may_use k o.owner && true)) (sym same)
       ∙ turned (is_many o.var.name.name) (may_use k o.owner)
-      ∙ ap (λ b. b && (may_use k o.owner && is_many o.var.name.name)) (sym (bytes_turned w.target.name o.var.name.name ∙ e))
+      ∙ ap (λ b. b && (may_use k o.owner && is_many o.var.name.name)) (sym (bytes_eq_comm w.target.name o.var.name.name ∙ e))
     where
       turned : (m u : Bool) → (m && (u && true)) ≡ (true && (u && m))
       turned true true = refl
@@ -116,7 +94,7 @@ module _ (vars : List Owned) (k : ℕ) (a : Automaton) where
       turned false false = refl
   one_value o w false e =
       never (is_many w.target.name) (may_use k o.owner)
-      ∙ ap (λ b. b && (may_use k o.owner && is_many o.var.name.name)) (sym (bytes_turned w.target.name o.var.name.name ∙ e))
+      ∙ ap (λ b. b && (may_use k o.owner && is_many o.var.name.name)) (sym (bytes_eq_comm w.target.name o.var.name.name ∙ e))
     where
       never : (m u : Bool) → (m && (u && false)) ≡ false
       never true true = refl
@@ -155,12 +133,6 @@ all_elements_crowded : (vars : List Owned) (k : ℕ) (autos : List Automaton) �
     list_any (λ el. list_any (λ o. nat_lt 1024 (values_given o el)) vars) (numbered_from k autos) ≡ crowded_from (usable_among vars) k autos
 all_elements_crowded vars k [] = refl
 all_elements_crowded vars k (a ∷ autos) = ap₂ (λ b c. b || c) (sym (one_element vars k a)) (all_elements_crowded vars (k + 1) autos)
-
-pub crowded_alike : (usable other : ℕ → Name → Bool) (n : ℕ) → ((k : ℕ) → k < n → (x : Name) → usable k x ≡ other k x) → (k : ℕ) (autos : List Automaton) → k + length autos ≤ n →
-    crowded_from usable k autos ≡ crowded_from other k autos
-crowded_alike usable other n h k [] l = refl
-crowded_alike usable other n h k (a ∷ autos) l =
-    ap₂ (λ (t : Name → Bool) b. some_crowded t a || b) (fun_ext (h k (omega (arith, l)))) (crowded_alike usable other n h (k + 1) autos (omega (arith, l)))
 
 -- ---- the file
 pub too_large_is : (file : File) → is_too_large file ≡ (has_many_commands file || crowded_from (usable_among (labels file)) 0 (jani.elements file))

@@ -4,14 +4,15 @@ use Rattle.std.specs.List.{filter, find, list_any}
 use Rattle.std.proofs.Common.{refl, sym, ap, ap₂, ◌∙◌, append_assoc, append-nil}
 use Rattle.std.proofs.Math.Path.{fun_ext}
 use Rattle.std.proofs.lemmas.List.{map-append}
-use Rattle.name_table.proofs.Gathering.{taken}
+use Rattle.gathering.proofs.Loops.{taken}
 use Rattle.std.proofs.lemmas.List.Folds.{list_any-append}
+use Rattle.basics.specs.Members.{any_never}
 use Rattle.process_core.specs.Ready.{Name}
 use Rattle.jani_tree.specs.Syntax.{Edge, Vector, File, Automaton}
-use Rattle.prism_flat.specs.Instance.{only_if}
+use Rattle.process_core.specs.Instance.{only_if}
 use Rattle.prism_translation.specs.Elements.{Element, edges_of, Placed, placed_edges, action_of, some_write, is_reward, rewards}
 use Rattle.prism_translation.specs.Targets.{part_of, is_named, names, edges_named}
-use Rattle.choice_laws.proofs.Walks.{any_never, filter-filter, any-filter}
+use Rattle.choice_laws.proofs.Walks.{filter-filter, any-filter}
 use Rattle.prism_translation.proofs.Numbered.{placed_from, numbered_from}
 use Rattle.prism_targets.specs.Tables.{places_of, has_some, Ranked, EdgeTable, has_action, rewarding_numbers, is_plain, ranked, ranked_from, table_of, table_in, with_edge, makers_at, plain_at, split_by, split_from}
 use Rattle.prism_targets.proofs.Numbered.{places_from, places_more}

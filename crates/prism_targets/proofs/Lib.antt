@@ -4,8 +4,8 @@ pub mod Members
 pub mod Serves
 pub mod Whole
 pub mod Blocked
-pub mod Listed
-pub mod Found
+pub mod TakingPart
+pub mod Positions
 pub mod RowNumbers
 pub mod Standing
 pub mod Counting

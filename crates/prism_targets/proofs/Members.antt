@@ -7,7 +7,7 @@ use Rattle.std.proofs.lemmas.Option.{slice_get-get_or}
 use Rattle.std.proofs.lemmas.List.Elements.{All-nil, All-cons, All-head, All-tail, All-weaker, All-filter}
 use Rattle.jani_tree.specs.Syntax.{Edge, File}
 use Rattle.jani_meaning.specs.Elements as jani
-use Rattle.prism_flat.specs.Instance.{numbered, only_if}
+use Rattle.process_core.specs.Instance.{numbered, only_if}
 use Rattle.prism_translation.specs.Elements.{Element, elements, edges_of, Placed, placed_edges}
 use Rattle.prism_translation.proofs.Numbered.{placed_from}
 use Rattle.prism_targets.proofs.Numbered.{no_places}

@@ -1,16 +1,11 @@
 -- Places of members that pass tests.
 use Rattle.std.specs.Prelude.{◌≡◌, ℕ, suc, ◌+◌, List, [], ◌∷◌, ◌++◌, map, length, Bool, true, false, ◌||◌, cond}
 use Rattle.std.specs.List.{filter, list_any, range_with_len, All}
-use Rattle.std.proofs.Common.{refl, sym, ap, ap₂, ◌∙◌, append_assoc, arith}
+use Rattle.std.proofs.Common.{refl, ap, ap₂, ◌∙◌, arith}
 use Rattle.std.proofs.lemmas.List.Elements.{All-head, All-tail}
-use Rattle.prism_flat.specs.Instance.{numbered, only_if}
+use Rattle.process_core.specs.Instance.{numbered, only_if}
+use Rattle.jani_meaning.proofs.Columns.{numbered-append}
 use Rattle.prism_targets.specs.Tables.{places_of, has_some}
-
-pub numbered-append : {X Y : Type 0} (f : ℕ → X → List Y) (i : ℕ) (xs ys : List X) → numbered f i (xs ++ ys) ≡ numbered f i xs ++ numbered f (i + length xs) ys
-numbered-append f i [] ys = ap (λ n. numbered f n ys) (let e : i ≡ i + 0 = omega arith in e)
-numbered-append f i (x ∷ xs) ys =
-    ap (λ l. f i x ++ l) (numbered-append f (i + 1) xs ys ∙ ap (λ n. numbered f (i + 1) xs ++ numbered f n ys) (let e : i + 1 + length xs ≡ i + length (x ∷ xs) = omega arith in e))
-    ∙ sym (append_assoc (f i x) (numbered f (i + 1) xs) (numbered f (i + length (x ∷ xs)) ys))
 
 pub numbered-map : {X Y Z : Type 0} (f : ℕ → Y → List Z) (g : X → Y) (i : ℕ) (xs : List X) → numbered f i (map g xs) ≡ numbered (λ j x. f j (g x)) i xs
 numbered-map f g i [] = refl

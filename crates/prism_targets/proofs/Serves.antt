@@ -6,26 +6,25 @@ use Rattle.std.proofs.lemmas.Bool.{ne_eqb}
 use Rattle.std.proofs.lemmas.List.{length-map}
 use Rattle.std.proofs.lemmas.List.Elements.{All-weaker, All-filter, filter-append}
 use Rattle.std.proofs.lemmas.Slice.Eq.{bytes_eq-Decides}
+use Rattle.std.proofs.Math.Bool.{or-false, and-false}
+use Rattle.basics.specs.Members.{none_passes}
+use Rattle.basics.specs.Numbers.{nat_eq-self}
 use Rattle.op_trees.specs.Tree.{capped}
 use Rattle.process_core.specs.Ready.{Name, same_label}
 use Rattle.jani_tree.specs.Syntax.{Edge, Vector, File}
-use Rattle.prism_flat.specs.Instance.{numbered, only_if}
+use Rattle.process_core.specs.Instance.{numbered, only_if}
 use Rattle.prism_translation.specs.Elements.{Element, elements, edges_of, Placed, placed_edges, action_of, some_write, is_reward, rewards}
 use Rattle.prism_translation.specs.Targets.{part_of, is_named, names, edges_named, reward_writer, Target, targets_by, vector_targets, serves}
 use Rattle.prism_translation.proofs.Served.{made, plain, made_targets, ServesAll, other_serves}
-use Rattle.choice_laws.proofs.Walks.{filter-filter, has_any, not_any, any-filter, found_has}
-use Rattle.choice_laws.proofs.Truths.{same_number, or_false}
+use Rattle.choice_laws.proofs.Walks.{filter-filter, has_any, any-filter, found_has}
+use Rattle.jani_meaning.proofs.Columns.{numbered-append}
 use Rattle.prism_translation.proofs.Numbered.{placed_from, at_element}
 use Rattle.prism_targets.specs.Tables.{places_of, has_action, Ranked, ranked, split_by, split_in, split_count, row_at, numbers_by, all_numbers}
-use Rattle.prism_targets.proofs.Numbered.{numbered-append, numbered-map, places_from, places_agree, places_if}
+use Rattle.prism_targets.proofs.Numbered.{numbered-map, places_from, places_agree, places_if}
 use Rattle.prism_targets.proofs.EdgeTables.{numbers_kept}
 use Rattle.prism_targets.proofs.Members.{all_get, not_found, IsElement, all_elements, same_element, at_split, own_place, is_numbered}
 
 -- ---- tests
-and_false : (b : Bool) → (b && false) ≡ false
-and_false true = refl
-and_false false = refl
-
 pub within : (n : ℕ) → n ≤ 2 ^ 64 - 1 → capped n ≡ n
 within n l = omega (arith, l)
 
@@ -112,12 +111,12 @@ module _ (file : File) (el : Element) (here : IsElement file el) (before after :
     -- ---- the element is the writer
     own_made : (r : Placed) → r.element ≡ el → serving (made file v el r) ≡ is_numbered (length before) r
     own_made r at =
-        ap₂ (λ b c. (b && nat_eq (length before) r.number) || (names v p && not c)) (ap (λ (x : Element). nat_eq el.number x.number) at ∙ same_number el.number) (same_number el.number)
-        ∙ ap (λ b. nat_eq (length before) r.number || b) (and_false (names v p))
-        ∙ or_false (nat_eq (length before) r.number)
+        ap₂ (λ b c. (b && nat_eq (length before) r.number) || (names v p && not c)) (ap (λ (x : Element). nat_eq el.number x.number) at ∙ nat_eq-self el.number) (nat_eq-self el.number)
+        ∙ ap (λ b. nat_eq (length before) r.number || b) (and-false (names v p))
+        ∙ or-false (nat_eq (length before) r.number)
 
     own_plain : serving (plain file v (Some el.number)) ≡ (names v p && not (rewards file p))
-    own_plain = ap (λ b. names v p && (not (rewards file p) || not b)) (same_number el.number) ∙ ap (λ b. names v p && b) (or_false (not (rewards file p)))
+    own_plain = ap (λ b. names v p && (not (rewards file p) || not b)) (nat_eq-self el.number) ∙ ap (λ b. names v p && b) (or-false (not (rewards file p)))
 
     combined : (n r any : Bool) (s rank m : ℕ) → ((n && not r) ≡ true → any ≡ true) →
         only_if (n && r) (s + rank) ++ cond any (only_if (n && not r) (s + m) ++ []) [] ≡ cond n ((s + (if r then rank else m)) ∷ []) []
@@ -153,7 +152,7 @@ module _ (file : File) (el : Element) (here : IsElement file el) (before after :
         (plain_place (s + length (made_targets file v el)) any ∙ ap (λ m. cond any (only_if (names v p && not (rewards file p)) (s + m) ++ []) []) made_count)
         ∙ combined (names v p) (rewards file p) any s (length (filter kept (placed_from el 0 before))) makers some
         ∙ capped_if (names v p) (rewards file p) s (length (filter kept (placed_from el 0 before))) a.rank makers named_rank (omega (arith, fits, counted, earlier))
-        ∙ ap (λ b. cond (names v p) (if not b then all_numbers (row_at s (split_by file v (Some el))) else (if rewards file p then cap (s + a.rank) else s + makers) ∷ []) []) (sym (same_number el.number))
+        ∙ ap (λ b. cond (names v p) (if not b then all_numbers (row_at s (split_by file v (Some el))) else (if rewards file p then cap (s + a.rank) else s + makers) ∷ []) []) (sym (nat_eq-self el.number))
       where
         G : List Placed
         G = filter (rewards file) (edges_named v el)
@@ -196,7 +195,7 @@ module _ (file : File) (el : Element) (here : IsElement file el) (before after :
         pays_not : (names v p && rewards file p) ≡ false
         pays_not =
             at_edge (λ r. (names v r && rewards file r) ≡ false)
-            (not_any (λ r. names v r && rewards file r) (placed_edges el)
+            (none_passes (λ r. names v r && rewards file r) (placed_edges el)
             (sym (any-filter (rewards file) (names v) (placed_edges el))
             ∙ all_get (λ w. list_any (rewards file) (edges_named v w) ≡ false) (elements file) el.number el (not_found (λ w. list_any (rewards file) (edges_named v w)) (elements file) none) here))
 

@@ -1,5 +1,5 @@
 -- The least fault of the first kind that there is.
-use Rattle.std.specs.Prelude.{◌≡◌, List, [], ◌∷◌, Option, true, false, Option, Some, None, is_some}
+use Rattle.std.specs.Prelude.{◌≡◌, List, [], ◌∷◌, Option, true, false, Some, None, is_some}
 use Rattle.std.proofs.Common.{refl, sym}
 use Rattle.bridge_io.specs.declared.reason.Fault.{Fault}
 use Rattle.jani_table.specs.Least.{soonest}

@@ -1,21 +1,20 @@
 -- What is known of a variable once all edges are noted, and the faults of variables that are split between elements.
-use Rattle.std.specs.Prelude.{◌≡◌, ℕ, zero, suc, ◌+◌, ◌<◌, ◌≤◌, List, [], ◌∷◌, ◌++◌, map, length, Bool, true, false, not, ◌&&◌, ◌||◌, cond, Option, Some, None, is_none, is_some, nat_eq, nat_lt, slice_get, set, unwrap_or, if◌then◌else◌}
+use Rattle.std.specs.Prelude.{◌≡◌, ℕ, zero, suc, ◌+◌, ◌<◌, List, [], ◌∷◌, ◌++◌, map, length, Bool, true, false, not, ◌&&◌, ◌||◌, cond, Option, Some, None, is_none, is_some, nat_eq, nat_lt, slice_get, set, unwrap_or, if◌then◌else◌}
 use Rattle.std.specs.List.{filter, list_any}
 use Rattle.std.proofs.Common.{refl, sym, ap, ap₂, ◌∙◌, arith, eq-eqb}
-use Rattle.std.proofs.Math.Path.{fun_ext}
 use Rattle.std.proofs.lemmas.Bool.{ne_eqb}
+use Rattle.std.proofs.Math.Bool.{or-false, or_assoc}
 use Rattle.bridge_io.specs.declared.reason.Reason.TheVariants.{SharedWrite}
 use Rattle.bridge_io.specs.declared.reason.Fault.{Fault}
 use Rattle.jani_tree.specs.Syntax.{Write, Destination, Edge, Automaton, File}
 use Rattle.jani_check.specs.Least.{fault, fault_if}
 use Rattle.jani_meaning.specs.Elements as jani
 use Rattle.jani_meaning.specs.Elements.{Owned, lasting, place_of}
-use Rattle.prism_flat.specs.Instance.{numbered}
+use Rattle.process_core.specs.Instance.{numbered}
 use Rattle.prism_translation.specs.Elements.{Element, elements, edges_of, some_write, is_to, is_reward, Lasting}
 use Rattle.prism_translation.specs.Refused.{binds, has_two, is_split, shared_faults}
 use Rattle.prism_translation.proofs.Numbered.{numbered_from}
-use Rattle.choice_laws.proofs.Truths.{or_assoc, or_false}
-use Rattle.prism_targets.specs.Tables.{Ranked, EdgeTable, ranked_from, table_in}
+use Rattle.prism_targets.specs.Tables.{Ranked, ranked_from, table_in}
 use Rattle.prism_targets.specs.Counts.{Writing, is_other, noted, note_if, noting_writes, noting_destinations, binds_writes, noting_edges, written_from, written_in, is_split_by, split_faults}
 
 -- ---- an element is noted twice
@@ -25,7 +24,7 @@ or_self false true = refl
 or_self false false = refl
 
 same_other : (k : ℕ) (f : Option ℕ) (s : Bool) → ((s || is_other k f) || is_other k (Some (unwrap_or f k))) ≡ (s || is_other k f)
-same_other k None s = ap (λ b. (s || false) || not b) (eq-eqb k k refl) ∙ or_false (s || false)
+same_other k None s = ap (λ b. (s || false) || not b) (eq-eqb k k refl) ∙ or-false (s || false)
 same_other k (Some j) s = or_self s (not (nat_eq j k))
 
 noted_twice : (k : ℕ) (b c : Bool) (w : Writing) → noted k c (noted k b w) ≡ noted k (b || c) w
@@ -34,7 +33,7 @@ noted_twice k b c w =
 
 note_both : (c d : Bool) (k : ℕ) (b e : Bool) (w : Writing) → note_if d k e (note_if c k b w) ≡ note_if (c || d) k ((c && b) || (d && e)) w
 note_both true true k b e w = noted_twice k b e w
-note_both true false k b e w = ap (λ x. noted k x w) (sym (or_false b))
+note_both true false k b e w = ap (λ x. noted k x w) (sym (or-false b))
 note_both false true k b e w = refl
 note_both false false k b e w = refl
 
@@ -122,7 +121,7 @@ module _ (file : File) (i : ℕ) where
   pub seen_before : (j k : ℕ) (autos : List Automaton) (s b : Bool) → j < k →
       after k autos (record { first = Some j; several = s; binding = b })
       ≡ record { first = Some j; several = s || list_any is_writer (numbered_from k autos); binding = b || list_any is_binding (numbered_from k autos) }
-  seen_before j k [] s b l = ap₂ (λ (x y : Bool). record { first = Some j; several = x; binding = y }) (sym (or_false s)) (sym (or_false b))
+  seen_before j k [] s b l = ap₂ (λ (x y : Bool). record { first = Some j; several = x; binding = y }) (sym (or-false s)) (sym (or-false b))
   seen_before j k (a ∷ autos) s b l =
       ap (λ w. after (k + 1) autos w) (element_note (record { number = k; automaton = a }) (record { first = Some j; several = s; binding = b }))
       ∙ by_test (is_writer (record { number = k; automaton = a })) refl (λ t c. seen_before j (k + 1) autos t c (omega arith))
@@ -163,7 +162,7 @@ module _ (file : File) (i : ℕ) where
   pub seen_none : (k : ℕ) (autos : List Automaton) (b : Bool) →
       ((after k autos (record { first = None; several = false; binding = b })).several ≡ has_two (filter is_writer (numbered_from k autos)))
       × ((after k autos (record { first = None; several = false; binding = b })).binding ≡ (b || list_any is_binding (numbered_from k autos)))
-  seen_none k [] b = ((let f : false ≡ nat_lt 1 0 = grind arith in f), sym (or_false b))
+  seen_none k [] b = ((let f : false ≡ nat_lt 1 0 = grind arith in f), sym (or-false b))
   seen_none k (a ∷ autos) b =
       let is = ap (λ w. after (k + 1) autos w) (element_note (record { number = k; automaton = a }) (record { first = None; several = false; binding = b })) in
       let rest = by_test (is_writer (record { number = k; automaton = a })) refl (seen_none (k + 1) autos b) in
@@ -221,13 +220,6 @@ pub faults_alike : (v w : ℕ → Writing) (i : ℕ) (os : List Owned) → ((j :
 faults_alike v w i [] h = refl
 faults_alike v w i (o ∷ os) h =
     ap₂ (λ (x : Writing) l. fault_if (is_split_by o x) o.var.name.at SharedWrite ++ l) (h i (omega arith)) (faults_alike v w (i + 1) os (λ j l. h j (omega (arith, l))))
-
-pub written_alike : (to other : ℕ → Write → Bool) (n : ℕ) → ((k : ℕ) → k < n → (w : Write) → to k w ≡ other k w) → (k : ℕ) (all : List EdgeTable) (w : Writing) → k + length all ≤ n →
-    written_from to k all w ≡ written_from other k all w
-written_alike to other n h k [] w l = refl
-written_alike to other n h k (a ∷ more) w l =
-    ap (λ (t : Write → Bool). written_from to (k + 1) more (noting_edges t k w a.edges)) (fun_ext (h k (omega (arith, l))))
-    ∙ written_alike to other n h (k + 1) more (noting_edges (other k) k w a.edges) (omega (arith, l))
 
 -- ---- a place of a list is written
 pub set_get : {X : Type 0} (xs : List X) (p i : ℕ) (y : X) → p < length xs → slice_get (set xs p y) i ≡ (if nat_eq i p then Some y else slice_get xs i)

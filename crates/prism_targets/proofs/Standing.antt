@@ -13,7 +13,7 @@ use Rattle.jani_tree.specs.declared.syntax.JaniAutomaton.{JaniAutomaton}
 use Rattle.jani_tree.specs.Syntax.{Write, Automaton, Vector, File, automaton_of}
 use Rattle.jani_meaning.specs.Elements as jani
 use Rattle.jani_meaning.specs.Elements.{Owned, structures}
-use Rattle.prism_flat.specs.Instance.{numbered, only_if}
+use Rattle.process_core.specs.Instance.{numbered, only_if}
 use Rattle.prism_translation.specs.Elements.{Element, elements, edges_of, Placed, placed_edges, some_write, is_reward, rewards}
 use Rattle.prism_translation.specs.Targets.{names, edges_named, reward_writer, targets_by, vector_targets, targets}
 use Rattle.prism_translation.proofs.Served.{made, plain}
@@ -23,7 +23,8 @@ use Rattle.prism_targets.specs.declared.places.Places.{Places}
 use Rattle.prism_targets.specs.Tables.{EdgeTable, has_action, table_of, table_in, Split, split_by, split_in, split_from, rows_from, served_from}
 use Rattle.prism_targets.specs.Made.{made_by, made_of, plain_of, vector_made, made_alone, silent_from, edge_at, placed_at, stands_for}
 use Rattle.prism_targets.specs.Serving.{served_in}
-use Rattle.prism_targets.specs.Code.{ArePlaces, pays_by, served_targets, served_elements}
+use Rattle.prism_targets.specs.Places.{ArePlaces}
+use Rattle.prism_targets.specs.Code.{pays_by, served_targets, served_elements}
 use Rattle.prism_targets.proofs.EdgeTables.{numbers_kept, split_is}
 use Rattle.prism_targets.proofs.Members.{IsElement, all_elements, edges_found}
 use Rattle.prism_targets.proofs.Whole.{earns_alone, silent_of}
@@ -114,20 +115,16 @@ module _ (file : File) where
       ∙ elements_serve file fits [] (jani.elements file) refl
 
   -- ---- by the places of structures
-  tables_alike : (t : Places) (n : ℕ) → ArePlaces t (structures file) n → (k : ℕ) (autos : List Automaton) → k + length autos ≤ n →
+  tables_alike : (t : Places) → ArePlaces t (structures file) → (k : ℕ) (autos : List Automaton) →
       numbered (λ k a. table_of (pays_by t k) a.edges ∷ []) k autos ≡ map (table_in file) (numbered_from k autos)
-  tables_alike t n h k [] l = refl
-  tables_alike t n h k (a ∷ autos) l =
-      ap₂ (λ (x : EdgeTable) m. x ∷ m)
-      (ap (λ (f : Write → Bool). table_of (some_write f) a.edges) (fun_ext (λ w. ap is_some (h k w.target.name (omega (arith, l))))))
-      (tables_alike t n h (k + 1) autos (omega (arith, l)))
+  tables_alike t h k [] = refl
+  tables_alike t h k (a ∷ autos) =
+      ap₂ (λ (x : EdgeTable) m. x ∷ m) (ap (λ (f : Write → Bool). table_of (some_write f) a.edges) (fun_ext (λ w. ap is_some (h k w.target.name)))) (tables_alike t h (k + 1) autos)
 
-  pub tables_are : (t : Places) (vars : List Owned) (automata : List (Bor JaniAutomaton)) → vars ≡ structures file → ArePlaces t vars (length automata) →
+  pub tables_are : (t : Places) (vars : List Owned) (automata : List (Bor JaniAutomaton)) → vars ≡ structures file → ArePlaces t vars →
       map (λ a. automaton_of a.now) automata ≡ jani.elements file → numbered (λ k a. table_of (pays_by t k) a.edges ∷ []) 0 (map (λ a. automaton_of a.now) automata) ≡ map (table_in file) (elements file)
   tables_are t vars automata v h e =
-      let n = length-map automata (λ (a : Bor JaniAutomaton). automaton_of a.now) in
-      tables_alike t (length automata) (subst (λ vs. ArePlaces t vs (length automata)) v h) 0 (map (λ a. automaton_of a.now) automata) (omega (arith, n))
-      ∙ ap (λ (l : List Automaton). map (table_in file) (numbered_from 0 l)) e
+      tables_alike t (subst (ArePlaces t) v h) 0 (map (λ a. automaton_of a.now) automata) ∙ ap (λ (l : List Automaton). map (table_in file) (numbered_from 0 l)) e
 
   pub splits_alike : (vs : List Vector) → map (λ v. split_from v 0 (map (table_in file) (elements file))) vs ≡ map (split_in file) vs
   splits_alike [] = refl

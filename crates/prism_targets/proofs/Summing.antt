@@ -8,7 +8,7 @@ use Rattle.std.proofs.lemmas.List.Sums.{sum_by-append}
 use Rattle.std.proofs.lemmas.Slice.Eq.{bytes_eq-Decides}
 use Rattle.op_trees.specs.Tree.{capped}
 use Rattle.process_core.specs.Ready.{Name}
-use Rattle.name_table.proofs.Gathering.{taken}
+use Rattle.gathering.proofs.Loops.{taken}
 
 -- ---- a sum under a name
 pub put_sum : (key x : Name) (old : Name → ℕ) (n sum : ℕ) (before after : Option ℕ) → sum ≡ capped (old key + n) → unwrap_or before 0 ≡ old x → after ≡ (if bytes_eq key x then Some sum else before) →

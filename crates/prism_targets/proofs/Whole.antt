@@ -7,18 +7,20 @@ use Rattle.std.proofs.lemmas.Bool.{ne_eqb}
 use Rattle.std.proofs.lemmas.List.{length-map}
 use Rattle.std.proofs.lemmas.List.Elements.{All-head, All-tail, All-weaker, All-map, All-filter}
 use Rattle.std.proofs.lemmas.List.Concat.{flat_map-append}
+use Rattle.basics.specs.Members.{all_each}
+use Rattle.basics.specs.Numbers.{nat_eq-self}
 use Rattle.bridge_io.specs.declared.reason.Named.{Named}
 use Rattle.process_core.specs.Ready.{Name, same_label}
 use Rattle.jani_tree.specs.Syntax.{Edge, Automaton, Vector, File}
 use Rattle.jani_meaning.specs.Elements as jani
-use Rattle.prism_flat.specs.Instance.{numbered, only_if}
+use Rattle.jani_meaning.proofs.Columns.{numbered-append}
+use Rattle.process_core.specs.Instance.{numbered, only_if}
 use Rattle.prism_translation.specs.Elements.{Element, elements, edges_of, Placed, placed_edges, action_of, rewards}
 use Rattle.prism_translation.specs.Targets.{part_of, is_named, reward_writer, Target, vector_targets, is_silent, silent_targets, targets, serves}
-use Rattle.choice_laws.proofs.Truths.{same_number}
 use Rattle.prism_translation.proofs.Numbered.{placed_from, at_element, numbered_from, numbers_from, numbers_below}
-use Rattle.choice_laws.proofs.Walks.{kept_walk, flat_map_none, each}
+use Rattle.choice_laws.proofs.Walks.{kept_walk, flat_map_none}
 use Rattle.prism_targets.specs.Tables.{places_of, has_action, Ranked, split_by, split_in, Row, row_at, rows_from, numbers_by, calls, served_under}
-use Rattle.prism_targets.proofs.Numbered.{numbered-append, numbered-map, places_from, places_agree, no_places}
+use Rattle.prism_targets.proofs.Numbered.{numbered-map, places_from, places_agree, no_places}
 use Rattle.prism_targets.proofs.Members.{IsElement, all_elements, is_numbered}
 use Rattle.prism_targets.proofs.Serves.{p, q, a, place_among, before_all, rank_is, served_of, count_targets}
 
@@ -112,7 +114,7 @@ module _ (file : File) (us ws : List Automaton) (w : Automaton) (autos : jani.el
         ∙ places_agree (λ r. serving (record { vector = None; writer = None; maker = Some r })) (is_numbered (length before)) s (filter (earns_alone file) (placed_edges el))
         (All-filter (earns_alone file) (λ r. serving (record { vector = None; writer = None; maker = Some r }) ≡ is_numbered (length before) r) (placed_edges el)
         (All-weaker (λ r. r.element ≡ el) (λ r. serving (record { vector = None; writer = None; maker = Some r }) ≡ is_numbered (length before) r)
-        (λ r at. ap (λ b. (b && nat_eq (length before) r.number) || false) (ap (λ (y : Element). nat_eq (length us) y.number) at ∙ same_number (length us)) ∙ or_false (nat_eq (length before) r.number))
+        (λ r at. ap (λ b. (b && nat_eq (length before) r.number) || false) (ap (λ (y : Element). nat_eq (length us) y.number) at ∙ nat_eq-self (length us)) ∙ or_false (nat_eq (length before) r.number))
         (placed_edges el) (at_element el 0 (edges_of el))))
         ∙ place_among file el here before after e edges (earns_alone file) s
       where
@@ -187,6 +189,6 @@ module _ (file : File) (us ws : List Automaton) (w : Automaton) (autos : jani.el
         by_action None h =
             ap (λ l. l ++ only_if (rewards file own) (first + earlier))
             (flat_map_none (λ r. cond (is_named (part_of r.split.vector (length us)) None) (numbers_by cap (length us) act r) []) rows
-            (each (λ r. cond (is_named (part_of r.split.vector (length us)) None) (numbers_by cap (length us) act r) [] ≡ []) (λ r. ap (λ b. cond b (numbers_by cap (length us) act r) []) (none_named (part_of r.split.vector (length us)))) rows))
+            (all_each (λ r. cond (is_named (part_of r.split.vector (length us)) None) (numbers_by cap (length us) act r) [] ≡ []) (λ r. ap (λ b. cond b (numbers_by cap (length us) act r) []) (none_named (part_of r.split.vector (length us)))) rows))
             ∙ ap (only_if (rewards file own)) (sym (keeps (first + earlier) counted) ∙ ap (λ m. cap (first + m)) (silent_rank h))
         by_action (Some n) h = append-nil _ ∙ flat_kept (calls (length us) n.name) (numbers_by cap (length us) act) rows

@@ -1,19 +1,18 @@
 -- What the code's values stand for.
-use Rattle.std.specs.Prelude.{◌≡◌, ℕ, ◌<◌, List, [], ◌++◌, map, length, Bool, false, Option, Some, None, is_some, slice_get, bytes_eq, unwrap_or, if◌then◌else◌}
+use Rattle.std.specs.Prelude.{◌≡◌, ℕ, List, [], ◌++◌, map, length, Bool, false, Option, Some, None, is_some, slice_get, bytes_eq, unwrap_or}
 use Rattle.std.specs.Borrow.{Bor}
 use Rattle.std.specs.List.{filter, flat_map, sum_by}
-use Rattle.std.specs.Option.{option_map, option_or}
-use Rattle.indexmap.specs.IndexMap.{IndexMap, get_by}
+use Rattle.std.specs.Option.{option_map}
+use Rattle.indexmap.specs.IndexMap.{get_by}
 use Rattle.bridge_io.specs.declared.reason.Named.{Named}
 use Rattle.op_trees.specs.Tree.{capped}
 use Rattle.process_core.specs.Ready.{Name}
 use Rattle.jani_tree.specs.Syntax.{Automaton, Edge, Write, edge_of, vector_of}
-use Rattle.jani_meaning.specs.Elements.{Owned, place_of}
-use Rattle.name_table.specs.declared.name_map.NameMap.{NameMap}
-use Rattle.name_table.specs.JaniParts.{under}
 use Rattle.name_table.specs.Gathered.{is_in}
 use Rattle.prism_translation.specs.Elements.{is_at, some_write}
+use Rattle.gathering.specs.Lists.{list_under}
 use Rattle.prism_targets.specs.declared.places.Places.{Places}
+use Rattle.prism_targets.specs.Places.{place_in}
 use Rattle.prism_targets.specs.declared.edges.RankedEdge.{RankedEdge}
 use Rattle.prism_targets.specs.declared.edges.ElementEdges.{ElementEdges}
 use Rattle.prism_targets.specs.declared.splits.VectorSplit.{VectorSplit}
@@ -35,29 +34,6 @@ name_of a = option_map (λ n. n.now.name) a
 
 abbrev pub name_in : Option Named → Option Name
 name_in a = option_map (λ n. n.name) a
-
--- the list under a name
-abbrev pub list_under : {X S : Type 0} → IndexMap (Bor (List ℕ)) (List X) S → Name → List X
-list_under t x = unwrap_or (get_by (λ k. bytes_eq x k.now) t) []
-
--- ---- places
-abbrev pub under_at : Option (NameMap ℕ) → Name → Option ℕ
-under_at None x = None
-under_at (Some m) x = under m x
-
-abbrev pub own_under : Places → ℕ → Name → Option ℕ
-own_under t k x = under_at (slice_get t.own.items k) x
-
-unfoldable pub place_in : Places → ℕ → Name → Option ℕ
-place_in t k x = option_or (own_under t k x) (under t.global x)
-
--- what stood there, else this place, where the test holds
-abbrev pub first_of : Option ℕ → Bool → ℕ → Option ℕ
-first_of before b i = option_or before (if b then Some i else None)
-
--- in each of so many elements names stand for the variables at these places
-abbrev pub ArePlaces : Places → List Owned → ℕ → Type 0
-ArePlaces t vars n = (k : ℕ) (x : Name) → k < n → place_in t k x ≡ place_of vars k x
 
 -- an edge of the element assigns a structure
 abbrev pub pays_by : Places → ℕ → Edge → Bool

@@ -8,7 +8,7 @@ use Rattle.process_core.specs.Ready.{Name}
 use Rattle.jani_tree.specs.Syntax.{Automaton, Destination, Write, File}
 use Rattle.jani_meaning.specs.Elements.{Owned, is_called, place_of}
 use Rattle.jani_check.specs.Least.{fault_if}
-use Rattle.prism_flat.specs.Instance.{numbered}
+use Rattle.process_core.specs.Instance.{numbered}
 use Rattle.prism_translation.specs.Elements.{action_of, is_at}
 use Rattle.prism_translation.specs.Targets.{part_of, is_named, is_another}
 use Rattle.prism_translation.specs.Refused.{edge_nodes, result_commands, result_nodes}

@@ -1,7 +1,7 @@
 -- Targets that tell their makers by numbers, and what those stand for in a file (this project's own rule).
 use Rattle.std.specs.Prelude.{ℕ, ◌+◌, List, [], ◌∷◌, ◌++◌, map, Option, Some, None, slice_get}
 use Rattle.jani_tree.specs.Syntax.{Vector, File}
-use Rattle.prism_flat.specs.Instance.{only_if}
+use Rattle.process_core.specs.Instance.{only_if}
 use Rattle.prism_translation.specs.Elements.{Element, elements, Placed, placed_edges}
 use Rattle.prism_translation.specs.Targets.{Target}
 use Rattle.prism_targets.specs.Tables.{EdgeTable, Split}

@@ -1,13 +1,14 @@
 -- What is known of the edges of an element by their actions, and how the choices of a vector are split into targets (this
 -- project's own rule). Which edges assign rewards is told by a test.
-use Rattle.std.specs.Prelude.{ℕ, ◌+◌, ◌-◌, List, [], ◌∷◌, ◌++◌, map, length, Bool, true, false, not, ◌&&◌, ◌||◌, Option, Some, None, is_some, is_none, if◌then◌else◌}
+use Rattle.std.specs.Prelude.{ℕ, ◌+◌, ◌-◌, List, [], ◌∷◌, ◌++◌, map, length, Bool, true, false, not, ◌&&◌, ◌||◌, Option, Some, None, is_some, is_none, slice_get, if◌then◌else◌}
 use Rattle.std.specs.List.{filter, flat_map, list_any, range_with_len}
+use Rattle.bridge_io.specs.declared.reason.Named.{Named}
 use Rattle.op_trees.specs.Tree.{capped}
 use Rattle.process_core.specs.Ready.{Name, same_label}
 use Rattle.jani_tree.specs.Syntax.{Edge, Vector, File}
-use Rattle.prism_flat.specs.Instance.{numbered, only_if}
+use Rattle.process_core.specs.Instance.{numbered, only_if}
 use Rattle.prism_translation.specs.Elements.{Element, edges_of, action_of, some_write, is_reward, rewards}
-use Rattle.prism_translation.specs.Targets.{part_of, is_named, edges_named, reward_writer, is_another}
+use Rattle.prism_translation.specs.Targets.{name_in, part_of, is_named, edges_named, reward_writer, is_another}
 
 -- the places of the members that pass a test
 abbrev pub places_of : {X : Type 0} → (X → Bool) → List X → List ℕ
@@ -98,6 +99,13 @@ split_from v k [] = record { vector = v; writer = None; makers = []; plain = tru
 split_from v k (a ∷ more) =
     if has_some (makers_at a (part_of v k)) then record { vector = v; writer = Some k; makers = makers_at a (part_of v k); plain = plain_at a (part_of v k) }
     else split_from v (k + 1) more
+
+-- the element of this number takes part in the vector with these parts
+abbrev pub takes_part : ℕ → List (Option Named) → Bool
+takes_part k parts = is_some (name_in (slice_get parts k))
+
+abbrev pub is_participant : ℕ → Split → Bool
+is_participant k s = takes_part k s.vector.parts
 
 -- how many targets a vector has
 abbrev pub split_count : Split → ℕ

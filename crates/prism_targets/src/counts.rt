@@ -13,6 +13,7 @@ ghost use Rattle.prism_targets.specs.Counts.{action_count, blocks_split, command
 ghost use Rattle.prism_targets.specs.Code.{ranked_view, table_view, name_in, split_view, sum_under, AreSums};
 
 use crate::edges::{ElementEdges, RankedEdge};
+use crate::participants::splits_by_element;
 use crate::parts::{is_another, part_of};
 use crate::splits::VectorSplit;
 use crate::sums::Sums;
@@ -57,27 +58,28 @@ fn whole_size(
     ensures commands { IfOk result (λ s. s.commands ≡ capped (commands_from (map split_view splits.now) 0 (map table_view elements.now))) }
     ensures nodes { IfOk result (λ s. s.nodes ≡ capped (nodes_from (map split_view splits.now) 0 (map table_view elements.now))) }
 {
+    let mine = splits_by_element(alloc, splits)?;
     let mut whole = Size {
         commands: 0,
         nodes: 0,
     };
     for (k, e) in elements.iter().enumerate() {
-        let own = element_size(alloc, e, splits, k)?;
+        let own = element_size(alloc, e, mine.get(k), k)?;
         whole.commands = whole.commands.saturating_add(own.commands);
         whole.nodes = whole.nodes.saturating_add(own.nodes);
     }
     Ok(whole)
 }
 
-/// The size of what is made of an element.
+/// The size of what is made of an element, by the vectors in which it takes part.
 fn element_size(
     alloc: Global,
     element: &ElementEdges,
-    splits: &[VectorSplit],
+    splits: &[&VectorSplit],
     number: usize,
 ) -> Result<Size, AllocError>
-    ensures commands { IfOk result (λ s. s.commands ≡ capped (command_count (map split_view splits.now) number (table_view element.now))) }
-    ensures nodes { IfOk result (λ s. s.nodes ≡ capped (node_count (map split_view splits.now) number (table_view element.now))) }
+    ensures commands { IfOk result (λ s. s.commands ≡ capped (command_count (map (λ t. split_view t.now) splits.now) number (table_view element.now))) }
+    ensures nodes { IfOk result (λ s. s.nodes ≡ capped (node_count (map (λ t. split_view t.now) splits.now) number (table_view element.now))) }
 {
     let sums = action_sums(alloc, splits, number)?;
     let edges = element.edges.as_slice();
@@ -91,14 +93,14 @@ fn element_size(
 /// How many targets an edge of the element serves, by its action.
 fn action_sums<'a>(
     alloc: Global,
-    splits: &[VectorSplit<'a, '_>],
+    splits: &[&VectorSplit<'a, '_>],
     number: usize,
 ) -> Result<Sums<'a>, AllocError>
-    ensures { IfOk result (λ t. (x : ListOf ℕ) → sum_under t x ≡ capped (sum_by (weight number) (filter (names_split number x) (map split_view splits.now)))) }
+    ensures { IfOk result (λ t. (x : ListOf ℕ) → sum_under t x ≡ capped (sum_by (weight number) (filter (names_split number x) (map (λ s. split_view s.now) splits.now)))) }
 {
     let mut sums = Sums::new(alloc);
     for split in splits {
-        add_action(&mut sums, split, number)?;
+        add_action(&mut sums, *split, number)?;
     }
     Ok(sums)
 }
@@ -142,13 +144,13 @@ fn target_count(split: &VectorSplit) -> u64
 }
 
 /// How many targets the element blocks.
-fn blocked_count(element: &ElementEdges, splits: &[VectorSplit], number: usize) -> u64
-    ensures { result ≡ capped (sum_by split_count (filter (blocks_split number (table_view element.now)) (map split_view splits.now))) }
+fn blocked_count(element: &ElementEdges, splits: &[&VectorSplit], number: usize) -> u64
+    ensures { result ≡ capped (sum_by split_count (filter (blocks_split number (table_view element.now)) (map (λ s. split_view s.now) splits.now))) }
 {
     let mut sum: u64 = 0;
     for split in splits {
-        if is_blocking(element, split, number) {
-            sum = sum.saturating_add(target_count(split));
+        if is_blocking(element, *split, number) {
+            sum = sum.saturating_add(target_count(*split));
         }
     }
     sum

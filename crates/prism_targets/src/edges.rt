@@ -6,17 +6,17 @@ ghost use Rattle.process_core.specs.Ready.{Name, same_label};
 ghost use Rattle.jani_tree.specs.Syntax.{File, automaton_of, destination_of, edge_of, write_of};
 ghost use Rattle.jani_meaning.specs.Elements as jani;
 ghost use Rattle.jani_meaning.specs.Elements.{structures as structures_of};
-ghost use Rattle.prism_flat.specs.Instance.{numbered, only_if};
+ghost use Rattle.process_core.specs.Instance.{numbered, only_if};
 ghost use Rattle.prism_translation.specs.Elements.{elements};
 ghost use Rattle.name_table.specs.Gathered.{is_in};
 ghost use Rattle.name_table.specs.JaniParts.{owned_of};
 ghost use Rattle.prism_targets.specs.Tables.{table_in, table_of, has_edge, makers_at, plain_at, with_edge};
-ghost use Rattle.prism_targets.specs.Code.{table_view, name_in, name_of, no_edges, numbers_in, pays_by, place_in};
+ghost use Rattle.prism_targets.specs.Code.{table_view, name_in, name_of, no_edges, numbers_in, pays_by};
+ghost use Rattle.prism_targets.specs.Places.{place_in};
 
-use crate::lists::{add_under, list_under};
 use crate::places::Places;
 use bridge_io::{List, Named};
-use indexmap::IndexMap;
+use gathering::NameLists;
 use jani_tree::{JaniAutomaton, JaniDestination, JaniEdge, JaniWrite};
 use name_table::{NameSet, OwnedVar};
 use std::alloc::{AllocError, Global};
@@ -34,7 +34,7 @@ pub(crate) struct RankedEdge<'a> {
 #[derive(Drop)]
 pub(crate) struct ElementEdges<'a> {
     pub(crate) edges: Vec<RankedEdge<'a>>,
-    rewarding: IndexMap<&'a str, List<usize>>,
+    rewarding: NameLists<'a, usize>,
     pub(crate) silent: List<usize>,
     plain: NameSet<'a>,
 }
@@ -46,7 +46,7 @@ impl<'a> ElementEdges<'a> {
     {
         ElementEdges {
             edges: Vec::new(alloc),
-            rewarding: IndexMap::new(alloc),
+            rewarding: NameLists::new(alloc),
             silent: List::new(alloc),
             plain: NameSet::new(alloc),
         }
@@ -114,7 +114,7 @@ impl<'a> ElementEdges<'a> {
             ≡ (is_in self.old.plain x || (same_label (Some x) (name_in action.now) && not rewarding))) }
     {
         match (action, rewarding) {
-            (Some(a), true) => add_under(alloc, &mut self.rewarding, a.name.as_str(), number),
+            (Some(a), true) => self.rewarding.add(alloc, a.name.as_str(), number),
             (Some(a), false) => self.plain.add(a.name.as_str()),
             (None, true) => self.silent.push(number),
             (None, false) => Ok(()),
@@ -126,7 +126,7 @@ impl<'a> ElementEdges<'a> {
         ensures { result.now ≡ numbers_in self.now (name_in action.now) }
     {
         match action {
-            Some(a) => list_under(&self.rewarding, a.name.as_str()),
+            Some(a) => self.rewarding.get(a.name.as_str()),
             None => self.silent.as_slice(),
         }
     }
@@ -136,7 +136,7 @@ impl<'a> ElementEdges<'a> {
         ensures { result.now ≡ makers_at (table_view self.now) (name_of part.entry) }
     {
         match part {
-            Some(a) => list_under(&self.rewarding, a.name.as_str()),
+            Some(a) => self.rewarding.get(a.name.as_str()),
             None => &[],
         }
     }
@@ -195,7 +195,7 @@ pub(crate) fn element_edges<'a>(
     ensures { IfOk result (λ ts. (file : File) → map owned_of structures.now ≡ structures_of file → map (λ a. automaton_of a.now) automata.now ≡ jani.elements file →
         map table_view ts.items ≡ map (table_in file) (elements file)) }
 {
-    let places = Places::of(alloc, structures, automata.len())?;
+    let places = Places::of(alloc, structures)?;
     all_edges(alloc, automata, &places)
 }
 

@@ -4,8 +4,8 @@
 
 mod counts;
 mod edges;
-mod lists;
 mod making;
+mod participants;
 mod parts;
 mod places;
 mod refused;
@@ -18,6 +18,7 @@ mod targets;
 mod values;
 
 pub use making::serving;
+pub use places::Places;
 pub use refused::least_refused;
 pub use served::{EdgeServing, ElementServing, Serving};
 pub use targets::{Maker, Target};

@@ -10,6 +10,7 @@ ghost use Rattle.prism_targets.specs.Code.{table_view, element_served, row_view,
 ghost use Rattle.prism_targets.specs.Serving.{IsServing};
 
 use crate::edges::{ElementEdges, element_edges};
+use crate::participants::rows_by_element;
 use crate::rows::{VectorRow, add_all_targets};
 use crate::served::{ElementServing, Serving, element_serving};
 use crate::splits::{VectorSplit, all_splits};
@@ -76,26 +77,27 @@ fn add_elements<'a>(
     ensures elements { IfOk result
         (λ es. map element_served es.items ≡ served_from (map row_view rows.now) 0 (vec_len targets.old) (map table_view edges.now)) }
 {
+    let mine = rows_by_element(alloc, rows)?;
     let mut all = Vec::new(alloc);
     for (k, e) in edges.iter().enumerate() {
-        add_element(alloc, &mut all, targets, rows, k, e)?;
+        add_element(alloc, &mut all, targets, mine.get(k), k, e)?;
     }
     Ok(all)
 }
 
-/// Adds the targets of the silent edges of an element, and what it does with all targets.
+/// Adds the targets of the silent edges of an element, and what it does with all targets, by the vectors in which it takes part.
 fn add_element<'a>(
     alloc: Global,
     all: &mut Vec<ElementServing>,
     targets: &mut Vec<Target<'a>>,
-    rows: &[VectorRow<'a, '_>],
+    rows: &[&VectorRow<'a, '_>],
     element: usize,
     edges: &ElementEdges<'a>,
 ) -> Result<(), AllocError>
     ensures targets { OnOk result (map target_view targets.new.items ≡ map target_view targets.old.items ++ made_alone element ((table_view edges.now).rewarding None)) }
     ensures count { OnOk result (vec_len targets.new ≡ vec_len targets.old + length ((table_view edges.now).rewarding None)) }
     ensures elements { OnOk result
-        (map element_served all.new.items ≡ map element_served all.old.items ++ element_serves (map row_view rows.now) element (vec_len targets.old) (table_view edges.now) ∷ []) }
+        (map element_served all.new.items ≡ map element_served all.old.items ++ element_serves (map (λ r. row_view r.now) rows.now) element (vec_len targets.old) (table_view edges.now) ∷ []) }
 {
     let first = targets.len();
     add_silent(targets, element, edges.silent.as_slice())?;

@@ -1,97 +1,97 @@
-// The places of the variables that names stand for in elements.
+// The numbers of variables, by the elements that they belong to and by their names.
 
-ghost use Rattle.std.specs.Prelude.{◌≡◌, ◌<◌, ◌+◌, List, ℕ, None, IfOk, OnOk, vec_len, map, slice_get};
+ghost use Rattle.std.specs.Prelude.{◌≡◌, ◌<◌, List, ℕ, Some, None, length, map, if◌then◌else◌, IfOk, OnOk};
+ghost use Rattle.std.specs.Option.{option_or};
 ghost use Rattle.jani_meaning.specs.Elements.{is_own, is_global};
 ghost use Rattle.name_table.specs.JaniParts.{under, owned_of};
-ghost use Rattle.prism_targets.specs.Code.{own_under, under_at, place_in, ArePlaces, first_of};
+ghost use Rattle.prism_targets.specs.Places.{own_in, place_in, only_then, is_named_own, ArePlaces};
 
 use name_table::{NameMap, OwnedVar};
 use std::alloc::{AllocError, Global};
 
-/// The places of variables in a list, by their names: of the global ones, and of those of each element. The first of one name
-/// counts.
+/// The numbers of variables in a list of them, those of global variables apart.
 #[derive(Drop)]
-pub(crate) struct Places<'a> {
-    global: NameMap<'a, usize>,
+pub struct Places<'a> {
     own: Vec<NameMap<'a, usize>>,
+    global: NameMap<'a, usize>,
 }
 
 impl<'a> Places<'a> {
-    /// Those of these variables, where there are so many elements.
-    pub(crate) fn of(
-        alloc: Global,
-        vars: &[OwnedVar<'a>],
-        elements: usize,
-    ) -> Result<Places<'a>, AllocError>
-        ensures { IfOk result (λ t. ArePlaces t (map owned_of vars.now) elements) }
+    /// Those in this list; where two have one name and one owner, the first counts.
+    pub fn of(alloc: Global, vars: &[OwnedVar<'a>]) -> Result<Places<'a>, AllocError>
+        ensures { IfOk result (λ p. ArePlaces p (map owned_of vars.now)) }
     {
-        let mut places = Places {
+        let mut all = Places {
+            own: Vec::new(alloc),
             global: NameMap::new(alloc),
-            own: no_names(alloc, elements)?,
         };
-        for (i, var) in vars.iter().enumerate() {
-            places.add(var, i)?;
+        for i in 0..vars.len() {
+            all.add(alloc, i, &vars[i])?;
         }
-        Ok(places)
+        Ok(all)
     }
 
-    /// Adds a variable at its place; one of an element that there is not is left out.
-    fn add(&mut self, var: &OwnedVar<'a>, place: usize) -> Result<(), AllocError>
-        ensures count { vec_len self.new.own ≡ vec_len self.old.own }
-        ensures own { OnOk result ((k : ℕ) (x : List ℕ) → k < vec_len self.old.own →
-            own_under self.new k x ≡ first_of (own_under self.old k x) (is_own k x (owned_of var.now)) place) }
+    /// Adds the number of a variable, if none stands there.
+    fn add(&mut self, alloc: Global, number: usize, var: &OwnedVar<'a>) -> Result<(), AllocError>
+        ensures own { OnOk result ((k : ℕ) (x : List ℕ) →
+            own_in self.new k x ≡ option_or (own_in self.old k x) (only_then (is_own k x (owned_of var.now)) number)) }
         ensures global { OnOk result ((x : List ℕ) →
-            under self.new.global x ≡ first_of (under self.old.global x) (is_global x (owned_of var.now)) place) }
+            under self.new.global x ≡ option_or (under self.old.global x) (only_then (is_global x (owned_of var.now)) number)) }
     {
-        let name: &'a str = var.var.name.name.as_str();
+        let name = var.var.name.name.as_str();
         match var.owner {
-            None => self.global.add(name, place),
-            Some(element) => match self.own.get_mut(element) {
-                Some(names) => names.add(name, place),
-                None => Ok(()),
-            },
+            None => self.global.add(name, number),
+            Some(k) => self.add_own(alloc, k, name, number),
         }
     }
 
-    /// The place of the variable that a name stands for in an element: its own one, else the global one.
-    #[tactic(auto, unfolding(crate::specs::Code::place_in))]
-    pub(crate) fn place(&self, element: usize, name: &str) -> Option<usize>
+    /// Adds the number of a variable of an element, if none stands there.
+    fn add_own(
+        &mut self,
+        alloc: Global,
+        element: usize,
+        name: &'a str,
+        number: usize,
+    ) -> Result<(), AllocError>
+        ensures own { OnOk result ((k : ℕ) (x : List ℕ) →
+            own_in self.new k x ≡ option_or (own_in self.old k x) (only_then (is_named_own element name.now k x) number)) }
+        ensures global { OnOk result (self.new.global ≡ self.old.global) }
+    {
+        self.grow(alloc, element)?;
+        self.own[element].add(name, number)?;
+        Ok(())
+    }
+
+    /// Makes room for an element.
+    fn grow(&mut self, alloc: Global, element: usize) -> Result<(), AllocError>
+        ensures room { OnOk result (element < length self.new.own.items) }
+        ensures own { OnOk result ((k : ℕ) (x : List ℕ) → own_in self.new k x ≡ own_in self.old k x) }
+        ensures global { OnOk result (self.new.global ≡ self.old.global) }
+    {
+        'grow: while self.own.len() <= element {
+            self.own.push(NameMap::new(alloc))?;
+        }
+        Ok(())
+    }
+
+    /// The number of the variable that a name stands for in an element: its own one, else the global one.
+    #[tactic(auto, unfolding(crate::specs::Places::place_in))]
+    pub fn place(&self, element: usize, name: &str) -> Option<usize>
         ensures { result ≡ place_in self.now element name.now }
     {
         match self.own_place(element, name) {
-            Some(place) => Some(place),
+            Some(i) => Some(i),
             None => self.global.get(name),
         }
     }
 
-    /// The place of the element's own variable of this name.
+    /// The number of an element's own variable.
     fn own_place(&self, element: usize, name: &str) -> Option<usize>
-        ensures { result ≡ own_under self.now element name.now }
+        ensures { result ≡ own_in self.now element name.now }
     {
         match self.own.get(element) {
             Some(names) => names.get(name),
             None => None,
         }
     }
-}
-
-/// Nothing under any name, for each of so many elements.
-fn no_names<'a>(alloc: Global, elements: usize) -> Result<Vec<NameMap<'a, usize>>, AllocError>
-    ensures count { IfOk result (λ xs. vec_len xs ≡ elements) }
-    ensures none { IfOk result (λ xs. (k : ℕ) (x : List ℕ) → under_at (slice_get xs.items k) x ≡ None) }
-{
-    let mut all = Vec::new(alloc);
-    for _element in 0..elements {
-        add_none(alloc, &mut all)?;
-    }
-    Ok(all)
-}
-
-/// Adds names under which there is nothing.
-fn add_none<'a>(alloc: Global, all: &mut Vec<NameMap<'a, usize>>) -> Result<(), AllocError>
-    ensures count { OnOk result (vec_len all.new ≡ vec_len all.old + 1) }
-    ensures none { OnOk result ((x : List ℕ) → ((k : ℕ) → under_at (slice_get all.old.items k) x ≡ None) → (k : ℕ) → under_at (slice_get all.new.items k) x ≡ None) }
-{
-    all.push(NameMap::new(alloc))?;
-    Ok(())
 }

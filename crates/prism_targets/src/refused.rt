@@ -105,6 +105,6 @@ fn has_large_labels(
 ) -> Result<bool, AllocError>
     ensures { IfOk result (λ b. b ≡ crowded_from (usable_among (map owned_of labels.now)) 0 (map (λ a. automaton_of a.now) automata.now)) }
 {
-    let places = Places::of(alloc, labels, automata.len())?;
+    let places = Places::of(alloc, labels)?;
     has_many_values(alloc, automata, &places)
 }

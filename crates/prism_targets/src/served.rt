@@ -3,17 +3,16 @@
 ghost use Rattle.std.specs.Prelude.{◌≡◌, ◌+◌, ◌++◌, List as ListOf, ℕ, map, if◌then◌else◌, IfOk, OnOk};
 ghost use Rattle.std.specs.List.{filter, flat_map};
 ghost use Rattle.op_trees.specs.Tree.{capped};
-ghost use Rattle.prism_flat.specs.Instance.{only_if};
+ghost use Rattle.process_core.specs.Instance.{only_if};
+ghost use Rattle.gathering.specs.Lists.{list_under};
 ghost use Rattle.prism_targets.specs.Tables.{Row, all_numbers, blocks, calls, edge_serves, element_serves, numbers_served};
-ghost use Rattle.prism_targets.specs.Code.{ranked_view, table_view, edge_served, element_served, list_under, row_view};
+ghost use Rattle.prism_targets.specs.Code.{ranked_view, table_view, edge_served, element_served, row_view};
 
 use crate::edges::{ElementEdges, RankedEdge};
-use crate::lists::{add_under, list_under};
 use crate::parts::{is_another, part_of};
 use crate::rows::VectorRow;
 use crate::targets::Target;
-use bridge_io::List;
-use indexmap::IndexMap;
+use gathering::NameLists;
 use std::alloc::{AllocError, Global};
 
 /// The numbers of the targets that an edge serves, in order, and whether it serves the empty action.
@@ -37,44 +36,34 @@ pub struct Serving<'a> {
     pub elements: Vec<ElementServing>,
 }
 
-/// The vectors that name actions for an element, by these actions.
-#[derive(Drop)]
-struct Naming<'a, 'r, 't> {
-    by_action: IndexMap<&'a str, List<&'r VectorRow<'a, 't>>>,
+/// Those of these vectors that name actions for an element, by these actions.
+fn by_action<'a, 'r, 't>(
+    alloc: Global,
+    rows: &[&'r VectorRow<'a, 't>],
+    element: usize,
+) -> Result<NameLists<'a, &'r VectorRow<'a, 't>>, AllocError>
+    ensures { IfOk result (λ n. (x : ListOf ℕ) → map (λ r. row_view r.now) (list_under n x) ≡ filter (calls element x) (map (λ r. row_view r.now) rows.now)) }
+{
+    let mut all = NameLists::new(alloc);
+    for row in rows {
+        add_called(alloc, &mut all, *row, element)?;
+    }
+    Ok(all)
 }
 
-impl<'a, 'r, 't> Naming<'a, 'r, 't> {
-    /// Those of these that name actions for the element of this number.
-    fn of(
-        alloc: Global,
-        rows: &'r [VectorRow<'a, 't>],
-        element: usize,
-    ) -> Result<Naming<'a, 'r, 't>, AllocError>
-        ensures { IfOk result (λ n. (x : ListOf ℕ) → map (λ r. row_view r.now) (list_under n.by_action x) ≡ filter (calls element x) (map row_view rows.now)) }
-    {
-        let mut all = Naming {
-            by_action: IndexMap::new(alloc),
-        };
-        for row in rows {
-            all.add(alloc, row, element)?;
-        }
-        Ok(all)
-    }
-
-    /// Adds a vector, if it names an action for the element.
-    fn add(
-        &mut self,
-        alloc: Global,
-        row: &'r VectorRow<'a, 't>,
-        element: usize,
-    ) -> Result<(), AllocError>
-        ensures { OnOk result ((x : ListOf ℕ) → map (λ r. row_view r.now) (list_under self.new.by_action x)
-            ≡ map (λ r. row_view r.now) (list_under self.old.by_action x) ++ only_if (calls element x (row_view row.now)) (row_view row.now)) }
-    {
-        match part_of(row.split.vector, element) {
-            Some(action) => add_under(alloc, &mut self.by_action, action.name.as_str(), row),
-            None => Ok(()),
-        }
+/// Adds a vector, if it names an action for the element.
+fn add_called<'a, 'r, 't>(
+    alloc: Global,
+    all: &mut NameLists<'a, &'r VectorRow<'a, 't>>,
+    row: &'r VectorRow<'a, 't>,
+    element: usize,
+) -> Result<(), AllocError>
+    ensures { OnOk result ((x : ListOf ℕ) → map (λ r. row_view r.now) (list_under all.new x)
+        ≡ map (λ r. row_view r.now) (list_under all.old x) ++ only_if (calls element x (row_view row.now)) (row_view row.now)) }
+{
+    match part_of(row.split.vector, element) {
+        Some(action) => all.add(alloc, action.name.as_str(), row),
+        None => Ok(()),
     }
 }
 
@@ -146,22 +135,17 @@ fn served_alone(alloc: Global, first: usize, e: &RankedEdge) -> Result<Vec<usize
 /// What an edge serves, where these vectors name actions for its element.
 fn edge_serving(
     alloc: Global,
-    naming: &Naming,
+    naming: &NameLists<&VectorRow>,
     element: usize,
     first: usize,
     e: &RankedEdge,
 ) -> Result<EdgeServing, AllocError>
     ensures { IfOk result (λ s. (rows : ListOf Row) →
-        ((x : ListOf ℕ) → map (λ r. row_view r.now) (list_under naming.now.by_action x) ≡ filter (calls element x) rows) →
+        ((x : ListOf ℕ) → map (λ r. row_view r.now) (list_under naming.now x) ≡ filter (calls element x) rows) →
         edge_served s ≡ edge_serves rows element first (ranked_view e.now)) }
 {
     let targets = match &e.edge.action {
-        Some(a) => served(
-            alloc,
-            element,
-            e,
-            list_under(&naming.by_action, a.name.as_str()),
-        ),
+        Some(a) => served(alloc, element, e, naming.get(a.name.as_str())),
         None => served_alone(alloc, first, e),
     };
     Ok(EdgeServing {
@@ -173,28 +157,28 @@ fn edge_serving(
 /// What the edges of an element serve.
 fn edges_serving(
     alloc: Global,
-    rows: &[VectorRow],
+    rows: &[&VectorRow],
     element: usize,
     first: usize,
     edges: &[RankedEdge],
 ) -> Result<Vec<EdgeServing>, AllocError>
     ensures { IfOk result
-        (λ es. map edge_served es.items ≡ map (edge_serves (map row_view rows.now) element first) (map ranked_view edges.now)) }
+        (λ es. map edge_served es.items ≡ map (edge_serves (map (λ r. row_view r.now) rows.now) element first) (map ranked_view edges.now)) }
 {
-    let naming = Naming::of(alloc, rows, element)?;
+    let naming = by_action(alloc, rows, element)?;
     edges_serving_by(alloc, &naming, element, first, edges)
 }
 
 /// The same where these vectors name actions for the element.
 fn edges_serving_by(
     alloc: Global,
-    naming: &Naming,
+    naming: &NameLists<&VectorRow>,
     element: usize,
     first: usize,
     edges: &[RankedEdge],
 ) -> Result<Vec<EdgeServing>, AllocError>
     ensures { IfOk result (λ es. (rows : ListOf Row) →
-        ((x : ListOf ℕ) → map (λ r. row_view r.now) (list_under naming.now.by_action x) ≡ filter (calls element x) rows) →
+        ((x : ListOf ℕ) → map (λ r. row_view r.now) (list_under naming.now x) ≡ filter (calls element x) rows) →
         map edge_served es.items ≡ map (edge_serves rows element first) (map ranked_view edges.now)) }
 {
     let mut all = Vec::new(alloc);
@@ -215,31 +199,31 @@ fn is_blocking(edges: &ElementEdges, element: usize, row: &VectorRow) -> bool
 /// The targets that an element blocks.
 fn blocked(
     alloc: Global,
-    rows: &[VectorRow],
+    rows: &[&VectorRow],
     element: usize,
     edges: &ElementEdges,
 ) -> Result<Vec<usize>, AllocError>
-    ensures { IfOk result (λ ns. ns.items ≡ flat_map all_numbers (filter (blocks element (table_view edges.now)) (map row_view rows.now))) }
+    ensures { IfOk result (λ ns. ns.items ≡ flat_map all_numbers (filter (blocks element (table_view edges.now)) (map (λ r. row_view r.now) rows.now))) }
 {
     let mut all = Vec::new(alloc);
     for row in rows {
-        if is_blocking(edges, element, row) {
-            add_range(&mut all, row)?;
+        if is_blocking(edges, element, *row) {
+            add_range(&mut all, *row)?;
         }
     }
     Ok(all)
 }
 
-/// What the edges of an element serve, and what it blocks, where the targets of its silent edges have the numbers from this one
-/// on.
+/// What the edges of an element serve, and what it blocks, by the vectors in which it takes part, where the targets of its silent
+/// edges have the numbers from this one on.
 pub(crate) fn element_serving(
     alloc: Global,
-    rows: &[VectorRow],
+    rows: &[&VectorRow],
     element: usize,
     first: usize,
     edges: &ElementEdges,
 ) -> Result<ElementServing, AllocError>
-    ensures { IfOk result (λ s. element_served s ≡ element_serves (map row_view rows.now) element first (table_view edges.now)) }
+    ensures { IfOk result (λ s. element_served s ≡ element_serves (map (λ r. row_view r.now) rows.now) element first (table_view edges.now)) }
 {
     let serving = edges_serving(alloc, rows, element, first, edges.edges.as_slice())?;
     let blocked = blocked(alloc, rows, element, edges)?;

@@ -152,7 +152,7 @@ pub(crate) fn judge_shared(
     ensures { IfOk result
         (λ best. best ≡ soonest None (split_faults (written_in (map owned_of lasting.now) (map table_view elements.now)) 0 (map owned_of lasting.now))) }
 {
-    let places = Places::of(alloc, lasting, elements.len())?;
+    let places = Places::of(alloc, lasting)?;
     let mut writings = Writings::new(alloc, lasting.len())?;
     writings.note_elements(&places, elements);
     Ok(judge(lasting, &writings))

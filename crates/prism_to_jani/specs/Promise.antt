@@ -1,4 +1,4 @@
--- What is promised of the JANI file that a PRISM file is translated to.
+-- What is promised of the JANI file that a PRISM file is translated to (this project's own rule).
 use Rattle.std.specs.Prelude.{◌≡◌}
 use Rattle.prism_tree.specs.Syntax as prism
 use Rattle.prism_names.specs.Flat.{flat}

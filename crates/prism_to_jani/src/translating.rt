@@ -11,7 +11,7 @@ use jani_check::CheckedJani;
 use jani_translation::translate;
 use jani_tree::JaniFile;
 use prism_check::CheckedPrism;
-use prism_clean::flatten;
+use prism_places::flatten;
 use std::alloc::{AllocError, Global};
 
 /// The JANI file that a PRISM file without fault is translated to. It has no fault, it has the shape that

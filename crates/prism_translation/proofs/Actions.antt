@@ -6,13 +6,16 @@ use Rattle.std.proofs.Common.{refl, sym, ap, ap₂, ◌∙◌}
 use Rattle.std.proofs.lemmas.Slice.Eq.{bytes_eq-Decides}
 use Rattle.std.proofs.lemmas.List.Elements.{All-nil, All-cons, All-weaker, All-filter}
 use Rattle.std.proofs.lemmas.List.Folds.{list_any-append}
+use Rattle.std.proofs.Math.Bool.{or-false}
+use Rattle.basics.specs.Texts.{bytes_eq_comm}
+use Rattle.basics.specs.Members.{any-map, All-unmap, any_agree, any_two}
 use Rattle.process_core.specs.Process.{EquallyOften}
 use Rattle.process_core.specs.Ready.{Name, Ready, same_label, has_action, if_some, actions_of}
-use Rattle.process_core.proofs.Targets.{Distinct, by_truth, firsts_distinct, any_firsts, any-map}
+use Rattle.process_core.proofs.Targets.{Distinct, firsts_distinct, any_firsts}
 use Rattle.choice_laws.proofs.Members.{same_members}
-use Rattle.choice_laws.proofs.Walks.{any-flat_map, any_agree, any_agree_in, filter_none, All-unmap, any-filter, any_exchange, any_and, any_two, filter_all}
-use Rattle.choice_laws.proofs.Truths.{and_or, or_false}
-use Rattle.prism_flat.specs.Instance.{only_if}
+use Rattle.choice_laws.proofs.Walks.{any-flat_map, any_agree_in, filter_none, any-filter, any_exchange, any_and, filter_all}
+use Rattle.choice_laws.proofs.Truths.{and_or}
+use Rattle.process_core.specs.Instance.{only_if}
 use Rattle.jani_tree.specs.Syntax.{File}
 use Rattle.prism_translation.specs.Elements.{Element, elements, Placed, placed_edges}
 use Rattle.prism_translation.specs.Targets.{Target, serves, serves_silently, is_blocked, old_name}
@@ -21,9 +24,6 @@ use Rattle.prism_translation.specs.StateLaws.{old_name_of, old_label_by}
 use Rattle.prism_translation.proofs.CommandsAlike.{Evaluation, module_ready, commands_at, AreCommands, IsAlone, joins}
 
 -- ---- names that stand once
-turned : (x y : Name) → bytes_eq x y ≡ bytes_eq y x
-turned x y = by_truth (bytes_eq x y) (bytes_eq y x) (λ h. (bytes_eq-Decides y x).1 (sym ((bytes_eq-Decides x y).0 h))) (λ h. (bytes_eq-Decides x y).1 (sym ((bytes_eq-Decides y x).0 h)))
-
 abbrev pub AreDistinct : List Action → Type 0
 AreDistinct ts = Distinct bytes_eq bytes_eq-Decides (map (λ t. t.name) ts)
 
@@ -48,7 +48,7 @@ alone_in (t ∷ ts) h =
     (filter_none (λ u. bytes_eq t.name u.name) (filter q ts) (All-filter q (λ u. bytes_eq t.name u.name ≡ false) ts others)))
     (λ k d l q.
     let u = get_or ts k d in
-    kept_none (λ w. bytes_eq u.name w.name) (q t) t (filter q ts) (turned u.name t.name ∙ others k d l) ∙ alone_in ts h.1 k d l q)
+    kept_none (λ w. bytes_eq u.name w.name) (q t) t (filter q ts) (bytes_eq_comm u.name t.name ∙ others k d l) ∙ alone_in ts h.1 k d l q)
 
 -- ---- the old name of an action
 found_first : (p : Action → Bool) (t : Action) (ts : List Action) → filter p ts ≡ t ∷ [] → find p ts ≡ Some t
@@ -84,7 +84,7 @@ module _ (file : File) (acts : List Action) (seen : Evaluation) where
         ∙ any_agree (λ t. has_action (Some x) (seen.command p (Some t.name))) (λ t. bytes_eq x t.name) (λ t. ap (same_label (Some x)) (are.command p (Some t.name))) (filter (λ t. serves file t.target p) acts)
         ∙ any-filter (λ t. bytes_eq x t.name) (λ t. serves file t.target p) acts)
         (by_test (serves_silently file p))
-        ∙ or_false (list_any (λ t. serves file t.target p && bytes_eq x t.name) acts)
+        ∙ or-false (list_any (λ t. serves file t.target p && bytes_eq x t.name) acts)
       where
         by_test : (b : Bool) → list_any (has_action (Some x)) (only_if b (seen.command p None)) ≡ false
         by_test true = ap (λ a. same_label (Some x) a || false) (are.command p None)
@@ -109,7 +109,7 @@ module _ (file : File) (acts : List Action) (seen : Evaluation) where
 
     same_name : (x : Name) (a : Option Name) → list_any (bytes_eq x) (if_some a) ≡ same_label (Some x) a
     same_name x None = refl
-    same_name x (Some y) = or_false (bytes_eq x y)
+    same_name x (Some y) = or-false (bytes_eq x y)
 
     names_alike : All IsJoined acts → (x : Name) → list_any (bytes_eq x) (actions_of (map here (elements file))) ≡ list_any (bytes_eq x) (map (λ t. t.name) acts)
     names_alike h x =

@@ -4,8 +4,8 @@ use Rattle.std.specs.Prelude.{◌≡◌, ◌<◌, ℕ, List, [], ◌++◌, Bool,
 use Rattle.std.specs.List.{flat_map, All}
 use Rattle.std.specs.Option.{option_map}
 use Rattle.std.proofs.Common.{refl, sym, ap, subst, eq-eqb}
+use Rattle.basics.specs.Booleans.{first_true}
 use Rattle.bridge_io.specs.declared.reason.Named.{Named}
-use Rattle.frac_core.specs.Fraction.{first_true}
 use Rattle.process_core.specs.Process.{EquallyOften, choice_image}
 use Rattle.process_core.specs.Often.{often_same, often_trans}
 use Rattle.process_core.specs.Product.{one_of_each}
@@ -15,7 +15,7 @@ use Rattle.process_core.specs.Follow.{FollowsReady}
 use Rattle.choice_laws.specs.Rewards.{EarnsBy, bare_ready, is_enabled}
 use Rattle.choice_laws.proofs.Rewards.{PaysHere}
 use Rattle.prism_names.specs.Names as prism_names
-use Rattle.prism_flat.specs.Instance.{Valuation}
+use Rattle.process_core.specs.Instance.{Valuation}
 use Rattle.prism_flat.specs.Moment as prism_moment
 use Rattle.prism_flat.specs.Process as prism_process
 use Rattle.prism_flat.specs.Process.{choice_rewards}

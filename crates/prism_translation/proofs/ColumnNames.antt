@@ -1,30 +1,33 @@
 -- The columns of a translated file in order: their names, which differ from each other and from those of constants, and where
 -- each stands.
-use Rattle.std.specs.Prelude.{◌≡◌, ℕ, ◌+◌, ◌-◌, ◌<◌, ◌≤◌, List, [], ◌∷◌, ◌++◌, map, length, drop, take, Bool, true, false, not, cond, Some, if◌then◌else◌, nat_eq, nat_lt, bytes_eq, get_or, unwrap_or}
+use Rattle.std.specs.Prelude.{◌≡◌, ℕ, ◌+◌, ◌-◌, ◌<◌, ◌≤◌, List, [], ◌∷◌, ◌++◌, map, length, drop, take, Bool, true, false, not, cond, Some, if◌then◌else◌, nat_eq, nat_lt, bytes_eq, slice_get, get_or, unwrap_or}
 use Rattle.std.specs.List.{position_or_len, All}
 use Rattle.std.specs.Option.{option_map}
-use Rattle.std.proofs.Common.{refl, sym, ap, ap₂, ◌∙◌, arith, eq-eqb, lt-ltb, ltb-true, ltb-false, append_assoc, length-append, length-drop}
+use Rattle.std.proofs.Common.{refl, sym, ap, ap₂, ◌∙◌, arith, eq-eqb, lt-ltb, ltb-true, ltb-false, length-append, length-drop}
 use Rattle.std.proofs.lemmas.Bool.{eqb-true}
 use Rattle.std.proofs.lemmas.Slice.Eq.{bytes_eq-Decides}
 use Rattle.std.proofs.lemmas.Option.{slice_get-get_or}
 use Rattle.std.proofs.lemmas.List.{length-map, length-take, get_or-take, get_or-drop}
-use Rattle.std.proofs.lemmas.List.Elements.{All-head, All-tail, All-weaker, All-append, All-map}
+use Rattle.std.proofs.lemmas.List.Elements.{All-head, All-tail, All-weaker}
+use Rattle.basics.specs.Texts.{bytes_ne}
 use Rattle.process_core.specs.Ready.{Name}
 use Rattle.choice_laws.specs.Columns.{slot}
-use Rattle.prism_flat.specs.Instance.{Valuation, Column}
+use Rattle.process_core.specs.Instance.{Valuation, Column}
 use Rattle.prism_flat.specs.Scene as prism_scene
 use Rattle.prism_flat.specs.Moment.{place_of}
 use Rattle.jani_tree.specs.Syntax.{File}
 use Rattle.jani_meaning.specs.Elements as jani
-use Rattle.jani_meaning.specs.Elements.{Owned, lasting, labels, structures}
+use Rattle.jani_meaning.specs.Elements.{lasting, labels, structures}
+use Rattle.name_table.specs.declared.class.NameClass.{NameClass}
 use Rattle.name_table.specs.declared.class.NameClass.TheVariants.{Constant, Variable, Label, Reward}
 use Rattle.name_table.specs.declared.class.Target.TheVariants.{Prism}
 use Rattle.name_table.specs.declared.entry.Entry.{Entry}
 use Rattle.name_table.specs.Rule.{space}
-use Rattle.name_table.specs.Entries.{Ask, entries_of}
-use Rattle.name_table.proofs.EntryLemmas.{one_each}
+use Rattle.name_table.specs.Entries.{Ask}
+use Rattle.name_table.proofs.EntryLemmas.{one_each, no_two_alike}
+use Rattle.name_table.proofs.Parts.{get_front, class_has, first_have}
 use Rattle.name_table.specs.Asks.{some_from}
-use Rattle.name_table.specs.PrismAsks.{NewNames, name_at, ask_for, constant_ask, location_ask, module_ask}
+use Rattle.name_table.specs.PrismAsks.{NewNames, name_at, ask_for, constant_ask, location_ask, module_ask, asks}
 use Rattle.prism_translation.specs.Elements.{Element, elements, lasting_variables}
 use Rattle.prism_translation.specs.Targets.{targets}
 use Rattle.prism_translation.specs.Names.{new_names, all_asks, entries, action_ask}
@@ -32,7 +35,7 @@ use Rattle.prism_translation.specs.StateLaws.{columns}
 use Rattle.prism_translation.specs.Translated.{translated}
 use Rattle.prism_translation.proofs.ColumnsAlike.{columns_alike}
 use Rattle.prism_translation.proofs.Numbered.{numbers_below}
-use Rattle.prism_translation.proofs.Apart.{segment, names_differ, not_same}
+use Rattle.prism_translation.proofs.Apart.{asks_length}
 use Rattle.prism_translation.proofs.Follows.{column_name, variable_name, prism_columns}
 
 module _ (file : File) where
@@ -65,44 +68,22 @@ module _ (file : File) where
         (λ i d l. sym (location_is (get_or (elements file) i d) (below i d l)))
 
   -- ---- the names of constants, variables and location variables differ
-  abbrev value_asks : List Ask
-  value_asks = map constant_ask file.constants ++ (map (ask_for Variable) (lasting file) ++ map location_ask file.elements)
-
-  abbrev other_asks : List Ask
-  other_asks = map module_ask file.elements ++ (map (ask_for Label) (labels file) ++ map (ask_for Reward) (structures file)) ++ map action_ask (targets file)
-
   abbrev pub c : ℕ
   c = length file.constants
 
   abbrev pub m : ℕ
   m = length (lasting file)
 
-  asks_are : value_asks ++ other_asks ≡ all_asks file
-  asks_are =
-      let a = map constant_ask file.constants in
-      let b = map (ask_for Variable) (lasting file) in
-      let c = map location_ask file.elements in
-      let d = map module_ask file.elements ++ (map (ask_for Label) (labels file) ++ map (ask_for Reward) (structures file)) in
-      let e = map action_ask (targets file) in
-      sym (append_assoc (a ++ (b ++ c)) d e)
-      ∙ ap (λ l. l ++ e) (append_assoc a (b ++ c) d ∙ ap (λ l. a ++ l) (append_assoc b c d))
+  abbrev IsValue : NameClass → Type 0
+  IsValue b = space Prism b ≡ space Prism Constant
 
-  values_long : length value_asks ≡ c + (m + n)
-  values_long =
-      let a = length-append (map constant_ask file.constants) (map (ask_for Variable) (lasting file) ++ map location_ask file.elements) in
-      let b = length-append (map (ask_for Variable) (lasting file)) (map location_ask file.elements) in
-      let d = length-map file.constants constant_ask in
-      let e = length-map (lasting file) (ask_for Variable) in
-      let f = length-map file.elements location_ask in
-      omega arith
-
-  all_values : All (λ a. space Prism a.0 ≡ space Prism Constant) value_asks
-  all_values =
-      All-append (λ a. space Prism a.0 ≡ space Prism Constant) (map constant_ask file.constants) (map (ask_for Variable) (lasting file) ++ map location_ask file.elements)
-      (All-map (λ a. space Prism a.0 ≡ space Prism Constant) constant_ask file.constants (λ k d l. refl))
-      (All-append (λ a. space Prism a.0 ≡ space Prism Constant) (map (ask_for Variable) (lasting file)) (map location_ask file.elements)
-      (All-map (λ a. space Prism a.0 ≡ space Prism Constant) (ask_for Variable) (lasting file) (λ k d l. refl))
-      (All-map (λ a. space Prism a.0 ≡ space Prism Constant) location_ask file.elements (λ k d l. refl)))
+  value_asked : (i : ℕ) (a : Ask) → i < c + (m + n) → slice_get (all_asks file) i ≡ Some a → IsValue a.0
+  value_asked i a l g =
+      let rest = map module_ask file.elements ++ (map (ask_for Label) (labels file) ++ map (ask_for Reward) (structures file)) in
+      first_have IsValue constant_ask (λ x. refl) file.constants (map (ask_for Variable) (lasting file) ++ (map location_ask file.elements ++ rest)) (m + (n + 0))
+      (first_have IsValue (ask_for Variable) (λ x. refl) (lasting file) (map location_ask file.elements ++ rest) (n + 0)
+      (first_have IsValue location_ask (λ x. refl) file.elements rest 0 (λ j b k h. absurd (omega arith)))) i a (omega arith)
+      (sym (get_front (asks file) (map action_ask (targets file)) i (let k = asks_length file in omega arith)) ∙ g)
 
   pub nothing : Entry
   nothing = record { class = Constant; name = []; kept = false }
@@ -113,9 +94,8 @@ module _ (file : File) where
   pub entries_long : c + (m + n) ≤ length es
   entries_long =
       let a = one_each Prism (all_asks file) in
-      let b = ap length asks_are in
-      let d = length-append value_asks other_asks in
-      let e = values_long in
+      let b = length-append (asks file) (map action_ask (targets file)) in
+      let k = asks_length file in
       omega arith
 
   -- the entry of this number
@@ -124,17 +104,13 @@ module _ (file : File) where
 
   pub entries_differ : (i j : ℕ) → i < c + (m + n) → j < c + (m + n) → (i ≡ j → ⊥) → entry_name i ≡ entry_name j → ⊥
   entries_differ i j l k d e =
-      let a : i < length value_asks = let x = values_long in omega arith in
-      let b : j < length value_asks = let x = values_long in omega arith in
-      names_differ [] value_asks other_asks Constant all_values i j nothing a b d
-      (at i a ∙ e ∙ sym (at j b))
-    where
-      at : (k : ℕ) → k < length value_asks → (get_or (segment [] value_asks other_asks Constant all_values) k nothing).name ≡ entry_name k
-      at k l =
-          ap (λ (x : Entry). x.name)
-          (get_or-take (length value_asks) (drop 0 (entries_of Prism (value_asks ++ other_asks))) k nothing l
-          ∙ get_or-drop 0 (entries_of Prism (value_asks ++ other_asks)) k nothing
-          ∙ ap₂ (λ xs i. get_or (entries_of Prism xs) i nothing) asks_are (let o : 0 + k ≡ k = omega arith in o))
+      let a = get_or es i nothing in
+      let b = get_or es j nothing in
+      let long = entries_long in
+      let g : slice_get es i ≡ Some a = slice_get-get_or es i nothing (omega arith) in
+      let h : slice_get es j ≡ Some b = slice_get-get_or es j nothing (omega arith) in
+      no_two_alike Prism (all_asks file) i j a b g h d
+      (class_has Prism (all_asks file) IsValue i a (λ u q. value_asked i u l q) g ∙ sym (class_has Prism (all_asks file) IsValue j b (λ u q. value_asked j u k q) h)) e
 
   some_name : (at count i : ℕ) → i < count → at + count ≤ length es → name_at (some_from at count es) i ≡ entry_name (at + i)
   some_name at count i l h =
@@ -178,7 +154,7 @@ module _ (file : File) where
         by_test : (b : Bool) → nat_eq i j ≡ b → bytes_eq (column_name file v v [] i) (column_name file v v [] j) ≡ b
         by_test true e = (bytes_eq-Decides (column_name file v v [] i) (column_name file v v [] j)).1 (ap (column_name file v v []) (eqb-true i j e))
         by_test false e =
-            not_same (column_name file v v [] i) (column_name file v v [] j)
+            bytes_ne (column_name file v v [] i) (column_name file v v [] j)
             (λ h.
             let a = nat_lt i n in
             let b = nat_lt j n in

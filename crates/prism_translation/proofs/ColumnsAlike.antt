@@ -8,9 +8,9 @@ use Rattle.std.proofs.lemmas.Option.{slice_get-get_or}
 use Rattle.std.proofs.lemmas.List.{map-append, length-map, get_or-map, get_or-append-add}
 use Rattle.std.proofs.lemmas.List.Elements.{All-head, All-tail, All-filter, All-append}
 use Rattle.std.proofs.lemmas.List.Folds.{flat_map-map}
+use Rattle.basics.specs.Booleans.{first_true, second_true}
 use Rattle.op_trees.specs.declared.tree.Value.{Value}
 use Rattle.op_trees.specs.Seen.{Seen}
-use Rattle.frac_core.specs.Fraction.{first_true, second_true}
 use Rattle.process_core.specs.Product.{map-map, map-flat_map}
 use Rattle.process_core.specs.Ready.{Values}
 use Rattle.choice_laws.specs.Columns.{at_start, value_at, stands}
@@ -18,7 +18,7 @@ use Rattle.choice_laws.proofs.Walks.{cons_parts, flat_map_agree_in}
 use Rattle.prism_tree.specs.Syntax as prism
 use Rattle.prism_tree.specs.Syntax.{plain}
 use Rattle.prism_names.specs.Names.{unchanged, part_of}
-use Rattle.prism_flat.specs.Instance.{Valuation, Domain, Column, only_if, is_in, is_first, is_state, is_initial}
+use Rattle.process_core.specs.Instance.{Valuation, Domain, Column, only_if, is_in, is_first, is_state, is_initial}
 use Rattle.prism_flat.specs.Scene as prism_scene
 use Rattle.jani_tree.specs.Syntax.{Automaton, File}
 use Rattle.jani_meaning.specs.Elements as jani

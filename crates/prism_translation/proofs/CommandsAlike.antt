@@ -4,6 +4,7 @@ use Rattle.std.specs.Prelude.{◌≡◌, List, [], ◌∷◌, ◌++◌, map, Boo
 use Rattle.std.specs.List.{flat_map, filter, list_any, All, AllZip}
 use Rattle.std.proofs.Common.{refl, sym, ap, ap₂, ◌∙◌, append-nil}
 use Rattle.std.proofs.lemmas.List.Elements.{filter-append, All-nil, All-cons, All-head, All-tail, All-weaker, All-filter, All-append, filter_agree, filter_passes}
+use Rattle.basics.specs.Members.{filter-map}
 use Rattle.process_core.specs.Process.{choice_image}
 use Rattle.process_core.specs.Product.{one_of_each, map-flat_map, flat_map_agree}
 use Rattle.process_core.specs.Ready.{Values, Name, Reward, Ready, Sum, same_label, has_action, together, sharing}
@@ -12,8 +13,8 @@ use Rattle.process_core.specs.Follow.{FollowsReady, together_follow, choices_sam
 use Rattle.choice_laws.specs.Rewards.{bare_ready, is_enabled, EarnsBy}
 use Rattle.choice_laws.proofs.Participants.{sharing_walk}
 use Rattle.choice_laws.proofs.Rewards.{PaysHere, choices_enabled, choices_earned}
-use Rattle.choice_laws.proofs.Walks.{AllZip-maps_in, any_left, filter-flat_map, filter-map, filter_agree_in, filter_walk, flat_map_agree_in, has_some, some-append, some-map}
-use Rattle.prism_flat.specs.Instance.{only_if}
+use Rattle.choice_laws.proofs.Walks.{AllZip-maps_in, any_left, filter-flat_map, filter_agree_in, filter_walk, flat_map_agree_in, has_some, some-append, some-map}
+use Rattle.process_core.specs.Instance.{only_if}
 use Rattle.jani_tree.specs.Syntax.{File}
 use Rattle.prism_translation.specs.Elements.{Element, elements, Placed, placed_edges, action_of}
 use Rattle.prism_translation.specs.Targets.{Target, serves, serves_silently, is_blocked, old_name}

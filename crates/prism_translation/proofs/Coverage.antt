@@ -1,16 +1,18 @@
 -- Each variable of the file is a column of the translated file, and so is the location of each element that has several.
-use Rattle.process_core.proofs.Targets.{any-map}
 use Rattle.std.specs.Prelude.{◌≡◌, ℕ, ◌+◌, ◌<◌, ◌≤◌, List, [], ◌∷◌, map, length, Bool, true, false, ◌&&◌, ◌||◌, Option, Some, None, is_none, nat_eq, get_or, IfSome}
 use Rattle.std.specs.List.{flat_map, filter, list_any, All}
-use Rattle.std.proofs.Common.{refl, sym, ap, ap₂, subst, ◌∙◌, arith}
+use Rattle.std.proofs.Common.{refl, sym, ap, ap₂, subst, ◌∙◌, arith, ne_eqb}
 use Rattle.std.proofs.lemmas.List.{map-append}
 use Rattle.std.proofs.lemmas.List.Elements.{All-nil, All-cons, All-head, All-weaker, All-filter, All-append, All-map}
 use Rattle.std.proofs.lemmas.List.Folds.{list_any-append}
 use Rattle.std.proofs.lemmas.Bool.{or_right, or_left}
+use Rattle.std.proofs.Math.Bool.{or-false}
+use Rattle.std.proofs.lemmas.Option.{same_Some}
+use Rattle.basics.specs.Numbers.{nat_eq-self}
+use Rattle.basics.specs.Members.{any-map, any_agree}
 use Rattle.choice_laws.specs.Columns.{stands}
-use Rattle.choice_laws.proofs.Walks.{All-flat_map, any-filter, any-flat_map, any_agree, has_any, some_part}
-use Rattle.choice_laws.proofs.Truths.{or_false, other_number, same_number}
-use Rattle.prism_flat.specs.Instance.{numbered, only_if}
+use Rattle.choice_laws.proofs.Walks.{All-flat_map, any-filter, any-flat_map, has_any}
+use Rattle.process_core.specs.Instance.{numbered, only_if}
 use Rattle.jani_tree.specs.Syntax.{Var, Automaton, File}
 use Rattle.jani_meaning.specs.Elements as jani
 use Rattle.jani_meaning.specs.Elements.{Owned, owned_by, is_lasting, is_owner, lasting}
@@ -91,7 +93,7 @@ module _ (file : File) where
       let x = get_or (lasting_variables file) k d in
       any-map (finds (column_of file x)) (column_of file) (filter P (lasting_variables file))
       ∙ any-filter (λ y. nat_eq (column_of file y) (column_of file x)) P (lasting_variables file)
-      ∙ has_any (λ y. P y && nat_eq (column_of file y) (column_of file x)) (lasting_variables file) k d l (ap₂ (λ a b. a && b) h (same_number (column_of file x)))
+      ∙ has_any (λ y. P y && nat_eq (column_of file y) (column_of file x)) (lasting_variables file) k d l (ap₂ (λ a b. a && b) h (nat_eq-self (column_of file x)))
 
   -- where the module of an element has it
   in_module : (j k : ℕ) → k < n → list_any (finds j) (map (column_of file) (at_home file k)) ≡ true → list_any (finds j) (flat_map (module_columns file) (elements file)) ≡ true
@@ -128,13 +130,13 @@ module _ (file : File) where
           ap (list_any (finds j)) (map-append (column_of file) (own file i) (adopted file i))
           ∙ list_any-append (finds j) (map (column_of file) (own file i)) (map (column_of file) (adopted file i))
           ∙ or_right (list_any (finds j) (map (column_of file) (own file i))) (list_any (finds j) (map (column_of file) (adopted file i)))
-          (among (λ y. is_none y.owned.owner && is_at i (home file y)) k d l (ap₂ (λ a b. is_none a && is_at i b) e f ∙ same_number i))
+          (among (λ y. is_none y.owned.owner && is_at i (home file y)) k d l (ap₂ (λ a b. is_none a && is_at i b) e f ∙ nat_eq-self i))
       by_owner i (Some o) e f =
-          let same : o ≡ i = some_part o i (sym (ap (home_by (writers file x.number)) e) ∙ f) in
+          let same : o ≡ i = same_Some o i (sym (ap (home_by (writers file x.number)) e) ∙ f) in
           ap (list_any (finds j)) (map-append (column_of file) (own file i) (adopted file i))
           ∙ list_any-append (finds j) (map (column_of file) (own file i)) (map (column_of file) (adopted file i))
           ∙ or_left (list_any (finds j) (map (column_of file) (own file i))) (list_any (finds j) (map (column_of file) (adopted file i)))
-          (among (λ y. is_owner i y.owned.owner) k d l (ap (is_owner i) e ∙ ap (λ z. nat_eq i z) same ∙ same_number i))
+          (among (λ y. is_owner i y.owned.owner) k d l (ap (is_owner i) e ∙ ap (λ z. nat_eq i z) same ∙ nat_eq-self i))
 
       by_home : (h : Option ℕ) → home file x ≡ h → IfSome h (λ k. k < n) → (front || back) ≡ true
       by_home None e g = or_left front back (among (λ y. is_none (home file y)) k d l (ap is_none e))
@@ -149,7 +151,7 @@ module _ (file : File) where
   -- ---- a location has a column where there are several
   pub no_variable : (xs : List Lasting) (i : ℕ) → i < n → list_any (finds i) (map (column_of file) xs) ≡ false
   no_variable [] i l = refl
-  no_variable (x ∷ xs) i l = ap₂ (λ a b. a || b) (other_number (column_of file x) i (λ e. let no : ⊥ = omega arith in no)) (no_variable xs i l)
+  no_variable (x ∷ xs) i l = ap₂ (λ a b. a || b) (ne_eqb (column_of file x) i (λ e. let no : ⊥ = omega arith in no)) (no_variable xs i l)
 
   pub location_stands : All (λ el. stands (columns file) el.number ≡ has_several el) (elements file)
   location_stands k d l =
@@ -165,5 +167,5 @@ module _ (file : File) where
       ∙ told_by_number has_several 0 (jani.elements file) k d l
     where
       by_test : (b : Bool) (x i : ℕ) → (list_any (finds i) (only_if b x) || false) ≡ (b && nat_eq x i)
-      by_test true x i = or_false (nat_eq x i || false) ∙ or_false (nat_eq x i)
+      by_test true x i = or-false (nat_eq x i || false) ∙ or-false (nat_eq x i)
       by_test false x i = refl

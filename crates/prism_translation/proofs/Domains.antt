@@ -9,9 +9,8 @@ use Rattle.op_trees.specs.SeenLaws.{names_then}
 use Rattle.process_core.specs.Ready.{Name}
 use Rattle.prism_names.specs.Names as prism_names
 use Rattle.prism_names.specs.Names.{unchanged, part_of}
-use Rattle.prism_flat.specs.Instance.{Valuation, Domain, Truths, Between}
+use Rattle.process_core.specs.Instance.{Valuation, Domain, Truths, Between, domain_at}
 use Rattle.prism_flat.specs.Scene as prism_scene
-use Rattle.prism_flat.specs.Moment.{domain_at}
 use Rattle.jani_tree.specs.Syntax.{Expression, VarKind, boolean, integer, number, real_bounded, one_sided, bounded, File}
 use Rattle.jani_meaning.specs.Elements.{lasting}
 use Rattle.jani_meaning.specs.Scene as jani_scene

@@ -4,24 +4,26 @@ use Rattle.std.specs.List.{flat_map, filter, list_any, position, position_or_len
 use Rattle.std.specs.Option.{option_map, option_or}
 use Rattle.std.proofs.Common.{refl, sym, ap, ap₂, ◌∙◌, arith, append-nil, eq-eqb, ltb-true}
 use Rattle.std.proofs.lemmas.List.Elements.{filter-append, All-nil, All-cons, All-head, All-tail, All-filter, All-append, All-map}
+use Rattle.std.proofs.Math.Bool.{or-false}
+use Rattle.basics.specs.Numbers.{nat_eq_comm}
+use Rattle.basics.specs.Members.{any-map, any_agree, filter-map, any_never}
+use Rattle.basics.specs.Lists.{map_agree}
 use Rattle.frac_core.specs.Fraction.{Fraction, nought}
 use Rattle.frac_core.specs.Laws.{plus_nought}
 use Rattle.frac_core.specs.Sums.{total}
 use Rattle.op_trees.specs.declared.tree.Value.{Value}
 use Rattle.op_trees.specs.Seen.{Seen}
-use Rattle.process_core.proofs.Targets.{any-map}
-use Rattle.process_core.specs.Product.{map-map, map_agree, flat_map_agree}
+use Rattle.process_core.specs.Product.{map-map, flat_map_agree}
 use Rattle.process_core.specs.Bounds.{summed, adds}
 use Rattle.process_core.specs.Ready.{Values, Name, Reward, Sum, same_label}
 use Rattle.process_core.specs.Choices.{number_of, all_defined, assigned, own_rewards}
 use Rattle.choice_laws.specs.Columns.{counting}
 use Rattle.choice_laws.specs.Rewards.{EarnsBy, any_undef, some_undef}
 use Rattle.choice_laws.proofs.Columns.{set-counting}
-use Rattle.choice_laws.proofs.Walks.{any-filter, any-flat_map, any_agree, any_agree_in, any_and, any_exchange, filter-flat_map, filter-map, any_never, filter_all}
-use Rattle.choice_laws.proofs.Truths.{or_false, turned_number}
+use Rattle.choice_laws.proofs.Walks.{any-filter, any-flat_map, any_agree_in, any_and, any_exchange, filter-flat_map, filter_all}
 use Rattle.prism_tree.specs.Syntax as prism
 use Rattle.prism_names.specs.Names as prism_names
-use Rattle.prism_flat.specs.Instance.{Valuation, numbered, only_if}
+use Rattle.process_core.specs.Instance.{Valuation, numbered, only_if}
 use Rattle.prism_flat.specs.Moment as prism_moment
 use Rattle.prism_flat.specs.Moment.{Adds, Earned, adds_of, item_at}
 use Rattle.prism_flat.specs.Process.{is_for_choices, sum_for, choice_rewards}
@@ -211,14 +213,14 @@ module _ (file : File) (v w : Valuation) (s : Values) where
         by_test i true e h ih = alone (values j ws) h ih
           where
             here : next i j ≡ unwrap_or (seen_number x.value) nought
-            here = ap (λ b. if b then unwrap_or (seen_number x.value) nought else f j) (turned_number i j ∙ e)
+            here = ap (λ b. if b then unwrap_or (seen_number x.value) nought else f j) (nat_eq_comm i j ∙ e)
 
             alone : (l : List Expression) → AtMostOne (x.value ∷ l) → (AtMostOne l → after (next i) (paid_by ws) j ≡ first_of (next i j) (λ e. unwrap_or (seen_number e) nought) l) →
                 after (next i) (paid_by ws) j ≡ unwrap_or (seen_number x.value) nought
             alone [] h ih = ih tt ∙ here
             alone (y ∷ l) h ih = absurd h
         by_test i false e h ih =
-            ih h ∙ ap (λ y. first_of y (λ e. unwrap_or (seen_number e) nought) (values j ws)) (ap (λ b. if b then unwrap_or (seen_number x.value) nought else f j) (turned_number i j ∙ e))
+            ih h ∙ ap (λ y. first_of y (λ e. unwrap_or (seen_number e) nought) (values j ws)) (ap (λ b. if b then unwrap_or (seen_number x.value) nought else f j) (nat_eq_comm i j ∙ e))
 
         by_number : (o : Option ℕ) → AtMostOne (map (λ x. x.value) (cond (is_at j o) (x ∷ filter (λ x. is_at j (numbers x)) ws) (filter (λ x. is_at j (numbers x)) ws))) →
             ((g : ℕ → Fraction) → AtMostOne (values j ws) → after g (paid_by ws) j ≡ first_of (g j) (λ e. unwrap_or (seen_number e) nought) (values j ws)) →
@@ -261,7 +263,7 @@ module _ (file : File) (v w : Valuation) (s : Values) where
       where
         by_number : (x : syntax.Write) (o : Option ℕ) → any_undef (jani_moment.reward_of o (jani_scene.see x.value (jani_moment.names_in file w u k))) ≡ (is_some o && lacks x)
         by_number x None = refl
-        by_number x (Some i) = or_false (lacks x)
+        by_number x (Some i) = or-false (lacks x)
 
     -- structures are numbered below their count
     abbrev Within : syntax.Write → Type 0
@@ -364,7 +366,7 @@ module _ (file : File) (v w : Valuation) (s : Values) where
           ∙ sym (map-map (λ m. unwrap_or m.value nought) (λ j. sum_of (target_items_by file names j x (Some p))) (counting 0 count));
       undef =
           ap₂ (λ a b. a || b) (paid_undef (first_writes p.edge.destinations)) none_defined
-          ∙ or_false (list_any (λ x. is_some (numbers x) && lacks x) (first_writes p.edge.destinations))
+          ∙ or-false (list_any (λ x. is_some (numbers x) && lacks x) (first_writes p.edge.destinations))
           ∙ sym (all_undef (first_writes p.edge.destinations) (λ i a l. all_within (get_or (first_writes p.edge.destinations) i a)))
           ∙ any_agree _ _
           (λ j. sym (undefined_one (assigned_to file j p) (h.once j)) ∙ ap is_none (sym (sum_value x (assigned_to file j p) (h.once j) (values_sound (first_writes p.edge.destinations) h.sound j)))) (counting 0 count)

@@ -4,13 +4,14 @@ use Rattle.std.specs.List.{flat_map, filter}
 use Rattle.std.proofs.Common.{refl, sym, ap, ap₂, ◌∙◌}
 use Rattle.std.proofs.lemmas.List.{map-append}
 use Rattle.std.proofs.lemmas.List.Concat.{flat_map_single}
-use Rattle.process_core.specs.Product.{map-map, map_agree, map-flat_map, flat_map_agree}
+use Rattle.basics.specs.Lists.{map_agree}
+use Rattle.process_core.specs.Product.{map-map, map-flat_map, flat_map_agree}
 use Rattle.process_core.specs.Ready.{Values, Name, Ready}
 use Rattle.choice_laws.proofs.Walks.{flat_map_agree_in}
 use Rattle.prism_tree.specs.Syntax as prism
 use Rattle.prism_tree.specs.Syntax.{plain}
 use Rattle.prism_names.specs.Names.{unchanged, part_of}
-use Rattle.prism_flat.specs.Instance.{Valuation, only_if}
+use Rattle.process_core.specs.Instance.{Valuation, only_if}
 use Rattle.prism_flat.specs.Scene as prism_scene
 use Rattle.prism_flat.specs.Moment as prism_moment
 use Rattle.jani_tree.specs.Syntax.{Edge, File}

@@ -3,7 +3,7 @@ use Rattle.std.specs.Prelude.{◌≡◌, ◌⊎◌, ◌↔◌, ℕ, suc, ◌+◌
 use Rattle.std.specs.List.{flat_map, zip, All}
 use Rattle.std.specs.Option.{option_map}
 use Rattle.std.proofs.Common.{refl, sym, ap, ap₂, subst, ◌∙◌, arith, inl, inr, ltb-false}
-use Rattle.std.proofs.lemmas.Option.{slice_get-get_or, get_or_from_slice_get}
+use Rattle.std.proofs.lemmas.Option.{slice_get-get_or, get_or_from_slice_get, same_Some}
 use Rattle.std.proofs.lemmas.List.{map-append, length-map}
 use Rattle.std.proofs.lemmas.List.Elements.{All-head, All-tail}
 use Rattle.op_trees.specs.declared.tree.Value.{Value}
@@ -13,12 +13,12 @@ use Rattle.process_core.specs.Process.{IsIn}
 use Rattle.process_core.specs.declared.data.FaultKind.TheVariants.{ConstUndef, EmptyRange, InitOutside}
 use Rattle.process_core.specs.Ready.{Name}
 use Rattle.choice_laws.specs.Columns.{counting, stands}
-use Rattle.choice_laws.proofs.Walks.{cons_parts, some_part}
+use Rattle.choice_laws.proofs.Walks.{cons_parts}
 use Rattle.choice_laws.proofs.Columns.{counting_at, listed, comes, length-counting, goes, below_stands, stands_in, stands_below}
 use Rattle.choice_laws.proofs.Members.{in_left, in_right, in_either}
 use Rattle.prism_tree.specs.Syntax as prism
 use Rattle.prism_names.specs.Names.{unchanged}
-use Rattle.prism_flat.specs.Instance.{Valuation, Fault, fault_of, Domain, Truths, Between, Range, Column, only_if, numbered, constant_faults, range_faults, domain_faults, first_faults, column_faults, range_from, is_empty, is_outside, instance_faults}
+use Rattle.process_core.specs.Instance.{Valuation, Fault, fault_of, Domain, Truths, Between, Range, Column, only_if, numbered, constant_faults, range_faults, domain_faults, first_faults, column_faults, range_from, is_empty, is_outside, instance_faults}
 use Rattle.prism_flat.specs.Scene as prism_scene
 use Rattle.jani_tree.specs.Syntax.{Expression, Const, File}
 use Rattle.jani_meaning.specs.Elements.{lasting}
@@ -89,7 +89,7 @@ module _ (file : File) where
     by_columns f at h k (c ∷ cs) (j ∷ js) n e g =
         let d = cons_parts c.domain (range j) (map (λ (c : Column). c.domain) cs) (map range js) e in
         let s = cons_parts c.first (first j) (map (λ (c : Column). c.first) cs) (map first js) g in
-        let here : at k ≡ j = some_part (at k) j (ap (λ m. Some (at m)) (let o : k ≡ k + 0 = omega arith in o) ∙ sym (n 0 (omega arith))) in
+        let here : at k ≡ j = same_Some (at k) j (ap (λ m. Some (at m)) (let o : k ≡ k + 0 = omega arith in o) ∙ sym (n 0 (omega arith))) in
         ap₂ (λ a b. a ++ b)
         (h k c ∙ ap₂ (λ i x. faults_of i x c.first.value) here d.0 ∙ ap (λ (z : Seen). faults_of j (range j) z.value) s.0)
         (by_columns f at h (k + 1) cs js (λ i l. n (suc i) (omega arith) ∙ ap (λ m. Some (at m)) (let o : k + suc i ≡ (k + 1) + i = omega arith in o)) d.1 s.1)

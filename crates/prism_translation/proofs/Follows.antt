@@ -1,18 +1,13 @@
 -- At states that go with each other the command of an edge has the guard, the probabilities and the assignments of the edge.
 use Rattle.std.specs.Prelude.{◌≡◌, ℕ, ◌+◌, ◌-◌, ◌<◌, ◌≤◌, pos, List, [], ◌∷◌, ◌++◌, map, length, Bool, true, false, not, ◌&&◌, ◌||◌, cond, Option, Some, None, is_none, is_some, if◌then◌else◌, nat_eq, nat_lt, slice_set, unwrap_or, IfSome}
-use Rattle.std.specs.List.{flat_map, list_any, position_or_len, All, AllZip}
+use Rattle.std.specs.List.{flat_map, list_any, All, AllZip}
 use Rattle.std.specs.Option.{option_map}
-use Rattle.std.specs.Ordering.{MatchOrdering}
-use Rattle.std.specs.declared.cmp.Ordering.{Ordering}
-use Rattle.std.specs.declared.cmp.Ordering.TheVariants as C
 use Rattle.std.proofs.Common.{refl, sym, ap, ap₂, ◌∙◌, arith, subst, eq-eqb, ltb-true, ltb-false}
-use Rattle.std.proofs.lemmas.Int.{ints}
 use Rattle.std.proofs.lemmas.List.{map-append, length-set}
 use Rattle.std.proofs.lemmas.Bool.{eqb-true}
 use Rattle.std.proofs.lemmas.List.Elements.{All-head, All-tail}
-use Rattle.frac_core.specs.Fraction.{Fraction, whole, compare}
+use Rattle.frac_core.specs.Fraction.{Fraction, whole}
 use Rattle.frac_core.specs.Decimal.{decimal_value-whole}
-use Rattle.frac_core.specs.Order.{AtMost, Below, compare_ranks, Below_not-AtMost, AtMost-whole}
 use Rattle.op_trees.specs.declared.tree.Value.{Value}
 use Rattle.op_trees.specs.declared.tree.Value.TheVariants as V
 use Rattle.op_trees.specs.Tree.{Two, AllNames}
@@ -30,12 +25,12 @@ use Rattle.prism_tree.specs.Operators.{prism_meaning}
 use Rattle.prism_tree.specs.Syntax as prism
 use Rattle.prism_names.specs.Names as prism_names
 use Rattle.prism_names.specs.Names.{unchanged}
-use Rattle.prism_flat.specs.Instance.{Valuation, Between, Column, is_above, is_greater, is_in, only_if}
+use Rattle.process_core.specs.Instance.{Valuation, Column, only_if, domain_at, fits_in, write_to}
 use Rattle.prism_flat.specs.Scene as prism_scene
 use Rattle.prism_flat.specs.Moment as prism_moment
-use Rattle.prism_flat.specs.Moment.{place_of, domain_at, fits_in, write_to}
+use Rattle.prism_flat.specs.Moment.{place_of}
 use Rattle.jani_tree.specs.Syntax as syntax
-use Rattle.jani_tree.specs.Syntax.{Expression, Destination, Edge, Automaton, File}
+use Rattle.jani_tree.specs.Syntax.{Expression, Destination, Edge, File}
 use Rattle.jani_tree.specs.Canonical.{HasOperands}
 use Rattle.jani_meaning.specs.Elements as jani
 use Rattle.jani_meaning.specs.Elements.{location_number, lasting}
@@ -43,6 +38,7 @@ use Rattle.jani_meaning.specs.Scene as jani_scene
 use Rattle.jani_meaning.specs.Scene.{location_column}
 use Rattle.jani_meaning.specs.Moment as jani_moment
 use Rattle.jani_meaning.specs.Moment.{location_write}
+use Rattle.jani_meaning.proofs.Columns.{has_count, location_within}
 use Rattle.name_table.specs.PrismAsks.{NewNames, name_at, value_name}
 use Rattle.prism_translation.specs.Image.{image}
 use Rattle.prism_translation.specs.Elements.{Element, has_several, Placed}
@@ -54,37 +50,7 @@ use Rattle.prism_translation.specs.Translated.{translated}
 use Rattle.prism_translation.proofs.ImageSeen.{image_seen}
 use Rattle.prism_translation.proofs.Evaluated.{edge_ready, current, command_ready}
 
--- ---- whole numbers within a range
-not_above : (x y : Fraction) → AtMost x y → is_above x y ≡ false
-not_above x y h = by_answer (compare x y) (compare_ranks x y)
-  where
-    by_answer : (r : Ordering) → MatchOrdering r (Below x y) (x ≡ y) (Below y x) → is_greater r ≡ false
-    by_answer C.Less b = refl
-    by_answer C.Equal e = refl
-    by_answer C.Greater b = absurd (Below_not-AtMost y x b h)
-
-not_above_whole : (k m : ℕ) → k ≤ m → is_above (whole (pos k)) (whole (pos m)) ≡ false
-not_above_whole k m h = not_above (whole (pos k)) (whole (pos m)) (AtMost-whole (pos k) (pos m) (omega (arith, ints)))
-
-two_not : (a b : Bool) → a ≡ false → b ≡ false → (not a && not b) ≡ true
-two_not true b h k = absurd cc
-two_not false true h k = absurd cc
-two_not false false h k = refl
-
-pub has_count : (k m : ℕ) → k ≤ m → is_in (Between (jani_scene.counted 0) (jani_scene.counted m)) (V.Number (whole (pos k))) ≡ true
-has_count k m h =
-    two_not (is_above (whole (pos 0)) (whole (pos k))) (is_above (whole (pos k)) (whole (pos m))) (not_above_whole 0 k (omega arith)) (not_above_whole k m h)
-
 -- ---- locations
-place_within : (b : Bool) (k n : ℕ) → b ≡ nat_lt k n → unwrap_or (cond b (Some k) None) 0 ≤ n - 1
-place_within true k n e = let h = ltb-true k n (sym e) in omega arith
-place_within false k n e = omega arith
-
-location_within : (a : Automaton) (x : Name) → location_number a x ≤ length a.locations - 1
-location_within a x =
-    let k = position_or_len (λ l. jani.is_called x l.name) a.locations in
-    place_within (nat_lt k (length a.locations)) k (length a.locations) refl
-
 -- an element without several locations has no location but the first
 pub only_location : (el : Element) (x : Name) → has_several el ≡ false → location_number el.automaton x ≡ 0
 only_location el x h = let l = location_within el.automaton x in let k = ltb-false 1 (length el.automaton.locations) h in omega arith

@@ -1,5 +1,5 @@
 -- The image of an expression has the value of the expression, and is wide where that is.
-use Rattle.std.specs.Prelude.{◌≡◌, ◌<◌, ℕ, zero, suc, pos, negsuc, ℤ, [], ◌∷◌, Bool, true, false, not, ◌&&◌, ◌||◌, Some, if◌then◌else◌, nat_abs, neg_ℤ, nat_lt, ◌^◌}
+use Rattle.std.specs.Prelude.{◌≡◌, ◌<◌, ℕ, zero, suc, pos, negsuc, ℤ, Bool, true, false, not, ◌&&◌, ◌||◌, Some, if◌then◌else◌, nat_abs, neg_ℤ, nat_lt, ◌^◌}
 use Rattle.std.proofs.Common.{refl, sym, ap, ap₂, ◌∙◌, arith}
 use Rattle.frac_core.specs.declared.decimal.Decimal.{Decimal}
 use Rattle.frac_core.specs.Fraction.{Fraction, is_lowest_from, whole, times, plus, negated, nought, signed, is_wide}
@@ -9,15 +9,18 @@ use Rattle.frac_core.specs.Decimal.{decimal_value, ten_to}
 use Rattle.op_trees.specs.declared.tree.Value.TheVariants as V
 use Rattle.op_trees.specs.Tree.{Truth, Number, Name as At, One, Two, Three, AllNames}
 use Rattle.op_trees.specs.Seen.{Seen, known, one_node, two_node, lazy_node, seen}
+use Rattle.op_trees.specs.Standard.{standard_meaning}
+use Rattle.op_trees.specs.AlongLaws.{one_node_alike, two_node_alike, lazy_node_alike}
 use Rattle.process_core.specs.Ready.{Name}
 use Rattle.prism_tree.specs.declared.operator.PrismOp.TheVariants as P
+use Rattle.prism_tree.specs.Operators as PrismTable
 use Rattle.prism_tree.specs.Operators.{prism_meaning}
 use Rattle.jani_table.specs.declared.operator.JaniOp.{JaniOp}
 use Rattle.jani_table.specs.declared.operator.JaniOp.TheVariants as J
-use Rattle.jani_table.specs.Operators.{jani_meaning, arity}
+use Rattle.jani_table.specs.Operators as JaniTable
+use Rattle.jani_table.specs.Operators.{jani_meaning}
 use Rattle.jani_tree.specs.Syntax.{Expression}
 use Rattle.jani_tree.specs.Canonical.{HasOperands}
-use Rattle.prism_images.proofs.Values.{seen_alike}
 use Rattle.prism_translation.specs.Image.{prism_op, unsigned, literal, image}
 
 -- ---- negative literals
@@ -83,41 +86,10 @@ literal_seen at d env = by_sign d.negative refl
         (or_same (is_wide (negated x)) (is_wide x) (wide_negated x) ∙ sym (wide_negated x) ∙ ap is_wide (value_negated d e))
     by_sign false e = refl
 
--- ---- operators
-abbrev first_name : Name
-first_name = []
-
-abbrev second_name : Name
-second_name = 1 ∷ []
-
-abbrev third_name : Name
-third_name = 1 ∷ 1 ∷ []
-
--- three names for what is seen
-abbrev three_seen : Seen → Seen → Seen → Name → Seen
-three_seen a b c [] = a
-three_seen a b c (x ∷ []) = b
-three_seen a b c (x ∷ y ∷ z) = c
-
-one_of : (o : JaniOp) → arity o ≡ 1 → (a : Seen) → one_node prism_meaning (prism_op o) a ≡ one_node jani_meaning o a
-one_of J.Not h a = sym (seen_alike (λ x. x) (three_seen a a a) (three_seen a a a) (One 0 P.Not (At 0 first_name)) refl (refl, tt) tt)
-one_of J.Floor h a = sym (seen_alike (λ x. x) (three_seen a a a) (three_seen a a a) (One 0 P.Floor (At 0 first_name)) refl (refl, tt) tt)
-one_of J.Ceil h a = sym (seen_alike (λ x. x) (three_seen a a a) (three_seen a a a) (One 0 P.Ceil (At 0 first_name)) refl (refl, tt) tt)
-one_of J.Ite h a = absurd (omega arith)
-one_of o h a = absurd (omega arith)
-
-two_of : (o : JaniOp) → arity o ≡ 2 → (a b : Seen) → two_node prism_meaning (prism_op o) a b ≡ two_node jani_meaning o a b
-two_of J.Not h a b = absurd (omega arith)
-two_of J.Floor h a b = absurd (omega arith)
-two_of J.Ceil h a b = absurd (omega arith)
-two_of J.Ite h a b = absurd (omega arith)
-two_of o h a b = sym (seen_alike (λ x. x) (three_seen a b b) (three_seen a b b) (Two 0 (prism_op o) (At 0 first_name) (At 0 second_name)) (refl, refl) (refl, tt, tt) (tt, tt, tt))
-
-three_of : (o : JaniOp) → arity o ≡ 3 → (a b c : Seen) → lazy_node prism_meaning (prism_op o) a b c ≡ lazy_node jani_meaning o a b c
-three_of J.Ite h a b c =
-    sym (seen_alike (λ x. x) (three_seen a b c) (three_seen a b c) (Three 0 P.Ite (At 0 first_name) (At 0 second_name) (At 0 third_name)) (refl, refl, refl) (refl, tt, tt, tt) (tt, tt, tt))
-three_of J.Not h a b c = absurd (omega arith)
-three_of o h a b c = absurd (omega arith)
+-- ---- operators mean the same
+pub same_op : (o : JaniOp) → PrismTable.standard (prism_op o) ≡ JaniTable.standard o
+same_op J.Ite = refl
+same_op o = refl
 
 -- ---- expressions
 module _ (new : Name → Name) (names env : Name → Seen) where
@@ -125,10 +97,10 @@ module _ (new : Name → Name) (names env : Name → Seen) where
   image_seen (Truth at b) n h = refl
   image_seen (Number at d) n h = literal_seen at d env
   image_seen (At at x) n h = n
-  image_seen (One at o a) n h = ap (one_node prism_meaning (prism_op o)) (image_seen a n h.1) ∙ one_of o h.0 (seen jani_meaning a names)
+  image_seen (One at o a) n h = ap (one_node prism_meaning (prism_op o)) (image_seen a n h.1) ∙ one_node_alike PrismTable.standard JaniTable.standard standard_meaning (prism_op o) o (same_op o) (seen jani_meaning a names)
   image_seen (Two at o a b) n h =
       ap₂ (two_node prism_meaning (prism_op o)) (image_seen a n.0 h.1) (image_seen b n.1 h.2)
-      ∙ two_of o h.0 (seen jani_meaning a names) (seen jani_meaning b names)
+      ∙ two_node_alike PrismTable.standard JaniTable.standard standard_meaning (prism_op o) o (same_op o) (seen jani_meaning a names) (seen jani_meaning b names)
   image_seen (Three at o x a b) n h =
       ap₂ {B = Seen → Seen} (λ r g. g r) (image_seen x n.0 h.1) (ap₂ (λ s t r. lazy_node prism_meaning (prism_op o) r s t) (image_seen a n.1 h.2) (image_seen b n.2 h.3))
-      ∙ three_of o h.0 (seen jani_meaning x names) (seen jani_meaning a names) (seen jani_meaning b names)
+      ∙ lazy_node_alike PrismTable.standard JaniTable.standard standard_meaning (prism_op o) o (same_op o) (seen jani_meaning x names) (seen jani_meaning a names) (seen jani_meaning b names)

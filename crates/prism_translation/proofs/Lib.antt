@@ -28,3 +28,9 @@ pub mod Starts
 pub mod FaultsAlike
 pub mod MarksAlike
 pub mod Small
+pub mod Lists
+pub mod Distinct
+pub mod Scopes
+pub mod Clean
+pub mod Elements
+pub mod Expressions

@@ -5,6 +5,7 @@ use Rattle.std.specs.Option.{option_map}
 use Rattle.std.proofs.Common.{refl, sym, ap, ap₂, subst, ◌∙◌, arith, append-nil, ltb-false, length-append, length-drop}
 use Rattle.std.proofs.lemmas.List.{map-append, length-take}
 use Rattle.std.proofs.lemmas.List.Elements.{filter-append, All-nil, All-head, All-tail, All-weaker, All-append, All-map, All-filter}
+use Rattle.basics.specs.Members.{filter-map}
 use Rattle.frac_core.specs.Fraction.{Fraction, whole, plus, nought}
 use Rattle.frac_core.specs.Decimal.{decimal_value-whole}
 use Rattle.frac_core.specs.Laws.{same_number_is, plus_nought}
@@ -16,21 +17,21 @@ use Rattle.op_trees.specs.Seen.{Seen, known, seen, lazy_node, two_node}
 use Rattle.process_core.specs.Product.{map-map, map-flat_map}
 use Rattle.process_core.specs.Ready.{Values, Name, if_some}
 use Rattle.process_core.specs.Bounds.{adds}
-use Rattle.process_core.specs.Choices.{number_of, all_defined}
+use Rattle.process_core.specs.Choices.{number_of, all_defined, truth_of}
 use Rattle.process_core.specs.declared.data.Mark.TheVariants as M
 use Rattle.choice_laws.proofs.Columns.{read_at}
-use Rattle.choice_laws.proofs.Walks.{All-flat_map, filter-flat_map, filter-map, flat_map_agree_in}
+use Rattle.choice_laws.proofs.Walks.{All-flat_map, filter-flat_map, flat_map_agree_in}
 use Rattle.prism_tree.specs.declared.operator.PrismOp.TheVariants as P
 use Rattle.prism_tree.specs.Operators.{prism_meaning}
 use Rattle.prism_tree.specs.Syntax as prism
 use Rattle.prism_tree.specs.declared.syntax.ItemOn.TheVariants as On
 use Rattle.prism_names.specs.Names as prism_names
 use Rattle.prism_names.specs.Names.{unchanged}
-use Rattle.prism_flat.specs.Instance.{Valuation, is_state, numbered}
+use Rattle.process_core.specs.Instance.{Valuation, is_state, numbered}
 use Rattle.prism_flat.specs.Scene as prism_scene
 use Rattle.prism_flat.specs.Moment as prism_moment
 use Rattle.prism_flat.specs.Moment.{Earned, adds_of, item_at}
-use Rattle.prism_flat.specs.Process.{is_for_states, state_reward, truth_of}
+use Rattle.prism_flat.specs.Process.{is_for_states, state_reward}
 use Rattle.prism_flat.specs.Process as prism_process
 use Rattle.jani_tree.specs.Syntax as syntax
 use Rattle.jani_tree.specs.Syntax.{Location, Automaton, File}

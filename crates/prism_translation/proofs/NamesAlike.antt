@@ -11,6 +11,8 @@ use Rattle.std.proofs.lemmas.List.Quantifiers.{position-Some}
 use Rattle.std.proofs.lemmas.List.Sums.{position_or_len_is}
 use Rattle.std.proofs.lemmas.List.{get_or-map, length-map, length-take}
 use Rattle.std.proofs.lemmas.List.Elements.{All-head, All-tail, All-map}
+use Rattle.basics.specs.Texts.{bytes_ne}
+use Rattle.basics.specs.Members.{All-unmap}
 use Rattle.op_trees.specs.declared.tree.Ty.TheVariants as T
 use Rattle.op_trees.specs.declared.tree.Value.{Value}
 use Rattle.op_trees.specs.Tree.{AllNames}
@@ -20,11 +22,11 @@ use Rattle.process_core.specs.Product.{map-map, map_agree_in}
 use Rattle.process_core.specs.Ready.{Values, Name}
 use Rattle.choice_laws.specs.Columns.{stands, value_at}
 use Rattle.choice_laws.proofs.Columns.{read_at}
-use Rattle.choice_laws.proofs.Walks.{All-unmap, cons_parts}
+use Rattle.choice_laws.proofs.Walks.{cons_parts}
 use Rattle.prism_tree.specs.Syntax as prism
 use Rattle.prism_names.specs.Names as prism_names
 use Rattle.prism_names.specs.Names.{unchanged}
-use Rattle.prism_flat.specs.Instance.{Valuation, Column}
+use Rattle.process_core.specs.Instance.{Valuation, Column}
 use Rattle.prism_flat.specs.Scene as prism_scene
 use Rattle.prism_flat.specs.Moment as prism_moment
 use Rattle.jani_tree.specs.Syntax.{Expression, Const, File}
@@ -42,7 +44,6 @@ use Rattle.prism_translation.specs.StateLaws.{columns, state_of}
 use Rattle.prism_translation.specs.Translated.{translated}
 use Rattle.prism_translation.specs.Sound.{IsConstant, IsVariable, IsConstantExpression, GivesAlike}
 use Rattle.prism_translation.proofs.ImageSeen.{image_seen}
-use Rattle.prism_translation.proofs.Apart.{not_same}
 use Rattle.prism_translation.proofs.Follows.{column_name, variable_name}
 use Rattle.prism_translation.proofs.ColumnNames.{names_of_columns, names_apart, named_by, index, index_below, entries_differ, entries_long, constant_entry, nothing, es, c}
 use Rattle.prism_translation.proofs.Numbered.{no_owned}
@@ -103,16 +104,13 @@ module _ (file : File) (v w : Valuation) where
   abbrev pub made_constant : Const × Entry → prism.Const
   made_constant p = constant file names p.0 p.1.name
 
-  entry_at : ℕ → Entry
-  entry_at i = get_or names.constants i (nothing file)
-
   pub name_is : (i : ℕ) → i < count → (get_or names.constants i (nothing file)).name ≡ name_at names.constants i
   name_is i l =
       ap (λ o. unwrap_or (option_map (λ (x : Entry). x.name) o) []) (sym (slice_get-get_or names.constants i (nothing file) (let e = constants_long in omega arith)))
 
   names_differ : (i j : ℕ) → i < count → j < count → (i ≡ j → ⊥) → bytes_eq (name_at names.constants i) (name_at names.constants j) ≡ false
   names_differ i j l k d =
-      not_same (name_at names.constants i) (name_at names.constants j)
+      bytes_ne (name_at names.constants i) (name_at names.constants j)
       (λ e. entries_differ file (0 + i) (0 + j) (omega arith) (omega arith) (λ f. d (omega arith)) (sym (constant_entry file i l) ∙ e ∙ constant_entry file j k))
 
   pub made_at : (i : ℕ) → i < count → (d : Const × Entry) → get_or (map made_constant (zip file.constants names.constants)) i (made_constant d) ≡ made_constant (get_or (zip file.constants names.constants) i d)
@@ -228,7 +226,7 @@ module _ (file : File) (v w : Valuation) where
           (λ k d x.
           let j = get_or cols k d in
           let b = nat_lt j (length file.elements) in
-          not_same (name_of j) (name_at names.constants i)
+          bytes_ne (name_of j) (name_at names.constants i)
           (λ e. entries_differ file (index file b j) (0 + i) (index_below file v j b refl (all_below k d x)) (let h = entries_long file in omega arith) (above j b)
           (sym (named_by file v j b refl (all_below k d x)) ∙ e ∙ constant_entry file i l)))))
         where

@@ -1,14 +1,16 @@
 -- Elements, edges and variables with their numbers: each stands once at its own.
 use Rattle.std.specs.Prelude.{◌≡◌, ℕ, zero, suc, ◌+◌, ◌<◌, ◌≤◌, List, [], ◌∷◌, ◌++◌, length, Bool, true, false, ◌&&◌, cond, nat_eq, get_or}
 use Rattle.std.specs.List.{flat_map, filter, list_any, count_by, All}
-use Rattle.std.proofs.Common.{refl, sym, ap, ap₂, subst, ◌∙◌, arith, eq-eqb, append-nil, None}
-use Rattle.std.proofs.lemmas.Bool.{eqb-true}
+use Rattle.std.proofs.Common.{refl, sym, ap, ap₂, subst, ◌∙◌, arith, eq-eqb, append-nil, None, ne_eqb}
+use Rattle.std.proofs.lemmas.Bool.{eqb-true, both_ways}
 use Rattle.std.proofs.lemmas.List.{length-map}
 use Rattle.std.proofs.lemmas.List.Sums.{length-filter, sum_by-cons}
 use Rattle.std.proofs.lemmas.List.Elements.{All-nil, All-cons, All-weaker, filter_agree}
-use Rattle.choice_laws.proofs.Truths.{or_false, and_swapped, not_both, other_number, same_number, turned_number}
-use Rattle.choice_laws.proofs.Walks.{filter_agree_in, filter_none, filter-filter, kept_walk_in, any_agree, any-filter}
-use Rattle.prism_flat.specs.Instance.{numbered}
+use Rattle.std.proofs.Math.Bool.{or-false, and_comm}
+use Rattle.basics.specs.Members.{any_agree}
+use Rattle.basics.specs.Numbers.{nat_eq-self, nat_eq_comm}
+use Rattle.choice_laws.proofs.Walks.{filter_agree_in, filter_none, filter-filter, kept_walk_in, any-filter}
+use Rattle.process_core.specs.Instance.{numbered}
 use Rattle.jani_tree.specs.Syntax.{boolean, Automaton, Edge, File}
 use Rattle.jani_meaning.specs.Elements as jani
 use Rattle.jani_meaning.specs.Elements.{Owned}
@@ -18,7 +20,7 @@ use Rattle.prism_translation.specs.Elements.{Element, Placed, placed_edges, edge
 counted_one : {Y : Type 0} (s r : Y → Bool) (y : Y) (ys : List Y) → filter s ys ≡ y ∷ [] → count_by s (filter r ys) ≡ cond (r y) 1 0
 counted_one {Y} s r y ys h =
     sym (length-filter s (filter r ys))
-    ∙ ap length (filter-filter s r ys ∙ filter_agree (λ x. r x && s x) (λ x. s x && r x) (λ x. and_swapped (r x) (s x)) ys ∙ sym (filter-filter r s ys) ∙ ap (filter r) h)
+    ∙ ap length (filter-filter s r ys ∙ filter_agree (λ x. r x && s x) (λ x. s x && r x) (λ x. and_comm (r x) (s x)) ys ∙ sym (filter-filter r s ys) ∙ ap (filter r) h)
     ∙ by_test (r y)
   where
     by_test : (b : Bool) → length (cond b (y ∷ []) []) ≡ cond b 1 0
@@ -71,7 +73,7 @@ module _ {X Y : Type 0} (make : ℕ → X → Y) (number : Y → ℕ) (is : (i :
   none_at : (n k : ℕ) (xs : List X) → n < k → filter (at_number n) (from k xs) ≡ []
   none_at n k xs l =
       filter_none (at_number n) (from k xs)
-      (All-weaker (λ y. k ≤ number y) (λ y. at_number n y ≡ false) (λ y h. other_number (number y) n (λ e. omega arith)) (from k xs) (above_from k xs))
+      (All-weaker (λ y. k ≤ number y) (λ y. at_number n y ≡ false) (λ y h. ne_eqb (number y) n (λ e. omega arith)) (from k xs) (above_from k xs))
 
   one_at : (k : ℕ) (xs : List X) → All (λ y. filter (at_number (number y)) (from k xs) ≡ y ∷ []) (from k xs)
   one_at k [] = All-nil (λ y. filter (at_number (number y)) [] ≡ y ∷ [])
@@ -80,11 +82,11 @@ module _ {X Y : Type 0} (make : ℕ → X → Y) (number : Y → ℕ) (is : (i :
       let rest = λ (n : ℕ). filter (at_number n) (from (k + 1) xs) in
       let e = is k x in
       All-cons (λ z. cond (at_number (number z) y) (y ∷ rest (number z)) (rest (number z)) ≡ z ∷ []) y (from (k + 1) xs)
-      (ap₂ (λ (b : Bool) (l : List Y). cond b (y ∷ l) l) (same_number (number y)) (none_at (number y) (k + 1) xs (omega arith)))
+      (ap₂ (λ (b : Bool) (l : List Y). cond b (y ∷ l) l) (nat_eq-self (number y)) (none_at (number y) (k + 1) xs (omega arith)))
       (λ i d l.
       let z = get_or (from (k + 1) xs) i d in
       let above : k + 1 ≤ number z = above_from (k + 1) xs i d l in
-      ap (λ b. cond b (y ∷ rest (number z)) (rest (number z))) (other_number (number y) (number z) (λ h. omega arith)) ∙ one_at (k + 1) xs i d l)
+      ap (λ b. cond b (y ∷ rest (number z)) (rest (number z))) (ne_eqb (number y) (number z) (λ h. omega arith)) ∙ one_at (k + 1) xs i d l)
 
   -- it is counted at most once, whatever the number
   once_from : (k : ℕ) (xs : List X) (n : ℕ) → count_by (at_number n) (from k xs) ≤ 1
@@ -157,15 +159,15 @@ one_element {Y} f k xs i d l h =
     ∙ ap (flat_map f) (element_alone k xs i d l) ∙ append-nil (f w)
   where
     passes : (w el : Element) → ((u : Element) → (u.number ≡ w.number → ⊥) → f u ≡ []) → (nat_eq el.number w.number ≡ true → f el ≡ f el) × (nat_eq el.number w.number ≡ false → f el ≡ [])
-    passes w el h = ((λ e. refl), (λ e. h el (λ same. not_both _ e (eq-eqb el.number w.number same))))
+    passes w el h = ((λ e. refl), (λ e. h el (λ same. both_ways _ e (eq-eqb el.number w.number same))))
 
 -- a test of an element is one of all elements with its number
 pub told_by_number : (g : Element → Bool) (k : ℕ) (xs : List Automaton) → All (λ el. list_any (λ e. g e && nat_eq e.number el.number) (numbered_from k xs) ≡ g el) (numbered_from k xs)
 told_by_number g k xs i d l =
     let el = get_or (numbered_from k xs) i d in
-    any_agree (λ e. g e && nat_eq e.number el.number) (λ e. nat_eq e.number el.number && g e) (λ e. and_swapped (g e) (nat_eq e.number el.number)) (numbered_from k xs)
+    any_agree (λ e. g e && nat_eq e.number el.number) (λ e. nat_eq e.number el.number && g e) (λ e. and_comm (g e) (nat_eq e.number el.number)) (numbered_from k xs)
     ∙ sym (any-filter g (λ e. nat_eq e.number el.number) (numbered_from k xs))
-    ∙ ap (list_any g) (element_alone k xs i d l) ∙ or_false (g el)
+    ∙ ap (list_any g) (element_alone k xs i d l) ∙ or-false (g el)
 
 -- elements with one number are one
 pub same_element : (k : ℕ) (xs : List Automaton) → All (λ a. All (λ b. a.number ≡ b.number → a ≡ b) (numbered_from k xs)) (numbered_from k xs)
@@ -200,7 +202,7 @@ own_place n i es k d l =
     filter_agree_in (λ p. same_place p q) (λ p. nat_eq p.number q.number) (placed_from n i es)
     (λ j e m.
     let p = get_or (placed_from n i es) j e in
-    ap (λ b. b && nat_eq p.number q.number) (ap₂ (λ (a b : Element). nat_eq a.number b.number) (at_element n i es j e m) (at_element n i es k d l) ∙ same_number n.number))
+    ap (λ b. b && nat_eq p.number q.number) (ap₂ (λ (a b : Element). nat_eq a.number b.number) (at_element n i es j e m) (at_element n i es k d l) ∙ nat_eq-self n.number))
     ∙ one_at (λ j e. record { element = n; number = j; edge = e }) edge_number (λ j e. refl) i es k d l
 
 -- at another element there is none
@@ -208,7 +210,7 @@ pub other_place : (q : Placed) (el : Element) → (el.number ≡ q.element.numbe
 other_place q el n =
     filter_none (λ p. same_place p q) (placed_edges el)
     (All-weaker (λ p. p.element ≡ el) (λ p. same_place p q ≡ false)
-    (λ p e. ap (λ b. b && nat_eq p.number q.number) (other_number p.element.number q.element.number (λ h. n (sym (ap (λ (x : Element). x.number) e) ∙ h))))
+    (λ p e. ap (λ b. b && nat_eq p.number q.number) (ne_eqb p.element.number q.element.number (λ h. n (sym (ap (λ (x : Element). x.number) e) ∙ h))))
     (placed_edges el) (at_element el 0 (edges_of el)))
 
 -- an edge is counted once among those that pass a test, if it passes
@@ -216,7 +218,7 @@ pub counted_own : (r : Placed → Bool) (n : Element) (i : ℕ) (es : List Edge)
 counted_own r n i es k d l =
     let p = get_or (placed_from n i es) k d in
     counted_one (same_place p) r p (placed_from n i es)
-    (filter_agree (same_place p) (λ q. same_place q p) (λ q. ap₂ (λ a b. a && b) (turned_number p.element.number q.element.number) (turned_number p.number q.number)) (placed_from n i es)
+    (filter_agree (same_place p) (λ q. same_place q p) (λ q. ap₂ (λ a b. a && b) (nat_eq_comm p.element.number q.element.number) (nat_eq_comm p.number q.number)) (placed_from n i es)
     ∙ own_place n i es k d l)
 
 -- ---- variables that are not transient

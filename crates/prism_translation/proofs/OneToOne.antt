@@ -2,19 +2,18 @@
 use Rattle.std.specs.Prelude.{◌≡◌, ℕ, ◌+◌, ◌-◌, ◌<◌, ◌≤◌, List, [], ◌∷◌, map, length, Bool, true, false, ◌&&◌, cond, Option, Some, None, is_none, nat_eq, nat_lt, get_or, slice_get}
 use Rattle.std.specs.List.{flat_map, filter, count_by, sum_by, All}
 use Rattle.std.proofs.Common.{refl, sym, ap, ap₂, subst, ◌∙◌, arith, eq-eqb, ltb-true, ltb-false}
-use Rattle.std.proofs.lemmas.Bool.{ne_eqb, eqb-true}
+use Rattle.std.proofs.lemmas.Bool.{ne_eqb, eqb-true, both_ways}
 use Rattle.std.proofs.lemmas.List.{map-append}
 use Rattle.std.proofs.lemmas.List.Sums.{sum_by-cons, sum_by-append}
 use Rattle.std.proofs.lemmas.List.Elements.{All-head, All-tail}
+use Rattle.std.proofs.lemmas.Option.{same_Some}
 use Rattle.process_core.specs.Often.{sum_by_agree, sum_by-map, sum_by-flat_map, sum_by-zero}
 use Rattle.process_core.specs.Ready.{Values}
 use Rattle.process_core.specs.Product.{map_agree_in}
 use Rattle.choice_laws.specs.Columns.{value_at}
 use Rattle.choice_laws.proofs.Columns.{read_at, read_back, times_of}
 use Rattle.choice_laws.proofs.Members.{if_zero, none_counted, sum_by_agree_in}
-use Rattle.choice_laws.proofs.Walks.{some_part}
-use Rattle.choice_laws.proofs.Truths.{not_both, other_number}
-use Rattle.prism_flat.specs.Instance.{only_if}
+use Rattle.process_core.specs.Instance.{only_if}
 use Rattle.jani_tree.specs.Syntax.{File}
 use Rattle.jani_meaning.specs.Elements as jani
 use Rattle.jani_meaning.specs.Elements.{Owned, lasting, is_owner}
@@ -33,7 +32,7 @@ module _ (file : File) where
     where
       by_test : (c : Bool) → nat_eq a b ≡ c → nat_eq (n + a) (n + b) ≡ c
       by_test true e = let s : a ≡ b = eqb-true a b e in eq-eqb (n + a) (n + b) (omega arith)
-      by_test false e = ne_eqb (n + a) (n + b) (λ h. not_both (nat_eq a b) e (eq-eqb a b (omega arith)))
+      by_test false e = ne_eqb (n + a) (n + b) (λ h. both_ways (nat_eq a b) e (eq-eqb a b (omega arith)))
 
   -- how often a variable's column stands among some
   counted_columns : (P : Lasting → Bool) → All (λ x. times_of (column_of file x) (map (column_of file) (filter P (lasting_variables file))) ≡ cond (P x) 1 0) (lasting_variables file)
@@ -114,7 +113,7 @@ module _ (file : File) where
       let el = get_or (elements file) i a in
       let low = below file i a m in
       module_part el j
-      ∙ ap₂ (λ b c. cond (has_several el) (cond b 1 0) 0 + c) (other_number el.number j (λ e. omega arith))
+      ∙ ap₂ (λ b c. cond (has_several el) (cond b 1 0) 0 + c) (ne_eqb el.number j (λ e. omega arith))
       (ap₂ (λ b c. b + c) (counted_columns (λ y. is_owner el.number y.owned.owner) k d l) (counted_columns (λ y. is_none y.owned.owner && is_at el.number (home file y)) k d l)
       ∙ owned_once el.number (home file x) (writers file x.number) x.owned.owner refl)
       ∙ ap (λ b. b + cond (is_at el.number (home file x)) 1 0) (if_zero (has_several el)) ∙ omega arith) in
@@ -149,5 +148,5 @@ states_one file s t l m e =
     (λ k d x.
     let j = get_or cols k d in
     let within = all_within file k d x in
-    some_part (value_at cols s j) (value_at cols t j) (sym (read_at cols total s j within) ∙ ap (λ u. slice_get u j) e ∙ read_at cols total t j within))
+    same_Some (value_at cols s j) (value_at cols t j) (sym (read_at cols total s j within) ∙ ap (λ u. slice_get u j) e ∙ read_at cols total t j within))
     ∙ read_back cols t m (columns_once file)

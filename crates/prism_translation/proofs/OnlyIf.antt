@@ -3,7 +3,7 @@ use Rattle.std.specs.Prelude.{◌≡◌, [], ◌∷◌, map, Bool, true, false, 
 use Rattle.std.specs.List.{filter, count_by}
 use Rattle.std.proofs.Common.{refl, arith}
 use Rattle.choice_laws.proofs.Walks.{has_some}
-use Rattle.prism_flat.specs.Instance.{only_if}
+use Rattle.process_core.specs.Instance.{only_if}
 
 pub map-only_if : {A B : Type 0} (f : A → B) (b : Bool) (x : A) → map f (only_if b x) ≡ only_if b (f x)
 map-only_if f true x = refl

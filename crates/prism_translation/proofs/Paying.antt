@@ -1,15 +1,16 @@
 -- Each way to take one edge of each participant of a target earns what the edge assigns that the target is made for.
 use Rattle.std.specs.Prelude.{◌≡◌, List, [], ◌∷◌, ◌++◌, map, Bool, true, false, not, ◌&&◌, ◌||◌, cond, Option, Some, None, if◌then◌else◌, nat_eq, get_or}
 use Rattle.std.specs.List.{flat_map, filter, find, list_any, All}
-use Rattle.std.proofs.Common.{refl, sym, ap, ap₂, subst, ◌∙◌, append-nil}
+use Rattle.std.proofs.Common.{refl, sym, ap, ap₂, subst, ◌∙◌, append-nil, ne_eqb}
 use Rattle.std.proofs.lemmas.Bool.{eqb-true}
 use Rattle.std.proofs.lemmas.List.Elements.{All-nil, All-cons, All-head, All-tail, All-weaker, All-filter, All-append, All-map, filter_passes}
+use Rattle.basics.specs.Members.{All-unmap, none_passes}
+use Rattle.basics.specs.Numbers.{nat_eq-self}
 use Rattle.process_core.specs.Product.{one_of_each}
 use Rattle.process_core.specs.Ready.{Reward}
-use Rattle.choice_laws.proofs.Walks.{All-flat_map, All-unmap, any-filter, found_has, not_any, All-front, flat_map_none, All-back, if_nil}
+use Rattle.choice_laws.proofs.Walks.{All-flat_map, any-filter, found_has, All-front, flat_map_none, All-back, if_nil}
 use Rattle.choice_laws.proofs.Products.{All-ways}
-use Rattle.choice_laws.proofs.Truths.{other_number, same_number}
-use Rattle.prism_flat.specs.Instance.{only_if}
+use Rattle.process_core.specs.Instance.{only_if}
 use Rattle.jani_tree.specs.Syntax.{Vector, File}
 use Rattle.jani_meaning.specs.Elements as jani
 use Rattle.prism_translation.specs.Elements.{Element, elements, edges_of, Placed, placed_edges, same_place, rewards}
@@ -60,7 +61,7 @@ module _ (file : File) (acts : List Action) (seen : Evaluation) (paid : Placed �
   none_pay : (v : Vector) (el : Element) → list_any (rewards file) (edges_named v el) ≡ false → All (λ p. names v p ≡ true → paid p ≡ []) (placed_edges el)
   none_pay v el h k d l e =
       let p = get_or (placed_edges el) k d in
-      pays_not p (by_test (names v p) (rewards file p) e (not_any (λ p. names v p && rewards file p) (placed_edges el) (sym (any-filter (rewards file) (names v) (placed_edges el)) ∙ h) k d l))
+      pays_not p (by_test (names v p) (rewards file p) e (none_passes (λ p. names v p && rewards file p) (placed_edges el) (sym (any-filter (rewards file) (names v) (placed_edges el)) ∙ h) k d l))
     where
       by_test : (a b : Bool) → a ≡ true → (a && b) ≡ false → b ≡ false
       by_test true b e f = f
@@ -100,7 +101,7 @@ module _ (file : File) (acts : List Action) (seen : Evaluation) (paid : Placed �
     at_writer rs el = cond (nat_eq el.number w.number) rs []
 
     by_number : (el : Element) (b : Bool) → nat_eq el.number w.number ≡ b → b ≡ false → el.number ≡ w.number → ⊥
-    by_number el b e f g = differ (sym (same_number w.number) ∙ sym (ap (λ n. nat_eq n w.number) g) ∙ e ∙ f)
+    by_number el b e f g = differ (sym (nat_eq-self w.number) ∙ sym (ap (λ n. nat_eq n w.number) g) ∙ e ∙ f)
       where
         differ : true ≡ false → ⊥
         differ h = cc
@@ -128,8 +129,8 @@ module _ (file : File) (acts : List Action) (seen : Evaluation) (paid : Placed �
     picked t rs h =
         found_has (λ x. ((el : Element) → (el.number ≡ x.number → ⊥) → cond (joined t el) (at_writer rs el) [] ≡ []) → flat_map (λ el. cond (joined t el) (at_writer rs el) []) (elements file) ≡ cond (joined t x) (at_writer rs x) [])
         FoundWriter w (elements file) (one_element (λ el. cond (joined t el) (at_writer rs el) []) 0 (jani.elements file)) found
-        (λ el n. ap (λ b. cond (joined t el) (cond b rs []) []) (other_number el.number w.number n) ∙ if_nil (joined t el))
-        ∙ ap₂ (λ a b. cond a (cond b rs []) []) h (same_number w.number)
+        (λ el n. ap (λ b. cond (joined t el) (cond b rs []) []) (ne_eqb el.number w.number n) ∙ if_nil (joined t el))
+        ∙ ap₂ (λ a b. cond a (cond b rs []) []) h (nat_eq-self w.number)
 
     earns_it : (t : Target) (rs : List Reward) → joined t w ≡ true → ((el : Element) → (el.number ≡ w.number → ⊥) → All (λ p. serves file t p ≡ names v p) (placed_edges el)) →
         All (λ p. serves file t p ≡ true → paid p ≡ rs) (placed_edges w) → paid_by t.maker ≡ rs → EarnsIt t
@@ -154,7 +155,7 @@ module _ (file : File) (acts : List Action) (seen : Evaluation) (paid : Placed �
         let p = get_or (placed_edges w) k d in
         let at : p.element ≡ w = at_element w 0 (edges_of w) k d l in
         let here : same_place p q ≡ true =
-        first_or (same_place p q) (names v p) (ap (λ (x : Element). nat_eq x.number w.number) at ∙ same_number w.number) e in
+        first_or (same_place p q) (names v p) (ap (λ (x : Element). nat_eq x.number w.number) at ∙ nat_eq-self w.number) e in
         ap paid
         (unfiltered (λ p. p ≡ q) (λ p. same_place p q) (placed_edges w)
         (subst (λ ps. All (λ p. p ≡ q) ps) (sym own) (All-cons (λ p. p ≡ q) q [] refl (All-nil (λ p. p ≡ q)))) k d l here)
@@ -168,7 +169,7 @@ module _ (file : File) (acts : List Action) (seen : Evaluation) (paid : Placed �
     plain_pays k d l e =
         let p = get_or (placed_edges w) k d in
         let at : p.element ≡ w = at_element w 0 (edges_of w) k d l in
-        pays_not p (by_test (names v p) (rewards file p) (nat_eq p.element.number w.number) (ap (λ (x : Element). nat_eq x.number w.number) at ∙ same_number w.number) e)
+        pays_not p (by_test (names v p) (rewards file p) (nat_eq p.element.number w.number) (ap (λ (x : Element). nat_eq x.number w.number) at ∙ nat_eq-self w.number) e)
       where
         by_test : (a b c : Bool) → c ≡ true → (a && (not b || not c)) ≡ true → b ≡ false
         by_test true true c h e = absurd (let f = ap not h in cc)

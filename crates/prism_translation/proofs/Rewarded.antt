@@ -4,14 +4,16 @@ use Rattle.std.specs.List.{flat_map, filter, list_any, All}
 use Rattle.std.proofs.Common.{refl, sym, ap, subst, ◌∙◌, append-nil}
 use Rattle.std.proofs.lemmas.List.Elements.{All-nil, All-cons, All-head, All-tail, All-filter, All-append, All-map}
 use Rattle.std.proofs.lemmas.Bool.{or_parts}
-use Rattle.process_core.specs.Product.{one_of_each, All-one_of_each, map_agree}
+use Rattle.basics.specs.Members.{All-unmap}
+use Rattle.basics.specs.Lists.{map_agree}
+use Rattle.process_core.specs.Product.{one_of_each, All-one_of_each}
 use Rattle.process_core.specs.Process.{EquallyOften, choice_image}
 use Rattle.process_core.specs.Ready.{Values, Reward}
 use Rattle.choice_laws.specs.Columns.{counting}
 use Rattle.choice_laws.specs.Rewards.{EarnsBy}
 use Rattle.choice_laws.proofs.Rewards.{PaysHere}
-use Rattle.choice_laws.proofs.Walks.{All-flat_map, All-unmap, found_has}
-use Rattle.prism_flat.specs.Instance.{Valuation, only_if}
+use Rattle.choice_laws.proofs.Walks.{All-flat_map, found_has}
+use Rattle.process_core.specs.Instance.{Valuation, only_if}
 use Rattle.prism_flat.specs.Process as prism_process
 use Rattle.jani_tree.specs.Syntax as syntax
 use Rattle.jani_tree.specs.Syntax.{Destination, Vector, File}

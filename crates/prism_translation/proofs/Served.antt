@@ -2,19 +2,22 @@
 -- So the ways to take one edge of each participant of the vector are those of its targets.
 use Rattle.std.specs.Prelude.{◌≡◌, ℕ, ◌+◌, ◌<◌, ◌≤◌, List, [], ◌∷◌, ◌++◌, map, Bool, true, false, not, ◌&&◌, ◌||◌, cond, Option, Some, None, is_some, if◌then◌else◌, nat_eq, get_or}
 use Rattle.std.specs.List.{flat_map, filter, find, list_any, count_by, All}
-use Rattle.std.proofs.Common.{refl, sym, ap, ap₂, ◌∙◌, inl, inr, arith, subst, append-nil}
+use Rattle.std.proofs.Common.{refl, sym, ap, ap₂, ◌∙◌, inl, inr, arith, subst, append-nil, ne_eqb}
 use Rattle.std.proofs.lemmas.List.Sums.{sum_by-append}
 use Rattle.std.proofs.lemmas.List.Elements.{All-nil, All-cons, All-head, All-tail, All-weaker, All-filter, All-append, All-map, filter_passes}
+use Rattle.std.proofs.Math.Bool.{or-false, or-true, and-true}
+use Rattle.std.proofs.lemmas.Option.{same_Some}
+use Rattle.basics.specs.Members.{none_passes}
+use Rattle.basics.specs.Numbers.{nat_eq-self}
 use Rattle.process_core.specs.Process.{EquallyOften}
 use Rattle.process_core.specs.Often.{sum_by-map, often_trans, often_same}
 use Rattle.process_core.specs.Ready.{Name}
 use Rattle.process_core.specs.Product.{one_of_each}
 use Rattle.choice_laws.specs.Products.{AreWhole, IsParted, IsWhole, OneIsParted, Place, parts_for, wholes}
-use Rattle.choice_laws.proofs.Truths.{or_false, or_true, and_true, other_number, same_number}
 use Rattle.choice_laws.proofs.Members.{parted_once, if_zero, not_counted, count_agree}
 use Rattle.choice_laws.proofs.Products.{ways_parted, whole_parts}
-use Rattle.choice_laws.proofs.Walks.{filter-filter, filter_agree_in, flat_map_agree_in, not_any, any-filter, found_has, has_any, some_part}
-use Rattle.prism_flat.specs.Instance.{only_if}
+use Rattle.choice_laws.proofs.Walks.{filter-filter, filter_agree_in, flat_map_agree_in, any-filter, found_has, has_any}
+use Rattle.process_core.specs.Instance.{only_if}
 use Rattle.jani_tree.specs.Syntax.{Automaton, Vector, File}
 use Rattle.jani_meaning.specs.Elements as jani
 use Rattle.prism_translation.specs.Elements.{Element, elements, edges_of, Placed, placed_edges, same_place, action_of, rewards}
@@ -36,11 +39,11 @@ module _ (file : File) (v : Vector) where
   -- ---- edges of the writer
   pub made_serves : (w : Element) (q p : Placed) → p.element ≡ w → names v p ≡ true → serves file (made w q) p ≡ same_place p q
   made_serves w q p e h =
-      ap₂ (λ a b. same_place p q || (a && not b)) h (ap (λ (n : Element). nat_eq n.number w.number) e ∙ same_number w.number) ∙ or_false (same_place p q)
+      ap₂ (λ a b. same_place p q || (a && not b)) h (ap (λ (n : Element). nat_eq n.number w.number) e ∙ nat_eq-self w.number) ∙ or-false (same_place p q)
 
   plain_serves : (w : Element) (p : Placed) → p.element ≡ w → names v p ≡ true → serves file (plain (Some w.number)) p ≡ not (rewards file p)
   plain_serves w p e h =
-      ap₂ (λ a b. a && (not (rewards file p) || not b)) h (ap (λ (n : Element). nat_eq n.number w.number) e ∙ same_number w.number) ∙ or_false (not (rewards file p))
+      ap₂ (λ a b. a && (not (rewards file p) || not b)) h (ap (λ (n : Element). nat_eq n.number w.number) e ∙ nat_eq-self w.number) ∙ or-false (not (rewards file p))
 
   added_up : (b any : Bool) → (not b ≡ true → any ≡ true) → cond b 1 0 + cond any (cond (not b) 1 0) 0 ≡ 1
   added_up true any h = ap (λ n. 1 + n) (if_zero any)
@@ -101,8 +104,8 @@ module _ (file : File) (v : Vector) where
   plain_other el w n k d l =
       let p = get_or (placed_edges el) k d in
       let at : p.element ≡ el = at_element el 0 (edges_of el) k d l in
-      ap (λ b. names v p && (not (rewards file p) || not b)) (other_number p.element.number w.number (λ h. n (sym (ap (λ (x : Element). x.number) at) ∙ h)))
-      ∙ ap (λ b. names v p && b) (or_true (not (rewards file p))) ∙ and_true (names v p)
+      ap (λ b. names v p && (not (rewards file p) || not b)) (ne_eqb p.element.number w.number (λ h. n (sym (ap (λ (x : Element). x.number) at) ∙ h)))
+      ∙ ap (λ b. names v p && b) (or-true (not (rewards file p))) ∙ and-true (names v p)
 
   pub made_other : (el w : Element) → (el.number ≡ w.number → ⊥) → All (λ q. ServesAll el (made w q)) (filter (rewards file) (edges_named v w))
   made_other el w n =
@@ -113,8 +116,8 @@ module _ (file : File) (v : Vector) where
       let at : p.element ≡ el = at_element el 0 (edges_of el) i a m in
       let there : q.element ≡ w = All-filter (names v) (λ q. q.element ≡ w) (placed_edges w) (at_element w 0 (edges_of w)) k d l in
       ap₂ (λ a b. (a && nat_eq p.number q.number) || (names v p && not b))
-      (other_number p.element.number q.element.number (λ h. n (sym (ap (λ (x : Element). x.number) at) ∙ h ∙ ap (λ (x : Element). x.number) there))) (other_number p.element.number w.number (λ h. n (sym (ap (λ (x : Element). x.number) at) ∙ h)))
-      ∙ and_true (names v p))
+      (ne_eqb p.element.number q.element.number (λ h. n (sym (ap (λ (x : Element). x.number) at) ∙ h ∙ ap (λ (x : Element). x.number) there))) (ne_eqb p.element.number w.number (λ h. n (sym (ap (λ (x : Element). x.number) at) ∙ h)))
+      ∙ and-true (names v p))
 
   pub other_serves : (el w : Element) → (el.number ≡ w.number → ⊥) → All (ServesAll el) (targets_by file v (Some w))
   other_serves el w n =
@@ -131,7 +134,7 @@ module _ (file : File) (v : Vector) where
   none_serves el h k d l =
       let p = get_or (placed_edges el) k d in
       by_name (names v p) (rewards file p)
-      (not_any (λ p. names v p && rewards file p) (placed_edges el) (sym (any-filter (rewards file) (names v) (placed_edges el)) ∙ h) k d l)
+      (none_passes (λ p. names v p && rewards file p) (placed_edges el) (sym (any-filter (rewards file) (names v) (placed_edges el)) ∙ h) k d l)
     where
       by_name : (a b : Bool) → (a && b) ≡ false → (a && (not b || false)) ≡ a
       by_name true true h = absurd cc
@@ -239,7 +242,7 @@ module _ (file : File) (v : Vector) where
             (find pays (numbered_from (k + 1) autos) ≡ Some w → OneIsParted (targets_by file v (Some w)) (places (numbered_from (k + 1) autos))) →
             OneIsParted (targets_by file v (Some w)) (only_if (is_some (part_of v k)) (place el) ++ places (numbered_from (k + 1) autos))
         by_test true e g ih =
-            subst (λ (u : Element). OneIsParted (targets_by file v (Some u)) (only_if (is_some (part_of v k)) (place el) ++ places (numbered_from (k + 1) autos))) (some_part el w g)
+            subst (λ (u : Element). OneIsParted (targets_by file v (Some u)) (only_if (is_some (part_of v k)) (place el) ++ places (numbered_from (k + 1) autos))) (same_Some el w g)
             (writer_first el (places (numbered_from (k + 1) autos)) e
             (rest_whole el (numbered_from (k + 1) autos) (All-weaker (λ x. k + 1 ≤ x.number) (λ x. k < x.number) (λ x l. omega arith) (numbered_from (k + 1) autos) (numbers_from (k + 1) autos))))
         by_test false e g ih =

@@ -6,6 +6,8 @@ use Rattle.std.proofs.lemmas.List.Elements.{filter-append, All-nil, All-cons, Al
 use Rattle.std.proofs.lemmas.List.Folds.{flat_map-map}
 use Rattle.std.proofs.lemmas.List.Concat.{flat_map-append}
 use Rattle.std.specs.Option.{option_map}
+use Rattle.std.proofs.Math.Bool.{or-false, and-true, not-not}
+use Rattle.basics.specs.Members.{all_each, filter-map}
 use Rattle.bridge_io.specs.declared.reason.Named.{Named}
 use Rattle.frac_core.specs.Fraction.{Fraction}
 use Rattle.process_core.specs.Process.{EquallyOften, Choice, choice_image}
@@ -16,10 +18,10 @@ use Rattle.process_core.specs.Choices.{choice_of, choices}
 use Rattle.process_core.specs.Follow.{FollowsReady, choice_same}
 use Rattle.choice_laws.specs.Rewards.{EarnsBy, bare_ready, is_enabled}
 use Rattle.choice_laws.proofs.Rewards.{PaysHere, choice_bare, disabled, way_earns}
-use Rattle.choice_laws.proofs.Walks.{any_left, filter-filter, filter-flat_map, filter-map, filter_none, filter_walk, flat_map_agree_in, has_some, kept_walk_in, each}
-use Rattle.choice_laws.proofs.Truths.{or_false, and_true, and_moved, and_turned, not_not}
+use Rattle.choice_laws.proofs.Walks.{any_left, filter-filter, filter-flat_map, filter_none, filter_walk, flat_map_agree_in, has_some, kept_walk_in}
+use Rattle.choice_laws.proofs.Truths.{and_moved, and_turned}
 use Rattle.choice_laws.proofs.Members.{often_both}
-use Rattle.prism_flat.specs.Instance.{only_if}
+use Rattle.process_core.specs.Instance.{only_if}
 use Rattle.jani_tree.specs.Syntax.{Automaton, File}
 use Rattle.jani_meaning.specs.Elements as jani
 use Rattle.prism_translation.specs.Elements.{Element, elements, edges_of, Placed, placed_edges, same_place, rewards}
@@ -38,7 +40,7 @@ module _ (file : File) (acts : List Action) (seen : Evaluation) where
   runs p = live file acts seen p
 
   serves_own : (q p : Placed) → serves file (silently q) p ≡ same_place p q
-  serves_own q p = or_false (same_place p q)
+  serves_own q p = or-false (same_place p q)
 
   -- what an element brings to a target that is made for a silent edge
   abbrev brings : Placed → Element → List (List Placed)
@@ -47,7 +49,7 @@ module _ (file : File) (acts : List Action) (seen : Evaluation) where
   brings_by : (q : Placed) (el : Element) → brings q el ≡ only_if (has_some (filter (λ p. same_place p q) (placed_edges el))) (filter runs (filter (λ p. same_place p q) (placed_edges el)))
   brings_by q el =
       let e = filter_agree (serves file (silently q)) (λ p. same_place p q) (serves_own q) (placed_edges el) in
-      ap₂ (λ b l. only_if b (filter runs l)) (or_false (list_any (serves file (silently q)) (placed_edges el)) ∙ any_left (serves file (silently q)) (placed_edges el) ∙ ap has_some e) e
+      ap₂ (λ b l. only_if b (filter runs l)) (or-false (list_any (serves file (silently q)) (placed_edges el)) ∙ any_left (serves file (silently q)) (placed_edges el) ∙ ap has_some e) e
 
   brings_other : (q : Placed) (el : Element) → (el.number ≡ q.element.number → ⊥) → brings q el ≡ []
   brings_other q el n = brings_by q el ∙ ap (λ l. only_if (has_some l) (filter runs l)) (other_place q el n)
@@ -166,16 +168,16 @@ module _ (file : File) (acts : List Action) (seen : Evaluation) where
           (filter-map (has_action None) (λ t. seen.command p (Some t.name)) (filter (λ t. serves file t.target p) acts)
           ∙ ap (map (λ t. seen.command p (Some t.name)))
           (filter_none (λ t. has_action None (seen.command p (Some t.name))) (filter (λ t. serves file t.target p) acts)
-          (each (λ t. has_action None (seen.command p (Some t.name)) ≡ false) (λ t. ap (same_label None) (are.command p (Some t.name))) (filter (λ t. serves file t.target p) acts))))
+          (all_each (λ t. has_action None (seen.command p (Some t.name)) ≡ false) (λ t. ap (same_label None) (are.command p (Some t.name))) (filter (λ t. serves file t.target p) acts))))
           (filter-only_if (has_action None) (serves_silently file p) (seen.command p None)
           ∙ ap (λ b. only_if (serves_silently file p && b) (seen.command p None)) (ap (same_label None) (are.command p None))
-          ∙ ap (λ b. only_if b (seen.command p None)) (and_true (serves_silently file p))))
+          ∙ ap (λ b. only_if b (seen.command p None)) (and-true (serves_silently file p))))
           (placed_edges el)
           ∙ filter_walk (serves_silently file) (λ p. seen.command p None) (placed_edges el))
           (filter-map (has_action None) (λ t. seen.block t.name) (filter (λ t. is_blocked file el t.target) acts)
           ∙ ap (map (λ t. seen.block t.name))
           (filter_none (λ t. has_action None (seen.block t.name)) (filter (λ t. is_blocked file el t.target) acts)
-          (each (λ t. has_action None (seen.block t.name) ≡ false) (λ t. ap (same_label None) (are.block t.name)) (filter (λ t. is_blocked file el t.target) acts))))
+          (all_each (λ t. has_action None (seen.block t.name) ≡ false) (λ t. ap (same_label None) (are.block t.name)) (filter (λ t. is_blocked file el t.target) acts))))
           ∙ append-nil (map (λ p. seen.command p None) (filter (serves_silently file) (placed_edges el)))
 
       -- a silent edge that assigns no rewards has the choices of its command
@@ -242,5 +244,5 @@ module _ (file : File) (acts : List Action) (seen : Evaluation) where
           ∙ ap₂ (λ a b. flat_map K a ++ flat_map K b)
           (filter-filter (λ p. not (rewards file p)) (λ p. is_silent p && runs p) (placed_edges el) ∙ filter_agree (λ p. (is_silent p && runs p) && not (rewards file p)) (λ p. serves_silently file p && runs p) (λ p. and_moved (is_silent p) (runs p) (not (rewards file p))) (placed_edges el))
           (filter-filter (λ p. not (not (rewards file p))) (λ p. is_silent p && runs p) (placed_edges el)
-          ∙ filter_agree (λ p. (is_silent p && runs p) && not (not (rewards file p))) (λ p. (is_silent p && rewards file p) && runs p) (λ p. ap (λ b. (is_silent p && runs p) && b) (not_not (rewards file p)) ∙ and_moved (is_silent p) (runs p) (rewards file p)) (placed_edges el)))))))
+          ∙ filter_agree (λ p. (is_silent p && runs p) && not (not (rewards file p))) (λ p. (is_silent p && rewards file p) && runs p) (λ p. ap (λ b. (is_silent p && runs p) && b) (not-not (rewards file p)) ∙ and_moved (is_silent p) (runs p) (rewards file p)) (placed_edges el)))))))
           (often_same _ _ (sym (edges_walk u none)))))

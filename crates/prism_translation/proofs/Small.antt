@@ -4,15 +4,15 @@ use Rattle.std.specs.Prelude.{◌≡◌, ℕ, zero, suc, List, [], ◌∷◌, ma
 use Rattle.std.specs.List.{All, filter}
 use Rattle.std.proofs.Common.{refl, sym, ap, inr, arith}
 use Rattle.std.proofs.lemmas.List.Elements.{All-nil, All-cons}
+use Rattle.std.proofs.Math.Bool.{or-false}
+use Rattle.std.proofs.lemmas.Option.{same_Some}
 use Rattle.bridge_io.specs.declared.reason.Named.{Named}
 use Rattle.frac_core.specs.Fraction.{Fraction}
 use Rattle.frac_core.specs.Decimal.{decimal_value-whole}
 use Rattle.op_trees.specs.Tree.{Truth, Number, Name as At}
 use Rattle.process_core.specs.Ready.{Values, Name}
 use Rattle.process_core.specs.Choices.{assigned}
-use Rattle.choice_laws.proofs.Truths.{or_false}
-use Rattle.choice_laws.proofs.Walks.{some_part}
-use Rattle.prism_flat.specs.Instance.{Valuation}
+use Rattle.process_core.specs.Instance.{Valuation}
 use Rattle.jani_table.specs.Node.{array, no_nodes}
 use Rattle.jani_tree.specs.Syntax.{boolean, number, Var, Write, Location, Destination, Edge, Automaton, File}
 use Rattle.jani_meaning.specs.Elements.{is_called, location_number}
@@ -80,7 +80,7 @@ small_sound = record {
 }
 
 found : (i : ℕ) (l : Location) → slice_get (spot ∷ []) i ≡ Some l → location_number machine l.name.name ≡ i
-found zero l e = ap (λ (k : Location). location_number machine k.name.name) (sym (some_part spot l e))
+found zero l e = ap (λ (k : Location). location_number machine k.name.name) (sym (same_Some spot l e))
 found (suc i) l e = absurd cc
 
 pub small_marks : MarksAreSound small
@@ -99,5 +99,5 @@ pub small_pays : (w : Valuation) (u : Values) → EdgesPayAlike small w u
 small_pays w u =
     one (λ e. All (PaysAlike small w u) (placed_edges e)) el (one (PaysAlike small w u) p (record {
       each = one (λ d. (own : List Fraction) → assigned own (rewards_of small w u 0 d) ≡ assigned own (first_rewards small w u p)) way (λ own. refl);
-      undef = or_false (any_undef small w u (first_rewards small w u p));
+      undef = or-false (any_undef small w u (first_rewards small w u p));
     }))

@@ -4,12 +4,12 @@ use Rattle.std.specs.Prelude.{◌≡◌, ℕ, ◌+◌, ◌-◌, ◌<◌, List, [
 use Rattle.std.specs.List.{All}
 use Rattle.std.proofs.Common.{refl, sym, ap, subst, ◌∙◌, arith, inl, inr}
 use Rattle.std.proofs.lemmas.List.Elements.{All-nil, All-head, All-weaker, All-map}
+use Rattle.basics.specs.Members.{any-map}
 use Rattle.frac_core.specs.Fraction.{Fraction}
 use Rattle.op_trees.specs.declared.tree.Value.{Value}
 use Rattle.op_trees.specs.declared.tree.Value.TheVariants as V
 use Rattle.op_trees.specs.Seen.{Seen, known}
 use Rattle.op_trees.specs.SeenLaws.{names_then}
-use Rattle.process_core.proofs.Targets.{any-map}
 use Rattle.process_core.specs.Process.{EquallyOften, choice_image}
 use Rattle.process_core.specs.Ready.{Values, Name}
 use Rattle.choice_laws.specs.Columns.{slot, stands, value_at}
@@ -18,10 +18,9 @@ use Rattle.choice_laws.proofs.Rewards.{PaysHere}
 use Rattle.choice_laws.proofs.Columns.{slot_at}
 use Rattle.prism_names.specs.Names.{unchanged}
 use Rattle.prism_flat.specs.Moment as prism_moment
-use Rattle.prism_flat.specs.Instance.{Valuation, Truths, Between, Range, Column, is_in, is_state, range_from, range_has}
+use Rattle.process_core.specs.Instance.{Valuation, Truths, Between, Range, Column, is_in, is_state, range_from, range_has, domain_at}
 use Rattle.prism_flat.specs.Scene as prism_scene
 use Rattle.prism_flat.specs.Process as prism_process
-use Rattle.prism_flat.specs.Moment.{domain_at}
 use Rattle.jani_tree.specs.Syntax.{Expression, Destination, Edge, File}
 use Rattle.jani_meaning.specs.Scene as jani_scene
 use Rattle.jani_meaning.specs.Moment as jani_moment

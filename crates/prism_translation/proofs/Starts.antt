@@ -5,13 +5,13 @@ use Rattle.std.proofs.Common.{refl, sym, ap, ap₂, ◌∙◌, arith}
 use Rattle.std.proofs.lemmas.Option.{get_or_from_slice_get}
 use Rattle.std.proofs.lemmas.List.{length-map}
 use Rattle.std.specs.Option.{option_map}
+use Rattle.basics.specs.Booleans.{same_test}
 use Rattle.bridge_io.specs.declared.reason.Named.{Named}
 use Rattle.op_trees.specs.Seen.{Seen, known}
 use Rattle.process_core.specs.Ready.{Values}
-use Rattle.process_core.proofs.Targets.{by_truth}
 use Rattle.choice_laws.specs.Columns.{at_start, counting, stands, value_at}
 use Rattle.choice_laws.proofs.Columns.{read_at, value_absent, length-counting, read_back}
-use Rattle.prism_flat.specs.Instance.{Valuation, Column, is_state, is_first, is_initial}
+use Rattle.process_core.specs.Instance.{Valuation, Column, is_state, is_first, is_initial}
 use Rattle.prism_flat.specs.Scene as prism_scene
 use Rattle.jani_tree.specs.Syntax.{Expression, File, Var}
 use Rattle.jani_meaning.specs.Elements as jani
@@ -100,7 +100,7 @@ module _ (file : File) (v w : Valuation) where
         ∙ ap jani_scene.counted (only_initial (get_or (elements file) i no_element) k.few_there)
 
     pub initial_alike : (s : Values) → is_state prism_columns s ≡ true → is_initial prism_columns s ≡ is_initial jani_columns (state_of file s)
-    initial_alike s is = by_truth (is_initial prism_columns s) (is_initial jani_columns (state_of file s)) onward backward
+    initial_alike s is = same_test (is_initial prism_columns s) (is_initial jani_columns (state_of file s)) onward backward
       where
         got : (j : ℕ) → j < total → get_or (state_of file s) j at_start ≡ value_at cols s j
         got j l = get_or_from_slice_get (state_of file s) j (value_at cols s j) at_start (read_at cols total s j l)

@@ -6,29 +6,30 @@ use Rattle.std.specs.declared.cmp.Ordering.TheVariants as C
 use Rattle.std.proofs.Common.{refl, sym, ap, ap₂, ◌∙◌, arith, ltb-true, ltb-false, length-append}
 use Rattle.std.proofs.lemmas.Option.{get_or_from_slice_get}
 use Rattle.std.proofs.lemmas.List.{length-map}
-use Rattle.frac_core.specs.Fraction.{Fraction, nought, compare, is_whole, first_true, second_true}
+use Rattle.std.proofs.lemmas.Bool.{both_ways}
+use Rattle.basics.specs.Booleans.{first_true, second_true}
+use Rattle.frac_core.specs.Fraction.{Fraction, nought, compare, is_whole}
 use Rattle.frac_core.specs.Order.{Below, compare_ranks, compare_is}
 use Rattle.op_trees.specs.declared.tree.Value.{Value}
 use Rattle.op_trees.specs.declared.tree.Value.TheVariants as V
 use Rattle.process_core.specs.Ready.{Values}
 use Rattle.choice_laws.specs.Columns.{at_start, counting, stands, value_at}
 use Rattle.choice_laws.proofs.Columns.{read_at, value_absent, length-counting, value_at-map, listed}
-use Rattle.choice_laws.proofs.Truths.{not_both}
-use Rattle.prism_flat.specs.Instance.{Valuation, Domain, Between, Column, is_in, is_state, is_greater, is_above, Truths}
+use Rattle.process_core.specs.Instance.{Valuation, Domain, Between, Column, is_in, is_state, is_greater, is_above, Truths, domain_at}
 use Rattle.prism_flat.specs.Scene as prism_scene
-use Rattle.prism_flat.specs.Moment.{domain_at}
 use Rattle.jani_tree.specs.Syntax.{File}
 use Rattle.jani_meaning.specs.Elements as jani
 use Rattle.jani_meaning.specs.Elements.{lasting}
 use Rattle.jani_meaning.specs.Scene as jani_scene
 use Rattle.jani_meaning.specs.Scene.{location_column, counted}
+use Rattle.jani_meaning.proofs.Columns.{has_count}
 use Rattle.prism_translation.specs.Elements.{Element, elements, has_several}
 use Rattle.prism_translation.specs.StateLaws.{columns, state_of}
 use Rattle.prism_translation.specs.Translated.{translated}
 use Rattle.prism_translation.specs.Sound.{FileIsSound, GivesAlike}
 use Rattle.prism_translation.proofs.ColumnsAlike.{range_of_column, state_is, pass_from, pass_at, pass_map, pass_value, pass_length}
 use Rattle.prism_translation.proofs.Numbered.{automata_length, element_length, element_numbers, no_element}
-use Rattle.prism_translation.proofs.Follows.{has_count, column_name}
+use Rattle.prism_translation.proofs.Follows.{column_name}
 use Rattle.prism_translation.proofs.ColumnNames.{names_of_columns}
 use Rattle.prism_translation.proofs.Coverage.{all_within, location_stands, variable_there}
 use Rattle.prism_translation.proofs.Domains.{range_at, range_of_location, domains_alike}
@@ -109,7 +110,7 @@ module _ (file : File) (v w : Valuation) (sound : FileIsSound file) (alike : Giv
       by_kind false e =
           let up = ltb-false j n e in
           let there : stands cols j ≡ true = ap (stands cols) (let o : j ≡ n + (j - n) = omega arith in o) ∙ variable_there file sound.some_element (j - n) (omega arith) in
-          absurd (not_both (stands cols j) h there)
+          absurd (both_ways (stands cols j) h there)
       by_kind true e =
           let low = ltb-true j n e in
           let long = automata_length file in

@@ -3,8 +3,9 @@ use Rattle.std.specs.Prelude.{◌≡◌, List, [], ◌∷◌, map, Bool, true, �
 use Rattle.std.specs.List.{flat_map, filter, list_any, All}
 use Rattle.std.proofs.Common.{refl, sym, ap, ap₂, subst, ◌∙◌}
 use Rattle.std.proofs.lemmas.List.Elements.{All-append, All-map, All-filter}
-use Rattle.choice_laws.proofs.Walks.{All-unmap, any_agree, has_some, some-append, All-flat_map}
-use Rattle.prism_flat.specs.Instance.{only_if}
+use Rattle.basics.specs.Members.{All-unmap, any_agree}
+use Rattle.choice_laws.proofs.Walks.{has_some, some-append, All-flat_map}
+use Rattle.process_core.specs.Instance.{only_if}
 use Rattle.jani_tree.specs.Syntax.{File}
 use Rattle.prism_translation.specs.Elements.{Element, elements, Placed, placed_edges, rewards}
 use Rattle.prism_translation.specs.Targets.{part_of, Target, targets, vector_targets, silent_targets, is_silent, serves}

@@ -1,8 +1,9 @@
 -- The choices of a vector are those of its targets, each equally often.
 use Rattle.std.specs.Prelude.{◌≡◌, ℕ, ◌+◌, List, [], ◌∷◌, map, Bool, true, false, not, ◌&&◌, ◌||◌, Option, Some, None, is_some, nat_eq, get_or, slice_get}
 use Rattle.std.specs.List.{flat_map, filter, list_any, All}
-use Rattle.std.proofs.Common.{refl, sym, ap, ap₂, ◌∙◌, arith}
+use Rattle.std.proofs.Common.{refl, sym, ap, ap₂, ◌∙◌, arith, ne_eqb}
 use Rattle.std.proofs.lemmas.List.Elements.{All-nil, All-cons, All-filter, All-append, All-map, filter_passes}
+use Rattle.basics.specs.Members.{all_each, filter-map}
 use Rattle.frac_core.specs.Fraction.{Fraction}
 use Rattle.process_core.specs.Process.{EquallyOften, Choice}
 use Rattle.process_core.specs.Product.{one_of_each, map-flat_map, flat_map_agree, flat_map-flat_map}
@@ -12,9 +13,8 @@ use Rattle.process_core.specs.Choices.{choice_of, choices}
 use Rattle.choice_laws.specs.Products.{Place, parts_for, wholes}
 use Rattle.choice_laws.specs.Rewards.{earning, is_enabled}
 use Rattle.choice_laws.proofs.Rewards.{choices_enabled, choices_ways}
-use Rattle.choice_laws.proofs.Walks.{any_left, filter-filter, filter-map, filter_agree_in, filter_none, flat_map_agree_in, has_some, each}
-use Rattle.choice_laws.proofs.Truths.{other_number}
-use Rattle.prism_flat.specs.Instance.{numbered, only_if}
+use Rattle.choice_laws.proofs.Walks.{any_left, filter-filter, filter_agree_in, filter_none, flat_map_agree_in, has_some}
+use Rattle.process_core.specs.Instance.{numbered, only_if}
 use Rattle.jani_tree.specs.Syntax.{Vector, File}
 use Rattle.jani_meaning.specs.Elements as jani
 use Rattle.jani_meaning.specs.Moment.{vector_of}
@@ -45,7 +45,7 @@ module _ (file : File) (v : Vector) where
       (only_of (list_any (λ p. not (rewards file p)) (edges_named v w)) (plain file v (Some w.number)) P (k (Some w.number)))
 
   pub are_of : All IsOf (vector_targets file v)
-  are_of = all_targets IsOf (λ w. each (λ q. IsOf (made file v w q)) (λ q. refl) (filter (rewards file) (edges_named v w))) (λ w. refl) (reward_writer file v)
+  are_of = all_targets IsOf (λ w. all_each (λ q. IsOf (made file v w q)) (λ q. refl) (filter (rewards file) (edges_named v w))) (λ w. refl) (reward_writer file v)
 
   -- who takes no part has no edge that serves
   unnamed : (el : Element) → part_of v el.number ≡ None → All (λ p. names v p ≡ false) (placed_edges el)
@@ -64,7 +64,7 @@ module _ (file : File) (v : Vector) where
       let at : p.element ≡ el = at_element el 0 (edges_of el) i a m in
       let apart : p.element.number ≡ q.element.number → ⊥ = λ e. clash q (ap (λ n. is_named (part_of v n) (action_of q.edge)) (sym e ∙ ap (λ (x : Element). x.number) at) ∙ ap (λ o. is_named o (action_of q.edge)) h) called in
       ap₂ (λ x y. (x && nat_eq p.number q.number) || (y && (false && not (rewards file p) || is_another p.element.number (Some w.number))))
-      (other_number p.element.number q.element.number apart) (unnamed el h i a m)))
+      (ne_eqb p.element.number q.element.number apart) (unnamed el h i a m)))
       (λ w k d l. let p = get_or (placed_edges el) k d in ap (λ y. y && (not (rewards file p) || is_another p.element.number w)) (unnamed el h k d l))
       (reward_writer file v)
     where

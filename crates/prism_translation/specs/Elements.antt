@@ -5,7 +5,7 @@ use Rattle.std.specs.Prelude.{ℕ, List, [], ◌∷◌, ◌++◌, length, Bool, 
 use Rattle.std.specs.List.{filter, list_any}
 use Rattle.std.specs.Option.{option_map}
 use Rattle.process_core.specs.Ready.{Name}
-use Rattle.prism_flat.specs.Instance.{numbered}
+use Rattle.process_core.specs.Instance.{numbered}
 use Rattle.jani_tree.specs.Syntax.{Write, Edge, Automaton, File}
 use Rattle.jani_meaning.specs.Elements as jani
 use Rattle.jani_meaning.specs.Elements.{Owned, lasting, place_of, structure_number, is_owner}

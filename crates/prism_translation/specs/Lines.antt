@@ -3,7 +3,7 @@ use Rattle.std.specs.Prelude.{ℕ, List, [], ◌∷◌, ◌++◌, map, codes, no
 use Rattle.std.specs.List.{flat_map, zip}
 use Rattle.decimal_json.specs.Text.{quoted}
 use Rattle.process_core.specs.Ready.{Name}
-use Rattle.prism_flat.specs.Instance.{only_if}
+use Rattle.process_core.specs.Instance.{only_if}
 use Rattle.jani_tree.specs.Syntax.{File}
 use Rattle.jani_meaning.specs.Elements.{Owned, lasting, labels, structures}
 use Rattle.name_table.specs.declared.entry.Entry.{Entry}

@@ -9,7 +9,7 @@ use Rattle.process_core.specs.Ready.{Name}
 use Rattle.prism_tree.specs.declared.operator.PrismOp.TheVariants.{Ite}
 use Rattle.prism_tree.specs.declared.syntax.ItemOn.TheVariants as On
 use Rattle.prism_tree.specs.Syntax as prism
-use Rattle.prism_flat.specs.Instance.{numbered}
+use Rattle.process_core.specs.Instance.{numbered}
 use Rattle.jani_tree.specs.Syntax.{Expression, Write, Destination, File}
 use Rattle.jani_meaning.specs.Elements.{Owned, is_called, structure_number}
 use Rattle.name_table.specs.PrismAsks.{NewNames, value_name, outside}

@@ -7,7 +7,7 @@ use Rattle.op_trees.specs.Tree.{Truth, Two}
 use Rattle.process_core.specs.Ready.{Name, if_some}
 use Rattle.prism_tree.specs.declared.operator.PrismOp.TheVariants.{And}
 use Rattle.prism_tree.specs.Syntax as prism
-use Rattle.prism_flat.specs.Instance.{only_if}
+use Rattle.process_core.specs.Instance.{only_if}
 use Rattle.jani_tree.specs.Syntax.{Expression, Write, Destination, Edge, File}
 use Rattle.jani_meaning.specs.Elements.{location_number, lasting, place_of}
 use Rattle.name_table.specs.PrismAsks.{NewNames, name_at, value_name}

@@ -5,9 +5,8 @@ use Rattle.process_core.specs.Process.{IsIn, EquallyOften, SameProcess, choice_i
 use Rattle.process_core.specs.Ready.{Values, Name}
 use Rattle.process_core.specs.declared.data.FaultKind.{FaultKind}
 use Rattle.process_core.specs.declared.data.FaultKind.TheVariants.{ConstUndef, BoundUndef, EmptyRange, InitUndef, InitOutside}
-use Rattle.prism_flat.specs.Instance.{Valuation, Fault, fault_of, Column}
+use Rattle.process_core.specs.Instance.{Valuation, Fault, fault_of, Column, domain_at}
 use Rattle.prism_flat.specs.Scene as prism_scene
-use Rattle.prism_flat.specs.Moment.{domain_at}
 use Rattle.prism_flat.specs.Process as prism_process
 use Rattle.jani_tree.specs.Syntax.{File}
 use Rattle.jani_meaning.specs.Scene as jani_scene

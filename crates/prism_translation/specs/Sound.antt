@@ -9,7 +9,7 @@ use Rattle.frac_core.specs.declared.decimal.Decimal.{Decimal}
 use Rattle.op_trees.specs.Tree.{Truth, Number, AllNames}
 use Rattle.process_core.specs.Ready.{Values, Name, Reward}
 use Rattle.process_core.specs.Choices.{number_of, assigned}
-use Rattle.prism_flat.specs.Instance.{Valuation}
+use Rattle.process_core.specs.Instance.{Valuation}
 use Rattle.jani_tree.specs.Syntax.{Const, Expression, VarKind, boolean, integer, number, real_bounded, one_sided, bounded, Location, Destination, Edge, Vector, File}
 use Rattle.jani_tree.specs.Canonical.{HasOperands}
 use Rattle.jani_meaning.specs.Elements.{Owned, is_called, location_number, lasting, place_of, labels, structures}

@@ -4,7 +4,7 @@ use Rattle.std.specs.Prelude.{ℕ, ◌+◌, List, ◌++◌, map, length, Option,
 use Rattle.std.specs.List.{find, flat_map}
 use Rattle.process_core.specs.Ready.{Values, Name}
 use Rattle.choice_laws.specs.Columns.{state_by}
-use Rattle.prism_flat.specs.Instance.{only_if}
+use Rattle.process_core.specs.Instance.{only_if}
 use Rattle.jani_tree.specs.Syntax.{File}
 use Rattle.jani_meaning.specs.Elements.{lasting}
 use Rattle.prism_translation.specs.Elements.{Element, elements, has_several, Lasting, shared, at_home}

@@ -7,7 +7,7 @@ use Rattle.std.specs.List.{find, filter, flat_map, list_any}
 use Rattle.std.specs.Option.{option_map}
 use Rattle.bridge_io.specs.declared.reason.Named.{Named}
 use Rattle.process_core.specs.Ready.{Name, same_label}
-use Rattle.prism_flat.specs.Instance.{only_if}
+use Rattle.process_core.specs.Instance.{only_if}
 use Rattle.jani_tree.specs.Syntax.{Vector, File}
 use Rattle.prism_translation.specs.Elements.{Element, elements, Placed, placed_edges, same_place, action_of, rewards}
 

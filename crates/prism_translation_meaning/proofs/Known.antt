@@ -1,16 +1,16 @@
 -- The constants, variables and edges of a file without faults: what their expressions name.
-use Rattle.std.specs.Prelude.{◌≡◌, ℕ, ◌<◌, List, [], ◌∷◌, ◌++◌, map, length, false, Option, Some, None, nat_eq, slice_get, IfSome}
+use Rattle.std.specs.Prelude.{◌≡◌, ℕ, List, ◌++◌, map, Option, Some, None, slice_get, IfSome}
 use Rattle.std.specs.List.{flat_map, All, position}
-use Rattle.std.proofs.Common.{sym, ap, subst, arith}
-use Rattle.std.proofs.lemmas.List.{length-map}
-use Rattle.std.proofs.lemmas.Option.{slice_get_past}
-use Rattle.prism_flat.specs.Instance.{numbered}
+use Rattle.std.proofs.lemmas.List.Elements.{All-from_recursion}
+use Rattle.basics.specs.Each.{each_then, each_with, each_rest, each_of, map_each, each_join, each_filter}
+use Rattle.process_core.specs.Instance.{numbered}
 use Rattle.jani_tree.specs.Syntax.{Expression, VarKind, boolean, integer, number, real_bounded, one_sided, bounded, Const, Var, Location, Destination, Edge, File}
 use Rattle.jani_tree.specs.Canonical.{OfAll, OfSome}
 use Rattle.jani_tree.specs.Form.{HasItems, IsGiven, ExprForm, KindForm, ConstRead, VarRead, WriteRead, LocationRead, DestinationRead, EdgeRead}
 use Rattle.jani_check.specs.Things.{kind_type}
-use Rattle.jani_check.specs.Demands.{Demand, fixed, varying, assigned, given, if_some, wanted_by, const_demands, bound_demands, var_demands, location_demands, destination_demands, edge_demands, outer_demands}
+use Rattle.jani_check.specs.Demands.{Demand, fixed, varying, assigned, given, if_some, wanted_by, const_demands, bound_demands, var_demands, location_demands, destination_demands, edge_demands}
 use Rattle.jani_check.specs.Faults.{IsChecked}
+use Rattle.jani_check.proofs.Profiled.{operands}
 use Rattle.jani_meaning.specs.Elements as jani
 use Rattle.jani_meaning.specs.Elements.{Owned, owned_by, lasting}
 use Rattle.name_table.specs.PrismAsks.{outside}
@@ -18,12 +18,12 @@ use Rattle.prism_translation.specs.Elements.{Element, elements, Placed, placed_e
 use Rattle.prism_translation.specs.Names.{new_names}
 use Rattle.prism_translation.specs.Parts.{scope_of}
 use Rattle.prism_translation.specs.Sound.{NamesConstants, IsConstantExpression, SoundKind, SoundStart, KnownExpression, KnownDestination, KnownEdge}
-use Rattle.prism_translation_meaning.proofs.Lists.{of_weaker, of_both, of_front, of_rest, of_walk, of_map, of_filter, all_of, to_append, to_map, to_numbered, of_numbered}
-use Rattle.prism_translation_meaning.proofs.Scopes.{vars_of, own_vars, NamesApart}
-use Rattle.prism_translation_meaning.proofs.Clean.{IsJudged, names_apart_outside, judged_outside, some_elements}
-use Rattle.prism_translation_meaning.proofs.Expressions.{operands, known_expression, known_assigned, known_given, constant_expression}
-use Rattle.prism_translation_meaning.proofs.Distinct.{stands_first}
-use Rattle.prism_translation_meaning.proofs.Elements.{IsElement, elements_are, judged_element}
+use Rattle.prism_translation.proofs.Lists.{of_front, to_map, to_numbered, of_numbered}
+use Rattle.prism_translation.proofs.Scopes.{own_vars, NamesApart}
+use Rattle.prism_translation.proofs.Clean.{IsJudged, names_apart_outside, names_outside, demands_outside}
+use Rattle.prism_translation.proofs.Expressions.{known_expression, known_assigned, known_given, constant_expression}
+use Rattle.prism_translation.proofs.Distinct.{stands_first}
+use Rattle.prism_translation.proofs.Elements.{IsElement, elements_are, judged_element}
 
 -- ---- by what is known in an element, or outside of all
 module _ (file : File) (k : ℕ) (names : NamesApart file (own_vars file k)) where
@@ -52,11 +52,11 @@ module _ (file : File) (k : ℕ) (names : NamesApart file (own_vars file k)) whe
 
   pub vars_sound : (xs : List Var) → OfAll (VarRead HasItems) xs → OfAll Judged (flat_map var_demands xs) → OfAll SoundVar xs
   vars_sound xs p j =
-      of_both (VarRead HasItems) (λ x. OfAll Judged (var_demands x)) SoundVar
+      each_with (VarRead HasItems) (λ x. OfAll Judged (var_demands x)) SoundVar
       (λ x f d. record {
         kind = kind_sound x.kind f.kind (of_front Judged (bound_demands x.kind) (map (fixed (wanted_by (kind_type x.kind))) (if_some x.start)) d);
-        start = start_sound (wanted_by (kind_type x.kind)) x.start f.start f.begins (of_rest Judged (bound_demands x.kind) (map (fixed (wanted_by (kind_type x.kind))) (if_some x.start)) d);
-      }) xs p (of_walk Judged var_demands xs j)
+        start = start_sound (wanted_by (kind_type x.kind)) x.start f.start f.begins (each_rest Judged (bound_demands x.kind) (map (fixed (wanted_by (kind_type x.kind))) (if_some x.start)) d);
+      }) xs p (each_of Judged var_demands xs j)
 
   -- ---- edges
   some_known : (w : _) (o : Option Expression) → OfSome (ExprForm HasItems) o → OfAll Judged (map (varying w) (if_some o)) → IfSome o (KnownExpression file k)
@@ -66,58 +66,41 @@ module _ (file : File) (k : ℕ) (names : NamesApart file (own_vars file k)) whe
   destination_known : (d : Destination) → DestinationRead HasItems d → OfAll Judged (destination_demands d) → KnownDestination file k d
   destination_known d p j = (
     some_known _ d.weight p.weight (of_front Judged (map (varying _) (if_some d.weight)) (map assigned d.writes) j),
-    all_of (λ x. KnownExpression file k x.value) d.writes
-        (of_both (WriteRead HasItems) (λ x. Judged (assigned x)) (λ x. KnownExpression file k x.value) (λ x f g. known_assigned file k names x g (operands x.value f.value)) d.writes p.writes
-        (of_map Judged assigned d.writes (of_rest Judged (map (varying _) (if_some d.weight)) (map assigned d.writes) j))),
+    All-from_recursion (λ x. KnownExpression file k x.value) d.writes
+        (each_with (WriteRead HasItems) (λ x. Judged (assigned x)) (λ x. KnownExpression file k x.value) (λ x f g. known_assigned file k names x g (operands x.value f.value)) d.writes p.writes
+        (map_each Judged assigned d.writes (each_rest Judged (map (varying _) (if_some d.weight)) (map assigned d.writes) j))),
   )
 
   edge_known : (e : Edge) → EdgeRead HasItems e → OfAll Judged (edge_demands e) → KnownEdge file k e
   edge_known e p j = (
     some_known _ e.guard p.guard (of_front Judged (map (varying _) (if_some e.guard)) (flat_map destination_demands e.destinations) j),
-    all_of (KnownDestination file k) e.destinations
-        (of_both (DestinationRead HasItems) (λ d. OfAll Judged (destination_demands d)) (KnownDestination file k) destination_known e.destinations p.destinations
-        (of_walk Judged destination_demands e.destinations (of_rest Judged (map (varying _) (if_some e.guard)) (flat_map destination_demands e.destinations) j))),
+    All-from_recursion (KnownDestination file k) e.destinations
+        (each_with (DestinationRead HasItems) (λ d. OfAll Judged (destination_demands d)) (KnownDestination file k) destination_known e.destinations p.destinations
+        (each_of Judged destination_demands e.destinations (each_rest Judged (map (varying _) (if_some e.guard)) (flat_map destination_demands e.destinations) j))),
   )
 
   pub edges_known : (es : List Edge) → OfAll (EdgeRead HasItems) es → OfAll Judged (flat_map edge_demands es) → OfAll (KnownEdge file k) es
-  edges_known es p j = of_both (EdgeRead HasItems) (λ e. OfAll Judged (edge_demands e)) (KnownEdge file k) edge_known es p (of_walk Judged edge_demands es j)
+  edges_known es p j = each_with (EdgeRead HasItems) (λ e. OfAll Judged (edge_demands e)) (KnownEdge file k) edge_known es p (each_of Judged edge_demands es j)
 
   -- ---- locations
   pub locations_known : (ls : List Location) → OfAll (LocationRead HasItems) ls → OfAll Judged (flat_map location_demands ls) → OfAll (λ l. OfAll (λ x. KnownExpression file k x.value) l.values) ls
   locations_known ls p j =
-      of_both (LocationRead HasItems) (λ l. OfAll Judged (location_demands l)) (λ l. OfAll (λ x. KnownExpression file k x.value) l.values)
-      (λ l f d. of_both (WriteRead HasItems) (λ x. Judged (given x)) (λ x. KnownExpression file k x.value) (λ x g i. known_given file k names x i (operands x.value g.value)) l.values f.values
-      (of_map Judged given l.values d)) ls p (of_walk Judged location_demands ls j)
+      each_with (LocationRead HasItems) (λ l. OfAll Judged (location_demands l)) (λ l. OfAll (λ x. KnownExpression file k x.value) l.values)
+      (λ l f d. each_with (WriteRead HasItems) (λ x. Judged (given x)) (λ x. KnownExpression file k x.value) (λ x g i. known_given file k names x i (operands x.value g.value)) l.values f.values
+      (map_each Judged given l.values d)) ls p (each_of Judged location_demands ls j)
 
 module _ (file : File) (c : IsChecked file) where
   -- ---- outside of elements
-  pub none_outside : own_vars file (outside file) ≡ []
-  none_outside =
-      ap vars_of (slice_get_past (jani.elements file) (outside file) (let e = length-map file.elements (jani.automaton_called file) in omega arith))
-
-  pub names_outside : NamesApart file (own_vars file (outside file))
-  names_outside = subst (NamesApart file) (sym none_outside) (names_apart_outside file c)
-
-  pub demands_outside : OfAll (IsJudged file (own_vars file (outside file))) (outer_demands file)
-  demands_outside = subst (λ vs. OfAll (IsJudged file vs) (outer_demands file)) (sym none_outside) (judged_outside file c)
-
   pub constants_sound : All (λ d. IfSome d.value (IsConstantExpression file)) file.constants
   constants_sound =
-      all_of (λ d. IfSome d.value (IsConstantExpression file)) file.constants
-      (of_both (ConstRead HasItems) (λ d. OfAll (IsJudged file (own_vars file (outside file))) (const_demands d)) (λ d. IfSome d.value (IsConstantExpression file))
-      (λ d p j. some_constant file (outside file) names_outside _ d.value p.value j) file.constants c.form.constants
-      (of_walk (IsJudged file (own_vars file (outside file))) const_demands file.constants
-      (of_front (IsJudged file (own_vars file (outside file))) (flat_map const_demands file.constants) (flat_map var_demands file.variables) demands_outside)))
+      All-from_recursion (λ d. IfSome d.value (IsConstantExpression file)) file.constants
+      (each_with (ConstRead HasItems) (λ d. OfAll (IsJudged file (own_vars file (outside file))) (const_demands d)) (λ d. IfSome d.value (IsConstantExpression file))
+      (λ d p j. some_constant file (outside file) (names_outside file c) _ d.value p.value j) file.constants c.form.constants
+      (each_of (IsJudged file (own_vars file (outside file))) const_demands file.constants
+      (of_front (IsJudged file (own_vars file (outside file))) (flat_map const_demands file.constants) (flat_map var_demands file.variables) (demands_outside file c))))
 
   pub constants_named : (i : ℕ) (d : Const) → slice_get file.constants i ≡ Some d → position (λ e. jani.is_called d.name.name e.name) file.constants ≡ Some i
   constants_named i d e = stands_first (λ (x : Const). x.name) file.constants (names_apart_outside file c).constants i d e
-
-  pub has_element : 0 < length file.elements
-  has_element = by_list file.elements (some_elements file c)
-    where
-      by_list : {A : Type 0} (xs : List A) → nat_eq (length xs) 0 ≡ false → 0 < length xs
-      by_list [] e = absurd cc
-      by_list (x ∷ xs) e = omega arith
 
   -- ---- variables
   record SoundOwned (o : Owned) : Type 0 where
@@ -131,45 +114,45 @@ module _ (file : File) (c : IsChecked file) where
       let a = el.automaton in
       let D = IsJudged file (own_vars file k) in
       to_map SoundOwned (λ x. record { owner = Some k; var = x }) a.variables
-      (of_weaker (SoundVar file k j.names) (λ x. SoundOwned (record { owner = Some k; var = x })) (λ x s. record { kind = s.kind; start = s.start }) a.variables
+      (each_then (SoundVar file k j.names) (λ x. SoundOwned (record { owner = Some k; var = x })) (λ x s. record { kind = s.kind; start = s.start }) a.variables
       (vars_sound file k j.names a.variables j.form.variables (of_front (IsJudged file (own_vars file k)) (flat_map var_demands a.variables) _ j.demands)))
 
   global_vars : OfAll SoundOwned (owned_by None file.variables)
   global_vars =
       to_map SoundOwned (λ x. record { owner = None; var = x }) file.variables
-      (of_weaker (SoundVar file (outside file) names_outside) (λ x. SoundOwned (record { owner = None; var = x })) (λ x s. record { kind = s.kind; start = s.start }) file.variables
-      (vars_sound file (outside file) names_outside file.variables c.form.variables
-      (of_rest (IsJudged file (own_vars file (outside file))) (flat_map const_demands file.constants) (flat_map var_demands file.variables) demands_outside)))
+      (each_then (SoundVar file (outside file) (names_outside file c)) (λ x. SoundOwned (record { owner = None; var = x })) (λ x s. record { kind = s.kind; start = s.start }) file.variables
+      (vars_sound file (outside file) (names_outside file c) file.variables c.form.variables
+      (each_rest (IsJudged file (own_vars file (outside file))) (flat_map const_demands file.constants) (flat_map var_demands file.variables) (demands_outside file c))))
 
   lasting_sound : OfAll SoundOwned (lasting file)
   lasting_sound =
-      of_filter SoundOwned jani.is_lasting (jani.variables file)
-      (to_append SoundOwned (owned_by None file.variables) (numbered (λ i a. owned_by (Some i) a.variables) 0 (jani.elements file)) global_vars
+      each_filter SoundOwned jani.is_lasting (jani.variables file)
+      (each_join SoundOwned (owned_by None file.variables) (numbered (λ i a. owned_by (Some i) a.variables) 0 (jani.elements file)) global_vars
       (of_numbered (IsElement file) SoundOwned (λ i a. record { number = i; automaton = a }) (λ i a. owned_by (Some i) a.variables)
       (λ i a is. element_vars (record { number = i; automaton = a }) is) 0 (jani.elements file) (elements_are file c)))
 
   pub kinds_sound : All (λ o. SoundKind file (scope_of file (new_names file) o) o.var.kind) (lasting file)
   kinds_sound =
-      all_of (λ o. SoundKind file (scope_of file (new_names file) o) o.var.kind) (lasting file)
-      (of_weaker SoundOwned (λ o. SoundKind file (scope_of file (new_names file) o) o.var.kind) (λ o s. s.kind) (lasting file) lasting_sound)
+      All-from_recursion (λ o. SoundKind file (scope_of file (new_names file) o) o.var.kind) (lasting file)
+      (each_then SoundOwned (λ o. SoundKind file (scope_of file (new_names file) o) o.var.kind) (λ o s. s.kind) (lasting file) lasting_sound)
 
   pub starts_sound : All (λ o. SoundStart file (scope_of file (new_names file) o) o.var.start) (lasting file)
   starts_sound =
-      all_of (λ o. SoundStart file (scope_of file (new_names file) o) o.var.start) (lasting file)
-      (of_weaker SoundOwned (λ o. SoundStart file (scope_of file (new_names file) o) o.var.start) (λ o s. s.start) (lasting file) lasting_sound)
+      All-from_recursion (λ o. SoundStart file (scope_of file (new_names file) o) o.var.start) (lasting file)
+      (each_then SoundOwned (λ o. SoundStart file (scope_of file (new_names file) o) o.var.start) (λ o s. s.start) (lasting file) lasting_sound)
 
   -- ---- edges
   element_edges : (el : Element) → IsElement file el → All (λ p. KnownEdge file el.number p.edge) (placed_edges el)
   element_edges el is =
       let j = judged_element file c el is in
       let a = el.automaton in
-      all_of (λ (p : Placed). KnownEdge file el.number p.edge) (placed_edges el)
+      All-from_recursion (λ (p : Placed). KnownEdge file el.number p.edge) (placed_edges el)
       (to_numbered (KnownEdge file el.number) (λ (p : Placed). KnownEdge file el.number p.edge) (λ i e. record { element = el; number = i; edge = e }) (λ i e h. h) 0 a.edges
       (edges_known file el.number j.names a.edges j.form.edges
-      (of_rest (IsJudged file (own_vars file el.number)) (flat_map location_demands a.locations) (flat_map edge_demands a.edges)
-      (of_rest (IsJudged file (own_vars file el.number)) (flat_map var_demands a.variables) (flat_map location_demands a.locations ++ flat_map edge_demands a.edges) j.demands))))
+      (each_rest (IsJudged file (own_vars file el.number)) (flat_map location_demands a.locations) (flat_map edge_demands a.edges)
+      (each_rest (IsJudged file (own_vars file el.number)) (flat_map var_demands a.variables) (flat_map location_demands a.locations ++ flat_map edge_demands a.edges) j.demands))))
 
   pub edges_sound : All (λ el. All (λ p. KnownEdge file el.number p.edge) (placed_edges el)) (elements file)
   edges_sound =
-      all_of (λ el. All (λ p. KnownEdge file el.number p.edge) (placed_edges el)) (elements file)
-      (of_weaker (IsElement file) (λ el. All (λ p. KnownEdge file el.number p.edge) (placed_edges el)) element_edges (elements file) (elements_are file c))
+      All-from_recursion (λ el. All (λ p. KnownEdge file el.number p.edge) (placed_edges el)) (elements file)
+      (each_then (IsElement file) (λ el. All (λ p. KnownEdge file el.number p.edge) (placed_edges el)) element_edges (elements file) (elements_are file c))

@@ -1,9 +1,3 @@
-pub mod Lists
-pub mod Distinct
-pub mod Scopes
-pub mod Clean
-pub mod Expressions
-pub mod Elements
 pub mod Known
 pub mod SameTrees
 pub mod Rewards

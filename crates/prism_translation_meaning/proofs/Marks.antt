@@ -6,6 +6,12 @@ use Rattle.std.proofs.Common.{refl, sym, ap, ap₂, ◌∙◌}
 use Rattle.std.proofs.lemmas.Bool.{eqb-true, and_parts, and_from, or_left, not-false, both_ways, false_from_ne_true, or_right, not-true}
 use Rattle.std.proofs.lemmas.Option.{same_Some}
 use Rattle.std.proofs.Math.Bool.{and-true}
+use Rattle.std.proofs.lemmas.List.Elements.{All-from_recursion}
+use Rattle.basics.specs.Texts.{bytes_eq-true}
+use Rattle.basics.specs.Options.{none_of}
+use Rattle.basics.specs.Each.{each_then, each_with, each_rest, each_join, empty_each}
+use Rattle.basics.specs.Members.{any_agree}
+use Rattle.basics.specs.Lists.{append_right}
 use Rattle.bridge_io.specs.declared.reason.Named.{Named}
 use Rattle.bridge_io.specs.declared.reason.Reason.TheVariants.{TransientInitial, TransientTwoAutomata}
 use Rattle.frac_core.specs.declared.decimal.Decimal.{Decimal}
@@ -14,29 +20,31 @@ use Rattle.frac_core.specs.Fraction.{whole, nought, signed, times}
 use Rattle.frac_core.specs.Laws.{times_comm, times_nought}
 use Rattle.op_trees.specs.Tree.{Truth, Number, Name as At, One, Two, Three}
 use Rattle.op_trees.specs.declared.tree.Ty.TheVariants as T
-use Rattle.choice_laws.proofs.Walks.{any_agree, any-flat_map, any-filter}
-use Rattle.prism_flat.specs.Instance.{numbered}
-use Rattle.jani_table.specs.Laws.{append_left, append_right}
+use Rattle.op_trees.specs.Names.{offset_of}
+use Rattle.choice_laws.proofs.Walks.{any-flat_map, any-filter}
+use Rattle.process_core.specs.Instance.{numbered}
+use Rattle.jani_table.specs.Laws.{append_left}
 use Rattle.jani_tree.specs.Canonical.{OfAll}
 use Rattle.jani_tree.specs.Form.{HasItems, IsGiven, VarRead}
 use Rattle.jani_tree.specs.Syntax.{Expression, VarKind, boolean, integer, number, real_bounded, one_sided, bounded, Var, Write, Location, Automaton, File}
 use Rattle.jani_tree.proofs.Mapped.{any_mapped}
-use Rattle.jani_check.specs.Things.{Name, is_called, offset_of, kind_type, const_thing, var_thing, const_called, var_called, or_else, global_thing, is_transient}
+use Rattle.jani_check.specs.Things.{Name, is_called, kind_type, const_thing, var_thing, const_called, var_called, or_else, global_thing, is_transient}
 use Rattle.jani_check.specs.Demands.{if_some, var_demands, location_demands, edge_demands}
 use Rattle.jani_check.specs.NameFaults.{is_among, var_names, automaton_names, unless_known}
 use Rattle.jani_check.specs.TypeFaults.{targets}
 use Rattle.jani_check.specs.ProfileFaults.{is_first, first_fault, start_faults, given_by, given_again, given_after}
 use Rattle.jani_check.specs.Faults.{IsChecked}
+use Rattle.jani_check.proofs.Known.{found}
 use Rattle.jani_meaning.specs.Elements as jani
 use Rattle.jani_meaning.specs.Elements.{Owned, owned_by, is_boolean, is_label, is_structure, labels, structures, location_number}
 use Rattle.prism_translation.specs.Elements.{Element, elements, may_use}
 use Rattle.prism_translation.specs.Marks.{Given, given_by as given_values}
 use Rattle.prism_translation.specs.Sound.{KnownExpression, AtMostOne, is_some_given, SoundLocations, given_there, HasOneGiver, StartsWithTruth, StartsWithNought, MarksAreSound}
-use Rattle.prism_translation_meaning.proofs.Lists.{of_weaker, of_both, of_front, of_rest, all_of, to_append, to_map, of_numbered, each_none, no_fault, any-numbered, found-some, found_passes, no_place}
-use Rattle.prism_translation_meaning.proofs.Distinct.{AreDistinct, same_bytes, not_among, stands_first, found_itself}
-use Rattle.prism_translation_meaning.proofs.Scopes.{own_vars, const_names}
-use Rattle.prism_translation_meaning.proofs.Clean.{IsJudged, names_apart_outside, elements_known, elements_once, starts_outside, given_once}
-use Rattle.prism_translation_meaning.proofs.Elements.{IsElement, element, elements_are, judged_element, is_automaton, called_alike}
+use Rattle.prism_translation.proofs.Lists.{of_front, to_map, of_numbered, no_fault, any-numbered, found_passes}
+use Rattle.prism_translation.proofs.Distinct.{AreDistinct, not_among, stands_first, found_itself}
+use Rattle.prism_translation.proofs.Scopes.{own_vars, const_names}
+use Rattle.prism_translation.proofs.Clean.{IsJudged, names_apart_outside, elements_known, elements_once, starts_outside, given_once}
+use Rattle.prism_translation.proofs.Elements.{IsElement, element, elements_are, judged_element, is_automaton, called_alike}
 use Rattle.prism_translation_meaning.proofs.Known.{locations_known}
 use Rattle.prism_translation_meaning.proofs.Rewards.{one_each, one_write}
 
@@ -138,7 +146,7 @@ module _ (file : File) (x : Name) (transient : is_transient (global_thing file x
       by_test : (b : Bool) → bytes_eq n.name x ≡ b → is_among ns x ≡ false → (b || is_among ns x) ≡ false
       by_test false f k = k
       by_test true f k =
-          let same = same_bytes n.name x f in
+          let same = bytes_eq-true n.name x f in
           absurd (both_ways (is_transient (global_thing file n.name) && earlier n.name) (no_fault (is_transient (global_thing file n.name) && earlier n.name) n.at TransientTwoAutomata h.0)
           (ap (λ y. is_transient (global_thing file y) && earlier y) same ∙ and_from _ _ transient e))
 
@@ -150,7 +158,7 @@ module _ (file : File) (x : Name) (transient : is_transient (global_thing file x
       by_test : (t : Bool) → cond t (Some c) (find (λ c. is_called n c.name) as_) ≡ Some b → (find (λ c. is_called n c.name) as_ ≡ Some b → is_among (given_by b) x ≡ false) → is_among (given_by b) x ≡ false
       by_test true g ih =
           ap (λ a. is_among (given_by a) x) (sym (same_Some c b g))
-          ∙ not_again earlier e (given_by c) (each_none (given_again (global_thing file) earlier) (given_by c) (append_left (flat_map (given_again (global_thing file) earlier) (given_by c)) _ h))
+          ∙ not_again earlier e (given_by c) (empty_each (given_again (global_thing file) earlier) (given_by c) (append_left (flat_map (given_again (global_thing file) earlier) (given_by c)) _ h))
       by_test false g ih = ih g
 
   -- two automata that give it values have one name
@@ -170,7 +178,7 @@ module _ (file : File) (x : Name) (transient : is_transient (global_thing file x
       by_tests : (s : Bool) → is_called n c.name ≡ s → (t : Bool) → is_called m c.name ≡ t → cond s (Some c) (find (λ c. is_called n c.name) as_) ≡ Some a → cond t (Some c) (find (λ c. is_called m c.name) as_) ≡ Some b →
           given_after (global_thing file) (λ y. earlier y || is_among (given_by c) y) as_ ≡ [] →
           (find (λ c. is_called n c.name) as_ ≡ Some a → find (λ c. is_called m c.name) as_ ≡ Some b → n ≡ m) → n ≡ m
-      by_tests true u true v i j rest ih = sym (same_bytes c.name.name n u) ∙ same_bytes c.name.name m v
+      by_tests true u true v i j rest ih = sym (bytes_eq-true c.name.name n u) ∙ bytes_eq-true c.name.name m v
       by_tests true u false v i j rest ih =
           absurd (both_ways (is_among (given_by b) x) (later_gives_none (λ y. earlier y || is_among (given_by c) y) as_ rest (given_here a (same_Some c a i) p) m b j) q)
       by_tests false u true v i j rest ih =
@@ -188,21 +196,21 @@ module _ (file : File) (c : IsChecked file) where
       let a = el.automaton in
       locations_known file el.number j.names a.locations j.form.locations
       (of_front (IsJudged file (own_vars file el.number)) (flat_map location_demands a.locations) (flat_map edge_demands a.edges)
-      (of_rest (IsJudged file (own_vars file el.number)) (flat_map var_demands a.variables) (flat_map location_demands a.locations ++ flat_map edge_demands a.edges) j.demands))
+      (each_rest (IsJudged file (own_vars file el.number)) (flat_map var_demands a.variables) (flat_map location_demands a.locations ++ flat_map edge_demands a.edges) j.demands))
 
   given_one : (l : Location) → AreDistinct (targets l.values) → (x : Name) → AtMostOne (filter (λ y. is_called x y.target) l.values)
-  given_one l h x = one_write (λ y. is_called x y.target) l.values (λ y z e f. same_bytes y.target.name x e ∙ sym (same_bytes z.target.name x f)) h
+  given_one l h x = one_write (λ y. is_called x y.target) l.values (λ y z e f. bytes_eq-true y.target.name x e ∙ sym (bytes_eq-true z.target.name x f)) h
 
   locations_sound : (el : Element) → IsElement file el → SoundLocations file el
   locations_sound el is = record {
     named = number_is el is;
     known =
-        all_of (λ l. All (λ x. KnownExpression file el.number x.value) l.values) el.automaton.locations
-        (of_weaker (λ l. OfAll (λ x. KnownExpression file el.number x.value) l.values) (λ l. All (λ x. KnownExpression file el.number x.value) l.values)
-        (λ l h. all_of (λ x. KnownExpression file el.number x.value) l.values h) el.automaton.locations (location_values el is));
+        All-from_recursion (λ l. All (λ x. KnownExpression file el.number x.value) l.values) el.automaton.locations
+        (each_then (λ l. OfAll (λ x. KnownExpression file el.number x.value) l.values) (λ l. All (λ x. KnownExpression file el.number x.value) l.values)
+        (λ l h. All-from_recursion (λ x. KnownExpression file el.number x.value) l.values h) el.automaton.locations (location_values el is));
     once =
-        all_of (λ l. (x : Name) → AtMostOne (filter (λ y. is_called x y.target) l.values)) el.automaton.locations
-        (of_weaker (λ l. AreDistinct (targets l.values)) (λ l. (x : Name) → AtMostOne (filter (λ y. is_called x y.target) l.values)) given_one el.automaton.locations (judged_element file c el is).values);
+        All-from_recursion (λ l. (x : Name) → AtMostOne (filter (λ y. is_called x y.target) l.values)) el.automaton.locations
+        (each_then (λ l. AreDistinct (targets l.values)) (λ l. (x : Name) → AtMostOne (filter (λ y. is_called x y.target) l.values)) given_one el.automaton.locations (judged_element file c el is).values);
   }
 
   -- ---- variables
@@ -210,8 +218,8 @@ module _ (file : File) (c : IsChecked file) where
   global_found : (v : Var) → var_called file.variables v.name.name ≡ Some v → is_among (var_names file.variables) v.name.name ≡ true → is_transient (global_thing file v.name.name) ≡ v.transient
   global_found v e there =
       ap₂ (λ a b. is_transient (or_else (option_map const_thing a) (option_map var_thing b)))
-      (no_place (const_called file v.name.name)
-      (found-some (λ d. is_called v.name.name d.name) file.constants
+      (none_of (const_called file v.name.name)
+      (found (λ d. is_called v.name.name d.name) file.constants
       ∙ sym (any_mapped (λ d. d.name) (is_called v.name.name) (λ d. is_called v.name.name d.name) (λ d. refl) file.constants)
       ∙ false_from_ne_true (is_among (const_names file) v.name.name)
       (λ k. both_ways (is_among (var_names file.variables) v.name.name) (not_among (var_names file.variables) (const_names file) (names_apart_outside file c).outside v.name.name k) there)))
@@ -227,33 +235,33 @@ module _ (file : File) (c : IsChecked file) where
     stands : o.owner ≡ None → is_transient (global_thing file o.var.name.name) ≡ o.var.transient
 
   vars_begin : (xs : List Var) → OfAll (VarRead HasItems) xs → OfAll (λ x. start_faults x ≡ []) xs → OfAll Begins xs
-  vars_begin xs p s = of_both (VarRead HasItems) (λ x. start_faults x ≡ []) Begins (λ x f e. record { starts = e; given = f.begins }) xs p s
+  vars_begin xs p s = each_with (VarRead HasItems) (λ x. start_faults x ≡ []) Begins (λ x f e. record { starts = e; given = f.begins }) xs p s
 
   global_stands : OfAll (λ (v : Var). is_transient (global_thing file v.name.name) ≡ v.transient) file.variables
   global_stands =
-      of_both (λ (v : Var). var_called file.variables v.name.name ≡ Some v) (λ (v : Var). is_among (var_names file.variables) v.name.name ≡ true) (λ (v : Var). is_transient (global_thing file v.name.name) ≡ v.transient)
+      each_with (λ (v : Var). var_called file.variables v.name.name ≡ Some v) (λ (v : Var). is_among (var_names file.variables) v.name.name ≡ true) (λ (v : Var). is_transient (global_thing file v.name.name) ≡ v.transient)
       (λ v e t. global_found v e t) file.variables
       (found_itself (λ (v : Var). v.name) file.variables (names_apart_outside file c).globals)
-      (of_weaker (λ (v : Var). var_called file.variables v.name.name ≡ Some v) (λ (v : Var). is_among (var_names file.variables) v.name.name ≡ true)
-      (λ v e. any_mapped (λ (u : Var). u.name) (is_called v.name.name) (λ u. is_called v.name.name u.name) (λ u. refl) file.variables ∙ sym (found-some (λ u. is_called v.name.name u.name) file.variables) ∙ ap is_some e) file.variables
+      (each_then (λ (v : Var). var_called file.variables v.name.name ≡ Some v) (λ (v : Var). is_among (var_names file.variables) v.name.name ≡ true)
+      (λ v e. any_mapped (λ (u : Var). u.name) (is_called v.name.name) (λ u. is_called v.name.name u.name) (λ u. refl) file.variables ∙ sym (found (λ u. is_called v.name.name u.name) file.variables) ∙ ap is_some e) file.variables
       (found_itself (λ (v : Var). v.name) file.variables (names_apart_outside file c).globals))
 
   global_fine : OfAll FineOwned (owned_by None file.variables)
   global_fine =
       to_map FineOwned (λ x. record { owner = None; var = x }) file.variables
-      (of_both Begins (λ (v : Var). is_transient (global_thing file v.name.name) ≡ v.transient) (λ x. FineOwned (record { owner = None; var = x })) (λ x b e. record { begins = b; stands = λ n. e }) file.variables
+      (each_with Begins (λ (v : Var). is_transient (global_thing file v.name.name) ≡ v.transient) (λ x. FineOwned (record { owner = None; var = x })) (λ x b e. record { begins = b; stands = λ n. e }) file.variables
       (vars_begin file.variables c.form.variables (starts_outside file c)) global_stands)
 
   element_fine : (el : Element) → IsElement file el → OfAll FineOwned (owned_by (Some el.number) el.automaton.variables)
   element_fine el is =
       let j = judged_element file c el is in
       to_map FineOwned (λ x. record { owner = Some el.number; var = x }) el.automaton.variables
-      (of_weaker Begins (λ x. FineOwned (record { owner = Some el.number; var = x })) (λ x b. record { begins = b; stands = λ n. absurd cc }) el.automaton.variables
+      (each_then Begins (λ x. FineOwned (record { owner = Some el.number; var = x })) (λ x b. record { begins = b; stands = λ n. absurd cc }) el.automaton.variables
       (vars_begin el.automaton.variables j.form.variables j.starts))
 
   variables_fine : OfAll FineOwned (jani.variables file)
   variables_fine =
-      to_append FineOwned (owned_by None file.variables) (numbered (λ i a. owned_by (Some i) a.variables) 0 (jani.elements file)) global_fine
+      each_join FineOwned (owned_by None file.variables) (numbered (λ i a. owned_by (Some i) a.variables) 0 (jani.elements file)) global_fine
       (of_numbered (IsElement file) FineOwned (λ i a. record { number = i; automaton = a }) (λ i a. owned_by (Some i) a.variables)
       (λ i a is. element_fine (record { number = i; automaton = a }) is) 0 (jani.elements file) (elements_are file c))
 
@@ -271,17 +279,17 @@ module _ (file : File) (c : IsChecked file) where
 
   labels_start : All StartsWithTruth (labels file)
   labels_start =
-      all_of StartsWithTruth (labels file)
-      (of_passing StartsWithTruth is_label (jani.variables file) (of_weaker FineOwned (λ o. is_label o ≡ true → StartsWithTruth o) label_starts (jani.variables file) variables_fine))
+      All-from_recursion StartsWithTruth (labels file)
+      (of_passing StartsWithTruth is_label (jani.variables file) (each_then FineOwned (λ o. is_label o ≡ true → StartsWithTruth o) label_starts (jani.variables file) variables_fine))
 
   structures_start : All StartsWithNought (structures file)
   structures_start =
-      all_of StartsWithNought (structures file)
-      (of_passing StartsWithNought is_structure (jani.variables file) (of_weaker FineOwned (λ o. is_structure o ≡ true → StartsWithNought o) structure_starts (jani.variables file) variables_fine))
+      All-from_recursion StartsWithNought (structures file)
+      (of_passing StartsWithNought is_structure (jani.variables file) (each_then FineOwned (λ o. is_structure o ≡ true → StartsWithNought o) structure_starts (jani.variables file) variables_fine))
 
   -- ---- elements have names that differ
   called_name : (el : Element) → (is : IsElement file el) → is.name.name ≡ el.automaton.name.name
-  called_name el is = sym (same_bytes el.automaton.name.name is.name.name (found_passes (λ a. is_called is.name.name a.name) file.automata el.automaton is.found))
+  called_name el is = sym (bytes_eq-true el.automaton.name.name is.name.name (found_passes (λ a. is_called is.name.name a.name) file.automata el.automaton is.found))
 
   abbrev element_name : Element → Named
   element_name el = el.automaton.name
@@ -294,14 +302,14 @@ module _ (file : File) (c : IsChecked file) where
       own_name : (n : Named) → unless_known (is_among (automaton_names file)) n ≡ [] → (jani.automaton_called file n).name.name ≡ n.name
       own_name n e =
           let a = is_automaton file n e in
-          ap (λ (b : Automaton). b.name.name) (called_alike file n a.0 a.1) ∙ same_bytes a.0.name.name n.name (found_passes (λ a. is_called n.name a.name) file.automata a.0 a.1)
+          ap (λ (b : Automaton). b.name.name) (called_alike file n a.0 a.1) ∙ bytes_eq-true a.0.name.name n.name (found_passes (λ a. is_called n.name a.name) file.automata a.0 a.1)
 
   names_once : (k : ℕ) (ns : List Named) → OfAll (λ n. unless_known (is_among (automaton_names file)) n ≡ []) ns → AreDistinct ns → AreDistinct (map element_name (numbered (element file) k (map (jani.automaton_called file) ns)))
   names_once k [] h d = tt
   names_once k (n ∷ ns) h d =
       let a = is_automaton file n h.0 in (
         same_names (k + 1) ns h.1 (jani.automaton_called file n).name.name
-            ∙ ap (is_among ns) (ap (λ (b : Automaton). b.name.name) (called_alike file n a.0 a.1) ∙ same_bytes a.0.name.name n.name (found_passes (λ a. is_called n.name a.name) file.automata a.0 a.1))
+            ∙ ap (is_among ns) (ap (λ (b : Automaton). b.name.name) (called_alike file n a.0 a.1) ∙ bytes_eq-true a.0.name.name n.name (found_passes (λ a. is_called n.name a.name) file.automata a.0 a.1))
             ∙ d.0,
         names_once (k + 1) ns h.1 d.1,
       )
@@ -336,12 +344,12 @@ module _ (file : File) (c : IsChecked file) where
 
   one_givers : All (HasOneGiver file) (structures file)
   one_givers =
-      all_of (HasOneGiver file) (structures file)
-      (of_passing (HasOneGiver file) is_structure (jani.variables file) (of_weaker FineOwned (λ o. is_structure o ≡ true → HasOneGiver file o) one_giver (jani.variables file) variables_fine))
+      All-from_recursion (HasOneGiver file) (structures file)
+      (of_passing (HasOneGiver file) is_structure (jani.variables file) (each_then FineOwned (λ o. is_structure o ≡ true → HasOneGiver file o) one_giver (jani.variables file) variables_fine))
 
   pub marks_are_sound : MarksAreSound file
   marks_are_sound = record {
-    locations = all_of (SoundLocations file) (elements file) (of_weaker (IsElement file) (SoundLocations file) locations_sound (elements file) (elements_are file c));
+    locations = All-from_recursion (SoundLocations file) (elements file) (each_then (IsElement file) (SoundLocations file) locations_sound (elements file) (elements_are file c));
     truths = labels_start;
     noughts = structures_start;
     one_giver = one_givers;

@@ -2,18 +2,23 @@
 use Rattle.std.specs.Prelude.{◌≡◌, ℕ, ◌+◌, ◌<◌, List, [], ◌∷◌, ◌++◌, map, length, Bool, true, false, not, ◌&&◌, ◌||◌, cond, Option, Some, None, is_some, is_none, unwrap_or, nat_eq, get_or, if◌then◌else◌}
 use Rattle.std.specs.List.{find, filter, flat_map, list_any, All}
 use Rattle.std.specs.Option.{option_map}
-use Rattle.std.proofs.Common.{refl, sym, ap, ap₂, ◌∙◌, arith, eq-eqb}
-use Rattle.std.proofs.lemmas.Bool.{eqb-true, ne_eqb, and_parts, or_parts, or_left, or_right, both_ways}
+use Rattle.std.proofs.Common.{refl, sym, ap, ap₂, ◌∙◌, arith}
+use Rattle.std.proofs.lemmas.Bool.{and_parts, or_parts, or_left, or_right, both_ways}
 use Rattle.std.proofs.lemmas.List.{same_lists}
 use Rattle.std.proofs.lemmas.List.Folds.{list_any-append}
 use Rattle.std.proofs.lemmas.Option.{same_Some}
 use Rattle.std.proofs.Math.Bool.{or-false, or_self_left}
+use Rattle.std.proofs.lemmas.List.Elements.{All-from_recursion}
+use Rattle.basics.specs.Numbers.{nat_eq_comm}
+use Rattle.basics.specs.Texts.{bytes_eq-true}
+use Rattle.basics.specs.Booleans.{same_test}
+use Rattle.basics.specs.Each.{each_then, each_with, none_each}
 use Rattle.frac_core.specs.Fraction.{Fraction, nought}
 use Rattle.op_trees.specs.Seen.{Seen}
 use Rattle.process_core.specs.Choices.{number_of, assigned}
 use Rattle.process_core.specs.Ready.{Values, Reward}
 use Rattle.choice_laws.proofs.Walks.{any-filter}
-use Rattle.prism_flat.specs.Instance.{Valuation, numbered}
+use Rattle.process_core.specs.Instance.{Valuation, numbered}
 use Rattle.jani_tree.specs.Canonical.{OfAll}
 use Rattle.jani_tree.specs.Form.{HasItems, EdgeRead}
 use Rattle.jani_tree.specs.Syntax.{Expression, Write, Destination, Edge, Automaton, File}
@@ -28,19 +33,12 @@ use Rattle.jani_meaning.specs.Elements.{structure_number}
 use Rattle.prism_translation.specs.Elements.{Element, elements, placed_edges, is_at}
 use Rattle.prism_translation.specs.Marks.{first_writes, assigned_to}
 use Rattle.prism_translation.specs.Sound.{AtMostOne, rewards_of, any_undef, PaysAlike, EdgesPayAlike}
-use Rattle.prism_translation_meaning.proofs.Lists.{of_weaker, of_both, all_of, to_numbered, any_none, found_passes, same_test}
-use Rattle.prism_translation_meaning.proofs.Distinct.{AreDistinct, same_bytes}
-use Rattle.prism_translation_meaning.proofs.Scopes.{own_vars, NamesApart, has_number, is_reward_name}
-use Rattle.prism_translation_meaning.proofs.Elements.{IsElement, elements_are, judged_element}
+use Rattle.prism_translation.proofs.Lists.{to_numbered, found_passes}
+use Rattle.prism_translation.proofs.Distinct.{AreDistinct}
+use Rattle.prism_translation.proofs.Scopes.{own_vars, NamesApart, has_number, is_reward_name}
+use Rattle.prism_translation.proofs.Elements.{IsElement, elements_are, judged_element}
 use Rattle.prism_translation_meaning.proofs.SameTrees.{seen_alike}
 use Rattle.prism_translation_meaning.proofs.Rewards.{at_is, is_there, number, values_at, one_value, chosen, assigned_length, assigned_at, first_of}
-
-flip_number : (i j : ℕ) → nat_eq i j ≡ nat_eq j i
-flip_number i j = by_test (nat_eq j i) refl
-  where
-    by_test : (b : Bool) → nat_eq j i ≡ b → nat_eq i j ≡ b
-    by_test true e = eq-eqb i j (sym (eqb-true j i e))
-    by_test false e = ne_eqb i j (λ h. both_ways (nat_eq j i) e (eq-eqb j i (sym h)))
 
 -- the one of a list that passes, where one at most does
 one_left : {A B : Type 0} (p q : A → Bool) (f : A → B) (xs : List A) (x : A) → find p xs ≡ Some x → q x ≡ true → AtMostOne (map f (filter q xs)) → map f (filter q xs) ≡ f x ∷ []
@@ -85,9 +83,9 @@ module _ (file : File) (k : ℕ) (names : NamesApart file (own_vars file k)) whe
 
   covers : (ds es : List Write) → list_any (lacks (value_for es)) (rewards_by (beside (global_thing file) (own_vars file k)) ds) ≡ false → Covers es ds
   covers ds es h =
-      of_weaker (λ w. (is_reward_name file k names w.target.name && lacks (value_for es) w) ≡ false) (λ w. is_some (number file k w) ≡ true → IsCovered es w)
+      each_then (λ w. (is_reward_name file k names w.target.name && lacks (value_for es) w) ≡ false) (λ w. is_some (number file k w) ≡ true → IsCovered es w)
       (λ w e n. covered es w (by_test (is_reward_name file k names w.target.name) (lacks (value_for es) w) (sym (has_number file k names w.target.name) ∙ n) e)) ds
-      (any_none (λ w. is_reward_name file k names w.target.name && lacks (value_for es) w) ds
+      (none_each (λ w. is_reward_name file k names w.target.name && lacks (value_for es) w) ds
       (sym (any-filter (lacks (value_for es)) (λ w. is_reward_name file k names w.target.name) ds) ∙ h))
     where
       by_test : (a b : Bool) → a ≡ true → (a && b) ≡ false → b ≡ false
@@ -95,7 +93,7 @@ module _ (file : File) (k : ℕ) (names : NamesApart file (own_vars file k)) whe
       by_test false b e f = absurd cc
 
   same_number : (es : List Write) (w : Write) (c : IsCovered es w) → number file k c.other ≡ number file k w
-  same_number es w c = ap (structure_number file k) (same_bytes c.other.target.name w.target.name (found_passes (λ v. is_called w.target.name v.target) es c.other c.found))
+  same_number es w c = ap (structure_number file k) (bytes_eq-true c.other.target.name w.target.name (found_passes (λ v. is_called w.target.name v.target) es c.other c.found))
 
   -- ---- a value of one is one of the other
   record HasValue (i : ℕ) (es : List Write) (a : Expression) : Type 0 where
@@ -196,7 +194,7 @@ module _ (file : File) (w : Valuation) (u : Values) (k : ℕ) (names : NamesApar
           ((z : Fraction) → AtMostOne (values_at file k i ws) → chosen i (flat_map (reward_at file w u k) ws) z ≡ first_of z paid (values_at file k i ws)) →
           chosen i (reward_of o (see x.value (names_in file w u k)) ++ flat_map (reward_at file w u k) ws) y ≡ first_of y paid (map (λ (v : Write). v.value) (cond (is_at i o) (x ∷ rest) rest))
       by_number None h ih = ih y h
-      by_number (Some j) h ih = ap (λ b. chosen i (flat_map (reward_at file w u k) ws) (if b then paid x.value else y)) (flip_number j i) ∙ by_test (nat_eq i j) h ih
+      by_number (Some j) h ih = ap (λ b. chosen i (flat_map (reward_at file w u k) ws) (if b then paid x.value else y)) (nat_eq_comm j i) ∙ by_test (nat_eq i j) h ih
 
   undef_writes : (ws : List Write) → any_undef file w u (flat_map (reward_at file w u k) ws) ≡ list_any (λ x. is_some (number file k x) && undefined x.value) ws
   undef_writes [] = refl
@@ -246,7 +244,7 @@ module _ (file : File) (w : Valuation) (u : Values) (k : ℕ) (names : NamesApar
   pays_each : (f : Destination) (ds : List Destination) → AreDistinct (targets f.writes) → OfAll (λ d. AreDistinct (targets d.writes)) ds → OfAll (λ d. differ (beside (global_thing file) (own_vars file k)) f d ≡ false) ds →
       OfAll (λ d. (own : List Fraction) → assigned own (rewards_of file w u k d) ≡ assigned own (rewards_of file w u k f)) ds
   pays_each f ds once others same =
-      of_both (λ d. AreDistinct (targets d.writes)) (λ d. differ (beside (global_thing file) (own_vars file k)) f d ≡ false) (λ d. (own : List Fraction) → assigned own (rewards_of file w u k d) ≡ assigned own (rewards_of file w u k f))
+      each_with (λ d. AreDistinct (targets d.writes)) (λ d. differ (beside (global_thing file) (own_vars file k)) f d ≡ false) (λ d. (own : List Fraction) → assigned own (rewards_of file w u k d) ≡ assigned own (rewards_of file w u k f))
       (λ d o e own. sym (same_assigned f d once o e own)) ds others same
 
   undef_any : (f : Destination) (ds : List Destination) → AreDistinct (targets f.writes) → OfAll (λ d. AreDistinct (targets d.writes)) ds → OfAll (λ d. differ (beside (global_thing file) (own_vars file k)) f d ≡ false) ds →
@@ -265,10 +263,10 @@ module _ (file : File) (w : Valuation) (u : Values) (k : ℕ) (names : NamesApar
           PaysAlike file w u (record { element = record { number = k; automaton = a }; number = i; edge = record e { destinations = ds } })
       by_list [] h o d = absurd h
       by_list (f ∷ ds) h o d =
-          let alike = any_none (differ (beside (global_thing file) (own_vars file k)) f) ds (or_parts (list_any (differ (beside (global_thing file) (own_vars file k)) f) ds) _ d).0 in
+          let alike = none_each (differ (beside (global_thing file) (own_vars file k)) f) ds (or_parts (list_any (differ (beside (global_thing file) (own_vars file k)) f) ds) _ d).0 in
           record {
             each =
-                all_of (λ d. (own : List Fraction) → assigned own (rewards_of file w u k d) ≡ assigned own (rewards_of file w u k f)) (f ∷ ds)
+                All-from_recursion (λ d. (own : List Fraction) → assigned own (rewards_of file w u k d) ≡ assigned own (rewards_of file w u k f)) (f ∷ ds)
                 ((λ own. refl), pays_each f ds o.0 o.1 alike);
             undef = undef_any f ds o.0 o.1 alike;
           }
@@ -282,13 +280,13 @@ module _ (file : File) (c : IsChecked file) (w : Valuation) (u : Values) where
   element_pays : (el : Element) → IsElement file el → All (PaysAlike file w u) (placed_edges el)
   element_pays el is =
       let j = judged_element file c el is in
-      all_of (PaysAlike file w u) (placed_edges el)
-      (edges_pay el is 0 el.automaton.edges (of_weaker (EdgeRead HasItems) (λ (e : Edge). HasItems e.destinations) (λ e f. f.some) el.automaton.edges j.form.edges) j.writes j.branches)
+      All-from_recursion (PaysAlike file w u) (placed_edges el)
+      (edges_pay el is 0 el.automaton.edges (each_then (EdgeRead HasItems) (λ (e : Edge). HasItems e.destinations) (λ e f. f.some) el.automaton.edges j.form.edges) j.writes j.branches)
 
   pub edges_pay_alike : EdgesPayAlike file w u
   edges_pay_alike =
-      all_of (λ el. All (PaysAlike file w u) (placed_edges el)) (elements file)
-      (of_weaker (IsElement file) (λ el. All (PaysAlike file w u) (placed_edges el)) element_pays (elements file) (elements_are file c))
+      All-from_recursion (λ el. All (PaysAlike file w u) (placed_edges el)) (elements file)
+      (each_then (IsElement file) (λ el. All (PaysAlike file w u) (placed_edges el)) element_pays (elements file) (elements_are file c))
 
 -- ---- one assignment to a structure
 module _ (file : File) (c : IsChecked file) where
@@ -299,11 +297,11 @@ module _ (file : File) (c : IsChecked file) where
 
   element_once : (el : Element) → IsElement file el → All (λ p. (j : ℕ) → AtMostOne (assigned_to file j p)) (placed_edges el)
   element_once el is =
-      all_of (λ p. (j : ℕ) → AtMostOne (assigned_to file j p)) (placed_edges el)
+      All-from_recursion (λ p. (j : ℕ) → AtMostOne (assigned_to file j p)) (placed_edges el)
       (to_numbered (λ e. OfAll (λ d. AreDistinct (targets d.writes)) e.destinations) (λ p. (j : ℕ) → AtMostOne (assigned_to file j p)) (λ i e. record { element = el; number = i; edge = e })
       (λ i e o j. first_once el.number j e.destinations o) 0 el.automaton.edges (judged_element file c el is).writes)
 
   pub assigned_once : All (λ el. All (λ p. (j : ℕ) → AtMostOne (assigned_to file j p)) (placed_edges el)) (elements file)
   assigned_once =
-      all_of (λ el. All (λ p. (j : ℕ) → AtMostOne (assigned_to file j p)) (placed_edges el)) (elements file)
-      (of_weaker (IsElement file) (λ el. All (λ p. (j : ℕ) → AtMostOne (assigned_to file j p)) (placed_edges el)) element_once (elements file) (elements_are file c))
+      All-from_recursion (λ el. All (λ p. (j : ℕ) → AtMostOne (assigned_to file j p)) (placed_edges el)) (elements file)
+      (each_then (IsElement file) (λ el. All (λ p. (j : ℕ) → AtMostOne (assigned_to file j p)) (placed_edges el)) element_once (elements file) (elements_are file c))

@@ -6,6 +6,9 @@ use Rattle.std.proofs.Common.{refl, sym, ap, subst, ◌∙◌, arith, eq-eqb}
 use Rattle.std.proofs.lemmas.Bool.{eqb-true, eqb-false, and_parts, or_parts, both_ways, false_from_ne_true}
 use Rattle.std.proofs.lemmas.List.{length-set, get_or-set_same, get_or-set_other}
 use Rattle.std.proofs.lemmas.List.Quantifiers.{position-Some}
+use Rattle.std.proofs.lemmas.List.Elements.{All-from_recursion}
+use Rattle.basics.specs.Each.{each_unit}
+use Rattle.basics.specs.Texts.{bytes_eq-true, bytes_eq-self}
 use Rattle.bridge_io.specs.declared.reason.Named.{Named}
 use Rattle.frac_core.specs.Fraction.{Fraction, nought}
 use Rattle.process_core.specs.Choices.{number_of, assigned}
@@ -19,8 +22,7 @@ use Rattle.jani_check.specs.TypeFaults.{targets}
 use Rattle.jani_meaning.specs.Elements.{Owned, structures, is_own, is_global, place_of, structure_number, is_owner}
 use Rattle.prism_translation.specs.Elements.{is_at}
 use Rattle.prism_translation.specs.Sound.{AtMostOne}
-use Rattle.prism_translation_meaning.proofs.Distinct.{AreDistinct, same_bytes, itself}
-use Rattle.prism_translation_meaning.proofs.Lists.{all_of}
+use Rattle.prism_translation.proofs.Distinct.{AreDistinct}
 
 -- ---- at most one
 pub most-map : {A B : Type 0} (f : A → B) (xs : List A) → AtMostOne xs → AtMostOne (map f xs)
@@ -38,20 +40,16 @@ one_each {A = A} name P q (x ∷ xs) same p h = by_test (q x) refl (one_each nam
     others e [] r k = tt
     others e (y ∷ ys) r k =
         let both = or_parts (is_called (name x).name (name y)) (is_among (map name ys) (name x).name) k in (
-          false_from_ne_true (q y) (λ f. both_ways (is_called (name x).name (name y)) both.0 (ap (λ z. is_called z (name y)) (same x y p.0 r.0 e f) ∙ itself (name y).name)),
+          false_from_ne_true (q y) (λ f. both_ways (is_called (name x).name (name y)) both.0 (ap (λ z. is_called z (name y)) (same x y p.0 r.0 e f) ∙ bytes_eq-self (name y).name)),
           others e ys r.1 both.1,
         )
 
     by_test : (b : Bool) → q x ≡ b → AtMostOne (filter q xs) → AtMostOne (cond b (x ∷ filter q xs) (filter q xs))
-    by_test true e k = subst (λ l. AtMostOne (x ∷ l)) (sym (filter_none q xs (all_of (λ y. q y ≡ false) xs (others e xs p.1 h.0)))) tt
+    by_test true e k = subst (λ l. AtMostOne (x ∷ l)) (sym (filter_none q xs (All-from_recursion (λ y. q y ≡ false) xs (others e xs p.1 h.0)))) tt
     by_test false e k = k
 
 pub one_write : (q : Write → Bool) (ws : List Write) → ((x y : Write) → q x ≡ true → q y ≡ true → x.target.name ≡ y.target.name) → AreDistinct (targets ws) → AtMostOne (filter q ws)
-one_write q ws same h = one_each (λ (w : Write). w.target) (λ w. Unit {0}) q ws (λ x y a b. same x y) (nothing_asked ws) h
-  where
-    nothing_asked : (ws : List Write) → OfAll (λ (w : Write). Unit {0}) ws
-    nothing_asked [] = tt
-    nothing_asked (w ∷ ws) = (tt, nothing_asked ws)
+one_write q ws same h = one_each (λ (w : Write). w.target) (λ w. Unit {0}) q ws (λ x y a b. same x y) (each_unit ws) h
 
 -- ---- numbers of structures
 nobody : Owned
@@ -62,9 +60,9 @@ called_there vars k x j e = by_first (position (is_own k x) vars) refl e
   where
     by_first : (a : Option ℕ) → position (is_own k x) vars ≡ a → option_or a (position (is_global x) vars) ≡ Some j → (get_or vars j nobody).var.name.name ≡ x
     by_first None f g =
-        same_bytes (get_or vars j nobody).var.name.name x (and_parts (is_none (get_or vars j nobody).owner) (is_called x (get_or vars j nobody).var.name) (position-Some (is_global x) vars j nobody g).1).1
+        bytes_eq-true (get_or vars j nobody).var.name.name x (and_parts (is_none (get_or vars j nobody).owner) (is_called x (get_or vars j nobody).var.name) (position-Some (is_global x) vars j nobody g).1).1
     by_first (Some i) f g =
-        same_bytes (get_or vars j nobody).var.name.name x
+        bytes_eq-true (get_or vars j nobody).var.name.name x
         (and_parts (is_owner k (get_or vars j nobody).owner) (is_called x (get_or vars j nobody).var.name) (position-Some (is_own k x) vars j nobody (f ∙ g)).1).1
 
 pub at_is : (j : ℕ) (o : Option ℕ) → is_at j o ≡ true → o ≡ Some j

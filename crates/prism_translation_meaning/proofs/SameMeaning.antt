@@ -9,7 +9,7 @@ use Rattle.process_core.specs.Process.{Model, SameProcess}
 use Rattle.process_core.specs.Ready.{Values, Name}
 use Rattle.process_core.specs.declared.data.Mark.{Mark}
 use Rattle.prism_tree.specs.Syntax as prism
-use Rattle.prism_flat.specs.Instance.{Valuation, Fault}
+use Rattle.process_core.specs.Instance.{Valuation, Fault}
 use Rattle.prism_print.specs.Same.{bare_const, bare_file}
 use Rattle.jani_tree.specs.Syntax.{Const, File}
 use Rattle.jani_check.specs.Faults.{IsChecked}
@@ -20,12 +20,13 @@ use Rattle.name_table.specs.PrismAsks.{name_at}
 use Rattle.prism_translation.specs.Names.{new_names}
 use Rattle.prism_translation.specs.Parts.{constant}
 use Rattle.prism_translation.specs.SameMeaning as translation
-use Rattle.prism_translation.specs.SameMeaning.{placed, AreAlike}
+use Rattle.prism_translation.specs.SameMeaning.{placed}
 use Rattle.prism_translation.specs.Sound.{GivesAlike}
 use Rattle.prism_translation.specs.StateLaws.{state_of, old_label}
 use Rattle.prism_translation.specs.Translated.{translated}
+use Rattle.prism_translation.proofs.Clean.{has_element}
 use Rattle.prism_translation_meaning.specs.SameMeaning.{CheckedIsSound, CorrespondingAreAlike, MeansTheSame, TranslationMeansTheSame, MeaningStays}
-use Rattle.prism_translation_meaning.proofs.Known.{constants_named, has_element, constants_sound, kinds_sound, starts_sound, edges_sound}
+use Rattle.prism_translation_meaning.proofs.Known.{constants_named, constants_sound, kinds_sound, starts_sound, edges_sound}
 use Rattle.prism_translation_meaning.proofs.Marks.{marks_are_sound}
 use Rattle.prism_translation_meaning.proofs.Pays.{assigned_once, edges_pay_alike}
 use Rattle.prism_translation_meaning.proofs.Writers.{vectors_have_parts, one_writer_each_vector}

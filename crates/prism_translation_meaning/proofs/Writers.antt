@@ -7,10 +7,14 @@ use Rattle.std.proofs.lemmas.Bool.{eqb-true, or_parts, not-false}
 use Rattle.std.proofs.lemmas.List.{length-map}
 use Rattle.std.proofs.lemmas.Option.{same_Some}
 use Rattle.std.proofs.Math.Bool.{or-false}
+use Rattle.std.proofs.lemmas.List.Elements.{All-from_recursion}
+use Rattle.basics.specs.Texts.{bytes_eq_comm}
+use Rattle.basics.specs.Each.{each_then, each_with}
+use Rattle.basics.specs.Members.{any_agree, any_never}
 use Rattle.bridge_io.specs.declared.reason.Named.{Named}
 use Rattle.bridge_io.specs.declared.reason.Reason.TheVariants.{BadVector, TwoRewardWriters}
-use Rattle.choice_laws.proofs.Walks.{any-filter, any_agree, any-flat_map, any_never}
-use Rattle.prism_flat.specs.Instance.{numbered}
+use Rattle.choice_laws.proofs.Walks.{any-filter, any-flat_map}
+use Rattle.process_core.specs.Instance.{numbered}
 use Rattle.jani_tree.specs.Canonical.{OfAll}
 use Rattle.jani_tree.specs.Syntax.{Edge, Automaton, Vector, File}
 use Rattle.jani_check.specs.Things.{Name, is_called, is_reward as is_reward_thing, global_thing, beside}
@@ -23,11 +27,10 @@ use Rattle.jani_meaning.specs.Elements as jani
 use Rattle.prism_translation.specs.Elements.{Element, elements, placed_edges, action_of, some_write, is_reward, rewards}
 use Rattle.prism_translation.specs.Targets.{name_in, part_of, is_named, names, edges_named}
 use Rattle.prism_translation.specs.Sound.{HasPart, HasOneWriter}
-use Rattle.prism_translation_meaning.proofs.Lists.{of_weaker, all_of, any-numbered, no_fault, of_both}
-use Rattle.prism_translation_meaning.proofs.Distinct.{turned}
-use Rattle.prism_translation_meaning.proofs.Scopes.{has_number}
-use Rattle.prism_translation_meaning.proofs.Clean.{vectors_fit, one_writer_each}
-use Rattle.prism_translation_meaning.proofs.Elements.{IsElement, element, elements_are, own_are, judged_element}
+use Rattle.prism_translation.proofs.Lists.{any-numbered, no_fault}
+use Rattle.prism_translation.proofs.Scopes.{has_number}
+use Rattle.prism_translation.proofs.Clean.{vectors_fit, one_writer_each}
+use Rattle.prism_translation.proofs.Elements.{IsElement, element, elements_are, own_are, judged_element}
 
 -- ---- vectors
 some-name : (p : Option Named) → is_some (option_map (λ n. n.name) p) ≡ is_some p
@@ -74,7 +77,7 @@ module _ (file : File) (c : IsChecked file) (v : Vector) where
     where
       by_action : (o : Option Named) → is_named (Some x) (option_map (λ a. a.name) o) ≡ list_any (is_called x) (if_some o)
       by_action None = refl
-      by_action (Some n) = turned x n.name ∙ sym (or-false (bytes_eq n.name x))
+      by_action (Some n) = bytes_eq_comm x n.name ∙ sym (or-false (bytes_eq n.name x))
 
   module _ (el : Element) (is : IsElement file el) where
     same_rewards : (e : Edge) → some_write (is_reward file el.number) e ≡ assigns_reward (beside (global_thing file) el.automaton.variables) e
@@ -141,7 +144,7 @@ module _ (file : File) (c : IsChecked file) (v : Vector) where
   has_one_writer : bad_vector (length file.elements) v ≡ [] → two_writers file v ≡ [] → HasOneWriter file v
   has_one_writer e t w found =
       let f = fits e in
-      all_of (λ el. (el.number ≡ w.number → ⊥) → pays el ≡ false) (elements file)
+      All-from_recursion (λ el. (el.number ≡ w.number → ⊥) → pays el ≡ false) (elements file)
       (one_alone (elements file) w
       (ap two_hold (sym (parts_pay 0 file.elements v.parts f.long (all_parts v) (λ i. let on : 0 + i ≡ i = omega arith in ap (slice_get file.elements) on) (elements_are file c)))
       ∙ no_fault _ v.at TwoRewardWriters t) found)
@@ -149,10 +152,10 @@ module _ (file : File) (c : IsChecked file) (v : Vector) where
 module _ (file : File) (c : IsChecked file) where
   pub vectors_have_parts : All (HasPart file) file.vectors
   vectors_have_parts =
-      all_of (HasPart file) file.vectors (of_weaker (λ v. bad_vector (length file.elements) v ≡ []) (HasPart file) (λ v e. has_part file c v e) file.vectors (vectors_fit file c))
+      All-from_recursion (HasPart file) file.vectors (each_then (λ v. bad_vector (length file.elements) v ≡ []) (HasPart file) (λ v e. has_part file c v e) file.vectors (vectors_fit file c))
 
   pub one_writer_each_vector : All (HasOneWriter file) file.vectors
   one_writer_each_vector =
-      all_of (HasOneWriter file) file.vectors
-      (of_both (λ v. bad_vector (length file.elements) v ≡ []) (λ v. two_writers file v ≡ []) (HasOneWriter file)
+      All-from_recursion (HasOneWriter file) file.vectors
+      (each_with (λ v. bad_vector (length file.elements) v ≡ []) (λ v. two_writers file v ≡ []) (HasOneWriter file)
       (λ v e t. has_one_writer file c v e t) file.vectors (vectors_fit file c) (one_writer_each file c))

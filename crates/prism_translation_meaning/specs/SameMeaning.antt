@@ -4,7 +4,7 @@ use Rattle.std.specs.Prelude.{◌≡◌}
 use Rattle.process_core.specs.Process.{SameProcess}
 use Rattle.process_core.specs.Ready.{Values}
 use Rattle.prism_tree.specs.Syntax as prism
-use Rattle.prism_flat.specs.Instance.{Valuation}
+use Rattle.process_core.specs.Instance.{Valuation}
 use Rattle.prism_flat.specs.Process as prism_process
 use Rattle.prism_print.specs.Same.{bare_file}
 use Rattle.jani_tree.specs.Syntax.{File}

@@ -1,6 +1,6 @@
 -- No constant of a translated file depends on itself, since none does in the JANI file.
 use Rattle.std.proofs.Math.Path.{fun_ext}
-use Rattle.std.specs.List.{flat_map, filter, zip, All, list_any, position, position_or_len}
+use Rattle.std.specs.List.{flat_map, filter, zip, list_any, position, position_or_len}
 use Rattle.std.specs.Prelude.{◌≡◌, ◌<◌, ◌≤◌, ℕ, zero, suc, ◌+◌, List, [], ◌∷◌, ◌++◌, map, length, Bool, true, false, not, ◌&&◌, ◌||◌, Option, Some, None, slice_get, get_or, bytes_eq, nat_eq, nat_lt, unwrap_or, cond, if◌then◌else◌, max}
 use Rattle.std.specs.Option.{option_map, option_or}
 use Rattle.std.proofs.Common.{refl, sym, ap, ap₂, subst, ◌∙◌, arith, eq-eqb, lt-ltb, ltb-true, append-nil}
@@ -8,33 +8,38 @@ use Rattle.std.proofs.lemmas.Bool.{ne_eqb, eqb-true}
 use Rattle.std.proofs.lemmas.Slice.Eq.{bytes_eq-Decides}
 use Rattle.std.proofs.lemmas.Option.{slice_get_within, slice_get-map}
 use Rattle.std.proofs.lemmas.List.{map-append, length-map}
-use Rattle.std.proofs.lemmas.List.Elements.{All-nil, All-cons, All-weaker}
+use Rattle.std.proofs.lemmas.List.Elements.{All-weaker, recursion_from_All, All-from_recursion}
 use Rattle.std.proofs.lemmas.List.Folds.{list_any-append, list_any_none}
 use Rattle.std.proofs.lemmas.List.Quantifiers.{position-Some}
+use Rattle.std.proofs.Math.Bool.{and_comm}
+use Rattle.basics.specs.Texts.{bytes_ne, bytes_eq-self}
+use Rattle.basics.specs.Lists.{append_parts, append_both}
+use Rattle.basics.specs.Each.{each_then, each_map, each_parts, empty_each}
+use Rattle.basics.specs.Members.{any-map, none_passes}
 use Rattle.frac_core.specs.declared.decimal.Decimal.{Decimal}
 use Rattle.bridge_io.specs.declared.reason.Named.{Named}
 use Rattle.bridge_io.specs.declared.reason.Reason.{Reason}
 use Rattle.bridge_io.specs.declared.reason.Reason.TheVariants.{TwiceNamed, Cycle}
 use Rattle.op_trees.specs.Tree.{Truth, Number, Name as At, One, Two, Three}
+use Rattle.op_trees.specs.Names.{names_of}
 use Rattle.process_core.specs.Product.{map-map}
 use Rattle.process_core.specs.Ready.{Name}
-use Rattle.process_core.proofs.Targets.{any-map}
-use Rattle.choice_laws.proofs.Truths.{and_swapped}
-use Rattle.choice_laws.proofs.Walks.{any-filter, not_any}
+use Rattle.choice_laws.proofs.Walks.{any-filter}
 use Rattle.prism_lex.specs.Tokens.{is_name}
 use Rattle.prism_tree.specs.declared.operator.PrismOp.TheVariants as P
 use Rattle.prism_tree.specs.Syntax as prism
-use Rattle.prism_flat.specs.Instance.{numbered}
+use Rattle.process_core.specs.Instance.{numbered}
 use Rattle.prism_print.specs.Printable.{Each}
 use Rattle.prism_check.specs.NameFaults as pc
+use Rattle.name_rules.specs.Uses.{used}
 use Rattle.prism_check.specs.NameFaults.{Declared, circles}
-use Rattle.prism_check.proofs.Each.{each_then, each_map, empty_parts, empty_join, empty_each, fault_none, each_parts, no_fault}
+use Rattle.prism_check.proofs.Each.{fault_none, no_fault}
 use Rattle.jani_tree.specs.Syntax.{Expression, Const, Var, Automaton, File}
 use Rattle.jani_check.specs.NameFaults as jc
 use Rattle.jani_check.specs.NameFaults.{global_names, var_names}
 use Rattle.jani_check.specs.Faults.{IsChecked}
 use Rattle.jani_meaning.specs.Elements as jani
-use Rattle.jani_meaning.specs.Elements.{Owned, owned_by, is_called, is_lasting, is_own, is_global, lasting, place_of}
+use Rattle.jani_meaning.specs.Elements.{owned_by, is_called, is_lasting, is_own, is_global, lasting, place_of}
 use Rattle.name_table.specs.declared.entry.Entry.{Entry}
 use Rattle.name_table.specs.PrismAsks.{NewNames, name_at, value_name, outside}
 use Rattle.prism_translation.specs.Image.{unsigned, literal, image}
@@ -44,46 +49,45 @@ use Rattle.prism_translation.specs.Translated.{translated}
 use Rattle.prism_translation.specs.Sound.{IsConstant}
 use Rattle.prism_translation.proofs.ColumnNames.{entries_differ, entries_long, constant_entry}
 use Rattle.prism_translation.proofs.Follows.{variable_name}
-use Rattle.prism_translation.proofs.Apart.{not_same}
-use Rattle.prism_translation_names.proofs.Lists.{each_of_all, at_each, no_both}
-use Rattle.prism_translation_names.proofs.Known.{no_faults}
+use Rattle.prism_translation.proofs.Clean.{once_here, no_circles}
+use Rattle.prism_translation_names.proofs.Lists.{at_each, no_both}
 use Rattle.prism_translation_names.proofs.Segments.{constants_part, constant_spelled}
-use Rattle.prism_translation_names.proofs.Values.{Differ, same_bytes, column_named, nowhere, constant_differs, constant_becomes, variable_becomes, place_below}
+use Rattle.prism_translation_names.proofs.Values.{Differ, column_named, nowhere, constant_differs, constant_becomes, variable_becomes, place_below}
 
 -- ---- names of images
 abbrev bytes_of : List Named → List Name
 bytes_of ns = map (λ n. n.name) ns
 
-literal_named : (at : ℕ) (d : Decimal) → pc.names_of (literal at d) ≡ []
+literal_named : (at : ℕ) (d : Decimal) → names_of (literal at d) ≡ []
 literal_named at d = by_sign d.negative
   where
-    by_sign : (b : Bool) → pc.names_of (if b then One at P.Neg (Number at (unsigned d)) else Number at d) ≡ []
+    by_sign : (b : Bool) → names_of (if b then One at P.Neg (Number at (unsigned d)) else Number at d) ≡ []
     by_sign true = refl
     by_sign false = refl
 
-images_named : (new : Name → Name) (e : Expression) → bytes_of (pc.names_of (image new e)) ≡ map new (bytes_of (jc.names_of e))
+images_named : (new : Name → Name) (e : Expression) → bytes_of (names_of (image new e)) ≡ map new (bytes_of (names_of e))
 images_named new (Truth at b) = refl
 images_named new (Number at d) = ap bytes_of (literal_named at d)
 images_named new (At at x) = refl
 images_named new (One at o a) = images_named new a
 images_named new (Two at o a b) =
-    map-append (λ n. n.name) (pc.names_of (image new a)) (pc.names_of (image new b))
+    map-append (λ n. n.name) (names_of (image new a)) (names_of (image new b))
     ∙ ap₂ (λ xs ys. xs ++ ys) (images_named new a) (images_named new b)
-    ∙ sym (map-append new (bytes_of (jc.names_of a)) (bytes_of (jc.names_of b)))
-    ∙ ap (map new) (sym (map-append (λ n. n.name) (jc.names_of a) (jc.names_of b)))
+    ∙ sym (map-append new (bytes_of (names_of a)) (bytes_of (names_of b)))
+    ∙ ap (map new) (sym (map-append (λ n. n.name) (names_of a) (names_of b)))
 images_named new (Three at o a b c) =
-    map-append (λ n. n.name) (pc.names_of (image new a)) (pc.names_of (image new b) ++ pc.names_of (image new c))
+    map-append (λ n. n.name) (names_of (image new a)) (names_of (image new b) ++ names_of (image new c))
     ∙ ap₂ (λ xs ys. xs ++ ys) (images_named new a)
-    (map-append (λ n. n.name) (pc.names_of (image new b)) (pc.names_of (image new c))
+    (map-append (λ n. n.name) (names_of (image new b)) (names_of (image new c))
     ∙ ap₂ (λ xs ys. xs ++ ys) (images_named new b) (images_named new c)
-    ∙ sym (map-append new (bytes_of (jc.names_of b)) (bytes_of (jc.names_of c))))
-    ∙ sym (map-append new (bytes_of (jc.names_of a)) (bytes_of (jc.names_of b) ++ bytes_of (jc.names_of c)))
+    ∙ sym (map-append new (bytes_of (names_of b)) (bytes_of (names_of c))))
+    ∙ sym (map-append new (bytes_of (names_of a)) (bytes_of (names_of b) ++ bytes_of (names_of c)))
     ∙ ap (map new)
-    (ap (λ ys. bytes_of (jc.names_of a) ++ ys) (sym (map-append (λ n. n.name) (jc.names_of b) (jc.names_of c)))
-    ∙ sym (map-append (λ n. n.name) (jc.names_of a) (jc.names_of b ++ jc.names_of c)))
+    (ap (λ ys. bytes_of (names_of a) ++ ys) (sym (map-append (λ n. n.name) (names_of b) (names_of c)))
+    ∙ sym (map-append (λ n. n.name) (names_of a) (names_of b ++ names_of c)))
 
 abbrev declared : prism.Const → Declared
-declared c = record { name = c.name; body = c.value }
+declared c = pc.declared_const c
 
 -- ---- constants that lead to constants
 module _ (file : File) where
@@ -96,14 +100,13 @@ module _ (file : File) where
   abbrev made_const : Const → Entry → prism.Const
   made_const c e = constant file names c e.name
 
-  uses_alike : (c : Const) (e : Entry) → pc.uses (declared (made_const c e)) ≡ map new (jc.uses c)
+  uses_alike : (c : Const) (e : Entry) → (declared (made_const c e)).uses ≡ map new (jc.uses c)
   uses_alike c e = by_value c.value
     where
-      by_value : (o : Option Expression) → pc.uses (record { name = c.name; body = option_map (image new) o }) ≡ map new (jc.uses (record { name = c.name; ty = c.ty; value = o; note = c.note }))
+      by_value : (o : Option Expression) → used (option_map (image new) o) ≡ map new (jc.uses (record { name = c.name; ty = c.ty; value = o; note = c.note }))
       by_value None = refl
       by_value (Some t) =
-          map-append (λ n. n.name) (pc.names_of (image new t)) [] ∙ append-nil (bytes_of (pc.names_of (image new t))) ∙ images_named new t
-          ∙ ap (map new) (sym (map-append (λ n. n.name) (jc.names_of t) [] ∙ append-nil (bytes_of (jc.names_of t))))
+          images_named new t ∙ ap (map new) (sym (map-append (λ n. n.name) (names_of t) [] ∙ append-nil (bytes_of (names_of t))))
 
   module _ (IsOld : Name → Type 0) (alike : (x y : Name) → IsOld y → bytes_eq (new y) (new x) ≡ bytes_eq y x) (turned : (x y : Name) → IsOld y → bytes_eq (new x) (new y) ≡ bytes_eq x y) where
     -- the constants, with entries that have their new names
@@ -119,7 +122,7 @@ module _ (file : File) where
     used_alike [] es g x = refl
     used_alike (c ∷ cs) [] g x = absurd g
     used_alike (c ∷ cs) (e ∷ es) g x =
-        ap (λ b. flat_map pc.uses (if b then declared (made_const c e) ∷ rest else rest)) (ap (λ n. bytes_eq n (new x)) g.0 ∙ alike x c.name.name g.1)
+        ap (λ b. flat_map (λ (d : Declared). d.uses) (if b then declared (made_const c e) ∷ rest else rest)) (ap (λ n. bytes_eq n (new x)) g.0 ∙ alike x c.name.name g.1)
         ∙ by_test (bytes_eq c.name.name x) (used_alike cs es g.2 x)
       where
         rest : List Declared
@@ -128,8 +131,8 @@ module _ (file : File) where
         old_rest : List Const
         old_rest = filter (λ d. bytes_eq d.name.name x) cs
 
-        by_test : (b : Bool) → flat_map pc.uses rest ≡ map new (flat_map jc.uses old_rest) →
-            flat_map pc.uses (if b then declared (made_const c e) ∷ rest else rest) ≡ map new (flat_map jc.uses (if b then c ∷ old_rest else old_rest))
+        by_test : (b : Bool) → flat_map (λ (d : Declared). d.uses) rest ≡ map new (flat_map jc.uses old_rest) →
+            flat_map (λ (d : Declared). d.uses) (if b then declared (made_const c e) ∷ rest else rest) ≡ map new (flat_map jc.uses (if b then c ∷ old_rest else old_rest))
         by_test true h = ap₂ (λ xs ys. xs ++ ys) (uses_alike c e) h ∙ sym (map-append new (jc.uses c) (flat_map jc.uses old_rest))
         by_test false h = h
 
@@ -151,7 +154,7 @@ module _ (file : File) where
       circular_alike c e h o =
           let n = length (images cs es) in
           let us = jc.uses c in
-          ap (λ m. list_any (λ x. pc.leads_to (images cs es) n x m) (pc.uses (declared (made_const c e)))) h
+          ap (λ m. list_any (λ x. pc.leads_to (images cs es) n x m) ((declared (made_const c e)).uses)) h
           ∙ ap (λ zs. list_any (λ x. pc.leads_to (images cs es) n x (new c.name.name)) zs) (uses_alike c e)
           ∙ any-map (λ x. pc.leads_to (images cs es) n x (new c.name.name)) new us
           ∙ ap (λ k. list_any (λ x. pc.leads_to (images cs es) k (new x) (new c.name.name)) us) (n_images cs es g)
@@ -161,20 +164,16 @@ module _ (file : File) where
       none_circular [] us h k = refl
       none_circular (d ∷ ds) [] h k = absurd h
       none_circular (d ∷ ds) (u ∷ us) h k =
-          empty_join (pc.circular (images cs es) (declared (made_const d u))) (flat_map (pc.circular (images cs es)) (images ds us))
+          append_both (pc.circular (images cs es) (declared (made_const d u))) (flat_map (pc.circular (images cs es)) (images ds us))
           (fault_none (pc.is_circular (images cs es) (declared (made_const d u))) d.name.at Cycle
           (circular_alike d u h.0 h.1 ∙ no_fault (jc.is_circular cs d) d.name.at Cycle k.0))
           (none_circular ds us h.2 k.1)
 
 -- ---- names that stand once in the JANI file
-all_of_each : {A : Type 0} (P : A → Type 0) (xs : List A) → Each P xs → All P xs
-all_of_each P [] h = All-nil P
-all_of_each P (x ∷ xs) h = All-cons P x xs h.0 (all_of_each P xs h.1)
-
 apart : (r : Reason) (earlier ns : List Named) → jc.doubled_after r earlier ns ≡ [] → Each (λ n. Each (λ m. bytes_eq m.name n.name ≡ false) earlier) ns × Differ (bytes_of ns)
 apart r earlier [] h = (tt, tt)
 apart r earlier (n ∷ ns) h =
-    let p = empty_parts (flat_map (jc.clash r n) earlier) (jc.doubled_after r (n ∷ earlier) ns) h in
+    let p = append_parts (flat_map (jc.clash r n) earlier) (jc.doubled_after r (n ∷ earlier) ns) h in
     let q = apart r (n ∷ earlier) ns p.1 in (
       (
         each_then (λ m. jc.clash r n m ≡ []) (λ m. bytes_eq m.name n.name ≡ false) (λ m e. no_fault (bytes_eq m.name n.name) (max m.at n.at) r e) earlier
@@ -182,7 +181,7 @@ apart r earlier (n ∷ ns) h =
         each_then (λ k. Each (λ m. bytes_eq m.name k.name ≡ false) (n ∷ earlier)) (λ k. Each (λ m. bytes_eq m.name k.name ≡ false) earlier) (λ k e. e.1) ns q.0,
       ),
       (
-        all_of_each (λ y. bytes_eq n.name y ≡ false) (bytes_of ns)
+        All-from_recursion (λ y. bytes_eq n.name y ≡ false) (bytes_of ns)
             (each_map (λ k. Each (λ m. bytes_eq m.name k.name ≡ false) (n ∷ earlier)) (λ y. bytes_eq n.name y ≡ false) (λ k. k.name) (λ k e. e.0) ns q.0),
         q.1,
       ),
@@ -193,8 +192,8 @@ differ_parts : (xs ys : List Name) → Differ (xs ++ ys) → Differ xs × Each (
 differ_parts [] ys h = (tt, tt)
 differ_parts (x ∷ xs) ys h =
     let r = differ_parts xs ys h.1 in
-    let e = each_parts (λ y. bytes_eq x y ≡ false) xs ys (each_of_all (λ y. bytes_eq x y ≡ false) (xs ++ ys) h.0) in
-    ((all_of_each (λ y. bytes_eq x y ≡ false) xs e.0, r.0), (e.1, r.1))
+    let e = each_parts (λ y. bytes_eq x y ≡ false) xs ys (recursion_from_All (λ y. bytes_eq x y ≡ false) (xs ++ ys) h.0) in
+    ((All-from_recursion (λ y. bytes_eq x y ≡ false) xs e.0, r.0), (e.1, r.1))
 
 -- ---- places
 absent : {X : Type 0} (p : X → Bool) (xs : List X) → list_any p xs ≡ false → position_or_len p xs ≡ length xs
@@ -217,14 +216,14 @@ nowhere_there p xs h = let e = absent p xs h in ap (λ b. cond b (Some (position
 
 none_kept : {X : Type 0} (p q : X → Bool) (xs : List X) → list_any q xs ≡ false → list_any q (filter p xs) ≡ false
 none_kept p q xs h =
-    any-filter q p xs ∙ list_any_none (λ x. p x && q x) xs (All-weaker (λ x. q x ≡ false) (λ x. (p x && q x) ≡ false) (λ x e. and_swapped (p x) (q x) ∙ ap (λ b. b && p x) e) xs (not_any q xs h))
+    any-filter q p xs ∙ list_any_none (λ x. p x && q x) xs (All-weaker (λ x. q x ≡ false) (λ x. (p x && q x) ≡ false) (λ x e. and_comm (p x) (q x) ∙ ap (λ b. b && p x) e) xs (none_passes q xs h))
 
 -- the first of a name stands at its place, where no two have one name
 first_place : (cs : List Const) → Differ (map (λ c. c.name.name) cs) → (i : ℕ) (d : Const) → slice_get cs i ≡ Some d → position_or_len (λ c. is_called d.name.name c.name) cs ≡ i
 first_place [] h i d e = absurd cc
-first_place (c ∷ cs) h zero d e = let s : d ≡ c = cc in ap (λ b. cond (not b) (1 + position_or_len (λ c. is_called d.name.name c.name) cs) 0) (ap (λ (u : Const). bytes_eq c.name.name u.name.name) s ∙ same_bytes c.name.name)
+first_place (c ∷ cs) h zero d e = let s : d ≡ c = cc in ap (λ b. cond (not b) (1 + position_or_len (λ c. is_called d.name.name c.name) cs) 0) (ap (λ (u : Const). bytes_eq c.name.name u.name.name) s ∙ bytes_eq-self c.name.name)
 first_place (c ∷ cs) h (suc i) d e =
-    let o = at_each (λ y. bytes_eq c.name.name y ≡ false) (map (λ c. c.name.name) cs) i d.name.name (each_of_all (λ y. bytes_eq c.name.name y ≡ false) (map (λ c. c.name.name) cs) h.0) (slice_get-map (λ c. c.name.name) cs i ∙ ap (option_map (λ c. c.name.name)) e) in
+    let o = at_each (λ y. bytes_eq c.name.name y ≡ false) (map (λ c. c.name.name) cs) i d.name.name (recursion_from_All (λ y. bytes_eq c.name.name y ≡ false) (map (λ c. c.name.name) cs) h.0) (slice_get-map (λ c. c.name.name) cs i ∙ ap (option_map (λ c. c.name.name)) e) in
     let r = first_place cs h.1 i d e in
     ap₂ (λ b k. cond (not b) (1 + k) 0) o r ∙ (let z : 1 + i ≡ suc i = omega arith in z)
 
@@ -234,7 +233,7 @@ module _ (file : File) (checked : IsChecked file) where
 
   globals_apart : Differ (map (λ c. c.name.name) file.constants) × Each (λ x. Each (λ y. bytes_eq x y ≡ false) (map (λ v. v.name.name) file.variables)) (map (λ c. c.name.name) file.constants)
   globals_apart =
-      let d = (empty_parts (jc.doubled TwiceNamed (global_names file)) _ (no_faults file checked).doubled).0 in
+      let d = (append_parts (jc.doubled TwiceNamed (global_names file)) _ (once_here file checked)).0 in
       differ_parts (map (λ c. c.name.name) file.constants) (map (λ v. v.name.name) file.variables)
       (subst Differ
       (map-append (λ (y : Named). y.name) (map (λ c. c.name) file.constants) (var_names file.variables)
@@ -270,7 +269,7 @@ module _ (file : File) (checked : IsChecked file) where
   global_apart x (v ∷ vs) h = ap₂ (λ b c. b || c) (turned x v.name.name h.0) (global_apart x vs h.1)
     where
       turned : (y z : Name) → bytes_eq y z ≡ false → bytes_eq z y ≡ false
-      turned y z e = not_same z y (λ s. no_both (bytes_eq y z) (ap (λ u. bytes_eq y u) s ∙ same_bytes y) e)
+      turned y z e = bytes_ne z y (λ s. no_both (bytes_eq y z) (ap (λ u. bytes_eq y u) s ∙ bytes_eq-self y) e)
 
   -- no variable has the name of a constant, outside of elements
   no_place : (x : Name) → Each (λ y. bytes_eq x y ≡ false) (map (λ v. v.name.name) file.variables) → place_of (lasting file) n x ≡ None
@@ -352,7 +351,7 @@ module _ (file : File) (checked : IsChecked file) where
     where
       by_test : (t : Bool) → bytes_eq c d ≡ t → bytes_eq a b ≡ t
       by_test true e = (bytes_eq-Decides a b).1 (g ((bytes_eq-Decides c d).0 e))
-      by_test false e = not_same a b (λ q. no_both (bytes_eq c d) ((bytes_eq-Decides c d).1 (f q)) e)
+      by_test false e = bytes_ne a b (λ q. no_both (bytes_eq c d) ((bytes_eq-Decides c d).1 (f q)) e)
 
   abbrev IsOld : Name → Type 0
   IsOld x = IsConstant file n x
@@ -386,5 +385,5 @@ module _ (file : File) (checked : IsChecked file) where
       let es = (names file).constants in
       let goes =
       goes_from 0 cs es (constants_part file).long (λ i d e. let z : 0 + i ≡ i = omega arith in ap (slice_get cs) z ∙ e) (λ i d e. let z : 0 + i ≡ i = omega arith in ap (slice_get es) z ∙ e) in
-      let r = none_circular file IsOld alike turned cs es goes cs es goes (empty_each (jc.circular cs) cs (no_faults file checked).circles) in
+      let r = none_circular file IsOld alike turned cs es goes cs es goes (empty_each (jc.circular cs) cs (no_circles file checked)) in
       subst (λ ds. flat_map (pc.circular ds) ds ≡ []) (sym (append-nil (images file IsOld alike turned cs es))) r

@@ -5,12 +5,13 @@ use Rattle.std.specs.List.{flat_map, list_all}
 use Rattle.std.specs.Prelude.{length, drop}
 use Rattle.std.proofs.lemmas.Bool.Decides.{nat_tests}
 use Rattle.std.proofs.lemmas.List.Folds.{list_all-append}
+use Rattle.basics.specs.Each.{each_take, each_drop, each_join}
 use Rattle.decimal_json.specs.Text.{hex_digit, escaped_byte, escaped, quoted}
 use Rattle.prism_lex.specs.Automaton.{is_letter, is_digit}
 use Rattle.prism_lex.specs.Gaps.{has_no_lf}
 use Rattle.prism_lex.specs.Tokens.{is_name}
 use Rattle.process_core.specs.Ready.{Name}
-use Rattle.prism_flat.specs.Instance.{only_if}
+use Rattle.process_core.specs.Instance.{only_if}
 use Rattle.prism_print.specs.Comments.{IsComment}
 use Rattle.prism_print.specs.Printable.{Each}
 use Rattle.bridge_io.specs.declared.reason.Named.{Named}
@@ -24,7 +25,6 @@ use Rattle.prism_translation.specs.Lines.{space, old_text, name_line, name_lines
 use Rattle.prism_translation.specs.Names.{all_asks, entries, new_names}
 use Rattle.prism_translation.specs.Targets.{targets, old_name}
 use Rattle.prism_translation_names.specs.NameLaws.{LinesAreComments}
-use Rattle.prism_translation_names.proofs.Lists.{each_take, each_drop}
 use Rattle.prism_translation_names.proofs.Entries.{IsValidName, all_valid}
 
 -- ---- bytes without a line feed
@@ -105,10 +105,6 @@ at_line (e ∷ es) zero h = word_line e.name h.0.spelled.0
 at_line (e ∷ es) (suc i) h = at_line es i h.1
 
 -- ---- lines
-append_each : {A : Type 0} (P : A → Type 0) (xs ys : List A) → Each P xs → Each P ys → Each P (xs ++ ys)
-append_each P [] ys h k = k
-append_each P (x ∷ xs) ys h k = (h.0, append_each P xs ys h.1 k)
-
 a_name : (what : List ℕ) (e : Entry) (old : Option Name) → OneLine what → IsValidName e → Each IsComment (name_line what e old)
 a_name what e old h k = go (not e.kept)
   where
@@ -127,7 +123,7 @@ a_name what e old h k = go (not e.kept)
 names_each : (what : List ℕ) (es : List Entry) (olds : List (Option Name)) → OneLine what → Each IsValidName es → Each IsComment (name_lines what es olds)
 names_each what [] olds h k = tt
 names_each what (e ∷ es) [] h k = tt
-names_each what (e ∷ es) (o ∷ os) h k = append_each IsComment (name_line what e o) (name_lines what es os) (a_name what e o h k.0) (names_each what es os h k.1)
+names_each what (e ∷ es) (o ∷ os) h k = each_join IsComment (name_line what e o) (name_lines what es os) (a_name what e o h k.0) (names_each what es os h k.1)
 
 joined_line : (xs : List (List ℕ)) → Each OneLine xs → OneLine (joined xs)
 joined_line [] h = refl
@@ -161,7 +157,7 @@ a_location names el h = go (has_several el)
 
 locations_each : (names : NewNames) (els : List Element) → Each IsValidName names.locations → Each IsComment (flat_map (location_line names) els)
 locations_each names [] h = tt
-locations_each names (el ∷ els) h = append_each IsComment (location_line names el) (flat_map (location_line names) els) (a_location names el h) (locations_each names els h)
+locations_each names (el ∷ els) h = each_join IsComment (location_line names el) (flat_map (location_line names) els) (a_location names el h) (locations_each names els h)
 
 pub lines_are_comments : (file : File) → LinesAreComments file
 lines_are_comments file =
@@ -170,16 +166,16 @@ lines_are_comments file =
     let segment : (at n : ℕ) → Each IsValidName (some_from at n (entries file)) = λ at n. each_take IsValidName n (drop at (entries file)) (each_drop IsValidName at (entries file) valid) in
     let constants = map (λ (c : Const). Some c.name.name) file.constants in
     let modules = map (λ (n : Named). Some n.name) file.elements in
-    append_each IsComment (name_lines (codes "constant") names.constants constants) _
+    each_join IsComment (name_lines (codes "constant") names.constants constants) _
     (names_each (codes "constant") names.constants constants refl (segment 0 (length file.constants)))
-    (append_each IsComment (name_lines (codes "variable") names.variables (map called (lasting file))) _
+    (each_join IsComment (name_lines (codes "variable") names.variables (map called (lasting file))) _
     (names_each (codes "variable") names.variables (map called (lasting file)) refl (segment (length file.constants) (length (lasting file))))
-    (append_each IsComment (flat_map (location_line names) (elements file)) _
+    (each_join IsComment (flat_map (location_line names) (elements file)) _
     (locations_each names (elements file) (segment (locations_at file) (length file.elements)))
-    (append_each IsComment (name_lines (codes "module") names.modules modules) _
+    (each_join IsComment (name_lines (codes "module") names.modules modules) _
     (names_each (codes "module") names.modules modules refl (segment (modules_at file) (length file.elements)))
-    (append_each IsComment (name_lines (codes "action") names.actions (map old_name (targets file))) _
+    (each_join IsComment (name_lines (codes "action") names.actions (map old_name (targets file))) _
     (names_each (codes "action") names.actions (map old_name (targets file)) refl (each_drop IsValidName (actions_at file) (entries file) valid))
-    (append_each IsComment (name_lines (codes "label") names.labels (map called (labels file))) _
+    (each_join IsComment (name_lines (codes "label") names.labels (map called (labels file))) _
     (names_each (codes "label") names.labels (map called (labels file)) refl (segment (labels_at file) (length (labels file))))
     (names_each (codes "reward") names.rewards (map called (structures file)) refl (segment (rewards_at file) (length (structures file)))))))))

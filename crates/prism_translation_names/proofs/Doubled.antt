@@ -5,7 +5,11 @@ use Rattle.std.proofs.Common.{refl, sym, ap, ap₂, subst, ◌∙◌, arith}
 use Rattle.std.specs.Option.{option_map}
 use Rattle.std.proofs.lemmas.Option.{slice_get-get_or}
 use Rattle.std.proofs.lemmas.List.{length-map}
-use Rattle.std.proofs.lemmas.List.Elements.{All-cons, All-map}
+use Rattle.std.proofs.lemmas.List.Elements.{All-cons, All-map, recursion_from_All}
+use Rattle.std.proofs.lemmas.Bool.{or_parts}
+use Rattle.basics.specs.Texts.{bytes_ne, bytes_eq-self}
+use Rattle.basics.specs.Lists.{append_both}
+use Rattle.basics.specs.Each.{each_then, each_with, map_each, each_empty, each_any}
 use Rattle.bridge_io.specs.declared.reason.Named.{Named}
 use Rattle.bridge_io.specs.declared.reason.Reason.{Reason}
 use Rattle.bridge_io.specs.declared.reason.Reason.TheVariants.{TwiceNamed}
@@ -14,10 +18,10 @@ use Rattle.process_core.specs.Ready.{Name, if_some}
 use Rattle.prism_tree.specs.Syntax as prism
 use Rattle.prism_tree.specs.Syntax.{plain, copied}
 use Rattle.prism_names.specs.Names.{module_name}
-use Rattle.prism_flat.specs.Instance.{numbered}
+use Rattle.process_core.specs.Instance.{numbered}
 use Rattle.prism_print.specs.Printable.{Each}
 use Rattle.prism_check.specs.NameFaults.{clash, doubled_after, doubled, values, given_labels, doubled_pairs, doubled_names}
-use Rattle.prism_check.proofs.Each.{each_then, each_with, map_each, empty_join, each_empty, fault_none, either_none}
+use Rattle.prism_check.proofs.Each.{fault_none}
 use Rattle.jani_tree.specs.Syntax.{Automaton, File}
 use Rattle.jani_meaning.specs.Elements as jani
 use Rattle.jani_meaning.specs.Elements.{Owned, labels, structures}
@@ -31,11 +35,10 @@ use Rattle.prism_translation.specs.Names.{new_names}
 use Rattle.prism_translation.specs.Modules.{module_of}
 use Rattle.prism_translation.specs.Marks.{label, structure}
 use Rattle.prism_translation.specs.Translated.{translated}
-use Rattle.prism_translation.proofs.Apart.{not_same}
-use Rattle.prism_translation_names.proofs.Lists.{each_of_all, each_any, at_each, no_both}
+use Rattle.prism_translation_names.proofs.Lists.{at_each, no_both}
 use Rattle.prism_translation_names.proofs.Entries.{IsValidName}
 use Rattle.prism_translation_names.proofs.Segments.{modules_part, labels_part, rewards_part, labels_spelled, is_of_label}
-use Rattle.prism_translation_names.proofs.Values.{Differ, same_bytes, zip_named, values_differ}
+use Rattle.prism_translation_names.proofs.Values.{Differ, zip_named, values_differ}
 
 -- ---- names that stand once
 abbrev names_of : List Named → List Name
@@ -44,12 +47,12 @@ names_of ns = map (λ n. n.name) ns
 not_doubled_after : (r : Reason) (earlier ns : List Named) → Each (λ n. Each (λ m. bytes_eq m.name n.name ≡ false) earlier) ns → Differ (names_of ns) → doubled_after r earlier ns ≡ []
 not_doubled_after r earlier [] h d = refl
 not_doubled_after r earlier (n ∷ ns) h d =
-    empty_join (flat_map (clash r n) earlier) (doubled_after r (n ∷ earlier) ns)
+    append_both (flat_map (clash r n) earlier) (doubled_after r (n ∷ earlier) ns)
     (each_empty (clash r n) earlier
     (each_then (λ m. bytes_eq m.name n.name ≡ false) (λ m. clash r n m ≡ []) (λ m e. fault_none (bytes_eq m.name n.name) (max m.at n.at) r e) earlier h.0))
     (not_doubled_after r (n ∷ earlier) ns
     (each_with (λ m. bytes_eq n.name m.name ≡ false) (λ m. Each (λ k. bytes_eq k.name m.name ≡ false) earlier) (λ m. Each (λ k. bytes_eq k.name m.name ≡ false) (n ∷ earlier))
-    (λ m p q. (p, q)) ns (map_each (λ y. bytes_eq n.name y ≡ false) (λ m. m.name) ns (each_of_all (λ y. bytes_eq n.name y ≡ false) (names_of ns) d.0)) h.1) d.1)
+    (λ m p q. (p, q)) ns (map_each (λ y. bytes_eq n.name y ≡ false) (λ m. m.name) ns (recursion_from_All (λ y. bytes_eq n.name y ≡ false) (names_of ns) d.0)) h.1) d.1)
 
 no_earlier : (ns : List Named) → Each (λ n. Each {A = Named} (λ m. bytes_eq m.name n.name ≡ false) []) ns
 no_earlier [] = tt
@@ -126,7 +129,7 @@ module _ (file : File) where
       label_free e.class e.name (is_of_label e.class ((labels_part file).spaces i d l)) w.free
 
   turned : (x y : Name) → bytes_eq x y ≡ false → bytes_eq y x ≡ false
-  turned x y h = not_same y x (λ e. no_both (bytes_eq x y) (ap (λ z. bytes_eq x z) e ∙ same_bytes x) h)
+  turned x y h = bytes_ne y x (λ e. no_both (bytes_eq x y) (ap (λ z. bytes_eq x z) e ∙ bytes_eq-self x) h)
 
   abbrev init : Name
   init = codes "init"
@@ -139,10 +142,10 @@ module _ (file : File) where
       subst (λ xs. Differ (init ∷ deadlock ∷ xs)) (sym labels_named) (
         All-cons (λ y. bytes_eq init y ≡ false) deadlock (map (λ (e : Entry). e.name) names.labels) refl
             (All-map (λ y. bytes_eq init y ≡ false) (λ (e : Entry). e.name) names.labels
-            (λ i d l. let x = (get_or names.labels i d).name in turned x init (either_none (bytes_eq x init) (bytes_eq x deadlock) (labels_free i d l)).0)),
+            (λ i d l. let x = (get_or names.labels i d).name in turned x init (or_parts (bytes_eq x init) (bytes_eq x deadlock) (labels_free i d l)).0)),
         (
           All-map (λ y. bytes_eq deadlock y ≡ false) (λ (e : Entry). e.name) names.labels
-              (λ i d l. let x = (get_or names.labels i d).name in turned x deadlock (either_none (bytes_eq x init) (bytes_eq x deadlock) (labels_free i d l)).1),
+              (λ i d l. let x = (get_or names.labels i d).name in turned x deadlock (or_parts (bytes_eq x init) (bytes_eq x deadlock) (labels_free i d l)).1),
           (labels_part file).distinct,
         ),
       )
@@ -153,11 +156,11 @@ none_doubled file =
     let names = new_names file in
     let ls = map (λ (l : prism.Label). l.name) t.labels in
     let rs = flat_map (λ (r : prism.Rewards). if_some r.name) t.rewards in
-    empty_join (doubled TwiceNamed (values t)) _ (not_doubled TwiceNamed (values t) (values_differ file))
-    (empty_join (doubled TwiceNamed (map module_name t.modules)) _
+    append_both (doubled TwiceNamed (values t)) _ (not_doubled TwiceNamed (values t) (values_differ file))
+    (append_both (doubled TwiceNamed (map module_name t.modules)) _
     (not_doubled TwiceNamed (map module_name t.modules) (subst Differ (sym (modules_named file)) (modules_part file).distinct))
-    (empty_join (doubled TwiceNamed (given_labels ++ ls)) _ (not_doubled TwiceNamed (given_labels ++ ls) (labels_differ file))
-    (empty_join (doubled TwiceNamed rs) (flat_map doubled_pairs t.modules)
+    (append_both (doubled TwiceNamed (given_labels ++ ls)) _ (not_doubled TwiceNamed (given_labels ++ ls) (labels_differ file))
+    (append_both (doubled TwiceNamed rs) (flat_map doubled_pairs t.modules)
     (not_doubled TwiceNamed rs
     (subst Differ (sym (rewards_from file (name_at names.rewards) 0 (structures file) names.rewards (rewards_part file).long (agree names.rewards))) (rewards_part file).distinct))
     (each_empty doubled_pairs t.modules (each_any (λ m. doubled_pairs m ≡ []) (λ el. plain (module_of file names el)) (λ el. refl) (elements file))))))

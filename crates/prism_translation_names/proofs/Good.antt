@@ -2,15 +2,18 @@
 use Rattle.std.specs.Prelude.{◌≡◌, List, [], ◌++◌, map, Bool, true, not, Option, Some, None, is_some}
 use Rattle.std.specs.List.{flat_map}
 use Rattle.std.proofs.Common.{ap, sym, subst}
+use Rattle.basics.specs.Lists.{append_both}
+use Rattle.basics.specs.Each.{each_then, each_map, each_join, each_empty, each_flat}
 use Rattle.bridge_io.specs.declared.reason.Reason.TheVariants.{Unknown}
 use Rattle.op_trees.specs.declared.tree.Ty.{Ty}
+use Rattle.op_trees.specs.Names.{names_of}
 use Rattle.process_core.specs.Ready.{Name, if_some}
 use Rattle.prism_tree.specs.Syntax.{Expression, Const, Range, Var, Label, Write, Branch, Command, Body, Module, plain, copied, Item, Rewards, File}
 use Rattle.prism_print.specs.Printable.{Each, IfAny, IsIdentifier, IsTitle, IsPrintableExpression, IsPrintableConst, IsPrintableRange, IsPrintableVar, IsPrintableFormula, IsPrintableLabel, IsPrintableWrite, IsPrintableBranch, AreBranches, IsPrintableCommand, IsPrintableModule, IsPrintableOn, IsPrintableItem, IsPrintableRewards, IsPrintable}
 use Rattle.prism_check.specs.Demands.{Demand, fixed, written, wanted_by, type_by, const_demands, range_demands, var_demands, branch_demands, command_demands, label_demands, item_demands, rewards_demands, formula_demands, outer_demands}
-use Rattle.prism_check.specs.NameFaults.{is_among, values, names_of, unless_known, unknown_by, unknown, unknown_in, unknown_names}
-use Rattle.prism_check.proofs.Each.{each_then, each_map, each_join, empty_join, each_empty, fault_none}
-use Rattle.prism_translation_names.proofs.Lists.{any_then, each_flat}
+use Rattle.prism_check.specs.NameFaults.{is_among, values, unless_known, unknown_by, unknown, unknown_in, unknown_names}
+use Rattle.prism_check.proofs.Each.{fault_none}
+use Rattle.prism_translation_names.proofs.Lists.{any_then}
 
 module _ (known : Name → Bool) where
   -- all its names are known
@@ -119,7 +122,7 @@ module _ (known : Name → Bool) where
 
   fine_write : (acts : Bool) (w : Write) → GoodWrite w → Fine (written acts w)
   fine_write acts w g =
-      empty_join (unless_known known w.name) (flat_map (unless_known known) (names_of w.value))
+      append_both (unless_known known w.name) (flat_map (unless_known known) (names_of w.value))
       (fault_none (not (known w.name.name)) w.name.at Unknown (ap not g.1)) g.2.1
 
   fine_branch : (acts : Bool) (o : Option Expression) (ws : List Write) → IfAny Good o → Each GoodWrite ws → Each Fine (branch_demands acts (record { weight = o; writes = ws }))
@@ -169,7 +172,7 @@ pub good_known : (file : File) → IsGood file → unknown_names file ≡ []
 good_known file g =
     let known = is_value file in
     let F : Demand → Type 0 = λ d. unknown file d ≡ [] in
-    empty_join (flat_map (unknown file) (outer_demands file)) (flat_map (unknown file) (flat_map formula_demands file.formulas) ++ flat_map (unknown_in file) file.modules)
+    append_both (flat_map (unknown file) (outer_demands file)) (flat_map (unknown file) (flat_map formula_demands file.formulas) ++ flat_map (unknown_in file) file.modules)
     (each_empty (unknown file) (outer_demands file)
     (each_join F (flat_map const_demands file.constants) (flat_map var_demands file.globals ++ (flat_map label_demands file.labels ++ flat_map rewards_demands file.rewards))
     (each_flat (GoodConst known) F const_demands (fine_const known) file.constants g.constants)
@@ -178,6 +181,6 @@ good_known file g =
     (each_join F (flat_map label_demands file.labels) (flat_map rewards_demands file.rewards)
     (each_flat (GoodLabel known) F label_demands (fine_label known) file.labels g.labels)
     (each_flat (GoodRewards known) F rewards_demands (fine_rewards known) file.rewards g.rewards)))))
-    (empty_join (flat_map (unknown file) (flat_map formula_demands file.formulas)) (flat_map (unknown_in file) file.modules)
+    (append_both (flat_map (unknown file) (flat_map formula_demands file.formulas)) (flat_map (unknown_in file) file.modules)
     (ap (λ fs. flat_map (unknown file) (flat_map formula_demands fs)) g.formulas)
     (each_empty (unknown_in file) file.modules (each_then (GoodModule known) (λ m. unknown_in file m ≡ []) (known_in file) file.modules g.modules)))

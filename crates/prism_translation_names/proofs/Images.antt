@@ -5,6 +5,7 @@ use Rattle.std.proofs.Common.{refl, ap, ◌∙◌}
 use Rattle.frac_core.specs.declared.decimal.Decimal.{Decimal}
 use Rattle.frac_core.specs.Decimal.{is_normal}
 use Rattle.op_trees.specs.Tree.{Truth, Number, Name as At, One, Two, Three, AllNames}
+use Rattle.op_trees.specs.Names.{names_of}
 use Rattle.process_core.specs.Ready.{Name}
 use Rattle.prism_lex.specs.declared.token.TokenKind.TheVariants.{Ident}
 use Rattle.prism_lex.specs.Tokens.{IsKind}
@@ -14,8 +15,8 @@ use Rattle.std.specs.Ordering.{int_eq}
 use Rattle.std.specs.Prelude.{◌%◌, ◌≡◌, ℕ, List, [], ◌++◌, Bool, true, false, not, ◌&&◌, nat_eq, if◌then◌else◌, pos}
 use Rattle.prism_tree.specs.Operators as prism
 use Rattle.prism_tree.specs.Syntax as trees
-use Rattle.prism_check.specs.NameFaults.{names_of, unless_known}
-use Rattle.prism_check.proofs.Each.{empty_join, fault_none}
+use Rattle.prism_check.specs.NameFaults.{unless_known}
+use Rattle.prism_check.proofs.Each.{fault_none}
 use Rattle.jani_table.specs.declared.operator.JaniOp.{JaniOp}
 use Rattle.jani_table.specs.declared.operator.JaniOp.TheVariants as J
 use Rattle.jani_table.specs.Operators as jani
@@ -26,7 +27,8 @@ use Rattle.bridge_io.specs.declared.reason.Reason.TheVariants.{Unknown}
 use Rattle.prism_translation.specs.Image.{prism_op, unsigned, literal, image}
 use Rattle.prism_translation.specs.Parts.{counted}
 use Rattle.std.proofs.lemmas.List.Concat.{flat_map-append}
-use Rattle.prism_translation_names.proofs.Lists.{both_true}
+use Rattle.std.proofs.lemmas.Bool.{and_parts}
+use Rattle.basics.specs.Lists.{append_both}
 use Rattle.prism_translation_names.proofs.Good.{Good}
 
 arity_kept : (o : JaniOp) → prism.arity (prism_op o) ≡ jani.arity o
@@ -39,7 +41,7 @@ unsigned_normal d h = by_test (nat_eq d.digits 0) h
   where
     by_test : (b : Bool) → (if b then not d.negative && int_eq d.exponent (pos 0) else if d.real then not (nat_eq (d.digits % 10) 0) else int_eq d.exponent (pos 0)) ≡ true →
         (if b then not false && int_eq d.exponent (pos 0) else if d.real then not (nat_eq (d.digits % 10) 0) else int_eq d.exponent (pos 0)) ≡ true
-    by_test true g = (both_true (not d.negative) (int_eq d.exponent (pos 0)) g).1
+    by_test true g = (and_parts (not d.negative) (int_eq d.exponent (pos 0)) g).1
     by_test false g = g
 
 module _ (known : Name → Bool) where
@@ -59,10 +61,10 @@ module _ (known : Name → Bool) where
 
   -- ---- expressions
   pub name_good : (at : ℕ) (x : Name) → IsKind x Ident → known x ≡ true → Good known (At at x)
-  name_good at x k h = (k, empty_join (unless_known known (record { name = x; at = at })) [] (fault_none (not (known x)) at Unknown (ap not h)) refl)
+  name_good at x k h = (k, append_both (unless_known known (record { name = x; at = at })) [] (fault_none (not (known x)) at Unknown (ap not h)) refl)
 
   clean_join : (xs ys : List Named) → flat_map (unless_known known) xs ≡ [] → flat_map (unless_known known) ys ≡ [] → flat_map (unless_known known) (xs ++ ys) ≡ []
-  clean_join xs ys h k = flat_map-append (unless_known known) xs ys ∙ empty_join (flat_map (unless_known known) xs) (flat_map (unless_known known) ys) h k
+  clean_join xs ys h k = flat_map-append (unless_known known) xs ys ∙ append_both (flat_map (unless_known known) xs) (flat_map (unless_known known) ys) h k
 
   pub two_good : (at : ℕ) (o : PrismOp) (a b : trees.Expression) → prism.arity o ≡ 2 → Good known a → Good known b → Good known (Two at o a b)
   two_good at o a b n g h = ((n, g.0, h.0), clean_join (names_of a) (names_of b) g.1 h.1)

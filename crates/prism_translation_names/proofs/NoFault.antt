@@ -5,14 +5,16 @@ use Rattle.std.proofs.Common.{refl, arith}
 use Rattle.std.proofs.lemmas.Bool.{ne_eqb}
 use Rattle.std.proofs.lemmas.List.{length-map}
 use Rattle.std.proofs.lemmas.List.Elements.{All-nil}
+use Rattle.basics.specs.Each.{each_empty, each_any}
+use Rattle.basics.specs.Lists.{append_both}
 use Rattle.bridge_io.specs.declared.reason.Reason.TheVariants.{Nothing}
 use Rattle.prism_tree.specs.Syntax.{plain}
 use Rattle.prism_flat.specs.Kept.{is_plain}
 use Rattle.prism_check.specs.NameFaults.{doubled_names, unknown_names, circles, copy_faults, no_module}
-use Rattle.prism_check.proofs.Each.{empty_join, each_empty, fault_none}
+use Rattle.prism_check.proofs.Each.{fault_none}
 use Rattle.jani_tree.specs.Syntax.{File}
 use Rattle.jani_meaning.specs.Elements as jani
-use Rattle.jani_meaning.specs.Elements.{Owned, structures}
+use Rattle.jani_meaning.specs.Elements.{structures}
 use Rattle.name_table.specs.PrismAsks.{name_at}
 use Rattle.prism_translation.specs.Elements.{Element, elements}
 use Rattle.prism_translation.specs.Names.{new_names}
@@ -21,10 +23,11 @@ use Rattle.prism_translation.specs.Modules.{module_of}
 use Rattle.prism_translation.specs.Marks.{structure}
 use Rattle.prism_translation.specs.Translated.{translated}
 use Rattle.prism_translation.proofs.Numbered.{element_length}
+use Rattle.prism_translation.proofs.Clean.{has_element}
 use Rattle.prism_translation_names.specs.NameLaws.{TranslatedIsWrittenOut, TranslatedIsInOrder, HasName, RewardsAreNamed, TranslatedIsPrintable, NoDoubledNames, NoUnknownNames, NoCircles, SomeModule, NoNameFault}
-use Rattle.prism_translation_names.proofs.Lists.{each_any, each_numbered}
+use Rattle.prism_translation_names.proofs.Lists.{each_numbered}
 use Rattle.prism_translation_names.proofs.Good.{good_printable, good_known}
-use Rattle.prism_translation_names.proofs.Translated.{some_element, translated_good}
+use Rattle.prism_translation_names.proofs.Translated.{translated_good}
 use Rattle.prism_translation_names.proofs.Doubled.{none_doubled}
 use Rattle.prism_translation_names.proofs.Circles.{none_circular_there}
 
@@ -63,15 +66,15 @@ some_module file checked =
     let m = length-map (elements file) (λ el. plain (module_of file (new_names file) el)) in
     let e = element_length 0 (jani.elements file) in
     let a = length-map file.elements (jani.automaton_called file) in
-    let some = some_element file checked in
+    let some = has_element file checked in
     fault_none (nat_eq (length (translated file).modules) 0) (translated file).end Nothing (ne_eqb (length (translated file).modules) 0 (λ h. let no : ⊥ = omega arith in no))
 
 pub no_name_fault : (file : File) → NoNameFault file
 no_name_fault file checked =
     let t = translated file in
-    empty_join (doubled_names t) _ (doubled file)
-    (empty_join (unknown_names t) _ (unknown file checked)
-    (empty_join (circles t) _ (circular file checked)
-    (empty_join (flat_map (copy_faults t) t.modules) (no_module t)
+    append_both (doubled_names t) _ (doubled file)
+    (append_both (unknown_names t) _ (unknown file checked)
+    (append_both (circles t) _ (circular file checked)
+    (append_both (flat_map (copy_faults t) t.modules) (no_module t)
     (each_empty (copy_faults t) t.modules (each_any (λ m. copy_faults t m ≡ []) (λ el. plain (module_of file (new_names file) el)) (λ el. refl) (elements file)))
     (some_module file checked))))

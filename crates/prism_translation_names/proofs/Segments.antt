@@ -1,13 +1,11 @@
 -- The entries of one class of a file: as many as were asked for, whose names differ.
-use Rattle.std.specs.List.{All}
-use Rattle.std.specs.Prelude.{◌≡◌, ◌<◌, ℕ, ◌+◌, List, [], ◌++◌, map, length, drop, false, get_or, bytes_eq, unwrap_or}
-use Rattle.std.proofs.Common.{refl, sym, ap, ap₂, subst, ◌∙◌, arith, append_assoc, length-append}
+use Rattle.std.specs.Prelude.{◌≡◌, ◌<◌, ◌≤◌, ℕ, ◌+◌, List, [], ◌++◌, map, length, drop, false, slice_get, get_or, unwrap_or}
+use Rattle.std.proofs.Common.{refl, sym, ap, subst, ◌∙◌, arith, append-nil, length-append}
 use Rattle.std.specs.Option.{option_map}
-use Rattle.std.proofs.lemmas.Slice.Eq.{bytes_eq-Decides}
 use Rattle.std.proofs.lemmas.Option.{slice_get-get_or}
 use Rattle.std.proofs.lemmas.List.{length-map}
-use Rattle.std.proofs.lemmas.List.Elements.{All-map}
-use Rattle.process_core.proofs.Targets.{Distinct}
+use Rattle.basics.specs.Each.{each_take, each_drop}
+use Rattle.basics.specs.Lists.{slice_get-append_add}
 use Rattle.prism_lex.specs.declared.token.TokenKind.TheVariants.{Ident}
 use Rattle.prism_lex.specs.Tokens.{IsKind}
 use Rattle.prism_print.specs.Printable.{Each}
@@ -18,13 +16,14 @@ use Rattle.name_table.specs.declared.class.NameClass.TheVariants.{Constant, Vari
 use Rattle.name_table.specs.declared.class.Target.TheVariants.{Prism}
 use Rattle.name_table.specs.declared.entry.Entry.{Entry}
 use Rattle.name_table.specs.Rule.{space}
-use Rattle.name_table.specs.Entries.{Ask, entries_of}
+use Rattle.name_table.specs.Entries.{Ask}
 use Rattle.name_table.specs.Asks.{some_from}
-use Rattle.name_table.specs.PrismAsks.{NewNames, name_at, ask_for, constant_ask, location_ask, module_ask, modules_at, labels_at, rewards_at, actions_at}
+use Rattle.name_table.specs.PrismAsks.{NewNames, name_at, ask_for, constant_ask, location_ask, module_ask, asks, locations_at, modules_at, labels_at, rewards_at, actions_at}
+use Rattle.name_table.proofs.Parts.{get_front, first_have, IsPart, part}
 use Rattle.prism_translation.specs.Targets.{targets}
 use Rattle.prism_translation.specs.Names.{action_ask, all_asks, entries, new_names}
-use Rattle.prism_translation.proofs.Apart.{segment, segment_length, segment_distinct, in_space}
-use Rattle.prism_translation_names.proofs.Lists.{each_take, each_drop, at_each}
+use Rattle.prism_translation.proofs.Apart.{asks_length}
+use Rattle.prism_translation_names.proofs.Lists.{at_each}
 use Rattle.prism_translation_names.proofs.Entries.{IsValidName, all_valid}
 
 -- what is read past the end of a list of entries
@@ -42,38 +41,6 @@ name_spelled es i d h l =
 
 -- ---- a file
 module _ (file : File) where
-  abbrev constant_asks : List Ask
-  constant_asks = map constant_ask file.constants
-
-  abbrev variable_asks : List Ask
-  variable_asks = map (ask_for Variable) (lasting file)
-
-  abbrev location_asks : List Ask
-  location_asks = map location_ask file.elements
-
-  abbrev module_asks : List Ask
-  module_asks = map module_ask file.elements
-
-  abbrev label_asks : List Ask
-  label_asks = map (ask_for Label) (labels file)
-
-  abbrev reward_asks : List Ask
-  reward_asks = map (ask_for Reward) (structures file)
-
-  abbrev action_asks : List Ask
-  action_asks = map action_ask (targets file)
-
-  abbrev row : List Ask
-  row = constant_asks ++ (variable_asks ++ (location_asks ++ (module_asks ++ (label_asks ++ (reward_asks ++ action_asks)))))
-
-  row_is : row ≡ all_asks file
-  row_is =
-      sym (append_assoc constant_asks (variable_asks ++ (location_asks ++ (module_asks ++ (label_asks ++ reward_asks)))) action_asks
-      ∙ ap (λ l. constant_asks ++ l) (append_assoc variable_asks (location_asks ++ (module_asks ++ (label_asks ++ reward_asks))) action_asks
-      ∙ ap (λ l. variable_asks ++ l) (append_assoc location_asks (module_asks ++ (label_asks ++ reward_asks)) action_asks
-      ∙ ap (λ l. location_asks ++ l) (append_assoc module_asks (label_asks ++ reward_asks) action_asks
-      ∙ ap (λ l. module_asks ++ l) (append_assoc label_asks reward_asks action_asks)))))
-
   abbrev names : NewNames
   names = new_names file
 
@@ -83,82 +50,76 @@ module _ (file : File) where
   pub valid_actions : Each IsValidName names.actions
   valid_actions = each_drop IsValidName (actions_at file) (entries file) (all_valid (all_asks file))
 
-  -- what is known of the entries of a class
-  pub record IsPart (c : NameClass) (n : ℕ) (es : List Entry) : Type 0 where
-    pub long : length es ≡ n
-    pub distinct : Distinct bytes_eq bytes_eq-Decides (map (λ e. e.name) es)
-    pub spaces : All (λ e. space Prism e.class ≡ space Prism c) es
+  -- ---- the entries of each class
+  abbrev from_rewards : List Ask
+  from_rewards = map (ask_for Reward) (structures file)
 
-  part : (front mid back : List Ask) (c : NameClass) (at n : ℕ) → All (λ a. space Prism a.0 ≡ space Prism c) mid → front ++ (mid ++ back) ≡ row → at ≡ length front → n ≡ length mid →
-      IsPart c n (some_from at n (entries file))
-  part front mid back c at n alike are b l =
-      let e : segment front mid back c alike ≡ some_from at n (entries file) =
-      ap (λ xs. some_from (length front) (length mid) (entries_of Prism xs)) (are ∙ row_is) ∙ ap₂ (λ i k. some_from i k (entries file)) (sym b) (sym l) in
-      subst (IsPart c n) e (record {
-        long = segment_length front mid back c alike ∙ sym l;
-        distinct = segment_distinct front mid back c alike;
-        spaces = λ i d k. in_space front mid back c alike i d (let s = segment_length front mid back c alike in omega arith);
-      })
+  abbrev from_labels : List Ask
+  from_labels = map (ask_for Label) (labels file) ++ from_rewards
 
-  n_constants : length constant_asks ≡ length file.constants
-  n_constants = length-map file.constants constant_ask
+  abbrev from_modules : List Ask
+  from_modules = map module_ask file.elements ++ from_labels
 
-  n_variables : length variable_asks ≡ length (lasting file)
-  n_variables = length-map (lasting file) (ask_for Variable)
+  abbrev from_locations : List Ask
+  from_locations = map location_ask file.elements ++ from_modules
 
-  n_locations : length location_asks ≡ length file.elements
-  n_locations = length-map file.elements location_ask
+  abbrev from_variables : List Ask
+  from_variables = map (ask_for Variable) (lasting file) ++ from_locations
 
-  n_modules : length module_asks ≡ length file.elements
-  n_modules = length-map file.elements module_ask
+  behind_constants : (i : ℕ) → slice_get (asks file) (length file.constants + i) ≡ slice_get from_variables i
+  behind_constants i = slice_get-append_add (map constant_ask file.constants) from_variables (length file.constants) i (length-map file.constants constant_ask)
 
-  n_labels : length label_asks ≡ length (labels file)
-  n_labels = length-map (labels file) (ask_for Label)
+  behind_variables : (i : ℕ) → slice_get (asks file) (locations_at file + i) ≡ slice_get from_locations i
+  behind_variables i =
+      let m = length (lasting file) in
+      let re : locations_at file + i ≡ length file.constants + (m + i) = omega arith in
+      ap (slice_get (asks file)) re ∙ behind_constants (m + i) ∙ slice_get-append_add (map (ask_for Variable) (lasting file)) from_locations m i (length-map (lasting file) (ask_for Variable))
 
-  n_rewards : length reward_asks ≡ length (structures file)
-  n_rewards = length-map (structures file) (ask_for Reward)
+  behind_locations : (i : ℕ) → slice_get (asks file) (modules_at file + i) ≡ slice_get from_modules i
+  behind_locations i =
+      let n = length file.elements in
+      let re : modules_at file + i ≡ locations_at file + (n + i) = omega arith in
+      ap (slice_get (asks file)) re ∙ behind_variables (n + i) ∙ slice_get-append_add (map location_ask file.elements) from_modules n i (length-map file.elements location_ask)
 
-  pub constants_part : IsPart Constant (length file.constants) names.constants
-  constants_part =
-      part [] constant_asks (variable_asks ++ (location_asks ++ (module_asks ++ (label_asks ++ (reward_asks ++ action_asks))))) Constant 0 (length file.constants)
-      (All-map (λ a. space Prism a.0 ≡ space Prism Constant) constant_ask file.constants (λ i d l. refl)) refl refl (sym n_constants)
+  behind_modules : (i : ℕ) → slice_get (asks file) (labels_at file + i) ≡ slice_get from_labels i
+  behind_modules i =
+      let n = length file.elements in
+      let re : labels_at file + i ≡ modules_at file + (n + i) = omega arith in
+      ap (slice_get (asks file)) re ∙ behind_locations (n + i) ∙ slice_get-append_add (map module_ask file.elements) from_labels n i (length-map file.elements module_ask)
 
-  pub variables_part : IsPart Variable (length (lasting file)) names.variables
-  variables_part =
-      part constant_asks variable_asks (location_asks ++ (module_asks ++ (label_asks ++ (reward_asks ++ action_asks)))) Variable (length file.constants) (length (lasting file))
-      (All-map (λ a. space Prism a.0 ≡ space Prism Variable) (ask_for Variable) (lasting file) (λ i d l. refl)) refl (sym n_constants) (sym n_variables)
+  behind_labels : (i : ℕ) → slice_get (asks file) (rewards_at file + i) ≡ slice_get from_rewards i
+  behind_labels i =
+      let n = length (labels file) in
+      let re : rewards_at file + i ≡ labels_at file + (n + i) = omega arith in
+      ap (slice_get (asks file)) re ∙ behind_modules (n + i) ∙ slice_get-append_add (map (ask_for Label) (labels file)) from_rewards n i (length-map (labels file) (ask_for Label))
 
-  pub locations_part : IsPart Location (length file.elements) names.locations
-  locations_part =
-      part (constant_asks ++ variable_asks) location_asks (module_asks ++ (label_asks ++ (reward_asks ++ action_asks))) Location (length file.constants + length (lasting file)) (length file.elements)
-      (All-map (λ a. space Prism a.0 ≡ space Prism Location) location_ask file.elements (λ i d l. refl)) (append_assoc constant_asks variable_asks (location_asks ++ (module_asks ++ (label_asks ++ (reward_asks ++ action_asks)))))
-      (let a = length-append constant_asks variable_asks in let b = n_constants in let c = n_variables in omega arith) (sym n_locations)
+  part_at : {X : Type 0} (c : NameClass) (f : X → Ask) → ((x : X) → space Prism (f x).0 ≡ space Prism c) → (xs : List X) (rest : List Ask) (at : ℕ) → at + length xs ≤ actions_at file →
+      ((i : ℕ) → slice_get (asks file) (at + i) ≡ slice_get (map f xs ++ rest) i) → IsPart Prism c (length xs) (some_from at (length xs) (entries file))
+  part_at c f e xs rest at l there =
+      let long = asks_length file in
+      part Prism (all_asks file) c at (length xs) (let b = length-append (asks file) (map action_ask (targets file)) in omega arith)
+      (λ i a k g.
+      first_have (λ b. space Prism b ≡ space Prism c) f e xs rest 0 (λ j b m h. absurd (omega arith)) i a (omega arith)
+      (sym (there i) ∙ sym (get_front (asks file) (map action_ask (targets file)) (at + i) (omega arith)) ∙ g))
 
-  pub modules_part : IsPart Module (length file.elements) names.modules
-  modules_part =
-      let back = label_asks ++ (reward_asks ++ action_asks) in
-      part (constant_asks ++ (variable_asks ++ location_asks)) module_asks back Module (modules_at file) (length file.elements)
-      (All-map (λ a. space Prism a.0 ≡ space Prism Module) module_ask file.elements (λ i d l. refl))
-      (append_assoc constant_asks (variable_asks ++ location_asks) (module_asks ++ back) ∙ ap (λ l. constant_asks ++ l) (append_assoc variable_asks location_asks (module_asks ++ back)))
-      (let a = length-append constant_asks (variable_asks ++ location_asks) in let b = length-append variable_asks location_asks in let c = n_constants in let d = n_variables in let e = n_locations in omega arith) (sym n_modules)
+  pub constants_part : IsPart Prism Constant (length file.constants) names.constants
+  constants_part = part_at Constant constant_ask (λ x. refl) file.constants from_variables 0 (omega arith) (λ i. let on : 0 + i ≡ i = omega arith in ap (slice_get (asks file)) on)
 
-  pub labels_part : IsPart Label (length (labels file)) names.labels
-  labels_part =
-      let back = reward_asks ++ action_asks in
-      part (constant_asks ++ (variable_asks ++ (location_asks ++ module_asks))) label_asks back Label (labels_at file) (length (labels file))
-      (All-map (λ a. space Prism a.0 ≡ space Prism Label) (ask_for Label) (labels file) (λ i d l. refl))
-      (append_assoc constant_asks (variable_asks ++ (location_asks ++ module_asks)) (label_asks ++ back) ∙ ap (λ l. constant_asks ++ l) (append_assoc variable_asks (location_asks ++ module_asks) (label_asks ++ back) ∙ ap (λ l. variable_asks ++ l) (append_assoc location_asks module_asks (label_asks ++ back))))
-      (let a = length-append constant_asks (variable_asks ++ (location_asks ++ module_asks)) in let b = length-append variable_asks (location_asks ++ module_asks) in let c = length-append location_asks module_asks in
-      let d = n_constants in let e = n_variables in let f = n_locations in let g = n_modules in omega arith) (sym n_labels)
+  pub variables_part : IsPart Prism Variable (length (lasting file)) names.variables
+  variables_part = part_at Variable (ask_for Variable) (λ x. refl) (lasting file) from_locations (length file.constants) (omega arith) behind_constants
 
-  pub rewards_part : IsPart Reward (length (structures file)) names.rewards
+  pub locations_part : IsPart Prism Location (length file.elements) names.locations
+  locations_part = part_at Location location_ask (λ x. refl) file.elements from_modules (locations_at file) (omega arith) behind_variables
+
+  pub modules_part : IsPart Prism Module (length file.elements) names.modules
+  modules_part = part_at Module module_ask (λ x. refl) file.elements from_labels (modules_at file) (omega arith) behind_locations
+
+  pub labels_part : IsPart Prism Label (length (labels file)) names.labels
+  labels_part = part_at Label (ask_for Label) (λ x. refl) (labels file) from_rewards (labels_at file) (omega arith) behind_modules
+
+  pub rewards_part : IsPart Prism Reward (length (structures file)) names.rewards
   rewards_part =
-      part (constant_asks ++ (variable_asks ++ (location_asks ++ (module_asks ++ label_asks)))) reward_asks action_asks Reward (rewards_at file) (length (structures file))
-      (All-map (λ a. space Prism a.0 ≡ space Prism Reward) (ask_for Reward) (structures file) (λ i d l. refl))
-      (append_assoc constant_asks (variable_asks ++ (location_asks ++ (module_asks ++ label_asks))) (reward_asks ++ action_asks)
-      ∙ ap (λ l. constant_asks ++ l) (append_assoc variable_asks (location_asks ++ (module_asks ++ label_asks)) (reward_asks ++ action_asks) ∙ ap (λ l. variable_asks ++ l) (append_assoc location_asks (module_asks ++ label_asks) (reward_asks ++ action_asks) ∙ ap (λ l. location_asks ++ l) (append_assoc module_asks label_asks (reward_asks ++ action_asks)))))
-      (let a = length-append constant_asks (variable_asks ++ (location_asks ++ (module_asks ++ label_asks))) in let b = length-append variable_asks (location_asks ++ (module_asks ++ label_asks)) in let c = length-append location_asks (module_asks ++ label_asks) in let h = length-append module_asks label_asks in
-      let d = n_constants in let e = n_variables in let f = n_locations in let g = n_modules in let i = n_labels in omega arith) (sym n_rewards)
+      part_at Reward (ask_for Reward) (λ x. refl) (structures file) [] (rewards_at file) (omega arith) (λ i. behind_labels i ∙ ap (λ as_. slice_get as_ i) (sym (append-nil from_rewards)))
 
   -- ---- their names are identifiers
   pub variable_spelled : (i : ℕ) → i < length (lasting file) → IsKind (name_at names.variables i) Ident

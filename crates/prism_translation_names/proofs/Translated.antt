@@ -1,31 +1,35 @@
 -- The parts of a translated file may be spelled, and their names are declared.
 use Rattle.std.specs.List.{flat_map, filter, zip, list_any, fold}
-use Rattle.std.specs.Prelude.{◌≡◌, ◌<◌, ℕ, zero, suc, ◌+◌, ◌-◌, List, [], ◌∷◌, ◌++◌, map, length, Bool, true, false, not, ◌&&◌, Option, Some, None, is_none, nat_eq, unwrap_or, if◌then◌else◌}
+use Rattle.std.specs.Prelude.{◌≡◌, ◌<◌, ℕ, ◌+◌, ◌-◌, List, [], ◌∷◌, ◌++◌, map, length, Bool, true, false, not, ◌&&◌, Option, Some, None, is_none, unwrap_or, if◌then◌else◌}
 use Rattle.std.proofs.Common.{refl, sym, ap, subst, ◌∙◌, arith}
 use Rattle.std.specs.Option.{option_map}
 use Rattle.std.proofs.lemmas.Option.{slice_get_within}
+use Rattle.std.proofs.lemmas.List.Elements.{recursion_from_All}
+use Rattle.std.proofs.lemmas.Bool.{and_parts}
+use Rattle.basics.specs.Lists.{append_parts}
+use Rattle.basics.specs.Each.{each_with, each_map, each_join, each_any, each_flat, each_filter, each_zip}
 use Rattle.bridge_io.specs.declared.reason.Named.{Named}
 use Rattle.op_trees.specs.declared.tree.Ty.TheVariants as T
 use Rattle.op_trees.specs.Tree.{Truth, Number, Name as At, One, Two, Three}
 use Rattle.op_trees.specs.SeenLaws.{names_then}
+use Rattle.op_trees.specs.Names.{offset_of}
 use Rattle.process_core.specs.Ready.{Name, if_some}
 use Rattle.prism_lex.specs.declared.token.TokenKind.TheVariants.{Ident}
 use Rattle.prism_lex.specs.Tokens.{IsKind}
 use Rattle.prism_tree.specs.declared.operator.PrismOp.TheVariants.{And, Equal, Ite}
 use Rattle.prism_tree.specs.Syntax as prism
-use Rattle.prism_flat.specs.Instance.{only_if}
+use Rattle.process_core.specs.Instance.{only_if}
 use Rattle.prism_print.specs.Printable.{Each, IfAny, HasWeight, AreBranches}
-use Rattle.prism_check.proofs.Each.{each_with, each_map, each_join, each_found, any_map, empty_parts, no_fault}
+use Rattle.prism_check.proofs.Each.{each_found, any_map, no_fault}
 use Rattle.jani_tree.specs.Form.{HasItems}
 use Rattle.jani_tree.specs.Syntax.{Expression, VarKind, boolean, integer, number, real_bounded, one_sided, bounded, Const, Var, Write, Destination, Edge, Vector, File}
 use Rattle.jani_check.specs.Things.{kind_type}
 use Rattle.jani_check.specs.Demands.{if_some as if_there}
 use Rattle.jani_check.specs.ProfileFaults.{is_first, first_fault, start_faults}
-use Rattle.jani_check.specs.Things.{offset_of}
 use Rattle.bridge_io.specs.declared.reason.Reason.TheVariants.{TransientInitial}
 use Rattle.jani_check.specs.Faults.{IsChecked}
 use Rattle.jani_meaning.specs.Elements as jani
-use Rattle.jani_meaning.specs.Elements.{Owned, is_boolean, is_called, is_lasting, is_label, is_structure, is_owner, lasting, labels, structures, structure_number, place_of, location_number, initial_number}
+use Rattle.jani_meaning.specs.Elements.{Owned, is_boolean, is_called, is_lasting, is_label, is_owner, lasting, labels, structures, structure_number, place_of, location_number, initial_number}
 use Rattle.name_table.specs.declared.entry.Entry.{Entry}
 use Rattle.name_table.specs.PrismAsks.{NewNames, name_at, value_name, outside}
 use Rattle.prism_translation.specs.Image.{image}
@@ -38,11 +42,12 @@ use Rattle.prism_translation.specs.Marks.{Given, given_by, given_to, first_write
 use Rattle.prism_translation.specs.Translated.{translated}
 use Rattle.prism_translation.specs.Sound.{IsKnown}
 use Rattle.prism_translation.proofs.ColumnNames.{below}
-use Rattle.prism_translation_names.proofs.Lists.{each_of_all, each_any, each_flat, each_only, each_filter, each_zip, each_numbered, at_each, both_true}
+use Rattle.prism_translation.proofs.Clean.{has_element}
+use Rattle.prism_translation_names.proofs.Lists.{each_only, each_numbered, at_each}
 use Rattle.prism_translation_names.proofs.Good.{Good, GoodConst, GoodRange, GoodVar, GoodLabel, GoodWrite, GoodBranch, GoodCommand, GoodBody, GoodModule, GoodItem, GoodRewards, is_value, IsGood}
 use Rattle.prism_translation_names.proofs.Images.{counted_good, name_good, two_good, three_good, image_good, GoodName}
 use Rattle.prism_translation_names.proofs.Entries.{IsValidName}
-use Rattle.prism_translation_names.proofs.Known.{no_faults, Fine, FineKind, FineWrite, FineLocation, FineDestination, FineEdge, FineOwned, FineElement, IsFine, is_fine}
+use Rattle.prism_translation_names.proofs.Known.{Fine, FineKind, FineWrite, FineLocation, FineDestination, FineEdge, FineOwned, FineElement, IsFine, is_fine}
 use Rattle.prism_translation_names.proofs.Segments.{variable_spelled, valid_from, valid_actions, labels_spelled, location_spelled, module_spelled, reward_spelled}
 use Rattle.prism_translation_names.proofs.Values.{known_good, place_good, location_value}
 
@@ -54,13 +59,6 @@ each_kept {A = A} P p (x ∷ xs) h = by_test (p x) refl (each_kept P p xs h.1)
     by_test : (b : Bool) → p x ≡ b → Each (λ x. P x × (p x ≡ true)) (filter p xs) → Each (λ x. P x × (p x ≡ true)) (if b then x ∷ filter p xs else filter p xs)
     by_test true e r = ((h.0, e), r)
     by_test false e r = r
-
-not_empty : (n : ℕ) → nat_eq n 0 ≡ false → 0 < n
-not_empty zero e = absurd cc
-not_empty (suc n) e = omega arith
-
-pub some_element : (file : File) → IsChecked file → 0 < length file.elements
-some_element file checked = not_empty (length file.elements) (no_fault (nat_eq (length file.elements) 0) file.elements_at _ (no_faults file checked).some_element)
 
 module _ (file : File) (all : IsFine file) (some : 0 < length file.elements) where
   abbrev n : ℕ
@@ -121,8 +119,8 @@ module _ (file : File) (all : IsFine file) (some : 0 < length file.elements) whe
       each_with (FineElement file) (λ el. (el.number < n) × (has_several el ≡ true → known (location_name file names el.number) ≡ true)) GoodElement
       (λ el f h. record { fine = f; within = h.0; located = h.1 }) (elements file) all.elements
       (each_with (λ el. el.number < n) (λ el. has_several el ≡ true → known (location_name file names el.number) ≡ true) _ (λ el p q. (p, q)) (elements file)
-      (each_of_all (λ el. el.number < n) (elements file) (below file))
-      (each_of_all (λ el. has_several el ≡ true → known (location_name file names el.number) ≡ true) (elements file) (location_value file)))
+      (recursion_from_All (λ el. el.number < n) (elements file) (below file))
+      (recursion_from_All (λ el. has_several el ≡ true → known (location_name file names el.number) ≡ true) (elements file) (location_value file)))
 
   there_good : (el : Element) → GoodElement el → has_several el ≡ true → (i : ℕ) → Good known (is_there file names el.number i)
   there_good el g h i =
@@ -327,7 +325,7 @@ module _ (file : File) (all : IsFine file) (some : 0 < length file.elements) whe
   first_good f kind None b h = truth_good false
   first_good f boolean (Some e) b h =
       let i = is_first T.Bool e in
-      truth_kept f e (not_not i (no_fault (not i) (offset_of e) TransientInitial (empty_parts (first_fault T.Bool e) [] h).0))
+      truth_kept f e (not_not i (no_fault (not i) (offset_of e) TransientInitial (append_parts (first_fault T.Bool e) [] h).0))
   first_good f integer (Some e) b h = absurd cc
   first_good f number (Some e) b h = absurd cc
   first_good f real_bounded (Some e) b h = absurd cc
@@ -339,7 +337,7 @@ module _ (file : File) (all : IsFine file) (some : 0 < length file.elements) whe
 
   label_good : (o : Owned) (e : Entry) → FineOwned file o × (is_label o ≡ true) → IsValidName e → GoodLabel known (label file names o e.name)
   label_good o e f w =
-      let b = both_true o.var.transient (is_boolean o.var.kind) f.1 in (
+      let b = and_parts o.var.transient (is_boolean o.var.kind) f.1 in (
         w.spelled.0,
         body_good (first_value file names o) (given_to file o) (first_good (value_name file names (outside file)) o.var.kind o.var.start b.1 (starts_as o.var b.0 f.0.start)) (given_good o),
       )
@@ -394,4 +392,4 @@ module _ (file : File) (all : IsFine file) (some : 0 < length file.elements) whe
   }
 
 pub translated_good : (file : File) → IsChecked file → IsGood (translated file)
-translated_good file checked = is_good file (is_fine file checked) (some_element file checked)
+translated_good file checked = is_good file (is_fine file checked) (has_element file checked)

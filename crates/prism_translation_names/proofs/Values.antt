@@ -4,26 +4,28 @@ use Rattle.std.specs.Prelude.{◌≡◌, ◌<◌, ◌≤◌, ℕ, zero, suc, ◌
 use Rattle.std.proofs.Common.{refl, sym, ap, ap₂, subst, ◌∙◌, arith, eq-eqb, inl, inr}
 use Rattle.std.specs.Option.{option_map, option_or}
 use Rattle.std.specs.List.{count_by, flat_map, zip, All, list_any, position}
-use Rattle.std.proofs.lemmas.Bool.{eqb-true}
+use Rattle.std.proofs.lemmas.Bool.{eqb-true, or_left, or_right}
 use Rattle.std.proofs.lemmas.Slice.Eq.{bytes_eq-Decides}
 use Rattle.std.proofs.lemmas.List.{map-append}
 use Rattle.std.proofs.lemmas.List.Sums.{sum_by-cons}
 use Rattle.std.proofs.lemmas.List.Elements.{All-head, All-tail, All-append, All-map}
 use Rattle.std.proofs.lemmas.List.Folds.{list_any-append, flat_map-map}
 use Rattle.std.proofs.lemmas.List.Quantifiers.{position-Some}
+use Rattle.basics.specs.Texts.{bytes_ne, bytes_eq-self}
+use Rattle.basics.specs.Numbers.{nat_eq_comm}
+use Rattle.basics.specs.Members.{any-map}
 use Rattle.bridge_io.specs.declared.reason.Named.{Named}
 use Rattle.process_core.specs.Product.{map-map, map-flat_map}
 use Rattle.process_core.specs.Ready.{Name}
-use Rattle.process_core.proofs.Targets.{Distinct, any-map}
+use Rattle.process_core.proofs.Targets.{Distinct}
 use Rattle.choice_laws.specs.Columns.{stands}
 use Rattle.choice_laws.proofs.Walks.{flat_map_agree_in}
-use Rattle.choice_laws.proofs.Truths.{turned_number}
 use Rattle.choice_laws.proofs.Members.{not_counted}
 use Rattle.prism_lex.specs.declared.token.TokenKind.TheVariants.{Ident}
 use Rattle.prism_lex.specs.Tokens.{IsKind}
 use Rattle.prism_tree.specs.Syntax as prism
 use Rattle.prism_tree.specs.Syntax.{plain}
-use Rattle.prism_flat.specs.Instance.{Valuation, only_if}
+use Rattle.process_core.specs.Instance.{Valuation, only_if}
 use Rattle.prism_check.specs.NameFaults.{is_among, module_vars, values}
 use Rattle.jani_tree.specs.Syntax.{boolean, Const, File}
 use Rattle.jani_meaning.specs.Elements.{is_called, is_own, is_global, lasting, place_of}
@@ -36,22 +38,17 @@ use Rattle.prism_translation.specs.Modules.{module_of}
 use Rattle.prism_translation.specs.StateLaws.{column_of, module_columns, columns}
 use Rattle.prism_translation.specs.Translated.{translated}
 use Rattle.prism_translation.specs.Sound.{IsConstant, IsKnown}
-use Rattle.prism_translation.proofs.Apart.{not_same}
 use Rattle.prism_translation.proofs.OnlyIf.{map-only_if}
 use Rattle.prism_translation.proofs.Numbered.{lasting_length, lasting_numbers}
 use Rattle.prism_translation.proofs.Follows.{column_name, variable_name}
 use Rattle.prism_translation.proofs.ColumnNames.{below, location_is, entries_differ, entries_long, constant_entry, index, index_below, named_by, names_apart}
 use Rattle.prism_translation.proofs.Coverage.{all_within, variable_stands, location_stands}
 use Rattle.prism_translation.proofs.OneToOne.{columns_once}
-use Rattle.prism_translation_names.proofs.Lists.{or_left, or_right}
 use Rattle.prism_translation_names.proofs.Good.{is_value}
 use Rattle.prism_translation_names.proofs.Images.{GoodName}
 use Rattle.prism_translation_names.proofs.Segments.{name_there, constants_part, constant_spelled, variable_spelled}
 
 -- ---- names that differ
-pub same_bytes : (x : Name) → bytes_eq x x ≡ true
-same_bytes x = (bytes_eq-Decides x x).1 refl
-
 abbrev pub Differ : List Name → Type 0
 Differ xs = Distinct bytes_eq bytes_eq-Decides xs
 
@@ -77,7 +74,7 @@ any_more p q (x ∷ xs) h k = by_test (p x) refl k (any_more p q xs h)
 
 any_there : (es : List Entry) (i : ℕ) → i < length es → list_any (λ y. bytes_eq y (name_at es i)) (map (λ e. e.name) es) ≡ true
 any_there [] i l = absurd (let no : ⊥ = omega arith in no)
-any_there (e ∷ es) zero l = or_left (bytes_eq e.name e.name) (list_any (λ y. bytes_eq y e.name) (map (λ u. u.name) es)) (same_bytes e.name)
+any_there (e ∷ es) zero l = or_left (bytes_eq e.name e.name) (list_any (λ y. bytes_eq y e.name) (map (λ u. u.name) es)) (bytes_eq-self e.name)
 any_there (e ∷ es) (suc i) l = or_right (bytes_eq e.name (name_at es i)) (list_any (λ y. bytes_eq y (name_at es i)) (map (λ u. u.name) es)) (any_there es i (omega arith))
 
 -- what is made of things with entries has the names of the entries
@@ -94,7 +91,7 @@ once_differ : (f : ℕ → Name) (total : ℕ) → ((i j : ℕ) → i < total �
 once_differ f total apart [] w o = tt
 once_differ f total apart (j ∷ js) w o = (
   All-map (λ y. bytes_eq (f j) y ≡ false) f js
-      (λ k d l. apart j (get_or js k d) (All-head (λ j. j < total) j js w) (All-tail (λ j. j < total) j js w k d l) ∙ (turned_number j (get_or js k d) ∙ not_counted (λ c. nat_eq c j) js none k d l)),
+      (λ k d l. apart j (get_or js k d) (All-head (λ j. j < total) j js w) (All-tail (λ j. j < total) j js w k d l) ∙ (nat_eq_comm j (get_or js k d) ∙ not_counted (λ c. nat_eq c j) js none k d l)),
   once_differ f total apart js (All-tail (λ j. j < total) j js w)
       (λ k d l.
       let i = get_or js k d in
@@ -173,7 +170,7 @@ module _ (file : File) where
   pub constant_differs : (i j : ℕ) → i < length file.constants → j < n + length (lasting file) → bytes_eq (name_at names.constants i) (column_named j) ≡ false
   constant_differs i j l k =
       let b = nat_lt j n in
-      not_same (name_at names.constants i) (column_named j)
+      bytes_ne (name_at names.constants i) (column_named j)
       (λ e. entries_differ file (0 + i) (index file b j) (let h = entries_long file in omega arith) (index_below file nowhere j b refl k) (apart b)
       (sym (constant_entry file i l) ∙ e ∙ named_by file nowhere j b refl k))
     where
@@ -205,7 +202,7 @@ module _ (file : File) where
   column_value j h =
       among_values (column_named j)
       ∙ or_right (list_any (λ y. bytes_eq y (column_named j)) constant_names) (list_any (λ i. bytes_eq (column_named i) (column_named j)) (columns file))
-      (any_more (λ i. nat_eq i j) (λ i. bytes_eq (column_named i) (column_named j)) (columns file) (λ i e. ap (λ k. bytes_eq (column_named k) (column_named j)) (eqb-true i j e) ∙ same_bytes (column_named j)) h)
+      (any_more (λ i. nat_eq i j) (λ i. bytes_eq (column_named i) (column_named j)) (columns file) (λ i e. ap (λ k. bytes_eq (column_named k) (column_named j)) (eqb-true i j e) ∙ bytes_eq-self (column_named j)) h)
 
   pub constant_value : (i : ℕ) → i < length file.constants → is_value new (name_at names.constants i) ≡ true
   constant_value i l =

@@ -4,7 +4,10 @@ use Rattle.std.specs.List.{flat_map, filter, list_any, All}
 use Rattle.std.specs.Option.{option_map}
 use Rattle.std.proofs.Common.{refl, sym, ap, ◌∙◌, subst, inl, inr}
 use Rattle.std.proofs.lemmas.List.{map-append}
-use Rattle.std.proofs.lemmas.List.Elements.{All-append, All-filter, All-map, filter_passes}
+use Rattle.std.proofs.lemmas.List.Elements.{All-append, All-filter, All-map, filter_passes, All-from_recursion}
+use Rattle.basics.specs.Lists.{append_parts, append_both, flat_map_both}
+use Rattle.basics.specs.Each.{each_then, map_each, each_join, each_parts, each_of, empty_each}
+use Rattle.basics.specs.Numbers.{nat_eq-self}
 use Rattle.bridge_io.specs.declared.reason.Reason.TheVariants.{SyncGlobalWrite}
 use Rattle.op_trees.specs.declared.tree.Ty.{Ty}
 use Rattle.op_trees.specs.declared.tree.Ty.TheVariants as T
@@ -12,14 +15,12 @@ use Rattle.process_core.specs.Ready.{Name, if_some}
 use Rattle.process_core.specs.Product.{map-flat_map}
 use Rattle.choice_laws.proofs.Walks.{All-flat_map, has_any}
 use Rattle.prism_tree.specs.Syntax as prism
-use Rattle.prism_tree.specs.Syntax.{plain}
-use Rattle.prism_flat.specs.Instance.{only_if}
+use Rattle.process_core.specs.Instance.{only_if}
 use Rattle.prism_print.specs.Printable.{Each, IfAny}
-use Rattle.prism_check.specs.Least.{fault_if}
+use Rattle.name_rules.specs.Least.{fault_if}
 use Rattle.prism_check.specs.Demands.{varying, written, wanted_by, var_type, var_demands, branch_demands, command_demands}
 use Rattle.prism_check.specs.TypeFaults as prism_types
 use Rattle.prism_check.specs.TypeFaults.{types, variable_called, type_faults_of, target_by, target_of, wanted_at, write_faults, demand_faults}
-use Rattle.prism_check.proofs.Each.{each_then, each_join, each_of, each_parts, map_each, empty_parts, empty_join, empty_each}
 use Rattle.jani_tree.specs.Syntax.{Write, Destination, Expression, File}
 use Rattle.jani_check.specs.Things.{kind_type}
 use Rattle.jani_check.specs.Faults.{IsChecked}
@@ -33,16 +34,16 @@ use Rattle.prism_translation.specs.Parts.{made, counted, location_name, location
 use Rattle.prism_translation.specs.Modules.{Action, actions, new, guard, write_by, write, location_write, weight, branch, is_single, command, commands_of, blocking, commands, module_of}
 use Rattle.prism_translation.specs.Translated.{translated}
 use Rattle.prism_translation.specs.Refused.{shared_faults}
-use Rattle.choice_laws.proofs.Truths.{same_number}
 use Rattle.prism_translation.proofs.Numbered.{at_element}
 use Rattle.prism_translation_types.specs.TypeLaws.{own_variables, WritesAllowed, CommandsMayWrite, ModuleTypesFit}
+use Rattle.prism_translation.proofs.Clean.{has_element}
 use Rattle.prism_translation_types.proofs.Images.{HasPrismType, no_type_faults}
-use Rattle.prism_translation_types.proofs.Scopes.{nobody, all_of_each, placed_at, variable_typed}
+use Rattle.prism_translation_types.proofs.Scopes.{nobody, placed_at, variable_typed}
 use Rattle.prism_translation_types.proofs.Sources.{IsFine, IsFineWrite, IsFineDestination}
 use Rattle.prism_translation_types.proofs.Declared.{lasting_at, owned_of, of_location, variable_found, location_found}
-use Rattle.prism_translation_types.proofs.Expressions.{some_element, kind_is, fine_image, varying_clean, IsTruth, counted_number, has_truth, as_truth, there_truth, all_truth}
+use Rattle.prism_translation_types.proofs.Expressions.{kind_is, fine_image, varying_clean, IsTruth, counted_number, has_truth, as_truth, there_truth, all_truth}
 use Rattle.prism_translation_types.proofs.Members.{only_all, edges_fine, MakerHas, makers_have, actions_have}
-use Rattle.prism_translation_types.proofs.Outer.{nothing_joined, nothing_of, LastingFine, variable_clean, lasting_fine}
+use Rattle.prism_translation_types.proofs.Outer.{nothing_of, LastingFine, variable_clean, lasting_fine}
 use Rattle.prism_translation_types.proofs.Homes.{Binds, AtItsPlace, at_its_place, serving_binds, MayWrite, may_write_it}
 
 module _ (file : File) (checked : IsChecked file) where
@@ -55,7 +56,7 @@ module _ (file : File) (checked : IsChecked file) where
       write_faults (target_by (Some k) k t) acts at ++ type_faults_of (types (translated file)) (wanted_at (target_by (Some k) k t)) e ≡ []
   own_clean k acts at t e h =
       ap (λ b. write_faults (if b then prism_types.own t else prism_types.foreign (wanted_by t)) acts at
-      ++ type_faults_of (types (translated file)) (wanted_at (if b then prism_types.own t else prism_types.foreign (wanted_by t))) e) (same_number k)
+      ++ type_faults_of (types (translated file)) (wanted_at (if b then prism_types.own t else prism_types.foreign (wanted_by t))) e) (nat_eq-self k)
       ∙ no_type_faults (types (translated file)) t e h
 
   -- or where it may write it
@@ -85,7 +86,7 @@ module _ (file : File) (checked : IsChecked file) where
       by_several true f =
           let k = (get_or (elements file) i d).number in
           let n = location_number (get_or (elements file) i d).automaton x.location.name in
-          empty_join _ []
+          append_both _ []
           (ap (λ o. write_faults (target_of k o) acts 0 ++ type_faults_of (types (translated file)) (wanted_at (target_of k o)) (counted n)) (f refl)
           ∙ own_clean k acts 0 T.Int (counted n) (record { type = T.Int; is = refl; wanted = refl })) refl
 
@@ -108,12 +109,12 @@ module _ (file : File) (checked : IsChecked file) where
         by_place (Some n) e =
             let at = placed_at (lasting file) el.number w.target.name n e in
             let may = ap (λ (o : Owned). may_use el.number o.owner) (owned_of file n at.within) ∙ at.may in
-            let place = may_write_it file i a l k b m shares n at.within (there n (ap (is_at n) e ∙ same_number n)) may in
+            let place = may_write_it file i a l k b m shares n at.within (there n (ap (is_at n) e ∙ nat_eq-self n)) may in
             let kind = get_or (lasting file) n nobody in
             let value = fine_image file checked el.number (kind_type kind.var.kind) w.value (fine (kind_type kind.var.kind) (variable_typed file checked is_lasting el.number w.target.name n e)) in
-            empty_join _ []
+            append_both _ []
             (ap (λ o. write_faults (target_of el.number o) acts w.target.at ++ type_faults_of (types (translated file)) (wanted_at (target_of el.number o)) (image (new file names el) w.value))
-            (variable_found file (some_element file checked) n at.within)
+            (variable_found file (has_element file checked) n at.within)
             ∙ allowed_clean el.number acts w.target.at (var_type (variable file names (lasting_at file n))) (image (new file names el) w.value) (home file (lasting_at file n)) (allowed place)
             (subst (λ t. HasPrismType (types (translated file)) t (image (new file names el) w.value)) (sym (kind_is file checked n at.within)) value)) refl
           where
@@ -125,23 +126,23 @@ module _ (file : File) (checked : IsChecked file) where
     weight_clean : (single : Bool) (o : Option Expression) → IfAny (IsFine file (own_variables file el.number) T.Real) o →
         flat_map (demand_faults (translated file) el.number) (map (varying (wanted_by T.Real)) (if_some (weight file names el single o))) ≡ []
     weight_clean single (Some e) h =
-        empty_join (demand_faults (translated file) el.number (varying (wanted_by T.Real) (image (new file names el) e))) []
+        append_both (demand_faults (translated file) el.number (varying (wanted_by T.Real) (image (new file names el) e))) []
         (varying_clean file checked el.number T.Real (image (new file names el) e) (fine_image file checked el.number T.Real e h)) refl
     weight_clean true None h = refl
     weight_clean false None h =
-        empty_join (demand_faults (translated file) el.number (varying (wanted_by T.Real) (counted 1))) [] (varying_clean file checked el.number T.Real (counted 1) (counted_number file checked 1)) refl
+        append_both (demand_faults (translated file) el.number (varying (wanted_by T.Real) (counted 1))) [] (varying_clean file checked el.number T.Real (counted 1) (counted_number file checked 1)) refl
 
     branch_clean : (single : Bool) (d : Destination) → IsFineDestination file (own_variables file el.number) d →
         ((n : ℕ) → list_any (is_to file n el.number) d.writes ≡ true → some_write (is_to file n el.number) p.edge ≡ true) →
         flat_map (demand_faults (translated file) el.number) (branch_demands acts (branch file names el single d)) ≡ []
     branch_clean single d fine there =
         let F = demand_faults (translated file) el.number in
-        nothing_joined F (map (varying (wanted_by T.Real)) (if_some (weight file names el single d.weight))) _ (weight_clean single d.weight fine.0)
+        flat_map_both F (map (varying (wanted_by T.Real)) (if_some (weight file names el single d.weight))) _ (weight_clean single d.weight fine.0)
         (ap (flat_map F) (map-append (written acts) (location_write file names el d) (flat_map (write file names el) d.writes))
-        ∙ nothing_joined F (map (written acts) (location_write file names el d)) _ (location_clean i a l acts d)
+        ∙ flat_map_both F (map (written acts) (location_write file names el d)) _ (location_clean i a l acts d)
         (ap (flat_map F) (map-flat_map (written acts) (write file names el) d.writes)
         ∙ nothing_of F (λ w. map (written acts) (write file names el w)) d.writes
-        (λ j c q. write_clean (get_or d.writes j c) (all_of_each (IsFineWrite file (own_variables file el.number)) d.writes fine.1 j c q)
+        (λ j c q. write_clean (get_or d.writes j c) (All-from_recursion (IsFineWrite file (own_variables file el.number)) d.writes fine.1 j c q)
         (λ n t. there n (has_any (is_to file n el.number) d.writes j c q t)))))
 
     -- ---- commands
@@ -158,7 +159,7 @@ module _ (file : File) (checked : IsChecked file) where
         let F = demand_faults (translated file) el.number in
         let fine = subst (λ (z : Element). Each (IsFineDestination file (own_variables file z.number)) p.edge.destinations × IfAny (IsFine file (own_variables file z.number) T.Bool) p.edge.guard)
         (at_element el 0 el.automaton.edges k b m) ((edges_fine file checked i a l k b m).1, (edges_fine file checked i a l k b m).0) in
-        empty_join (F (varying (wanted_by T.Bool) (guard file names el p.edge))) _
+        append_both (F (varying (wanted_by T.Bool) (guard file names el p.edge))) _
         (varying_clean file checked el.number T.Bool (guard file names el p.edge)
         (has_truth file checked (guard file names el p.edge)
         (all_truth file checked (only_if (has_several el) (is_there file names el.number (location_number el.automaton p.edge.location.name)) ++ map (image (new file names el)) (if_some p.edge.guard))
@@ -168,7 +169,7 @@ module _ (file : File) (checked : IsChecked file) where
         ∙ nothing_of F (branch_demands acts) (map (branch file names el (is_single file names el p.edge.destinations)) p.edge.destinations)
         (All-map (λ d. flat_map F (branch_demands acts d) ≡ []) (branch file names el (is_single file names el p.edge.destinations)) p.edge.destinations
         (λ j c q. branch_clean (is_single file names el p.edge.destinations) (get_or p.edge.destinations j c)
-        (all_of_each (IsFineDestination file (own_variables file el.number)) p.edge.destinations fine.0 j c q)
+        (All-from_recursion (IsFineDestination file (own_variables file el.number)) p.edge.destinations fine.0 j c q)
         (λ n t. has_any (λ (d : Destination). list_any (is_to file n el.number) d.writes) p.edge.destinations j c q t))))
 
   -- ---- all commands of a module
@@ -198,11 +199,11 @@ module _ (file : File) (checked : IsChecked file) where
   may_write : (k : ℕ) (c : prism.Command) → IsClean k c → All (λ b. All (WritesAllowed file c k) b.writes) c.branches
   may_write k c h =
       let F = demand_faults (translated file) k in
-      let r = empty_each F (flat_map (branch_demands (is_some c.action)) c.branches) (empty_parts (F (varying (wanted_by T.Bool) c.guard)) _ h).1 in
-      all_of_each (λ b. All (WritesAllowed file c k) b.writes) c.branches
+      let r = empty_each F (flat_map (branch_demands (is_some c.action)) c.branches) (append_parts (F (varying (wanted_by T.Bool) c.guard)) _ h).1 in
+      All-from_recursion (λ b. All (WritesAllowed file c k) b.writes) c.branches
       (each_then (λ b. Each (λ d. F d ≡ []) (branch_demands (is_some c.action) b)) (λ b. All (WritesAllowed file c k) b.writes)
-      (λ b e. all_of_each (WritesAllowed file c k) b.writes
-      (each_then (λ w. F (written (is_some c.action) w) ≡ []) (WritesAllowed file c k) (λ w f. (empty_parts (write_faults (prism_types.target (translated file) k w.name.name) (is_some c.action) w.name.at) _ f).0) b.writes
+      (λ b e. All-from_recursion (WritesAllowed file c k) b.writes
+      (each_then (λ w. F (written (is_some c.action) w) ≡ []) (WritesAllowed file c k) (λ w f. (append_parts (write_faults (prism_types.target (translated file) k w.name.name) (is_some c.action) w.name.at) _ f).0) b.writes
       (map_each (λ d. F d ≡ []) (written (is_some c.action)) b.writes (each_parts (λ d. F d ≡ []) (map (varying (wanted_by T.Real)) (if_some b.weight)) (map (written (is_some c.action)) b.writes) e).1)))
       c.branches (each_of (λ d. F d ≡ []) (branch_demands (is_some c.action)) c.branches r))
 
@@ -230,5 +231,5 @@ pub module_types_fit : (file : File) → ModuleTypesFit file
 module_types_fit file checked shares i a l =
     let el = get_or (elements file) i a in
     let F = demand_faults (translated file) el.number in
-    nothing_joined F (flat_map var_demands (module_of file (new_names file) el).vars) (flat_map command_demands (commands file (new_names file) el)) (vars_clean file checked el.number el)
+    flat_map_both F (flat_map var_demands (module_of file (new_names file) el).vars) (flat_map command_demands (commands file (new_names file) el)) (vars_clean file checked el.number el)
     (nothing_of F command_demands (commands file (new_names file) el) (commands_clean file checked shares i a l))

@@ -7,13 +7,14 @@ use Rattle.std.proofs.lemmas.Bool.{eqb-true}
 use Rattle.std.proofs.lemmas.Option.{slice_get-get_or, get_or_from_slice_get}
 use Rattle.std.proofs.lemmas.List.{map-append, length-map}
 use Rattle.std.proofs.lemmas.List.Elements.{All-head, All-tail, All-append, All-filter, All-map, All-from_get_or, filter_passes}
+use Rattle.basics.specs.Texts.{bytes_ne}
 use Rattle.op_trees.specs.declared.tree.Ty.TheVariants as T
 use Rattle.process_core.specs.Ready.{Name}
 use Rattle.choice_laws.specs.Columns.{stands}
 use Rattle.prism_tree.specs.Syntax as prism
 use Rattle.prism_tree.specs.Syntax.{plain}
 use Rattle.prism_names.specs.Names.{is_called, part_of}
-use Rattle.prism_flat.specs.Instance.{Valuation, only_if}
+use Rattle.process_core.specs.Instance.{Valuation, only_if}
 use Rattle.prism_check.specs.Demands.{var_type}
 use Rattle.prism_check.specs.TypeFaults.{Variable, part_variables, numbered_variables, variables, variable_called, or_else, declared_types}
 use Rattle.jani_tree.specs.Syntax.{Const, Automaton, File}
@@ -27,7 +28,6 @@ use Rattle.prism_translation.specs.Modules.{module_of}
 use Rattle.prism_translation.specs.StateLaws.{column_of, module_columns, columns}
 use Rattle.prism_translation.specs.Translated.{translated}
 use Rattle.prism_translation.proofs.Numbered.{numbered_from, lasting_length, lasting_numbers, lasting_owned_at}
-use Rattle.prism_translation.proofs.Apart.{not_same}
 use Rattle.prism_translation.proofs.Follows.{column_name, variable_name}
 use Rattle.prism_translation.proofs.ColumnNames.{below, nothing, entries_differ, entries_long, constant_entry, index, index_below, named_by, names_apart}
 use Rattle.prism_translation.proofs.Coverage.{all_within, variable_stands, location_stands}
@@ -236,7 +236,7 @@ module _ (file : File) where
       let j = get_or (columns file) k d in
       let in_range = all_within file k d q in
       ap (λ x. bytes_eq x (name_at names.constants i)) (name_is j (nat_lt j n) refl in_range)
-      ∙ not_same (column_name file given given [] j) (name_at names.constants i) (apart_from i j (nat_lt j n) refl l in_range)))
+      ∙ bytes_ne (column_name file given given [] j) (name_at names.constants i) (apart_from i j (nat_lt j n) refl l in_range)))
 
   constants_length : length (translated file).constants ≡ c
   constants_length = length-map (zip file.constants names.constants) (alike.made_constant file given given) ∙ zip_length file.constants names.constants (alike.constants_long file given given)
@@ -252,7 +252,7 @@ module _ (file : File) where
       (alike.made_at file given given i within (alike.pair file given given)
       ∙ ap (alike.made_constant file given given) (zip_at file.constants names.constants i (alike.no_constant file given given) (nothing file) (alike.constants_long file given given) within))
       ∙ ap (λ x. bytes_eq x y) (alike.name_is file given given i within)
-      ∙ not_same (name_at names.constants i) y (h i within)))
+      ∙ bytes_ne (name_at names.constants i) y (h i within)))
 
   column_no_constant : (j : ℕ) → j < n + m → find (λ d. is_called (column_name file given given [] j) d.name) (translated file).constants ≡ None
   column_no_constant j l = no_constant_called (column_name file given given [] j) (λ i k e. apart_from i j (nat_lt j n) refl k l (sym e))

@@ -1,38 +1,39 @@
 -- The images of a file's expressions, and the expressions that are made, have the types that are wanted.
-use Rattle.std.specs.Prelude.{◌≡◌, ◌⊎◌, ◌<◌, ℕ, List, [], ◌∷◌, ◌++◌, length, Bool, true, false, not, Option, Some, None, IsTrue, is_some, nat_eq, get_or, unwrap_or}
+use Rattle.std.specs.Prelude.{◌≡◌, ◌⊎◌, ◌<◌, ℕ, List, [], ◌∷◌, length, Bool, true, false, not, Option, Some, None, IsTrue, is_some, get_or, unwrap_or}
 use Rattle.std.specs.List.{fold, position, All}
 use Rattle.std.specs.Option.{option_map, option_or}
-use Rattle.std.proofs.Common.{refl, sym, ap, ap₂, ◌∙◌, arith, subst, inl, inr}
+use Rattle.std.proofs.Common.{refl, sym, ap, ap₂, ◌∙◌, subst, inl, inr}
 use Rattle.std.proofs.lemmas.List.Elements.{All-filter, filter_passes}
 use Rattle.std.proofs.lemmas.List.Quantifiers.{position-Some}
-use Rattle.bridge_io.specs.declared.reason.Reason.TheVariants.{NotConstant, Nothing}
+use Rattle.basics.specs.Lists.{append_both}
+use Rattle.bridge_io.specs.declared.reason.Reason.TheVariants.{NotConstant}
 use Rattle.op_trees.specs.declared.tree.Ty.{Ty}
 use Rattle.op_trees.specs.declared.tree.Ty.TheVariants as T
 use Rattle.op_trees.specs.Tree.{Two}
 use Rattle.op_trees.specs.SeenLaws.{names_then}
 use Rattle.op_trees.specs.Types as trees
 use Rattle.op_trees.specs.Types.{type_in}
+use Rattle.op_trees.specs.Names.{offset_of}
+use Rattle.op_trees.specs.NameLaws.{names_with, named_none}
+use Rattle.op_trees.specs.TypeLaws.{names_typed}
 use Rattle.process_core.specs.Ready.{Name}
 use Rattle.prism_tree.specs.declared.operator.PrismOp.TheVariants.{And, Equal}
 use Rattle.prism_tree.specs.Operators.{prism_meaning}
 use Rattle.prism_tree.specs.Syntax as prism
 use Rattle.prism_print.specs.Printable.{Each}
-use Rattle.prism_check.specs.Least.{fault_if}
+use Rattle.name_rules.specs.Least.{fault_if}
 use Rattle.prism_check.specs.Demands as prism_demands
 use Rattle.prism_check.specs.Demands.{fixed, varying, type_by, var_type}
 use Rattle.prism_check.specs.TypeFaults as prism_types
-use Rattle.prism_check.specs.TypeFaults.{types, variable_called, is_variable, has_variable, type_faults_of, demand_faults}
-use Rattle.prism_check.proofs.Each.{empty_parts, empty_join}
-use Rattle.prism_check.proofs.NamesIn.{names_with, named_none}
+use Rattle.prism_check.specs.TypeFaults.{types, variable_called, is_variable, type_faults_of, demand_faults}
 use Rattle.jani_table.specs.Operators.{jani_meaning}
 use Rattle.jani_tree.specs.Syntax.{Const, Var, VarKind, boolean, integer, number, real_bounded, one_sided, bounded, Expression, File}
 use Rattle.jani_check.specs.Things as things
-use Rattle.jani_check.specs.Things.{kind_type, const_thing, var_thing, const_called, var_called, or_else, global_thing, beside, thing_type, is_constant, is_transient}
+use Rattle.jani_check.specs.Things.{kind_type, const_thing, var_thing, const_called, var_called, or_else, global_thing, beside, thing_type, is_constant}
 use Rattle.jani_check.specs.TypeFaults.{kind_fault}
-use Rattle.jani_check.specs.NameFaults.{doubled_names, unknown_names, circles, repeated_elements, no_element, composition_faults}
 use Rattle.jani_check.specs.Faults.{IsChecked}
 use Rattle.jani_meaning.specs.Elements as jani
-use Rattle.jani_meaning.specs.Elements.{Owned, is_called, lasting, is_lasting, place_of}
+use Rattle.jani_meaning.specs.Elements.{Owned, is_called, lasting, is_lasting}
 use Rattle.name_table.specs.PrismAsks.{NewNames, name_at, value_name}
 use Rattle.prism_translation.specs.Image.{image}
 use Rattle.prism_translation.specs.Elements.{Element, elements, has_several}
@@ -41,8 +42,8 @@ use Rattle.prism_translation.specs.Parts.{counted, range_of, scope_of, variable,
 use Rattle.prism_translation.specs.Modules.{all_of}
 use Rattle.prism_translation.specs.Translated.{translated}
 use Rattle.prism_translation_types.specs.TypeLaws.{own_variables, types_in, is_constant_in, is_transient_in, NamesTypedAlike, ConstantsStayConstant}
-use Rattle.prism_translation_types.proofs.Images.{HasPrismType, is_typed, names_typed, image_has_type, image_names, no_type_faults}
-use Rattle.prism_translation_types.proofs.Clean.{no_name_fault, passes}
+use Rattle.prism_translation_types.proofs.Images.{HasPrismType, is_typed, image_has_type, image_names, no_type_faults}
+use Rattle.prism_translation.proofs.Clean.{has_element}
 use Rattle.prism_translation_types.proofs.Scopes.{nobody, no_constant, const_of, one_or_other, placed_at, constant_known, variable_known}
 use Rattle.prism_translation_types.proofs.Sources.{types_beside, IsFine, IsFixed, IsFineOwned, variables_fine}
 use Rattle.prism_translation_types.proofs.Declared.{lasting_at, owned_of, constant_type, constant_no_variable, variable_type, location_type}
@@ -74,20 +75,6 @@ kind_kept file names new false (bounded low high) e h = refl
 module _ (file : File) (checked : IsChecked file) where
   abbrev names : NewNames
   names = new_names file
-
-  -- ---- there is an element
-  pub some_element : 0 < length file.elements
-  some_element =
-      let a = (empty_parts (doubled_names file) (unknown_names file ++ (circles file ++ composition_faults file)) (no_name_fault file checked)).1 in
-      let b = (empty_parts (unknown_names file) (circles file ++ composition_faults file) a).1 in
-      let c = (empty_parts (circles file) (composition_faults file) b).1 in
-      let d = (empty_parts (repeated_elements file) _ c).1 in
-      let e = (empty_parts (no_element file) _ d).0 in
-      positive file.elements (passes (nat_eq (length file.elements) 0) file.elements_at Nothing e)
-    where
-      positive : {X : Type 0} (xs : List X) → nat_eq (length xs) 0 ≡ false → 0 < length xs
-      positive [] h = absurd cc
-      positive (x ∷ xs) h = omega arith
 
   -- ---- what names become
   constant_kept : (k : ℕ) (x : Name) → is_constant_in file k x ≡ true →
@@ -121,7 +108,7 @@ module _ (file : File) (checked : IsChecked file) where
       let within = (placed_at (lasting file) k x q.number q.stands_there).within in
       ap (types (translated file))
       (ap (λ a. unwrap_or (option_or (option_map (name_at names.variables) a) (option_map (name_at names.constants) (position (λ d. is_called x d.name) file.constants))) []) q.stands_there)
-      ∙ variable_type file some_element q.number within ∙ ap Some (kind_is q.number within) ∙ sym q.typed
+      ∙ variable_type file (has_element file checked) q.number within ∙ ap Some (kind_is q.number within) ∙ sym q.typed
 
   name_kept : (k : ℕ) (x : Name) → is_transient_in file k x ≡ false → IsTrue (is_some (types_in file k x)) → types (translated file) (value_name file names k x) ≡ types_in file k x
   name_kept k x h s = by_kind (one_or_other (const_called file x) (var_called file.variables x) (var_called (own_variables file k) x) h s)
@@ -153,8 +140,8 @@ module _ (file : File) (checked : IsChecked file) where
   pub fixed_clean : (i : ℕ) (vs : List Var) (k : ℕ) (w : Ty) (e : Expression) → IsFixed file vs w e → demand_faults (translated file) i (fixed (prism_demands.wanted_by w) (image (value_name file names k) e)) ≡ []
   fixed_clean i vs k w e h =
       let new = image (value_name file names k) e in
-      empty_join (type_faults_of (types (translated file)) (prism_demands.wanted_by w) new) _ (no_type_faults (types (translated file)) w new (fixed_image vs k w e h))
-      (ap (λ b. fault_if b (prism.offset_of new) NotConstant)
+      append_both (type_faults_of (types (translated file)) (prism_demands.wanted_by w) new) _ (no_type_faults (types (translated file)) w new (fixed_image vs k w e h))
+      (ap (λ b. fault_if b (offset_of new) NotConstant)
       (named_none (is_variable (translated file)) new
       (image_names (λ y. is_variable (translated file) y ≡ false) (value_name file names k) e
       (names_then (λ x. is_constant (beside (global_thing file) vs x) ≡ true) (λ x. is_variable (translated file) (value_name file names k x) ≡ false)

@@ -3,12 +3,12 @@ use Rattle.std.specs.Prelude.{◌≡◌, ◌⊎◌, ℕ, ◌+◌, ◌<◌, List,
 use Rattle.std.specs.List.{filter, list_any, All}
 use Rattle.std.specs.Option.{option_map}
 use Rattle.std.proofs.Common.{refl, sym, ap, ap₂, ◌∙◌, arith, subst, inl, inr, lt-ltb}
-use Rattle.std.proofs.lemmas.Bool.{eqb-true}
+use Rattle.std.proofs.lemmas.Bool.{eqb-true, and_parts, or_cases}
 use Rattle.std.proofs.lemmas.List.Elements.{All-nil, All-cons, All-weaker}
+use Rattle.std.proofs.Math.Bool.{or-true}
 use Rattle.bridge_io.specs.declared.reason.Named.{Named}
 use Rattle.bridge_io.specs.declared.reason.Reason.TheVariants.{SharedWrite}
 use Rattle.process_core.specs.Ready.{Name}
-use Rattle.choice_laws.proofs.Truths.{or_true}
 use Rattle.choice_laws.proofs.Walks.{has_any}
 use Rattle.prism_check.proofs.Each.{empty_map}
 use Rattle.jani_tree.specs.Syntax.{Edge, Vector, File}
@@ -19,7 +19,6 @@ use Rattle.prism_translation.specs.Elements.{Element, elements, edges_of, Placed
 use Rattle.prism_translation.specs.Targets.{part_of, is_named, Target, is_called_by, is_made_for, is_another, serves}
 use Rattle.prism_translation.specs.Refused.{binds, has_two, is_split, shared_faults}
 use Rattle.prism_translation.proofs.Numbered.{placed_from, at_element, own_place, same_element, lasting_length}
-use Rattle.prism_translation_types.proofs.Scopes.{both_true}
 use Rattle.prism_translation_types.proofs.Declared.{nowhere, lasting_at, number_of}
 use Rattle.prism_translation_types.proofs.Members.{MakerHas}
 
@@ -46,16 +45,12 @@ one_kept {X = X} p y (x ∷ xs) h = by_test (p x) refl h (one_kept p y xs)
         All-cons (λ x. p x ≡ true → x ≡ y) x xs (λ t. same) (All-weaker (λ x. p x ≡ false) (λ x. p x ≡ true → x ≡ y) (λ z f t. absurd (let no : false ≡ true = sym f ∙ t in cc)) xs (none_kept p xs rest))
     by_test false e g r = All-cons (λ x. p x ≡ true → x ≡ y) x xs (λ t. absurd (let no : false ≡ true = sym e ∙ t in cc)) (r g)
 
-either_true : (a b : Bool) → (a || b) ≡ true → (a ≡ true) ⊎ (b ≡ true)
-either_true true b h = inl refl
-either_true false b h = inr h
-
 -- an edge that passes a test is one of its element that does
 edge_any : (r : Edge → Bool) (n : Element) (i : ℕ) (es : List Edge) → All (λ p. r p.edge ≡ true → list_any r es ≡ true) (placed_from n i es)
 edge_any r n i [] = All-nil (λ p. r p.edge ≡ true → list_any r [] ≡ true)
 edge_any r n i (e ∷ es) =
     All-cons (λ p. r p.edge ≡ true → list_any r (e ∷ es) ≡ true) (record { element = n; number = i; edge = e }) (placed_from n (i + 1) es) (λ h. ap (λ b. b || list_any r es) h)
-    (All-weaker (λ p. r p.edge ≡ true → list_any r es ≡ true) (λ p. r p.edge ≡ true → list_any r (e ∷ es) ≡ true) (λ p f h. ap (λ b. r e || b) (f h) ∙ or_true (r e)) (placed_from n (i + 1) es) (edge_any r n (i + 1) es))
+    (All-weaker (λ p. r p.edge ≡ true → list_any r es ≡ true) (λ p. r p.edge ≡ true → list_any r (e ∷ es) ≡ true) (λ p f h. ap (λ b. r e || b) (f h) ∙ or-true (r e)) (placed_from n (i + 1) es) (edge_any r n (i + 1) es))
 
 -- ---- an edge that a vector names has an action
 named_acts : (a : Option Name) (o : Option Named) → is_named a (option_map (λ n. n.name) o) ≡ true → is_some o ≡ true
@@ -82,7 +77,7 @@ module _ (file : File) where
       let q = get_or (placed_edges el) k e in
       let other = get_or (elements file) j b in
       let p = get_or (placed_edges other) r c in
-      let both = both_true (nat_eq p.element.number q.element.number) (nat_eq p.number q.number) h in
+      let both = and_parts (nat_eq p.element.number q.element.number) (nat_eq p.number q.number) h in
       let same : other ≡ el =
       same_element 0 (jani.elements file) j b n i d l
       (ap (λ (x : Element). x.number) (sym (at_element other 0 (edges_of other) r c s)) ∙ eqb-true p.element.number q.element.number both.0
@@ -107,15 +102,15 @@ module _ (file : File) where
 
     made_binds : (o : Option Placed) → MakerHas file AtItsPlace o → is_made_for p o ≡ true → Binds p
     made_binds None has f = absurd cc
-    made_binds (Some q) has f = ap (λ b. is_some p.edge.action || b) (ap (rewards file) (has.0 i d l k e m f) ∙ has.1) ∙ or_true (is_some p.edge.action)
+    made_binds (Some q) has f = ap (λ b. is_some p.edge.action || b) (ap (rewards file) (has.0 i d l k e m f) ∙ has.1) ∙ or-true (is_some p.edge.action)
 
     -- one that serves a target has an action or assigns rewards
     pub serving_binds : (t : Target) → MakerHas file AtItsPlace t.maker → serves file t p ≡ true → Binds p
-    serving_binds t has h = by_side (either_true (is_made_for p t.maker) (is_called_by t.vector p && (is_none t.maker && not (rewards file p) || is_another p.element.number t.writer)) h)
+    serving_binds t has h = by_side (or_cases (is_made_for p t.maker) (is_called_by t.vector p && (is_none t.maker && not (rewards file p) || is_another p.element.number t.writer)) h)
       where
         by_side : (is_made_for p t.maker ≡ true) ⊎ ((is_called_by t.vector p && (is_none t.maker && not (rewards file p) || is_another p.element.number t.writer)) ≡ true) → Binds p
         by_side (inl f) = made_binds t.maker has f
-        by_side (inr f) = ap (λ b. b || rewards file p) (called_acts t.vector p (both_true (is_called_by t.vector p) _ f).0)
+        by_side (inr f) = ap (λ b. b || rewards file p) (called_acts t.vector p (and_parts (is_called_by t.vector p) _ f).0)
 
     -- ---- a variable that it assigns
     module _ (shares : shared_faults file ≡ []) (n : ℕ) (within : n < length (lasting file)) (writes : some_write (is_to file n el.number) p.edge ≡ true) where

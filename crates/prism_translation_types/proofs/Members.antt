@@ -4,8 +4,9 @@ use Rattle.std.specs.List.{flat_map, filter, list_any, zip, All}
 use Rattle.std.proofs.Common.{refl, sym, ap, ◌∙◌, arith, subst}
 use Rattle.std.proofs.lemmas.Option.{slice_get-get_or}
 use Rattle.std.proofs.lemmas.List.Elements.{All-nil, All-cons, All-head, All-tail, All-append, All-filter, All-map, filter_passes}
+use Rattle.std.proofs.lemmas.Bool.{and_parts}
 use Rattle.choice_laws.proofs.Walks.{All-flat_map, found_has}
-use Rattle.prism_flat.specs.Instance.{numbered, only_if}
+use Rattle.process_core.specs.Instance.{numbered, only_if}
 use Rattle.prism_print.specs.Printable.{Each}
 use Rattle.jani_tree.specs.Syntax.{Edge, Vector, File}
 use Rattle.jani_check.specs.Faults.{IsChecked}
@@ -17,7 +18,7 @@ use Rattle.prism_translation.specs.Names.{new_names}
 use Rattle.prism_translation.specs.Modules.{Action, actions}
 use Rattle.prism_translation.proofs.Numbered.{placed_from, at_element, element_length, element_numbers, automaton_at}
 use Rattle.prism_translation_types.specs.TypeLaws.{own_variables}
-use Rattle.prism_translation_types.proofs.Scopes.{each_at, both_true, own_are}
+use Rattle.prism_translation_types.proofs.Scopes.{each_at, own_are}
 use Rattle.prism_translation_types.proofs.Sources.{IsFineWrite, IsFineEdge, IsFineAutomaton, elements_fine}
 
 -- ---- lists
@@ -108,7 +109,7 @@ module _ (file : File) (Q : Placed → Type 0) where
       All-map TargetHas (λ p. record { vector = None; writer = None; maker = Some p }) (filter (λ p. is_silent p && rewards file p) (placed_edges el))
       (λ k d l. (
         All-filter (λ p. is_silent p && rewards file p) Q (placed_edges el) (h i a m) k d l,
-        (both_true _ _ (filter_passes (λ p. is_silent p && rewards file p) (placed_edges el) k d l)).1,
+        (and_parts _ _ (filter_passes (λ p. is_silent p && rewards file p) (placed_edges el) k d l)).1,
       ))))
 
 -- what holds of all targets holds of those of actions

@@ -2,18 +2,21 @@
 use Rattle.std.specs.Prelude.{◌≡◌, ℕ, ◌+◌, ◌<◌, List, [], ◌∷◌, ◌++◌, map, max, length, Bool, true, false, Option, Some, None, bytes_eq, get_or}
 use Rattle.std.specs.List.{flat_map, filter, All}
 use Rattle.std.proofs.Common.{refl, sym, ap, ◌∙◌, arith, subst}
-use Rattle.std.proofs.lemmas.List.Elements.{All-append, All-map}
+use Rattle.std.proofs.lemmas.List.Elements.{All-append, All-map, All-from_recursion}
+use Rattle.basics.specs.Texts.{bytes_ne, bytes_eq-self}
+use Rattle.basics.specs.Lists.{append_both}
+use Rattle.basics.specs.Each.{each_then, each_empty}
 use Rattle.bridge_io.specs.declared.reason.Named.{Named}
 use Rattle.bridge_io.specs.declared.reason.Reason.{Reason}
 use Rattle.bridge_io.specs.declared.reason.Reason.TheVariants.{WrittenTwice}
 use Rattle.process_core.specs.Ready.{Name}
 use Rattle.choice_laws.proofs.Walks.{All-flat_map, flat_map_none}
 use Rattle.prism_tree.specs.Syntax as prism
-use Rattle.prism_flat.specs.Instance.{only_if}
+use Rattle.process_core.specs.Instance.{only_if}
 use Rattle.prism_print.specs.Printable.{Each}
 use Rattle.prism_check.specs.NameFaults.{clash, doubled_after, doubled}
 use Rattle.prism_check.specs.TypeFaults.{repeated_writes}
-use Rattle.prism_check.proofs.Each.{each_then, each_empty, empty_join, fault_none}
+use Rattle.prism_check.proofs.Each.{fault_none}
 use Rattle.jani_tree.specs.Syntax.{Write, Destination, File}
 use Rattle.jani_check.specs.TypeFaults.{targets, repeated}
 use Rattle.jani_check.specs.Faults.{IsChecked}
@@ -25,11 +28,10 @@ use Rattle.prism_translation.specs.Names.{new_names}
 use Rattle.prism_translation.specs.Parts.{made, counted, location_name}
 use Rattle.prism_translation.specs.Modules.{Action, actions, write_by, write, location_write, branch, is_single, command, commands_of, blocking, commands}
 use Rattle.prism_translation.proofs.Numbered.{at_element}
-use Rattle.prism_translation.proofs.Apart.{not_same}
 use Rattle.prism_translation.proofs.ColumnNames.{below, entries_differ, variable_entry, location_entry}
 use Rattle.prism_translation_types.specs.TypeLaws.{own_variables, WrittenOnce}
-use Rattle.prism_translation_types.proofs.Clean.{Differs, AreApart, after_apart, same_name}
-use Rattle.prism_translation_types.proofs.Scopes.{placed_at, all_of_each}
+use Rattle.prism_translation_types.proofs.Clean.{Differs, AreApart, after_apart}
+use Rattle.prism_translation_types.proofs.Scopes.{placed_at}
 use Rattle.prism_translation_types.proofs.Sources.{IsFineDestination}
 use Rattle.prism_translation_types.proofs.Members.{only_all, edges_fine}
 
@@ -37,7 +39,7 @@ use Rattle.prism_translation_types.proofs.Members.{only_all, edges_fine}
 not_doubled : (reason : Reason) (earlier ns : List Named) → AreApart ns → Each (λ m. Each (Differs m) ns) earlier → doubled_after reason earlier ns ≡ []
 not_doubled reason earlier [] a h = refl
 not_doubled reason earlier (n ∷ ns) a h =
-    empty_join (flat_map (clash reason n) earlier) (doubled_after reason (n ∷ earlier) ns)
+    append_both (flat_map (clash reason n) earlier) (doubled_after reason (n ∷ earlier) ns)
     (each_empty (clash reason n) earlier
     (each_then (λ m. Each (Differs m) (n ∷ ns)) (λ m. clash reason n m ≡ []) (λ m k. fault_none (bytes_eq m.name n.name) (max m.at n.at) reason k.0) earlier h))
     (not_doubled reason (n ∷ earlier) ns a.1 (a.0, each_then (λ m. Each (Differs m) (n ∷ ns)) (λ m. Each (Differs m) ns) (λ m k. k.1) earlier h))
@@ -48,12 +50,12 @@ module _ (file : File) where
 
   variables_differ : (i j : ℕ) → i < length (lasting file) → j < length (lasting file) → (i ≡ j → ⊥) → bytes_eq (name_at names.variables i) (name_at names.variables j) ≡ false
   variables_differ i j l k d =
-      not_same (name_at names.variables i) (name_at names.variables j)
+      bytes_ne (name_at names.variables i) (name_at names.variables j)
       (λ e. entries_differ file (length file.constants + i) (length file.constants + j) (omega arith) (omega arith) (λ f. d (omega arith)) (sym (variable_entry file i l) ∙ e ∙ variable_entry file j k))
 
   location_differs : (k i : ℕ) → k < length file.elements → i < length (lasting file) → bytes_eq (name_at names.locations k) (name_at names.variables i) ≡ false
   location_differs k i l h =
-      not_same (name_at names.locations k) (name_at names.variables i)
+      bytes_ne (name_at names.locations k) (name_at names.variables i)
       (λ e. entries_differ file ((length file.constants + length (lasting file)) + k) (length file.constants + i) (omega arith) (omega arith) (λ f. omega arith)
       (sym (location_entry file k l) ∙ e ∙ variable_entry file i h))
 
@@ -78,7 +80,7 @@ module _ (file : File) where
         let p = placed_at (lasting file) el.number x.name n e in
         let q = placed_at (lasting file) el.number y.name n f in
         let same : x.name ≡ y.name = sym p.called ∙ q.called in
-        let no : false ≡ true = sym d ∙ ap (λ z. bytes_eq z y.name) same ∙ same_name y.name in cc
+        let no : false ≡ true = sym d ∙ ap (λ z. bytes_eq z y.name) same ∙ bytes_eq-self y.name in cc
 
     new_apart : (ws : List Write) → AreApart (targets ws) → AreApart (new_names_of ws)
     new_apart [] a = tt
@@ -124,7 +126,7 @@ module _ (file : File) (checked : IsChecked file) where
       flat_map_none (λ (x : prism.Branch). doubled WrittenTwice (map (λ (w : prism.Write). w.name) x.writes)) (map (branch file (new_names file) el (is_single file (new_names file) el p.edge.destinations)) p.edge.destinations)
       (All-map (λ (x : prism.Branch). doubled WrittenTwice (map (λ (w : prism.Write). w.name) x.writes) ≡ []) (branch file (new_names file) el (is_single file (new_names file) el p.edge.destinations)) p.edge.destinations
       (λ j c q. destination_once file el (below file i d l) (is_single file (new_names file) el p.edge.destinations) (get_or p.edge.destinations j c)
-      (all_of_each (IsFineDestination file (own_variables file el.number)) p.edge.destinations fine j c q).2))
+      (All-from_recursion (IsFineDestination file (own_variables file el.number)) p.edge.destinations fine j c q).2))
 
   abbrev IsOnce : prism.Command → Type 0
   IsOnce c = repeated_writes c ≡ []

@@ -3,9 +3,10 @@ use Rattle.std.specs.Prelude.{◌≡◌, ℕ, ◌<◌, List, [], ◌∷◌, ◌+
 use Rattle.std.specs.List.{flat_map, filter, zip, All}
 use Rattle.std.specs.Option.{option_map}
 use Rattle.std.proofs.Common.{refl, sym, ap, ap₂, ◌∙◌, subst}
-use Rattle.std.proofs.lemmas.Bool.{eqb-true}
-use Rattle.std.proofs.lemmas.List.Concat.{flat_map-append}
-use Rattle.std.proofs.lemmas.List.Elements.{All-nil, All-cons, All-head, All-tail, All-append, All-filter, All-map, filter_passes}
+use Rattle.std.proofs.lemmas.Bool.{eqb-true, and_parts}
+use Rattle.std.proofs.lemmas.List.Elements.{All-nil, All-cons, All-head, All-tail, All-append, All-filter, All-map, filter_passes, All-from_recursion}
+use Rattle.basics.specs.Texts.{bytes_eq-true}
+use Rattle.basics.specs.Lists.{append_both, flat_map_both}
 use Rattle.op_trees.specs.declared.tree.Ty.{Ty}
 use Rattle.op_trees.specs.declared.tree.Ty.TheVariants as T
 use Rattle.op_trees.specs.Tree.{Three}
@@ -17,12 +18,11 @@ use Rattle.choice_laws.proofs.Walks.{All-flat_map, flat_map_none}
 use Rattle.prism_tree.specs.declared.operator.PrismOp.TheVariants.{Ite}
 use Rattle.prism_tree.specs.Operators.{prism_meaning}
 use Rattle.prism_tree.specs.Syntax as prism
-use Rattle.prism_flat.specs.Instance.{numbered}
+use Rattle.process_core.specs.Instance.{numbered}
 use Rattle.prism_print.specs.Printable.{Each, IfAny}
 use Rattle.prism_check.specs.Demands as prism_demands
 use Rattle.prism_check.specs.Demands.{Demand, fixed, varying, type_by, const_demands, range_demands, var_demands, label_demands, item_demands, rewards_demands, outer_demands}
 use Rattle.prism_check.specs.TypeFaults.{types, demand_faults}
-use Rattle.prism_check.proofs.Each.{empty_join}
 use Rattle.jani_tree.specs.Syntax.{Var, VarKind, boolean, integer, number, real_bounded, one_sided, bounded, Expression, Write, Location, Destination, File}
 use Rattle.jani_check.specs.Things.{kind_type, thing_type}
 use Rattle.jani_check.specs.Faults.{IsChecked}
@@ -38,15 +38,10 @@ use Rattle.prism_translation.specs.Translated.{translated}
 use Rattle.prism_translation.proofs.Numbered.{lasting_owned}
 use Rattle.prism_translation_types.specs.TypeLaws.{own_variables, types_in, OuterTypesFit}
 use Rattle.prism_translation_types.proofs.Images.{HasType, HasPrismType, as_number}
-use Rattle.prism_translation_types.proofs.Clean.{equal_names}
-use Rattle.prism_translation_types.proofs.Scopes.{both_true, nobody, all_of_each, thing_typed, Stands, stands_all, placed_at, variable_typed}
+use Rattle.prism_translation_types.proofs.Scopes.{nobody, thing_typed, Stands, stands_all, placed_at, variable_typed}
 use Rattle.prism_translation_types.proofs.Sources.{IsFixed, IsFineWrite, IsFineKind, IsFineDestination, IsFineOwned, constants_fine, variables_fine}
 use Rattle.prism_translation_types.proofs.Expressions.{kind_kept, fine_image, fixed_image, varying_clean, fixed_clean, IsTruth, counted_number, has_truth, as_truth, there_truth}
 use Rattle.prism_translation_types.proofs.Members.{numbered_all, zipped_all, element_fine, FineEdge, edges_fine, MakerHas, makers_have, actions_have}
-
--- nothing comes of two lists of demands
-pub nothing_joined : {A B : Type 0} (F : A → List B) (xs ys : List A) → flat_map F xs ≡ [] → flat_map F ys ≡ [] → flat_map F (xs ++ ys) ≡ []
-nothing_joined F xs ys p q = flat_map-append F xs ys ∙ empty_join (flat_map F xs) (flat_map F ys) p q
 
 -- nor of those of the members of a list
 pub nothing_of : {A B C : Type 0} (F : B → List C) (g : A → List B) (xs : List A) → All (λ x. flat_map F (g x) ≡ []) xs → flat_map F (flat_map g xs) ≡ []
@@ -77,7 +72,7 @@ module _ (file : File) (checked : IsChecked file) where
       flat_map (demand_faults (translated file) i) (map (fixed (prism_demands.wanted_by t)) (if_some (option_map (image (value_name file names k)) o))) ≡ []
   value_clean i vs k t None h = refl
   value_clean i vs k t (Some e) h =
-      empty_join (demand_faults (translated file) i (fixed (prism_demands.wanted_by t) (image (value_name file names k) e))) [] (fixed_clean file checked i vs k t e h) refl
+      append_both (demand_faults (translated file) i (fixed (prism_demands.wanted_by t) (image (value_name file names k) e))) [] (fixed_clean file checked i vs k t e h) refl
 
   consts_clean : flat_map (demand_faults (translated file) 0) (flat_map const_demands (translated file).constants) ≡ []
   consts_clean =
@@ -85,14 +80,14 @@ module _ (file : File) (checked : IsChecked file) where
       (All-map (λ c. flat_map (demand_faults (translated file) 0) (const_demands c) ≡ []) (λ p. constant file names p.0 p.1.name) (zip file.constants names.constants)
       (λ i d l. let p = get_or (zip file.constants names.constants) i d in
       value_clean 0 [] (outside file) p.0.ty p.0.value
-      (zipped_all (λ c. IfAny (IsFixed file [] c.ty) c.value) file.constants names.constants (all_of_each (λ c. IfAny (IsFixed file [] c.ty) c.value) file.constants (constants_fine file checked)) i d l)))
+      (zipped_all (λ c. IfAny (IsFixed file [] c.ty) c.value) file.constants names.constants (All-from_recursion (λ c. IfAny (IsFixed file [] c.ty) c.value) file.constants (constants_fine file checked)) i d l)))
 
   -- ---- variables that last
   range_clean : (i : ℕ) (vs : List Var) (k : ℕ) (kind : VarKind) → IsFineKind file vs kind →
       flat_map (demand_faults (translated file) i) (range_demands (range_of file names (value_name file names k) kind)) ≡ []
   range_clean i vs k (bounded low high) h =
-      empty_join (demand_faults (translated file) i (fixed (prism_demands.wanted_by T.Int) (image (value_name file names k) low))) _ (fixed_clean file checked i vs k T.Int low h.0)
-      (empty_join (demand_faults (translated file) i (fixed (prism_demands.wanted_by T.Int) (image (value_name file names k) high))) [] (fixed_clean file checked i vs k T.Int high h.1) refl)
+      append_both (demand_faults (translated file) i (fixed (prism_demands.wanted_by T.Int) (image (value_name file names k) low))) _ (fixed_clean file checked i vs k T.Int low h.0)
+      (append_both (demand_faults (translated file) i (fixed (prism_demands.wanted_by T.Int) (image (value_name file names k) high))) [] (fixed_clean file checked i vs k T.Int high h.1) refl)
   range_clean i vs k boolean h = refl
   range_clean i vs k integer h = refl
   range_clean i vs k number h = refl
@@ -107,7 +102,7 @@ module _ (file : File) (checked : IsChecked file) where
       let k = scope_of file names x.owned in
       let kind = x.owned.var.kind in
       let vs = own_variables file k in
-      nothing_joined (demand_faults (translated file) i) (range_demands (range_of file names (value_name file names k) kind)) _ (range_clean i vs k kind h.1.1)
+      flat_map_both (demand_faults (translated file) i) (range_demands (range_of file names (value_name file names k) kind)) _ (range_clean i vs k kind h.1.1)
       (ap (λ t. flat_map (demand_faults (translated file) i) (map (fixed (prism_demands.wanted_by t)) (if_some (option_map (image (value_name file names k)) x.owned.var.start))))
       (kind_kept file names (value_name file names k) x.owned.var.transient kind h.0 h.1.0)
       ∙ value_clean i vs k (kind_type kind) x.owned.var.start h.1.2)
@@ -141,11 +136,11 @@ module _ (file : File) (checked : IsChecked file) where
         (λ j l f. All-map (IsGoodGiven w) (λ y. record { element = el; location = j; value = y.value }) (filter (λ y. is_called o.var.name.name y.target) l.values)
         (λ n d m.
         let y = get_or (filter (λ (y : Write). is_called o.var.name.name y.target) l.values) n d in
-        let named = equal_names y.target.name o.var.name.name (filter_passes (λ (y : Write). is_called o.var.name.name y.target) l.values n d m) in
-        let fine = All-filter (λ (y : Write). is_called o.var.name.name y.target) (IsFineWrite file (own_variables file el.number)) l.values (all_of_each (IsFineWrite file (own_variables file el.number)) l.values f) n d m in
+        let named = bytes_eq-true y.target.name o.var.name.name (filter_passes (λ (y : Write). is_called o.var.name.name y.target) l.values n d m) in
+        let fine = All-filter (λ (y : Write). is_called o.var.name.name y.target) (IsFineWrite file (own_variables file el.number)) l.values (All-from_recursion (IsFineWrite file (own_variables file el.number)) l.values f) n d m in
         let typed : types_in file el.number y.target.name ≡ Some (kind_type o.var.kind) = ap (types_in file el.number) named ∙ ap (option_map thing_type) (stands el.number may) ∙ ap Some (thing_typed o.var) in
         let value = fine (kind_type o.var.kind) typed in
-        (there, fine_image file checked el.number w y.value (wider (types_in file el.number) y.value value.0, value.1)))) i ls (all_of_each _ ls h)
+        (there, fine_image file checked el.number w y.value (wider (types_in file el.number) y.value value.0, value.1)))) i ls (All-from_recursion _ ls h)
 
     givens_good : All (IsGoodGiven w) (given_to file o)
     givens_good =
@@ -181,7 +176,7 @@ module _ (file : File) (checked : IsChecked file) where
   label_truth : All (λ o. IsTruth file checked (label_body file names (first_value file names o) (given_to file o))) (labels file)
   label_truth i d l =
       let o = get_or (labels file) i d in
-      let bool = is_boolean_type o.var.kind (both_true o.var.transient (is_boolean o.var.kind) (filter_passes is_label (variables file) i d l)).1 in
+      let bool = is_boolean_type o.var.kind (and_parts o.var.transient (is_boolean o.var.kind) (filter_passes is_label (variables file) i d l)).1 in
       body_truth (first_value file names o) (given_to file o) (first_truth o bool (All-filter is_label (IsFineOwned file checked) (variables file) (variables_fine file checked) i d l))
       (givens_good o (All-filter is_label (Stands file checked) (variables file) (stands_all file checked) i d l) T.Bool (λ ty e h. subst (λ t. HasType ty t e) bool h))
 
@@ -191,7 +186,7 @@ module _ (file : File) (checked : IsChecked file) where
       (All-map (λ b. flat_map (demand_faults (translated file) 0) (label_demands b) ≡ []) (λ p. label file names p.0 p.1.name) (zip (labels file) names.labels)
       (λ i d l. let o = (get_or (zip (labels file) names.labels) i d).0 in
       let body = label_body file names (first_value file names o) (given_to file o) in
-      empty_join (demand_faults (translated file) 0 (varying (prism_demands.wanted_by T.Bool) body)) []
+      append_both (demand_faults (translated file) 0 (varying (prism_demands.wanted_by T.Bool) body)) []
       (varying_clean file checked 0 T.Bool body (has_truth file checked body (zipped_all (λ o. IsTruth file checked (label_body file names (first_value file names o) (given_to file o))) (labels file) names.labels label_truth i d l))) refl))
 
   -- ---- reward structures
@@ -208,7 +203,7 @@ module _ (file : File) (checked : IsChecked file) where
   number_kind : (i : ℕ) (d : Owned) → i < length (structures file) → kind_type (get_or (structures file) i d).var.kind ≡ T.Bool → ⊥
   number_kind i d l =
       let o = get_or (structures file) i d in
-      is_number_type o.var.kind (both_true o.var.transient (not (is_boolean o.var.kind)) (filter_passes is_structure (variables file) i d l)).1
+      is_number_type o.var.kind (and_parts o.var.transient (not (is_boolean o.var.kind)) (filter_passes is_structure (variables file) i d l)).1
 
   state_items_good : All (λ o. All IsGoodItem (map (state_item file names) (given_to file o))) (structures file)
   state_items_good i d l =
@@ -241,7 +236,7 @@ module _ (file : File) (checked : IsChecked file) where
       let there = at_number j (structure_number file k y.target.name) (filter_passes test ws n d l) in
       let typed = variable_typed file checked is_structure k y.target.name j there in
       let within = (placed_at (structures file) k y.target.name j there).within in
-      let fine = All-filter test (IsFineWrite file vs) ws (all_of_each (IsFineWrite file vs) ws (first_fine vs p.edge.destinations h.1)) n d l in
+      let fine = All-filter test (IsFineWrite file vs) ws (All-from_recursion (IsFineWrite file vs) ws (first_fine vs p.edge.destinations h.1)) n d l in
       let value = fine (kind_type (get_or (structures file) j nobody).var.kind) typed in (
         has_truth file checked truth refl,
         fine_image file checked k T.Real y.value (as_number (types_in file k) (kind_type (get_or (structures file) j nobody).var.kind) y.value (number_kind j nobody within) value.0, value.1),
@@ -263,8 +258,8 @@ module _ (file : File) (checked : IsChecked file) where
 
   item_clean : (i : prism.Item) → IsGoodItem i → flat_map (demand_faults (translated file) 0) (item_demands i) ≡ []
   item_clean i h =
-      empty_join (demand_faults (translated file) 0 (varying (prism_demands.wanted_by T.Bool) i.guard)) _ (varying_clean file checked 0 T.Bool i.guard h.0)
-      (empty_join (demand_faults (translated file) 0 (varying (prism_demands.wanted_by T.Real) i.value)) [] (varying_clean file checked 0 T.Real i.value h.1) refl)
+      append_both (demand_faults (translated file) 0 (varying (prism_demands.wanted_by T.Bool) i.guard)) _ (varying_clean file checked 0 T.Bool i.guard h.0)
+      (append_both (demand_faults (translated file) 0 (varying (prism_demands.wanted_by T.Real) i.value)) [] (varying_clean file checked 0 T.Real i.value h.1) refl)
 
   abbrev IsClean : prism.Rewards → Type 0
   IsClean r = flat_map (demand_faults (translated file) 0) (rewards_demands r) ≡ []
@@ -288,6 +283,6 @@ module _ (file : File) (checked : IsChecked file) where
 pub outer_types_fit : (file : File) → OuterTypesFit file
 outer_types_fit file checked =
     let F = demand_faults (translated file) 0 in
-    nothing_joined F (flat_map const_demands (translated file).constants) _ (consts_clean file checked)
-    (nothing_joined F (flat_map var_demands (translated file).globals) _ (globals_clean file checked)
-    (nothing_joined F (flat_map label_demands (translated file).labels) (flat_map rewards_demands (translated file).rewards) (labels_clean file checked) (rewards_clean file checked)))
+    flat_map_both F (flat_map const_demands (translated file).constants) _ (consts_clean file checked)
+    (flat_map_both F (flat_map var_demands (translated file).globals) _ (globals_clean file checked)
+    (flat_map_both F (flat_map label_demands (translated file).labels) (flat_map rewards_demands (translated file).rewards) (labels_clean file checked) (rewards_clean file checked)))

@@ -1,33 +1,44 @@
 -- What a JANI file without fault has of its demands, part by part.
-use Rattle.std.specs.Prelude.{◌≡◌, ℕ, List, [], ◌++◌, map, true, false, Option, Some, None, IsTrue, is_some, unwrap_or}
+use Rattle.std.specs.Prelude.{◌≡◌, ℕ, List, [], ◌∷◌, ◌++◌, map, true, false, Option, Some, None, IsTrue, is_some, unwrap_or}
 use Rattle.std.specs.List.{flat_map, All}
-use Rattle.std.proofs.Common.{refl, sym, ap, subst, ◌∙◌, arith}
-use Rattle.std.proofs.lemmas.List.{length-map}
+use Rattle.std.proofs.Common.{refl, sym, ap, subst, ◌∙◌}
+use Rattle.std.proofs.lemmas.List.Elements.{All-from_recursion}
+use Rattle.basics.specs.Lists.{append_parts}
+use Rattle.basics.specs.Each.{each_then, each_with, map_each, each_parts, each_of, empty_each, each_then as of_weaker}
 use Rattle.bridge_io.specs.declared.reason.Reason.TheVariants.{NotConstant, ForeignWrite, LabelOnEdge, TransientRead}
 use Rattle.bridge_io.specs.declared.reason.Reason.{Reason}
 use Rattle.op_trees.specs.declared.tree.Ty.{Ty}
 use Rattle.op_trees.specs.declared.tree.Ty.TheVariants as T
 use Rattle.op_trees.specs.Tree.{AllNames}
 use Rattle.op_trees.specs.Types.{Types}
+use Rattle.op_trees.specs.Names.{offset_of, names_of}
+use Rattle.op_trees.specs.NameLaws.{names_with, none_named}
+use Rattle.op_trees.specs.TypeLaws.{names_typed}
 use Rattle.prism_print.specs.Printable.{Each, IfAny}
-use Rattle.prism_check.proofs.Each.{each_then, each_with, each_parts, each_of, map_each, empty_parts, empty_each}
-use Rattle.prism_check.proofs.NamesIn.{names_with}
+use Rattle.prism_check.proofs.NamesIn.{listed_names}
 use Rattle.jani_table.specs.Operators.{jani_meaning}
 use Rattle.jani_tree.specs.Syntax.{Expression, VarKind, boolean, integer, number, real_bounded, one_sided, bounded, Var, Write, Location, Destination, Edge, Automaton, File}
+use Rattle.jani_tree.specs.Canonical.{OfAll}
 use Rattle.jani_check.specs.Least.{fault, fault_if}
-use Rattle.jani_check.specs.Things.{kind_type, const_called, var_called, global_thing, beside, types_by, is_constant, is_transient, is_label, offset_of}
+use Rattle.jani_check.specs.Things.{kind_type, const_called, var_called, global_thing, beside, types_by, is_constant, is_transient, is_label}
 use Rattle.jani_check.specs.Demands.{Demand, fixed, varying, assigned, given, if_some, wanted_by, const_demands, bound_demands, var_demands, location_demands, destination_demands, edge_demands, automaton_demands, outer_demands}
-use Rattle.jani_check.specs.NameFaults.{names_of}
-use Rattle.jani_check.specs.TypeFaults.{kind_fault, var_faults, type_faults_of, is_variable, has_variable, wanted_at, demand_faults, repeated, edge_repeats, repeated_writes, automaton_faults}
-use Rattle.jani_check.specs.ProfileFaults.{read_fault, reads, demand_profile, start_faults, branch_rewards, automaton_profile}
+use Rattle.jani_check.specs.TypeFaults.{kind_fault, var_faults, type_faults_of, is_variable, has_variable, wanted_at, repeated, edge_repeats}
+use Rattle.jani_check.specs.ProfileFaults.{read_fault, reads}
 use Rattle.jani_check.specs.Faults.{IsChecked}
 use Rattle.jani_meaning.specs.Elements as jani
-use Rattle.jani_meaning.specs.Elements.{Owned, nothing_called, variables}
+use Rattle.jani_meaning.specs.Elements.{Owned, variables}
 use Rattle.name_table.specs.PrismAsks.{outside}
 use Rattle.prism_translation_types.specs.TypeLaws.{own_variables}
-use Rattle.prism_translation_types.proofs.Images.{HasType, has_type, is_typed, names_typed, none_named, listed_names}
-use Rattle.prism_translation_types.proofs.Clean.{no_type_fault, no_profile_fault, passes}
-use Rattle.prism_translation_types.proofs.Scopes.{all_of_each, of_elements, each_at, variables_all, own_are, own_beyond, beside_none, constant_left, wanted_is}
+use Rattle.prism_translation_types.proofs.Images.{HasType, has_type, is_typed}
+use Rattle.prism_translation_types.proofs.Scopes.{each_at, variables_all, own_are, constant_left, wanted_is}
+use Rattle.prism_translation.proofs.Lists.{no_fault}
+use Rattle.prism_translation.proofs.Clean.{IsJudged, IsJudgedIn, kinds_outside, judged_outside, none_outside}
+use Rattle.prism_translation.proofs.Elements.{judged_elements}
+
+-- what holds of all, by the other record of that
+each_of_all : {A : Type 0} (P : A → Type 0) (xs : List A) → OfAll P xs → Each P xs
+each_of_all P [] h = tt
+each_of_all P (x ∷ xs) h = (h.0, each_of_all P xs h.1)
 
 module _ (file : File) where
   -- the types of names beside these variables
@@ -43,28 +54,28 @@ module _ (file : File) where
 
   -- ---- demands
   abbrev IsMet : List Var → Demand → Type 0
-  IsMet vs d = (demand_faults (beside (global_thing file) vs) d ≡ []) × (demand_profile (beside (global_thing file) vs) d ≡ [])
+  IsMet vs d = IsJudged file vs d
 
   not_read : (vs : List Var) (e : Expression) → reads (beside (global_thing file) vs) e ≡ [] → AllNames (λ x. is_transient (beside (global_thing file) vs x) ≡ false) e
   not_read vs e h =
       listed_names (λ x. is_transient (beside (global_thing file) vs x) ≡ false) e
       (each_then (λ n. read_fault (beside (global_thing file) vs) n ≡ []) (λ n. is_transient (beside (global_thing file) vs n.name) ≡ false)
-      (λ n k. passes (is_transient (beside (global_thing file) vs n.name)) n.at TransientRead k) (names_of e)
+      (λ n k. no_fault (is_transient (beside (global_thing file) vs n.name)) n.at TransientRead k) (names_of e)
       (empty_each (read_fault (beside (global_thing file) vs)) (names_of e) h))
 
   fixed_met : (vs : List Var) (w : Ty) (e : Expression) → IsMet vs (fixed (wanted_by w) e) → IsFixed vs w e
   fixed_met vs w e h =
-      let r = empty_parts (type_faults_of (types_beside vs) (wanted_by w) e) (fault_if (has_variable (beside (global_thing file) vs) e) (offset_of e) NotConstant) h.0 in
+      let r = append_parts (type_faults_of (types_beside vs) (wanted_by w) e) (fault_if (has_variable (beside (global_thing file) vs) e) (offset_of e) NotConstant) h.types in
       let typed = has_type (types_beside vs) w e r.0 in (
         typed,
         names_with (λ x. is_variable (beside (global_thing file) vs x) ≡ false) (λ x. IsTrue (is_some (types_beside vs x))) (λ x. is_constant (beside (global_thing file) vs x) ≡ true)
             (λ x k s. constant_left (const_called file x) (var_called file.variables x) (var_called vs x) k s) e
-            (none_named (λ x. is_variable (beside (global_thing file) vs x)) e (passes (has_variable (beside (global_thing file) vs) e) (offset_of e) NotConstant r.1))
+            (none_named (λ x. is_variable (beside (global_thing file) vs x)) e (no_fault (has_variable (beside (global_thing file) vs) e) (offset_of e) NotConstant r.1))
             (names_typed jani_meaning (types_beside vs) e (is_typed (types_beside vs) w e typed)),
       )
 
   varying_met : (vs : List Var) (w : Ty) (e : Expression) → IsMet vs (varying (wanted_by w) e) → IsFine vs w e
-  varying_met vs w e h = (has_type (types_beside vs) w e h.0, not_read vs e h.1)
+  varying_met vs w e h = (has_type (types_beside vs) w e h.types, not_read vs e h.profile)
 
   -- what is assigned has the type of what it is assigned to
   abbrev pub IsFineWrite : List Var → Write → Type 0
@@ -80,12 +91,12 @@ module _ (file : File) where
 
   assigned_met : (vs : List Var) (w : Write) → IsMet vs (assigned w) → IsFineWrite vs w
   assigned_met vs w h =
-      let r = empty_parts (fault_if (is_constant (beside (global_thing file) vs w.target.name)) w.target.at ForeignWrite) _ h.0 in
-      let s = empty_parts (fault_if (is_label (beside (global_thing file) vs w.target.name)) w.target.at LabelOnEdge) (reads (beside (global_thing file) vs) w.value) h.1 in
+      let r = append_parts (fault_if (is_constant (beside (global_thing file) vs w.target.name)) w.target.at ForeignWrite) _ h.types in
+      let s = append_parts (fault_if (is_label (beside (global_thing file) vs w.target.name)) w.target.at LabelOnEdge) (reads (beside (global_thing file) vs) w.value) h.profile in
       value_fine vs w r.1 s.1
 
   given_met : (vs : List Var) (w : Write) → IsMet vs (given w) → IsFineWrite vs w
-  given_met vs w h = value_fine vs w (empty_parts (fault_if _ w.target.at ForeignWrite) _ h.0).1 h.1
+  given_met vs w h = value_fine vs w (append_parts (fault_if _ w.target.at ForeignWrite) _ h.types).1 h.profile
 
   -- ---- parts
   abbrev pub IsFineKind : List Var → VarKind → Type 0
@@ -157,53 +168,23 @@ module _ (file : File) where
       (if_varying vs T.Bool e.guard r.0, destinations_fine vs e.destinations r.1 b)) es
       (each_of (IsMet vs) edge_demands es h) (empty_each edge_repeats es k)
 
-  all_met : (vs : List Var) (ds : List Demand) → flat_map (demand_faults (beside (global_thing file) vs)) ds ≡ [] → flat_map (demand_profile (beside (global_thing file) vs)) ds ≡ [] → Each (IsMet vs) ds
-  all_met vs ds h k =
-      each_with (λ d. demand_faults (beside (global_thing file) vs) d ≡ []) (λ d. demand_profile (beside (global_thing file) vs) d ≡ []) (IsMet vs) (λ d a b. (a, b)) ds
-      (empty_each (demand_faults (beside (global_thing file) vs)) ds h) (empty_each (demand_profile (beside (global_thing file) vs)) ds k)
-
-  automaton_fine : (a : Automaton) → automaton_faults (global_thing file) a ≡ [] → automaton_profile (global_thing file) a ≡ [] → IsFineAutomaton a
-  automaton_fine a h k =
-      let g = beside (global_thing file) a.variables in
-      let r = empty_parts (flat_map var_faults a.variables) (flat_map (demand_faults g) (automaton_demands a) ++ repeated_writes a) h in
-      let s = empty_parts (flat_map (demand_faults g) (automaton_demands a)) (repeated_writes a) r.1 in
-      let t = empty_parts (flat_map start_faults a.variables) (flat_map (demand_profile g) (automaton_demands a) ++ flat_map (branch_rewards g) a.edges) k in
-      let u = empty_parts (flat_map (demand_profile g) (automaton_demands a)) (flat_map (branch_rewards g) a.edges) t.1 in
-      let m = all_met a.variables (automaton_demands a) s.0 u.0 in
+  automaton_fine : (a : Automaton) → IsJudgedIn file a.variables a → IsFineAutomaton a
+  automaton_fine a j =
+      let m = each_of_all (IsMet a.variables) (automaton_demands a) j.demands in
       let p = each_parts (IsMet a.variables) (flat_map var_demands a.variables) (flat_map location_demands a.locations ++ flat_map edge_demands a.edges) m in
       let q = each_parts (IsMet a.variables) (flat_map location_demands a.locations) (flat_map edge_demands a.edges) p.1 in
-      record {
-        vars = vars_fine a.variables a.variables r.0 p.0;
-        locations = location_fine a.variables a.locations q.0;
-        edges = edges_fine a.variables a.edges q.1 (empty_parts (flat_map (λ l. repeated l.values) a.locations) (flat_map edge_repeats a.edges) s.1).1;
-      }
+      record { vars = vars_fine a.variables a.variables j.kinds p.0; locations = location_fine a.variables a.locations q.0; edges = edges_fine a.variables a.edges q.1 j.repeats }
 
 module _ (file : File) (checked : IsChecked file) where
-  type_parts : (flat_map var_faults file.variables ≡ []) × (flat_map (demand_faults (global_thing file)) (outer_demands file) ≡ []) × (flat_map (automaton_faults (global_thing file)) file.automata ≡ [])
-  type_parts =
-      let r = empty_parts (flat_map var_faults file.variables) _ (no_type_fault file checked) in
-      let s = empty_parts (flat_map (demand_faults (global_thing file)) (outer_demands file)) _ r.1 in
-      (r.0, s.0, (empty_parts (flat_map (automaton_faults (global_thing file)) file.automata) _ s.1).0)
-
-  profile_parts : (flat_map (demand_profile (global_thing file)) (outer_demands file) ≡ []) × (flat_map (automaton_profile (global_thing file)) file.automata ≡ [])
-  profile_parts =
-      let r = empty_parts (flat_map start_faults file.variables) _ (no_profile_fault file checked) in
-      let s = empty_parts (flat_map (demand_profile (global_thing file)) (outer_demands file)) _ r.1 in
-      (s.0, (empty_parts (flat_map (automaton_profile (global_thing file)) file.automata) _ s.1).0)
-
   -- ---- elements
   pub elements_fine : Each (IsFineAutomaton file) (jani.elements file)
   elements_fine =
-      of_elements file (IsFineAutomaton file) (λ n. record { vars = tt; locations = tt; edges = tt })
-      (each_with (λ a. automaton_faults (global_thing file) a ≡ []) (λ a. automaton_profile (global_thing file) a ≡ []) (IsFineAutomaton file) (automaton_fine file) file.automata
-      (empty_each (automaton_faults (global_thing file)) file.automata type_parts.2) (empty_each (automaton_profile (global_thing file)) file.automata profile_parts.1))
+      each_of_all (IsFineAutomaton file) (jani.elements file)
+      (of_weaker (λ a. IsJudgedIn file a.variables a) (IsFineAutomaton file) (automaton_fine file) (jani.elements file) (judged_elements file checked))
 
   -- ---- what stands outside of automata
   outer_met : Each (IsMet file []) (outer_demands file)
-  outer_met =
-      all_met file [] (outer_demands file)
-      (subst (λ g. flat_map (demand_faults g) (outer_demands file) ≡ []) (sym (beside_none file)) type_parts.1)
-      (subst (λ g. flat_map (demand_profile g) (outer_demands file) ≡ []) (sym (beside_none file)) profile_parts.0)
+  outer_met = each_of_all (IsMet file []) (outer_demands file) (judged_outside file checked)
 
   pub constants_fine : Each (λ c. IfAny (IsFixed file [] c.ty) c.value) file.constants
   constants_fine =
@@ -214,19 +195,16 @@ module _ (file : File) (checked : IsChecked file) where
   globals_fine : Each (IsFineVar file []) file.variables
   globals_fine =
       let r = each_parts (IsMet file []) (flat_map const_demands file.constants) (flat_map var_demands file.variables) outer_met in
-      vars_fine file [] file.variables type_parts.0 r.1
+      vars_fine file [] file.variables (kinds_outside file checked) r.1
 
   -- ---- all variables, each beside the own ones of its element
-  pub own_outside : own_variables file (outside file) ≡ []
-  own_outside = own_beyond file (outside file) (let e = length-map file.elements (jani.automaton_called file) in omega arith)
-
   abbrev pub IsFineOwned : Owned → Type 0
   IsFineOwned o = IsFineVar file (own_variables file (unwrap_or o.owner (outside file))) o.var
 
   pub variables_fine : All IsFineOwned (variables file)
   variables_fine =
       variables_all file IsFineOwned
-      (all_of_each (λ v. IsFineOwned (record { owner = None; var = v })) file.variables
-      (subst (λ vs. Each (IsFineVar file vs) file.variables) (sym own_outside) globals_fine))
-      (λ k a e. all_of_each (λ v. IsFineOwned (record { owner = Some k; var = v })) a.variables
+      (All-from_recursion (λ v. IsFineOwned (record { owner = None; var = v })) file.variables
+      (subst (λ vs. Each (IsFineVar file vs) file.variables) (sym (none_outside file checked)) globals_fine))
+      (λ k a e. All-from_recursion (λ v. IsFineOwned (record { owner = Some k; var = v })) a.variables
       (subst (λ vs. Each (IsFineVar file vs) a.variables) (sym (own_are file k a e)) (each_at (IsFineAutomaton file) (jani.elements file) k a elements_fine e).vars))

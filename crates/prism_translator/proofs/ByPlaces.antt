@@ -6,13 +6,13 @@ use Rattle.std.specs.List.{filter, flat_map, zip}
 use Rattle.std.proofs.lemmas.List.{length-map, get_or-map}
 use Rattle.std.proofs.lemmas.List.Concat.{flat_map-append}
 use Rattle.process_core.specs.Ready.{Name}
-use Rattle.prism_flat.specs.Instance.{numbered, only_if}
+use Rattle.process_core.specs.Instance.{numbered, only_if}
 use Rattle.name_table.specs.declared.entry.Entry.{Entry}
 use Rattle.name_table.specs.PrismAsks.{name_at}
 use Rattle.jani_tree.specs.declared.syntax.JaniEdge.{JaniEdge}
 use Rattle.jani_tree.specs.Syntax.{Edge, File, edge_of}
 use Rattle.prism_tree.specs.Syntax as prism
-use Rattle.name_table.proofs.Gathering.{taken}
+use Rattle.gathering.proofs.Loops.{taken}
 use Rattle.prism_translation.specs.Elements.{Element, elements, Placed, placed_edges}
 use Rattle.prism_translation.specs.Targets.{Target, targets, serves, serves_silently, is_blocked}
 use Rattle.prism_translation.specs.Modules.{Action, actions, command, commands_of}

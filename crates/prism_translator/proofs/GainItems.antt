@@ -1,12 +1,13 @@
 -- The items of a structure are those of its gains.
-use Rattle.std.proofs.Common.{◌≡◌, ℕ, suc, zero, ◌+◌, ◌<◌, ◌≤◌, List, [], ◌∷◌, ◌++◌, map, length, get_or, refl, sym, ap, ap₂, ◌∙◌, arith}
+use Rattle.std.proofs.Common.{◌≡◌, ℕ, suc, zero, ◌+◌, ◌<◌, List, [], ◌∷◌, ◌++◌, map, length, get_or, refl, sym, ap, ap₂, ◌∙◌, arith}
 use Rattle.std.specs.Prelude.{Option, Some, None, slice_get}
 use Rattle.std.specs.List.{flat_map, zip}
 use Rattle.std.specs.Option.{option_map}
 use Rattle.std.proofs.lemmas.List.{map-append}
+use Rattle.std.proofs.lemmas.Option.{slice_get-map}
 use Rattle.process_core.specs.Ready.{Name}
 use Rattle.process_core.specs.Product.{map-map}
-use Rattle.prism_flat.specs.Instance.{numbered}
+use Rattle.process_core.specs.Instance.{numbered}
 use Rattle.prism_tree.specs.Syntax as prism
 use Rattle.jani_tree.specs.Syntax.{File, edge_of}
 use Rattle.jani_meaning.specs.Elements.{Owned}
@@ -34,23 +35,13 @@ edge_there el n =
     numbered_get (placed_with (element_of el)) edge_of 0 el.automaton.now.edges n
     ∙ ap (λ j. option_map (λ e. placed_with (element_of el) j (edge_of e)) (slice_get el.automaton.now.edges n)) k
 
-pub mapped_get : {X Y : Type 0} (f : X → Y) (xs : List X) (i : ℕ) → slice_get (map f xs) i ≡ option_map f (slice_get xs i)
-mapped_get f [] i = refl
-mapped_get f (x ∷ xs) zero = refl
-mapped_get f (x ∷ xs) (suc i) = mapped_get f xs i
-
 pub get_there : {X : Type 0} (xs : List X) (i : ℕ) (x : X) → i < length xs → x ≡ get_or xs i x → slice_get xs i ≡ Some x
 get_there [] i x h e = absurd (omega (arith, h))
 get_there (y ∷ ys) zero x h e = ap Some (sym e)
 get_there (y ∷ ys) (suc i) x h e = get_there ys i x (omega (arith, h)) e
 
-pub get_past : {X : Type 0} (xs : List X) (i : ℕ) → length xs ≤ i → slice_get xs i ≡ None
-get_past [] i h = refl
-get_past (y ∷ ys) zero h = absurd (omega (arith, h))
-get_past (y ∷ ys) (suc i) h = get_past ys i (omega (arith, h))
-
 pub element_in : (file : File) (els : List CodeElement) (i : ℕ) → map element_of els ≡ elements file → slice_get (elements file) i ≡ option_map element_of (slice_get els i)
-element_in file els i h = ap (λ (l : List Element). slice_get l i) (sym h) ∙ mapped_get element_of els i
+element_in file els i h = ap (λ (l : List Element). slice_get l i) (sym h) ∙ slice_get-map element_of els i
 
 -- ---- items
 module _ (file : File) (names : NewNames) (j : ℕ) where

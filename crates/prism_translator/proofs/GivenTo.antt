@@ -6,14 +6,14 @@ use Rattle.process_core.specs.Ready.{Name}
 use Rattle.jani_tree.specs.Syntax.{Automaton, File}
 use Rattle.jani_meaning.specs.Elements as jani
 use Rattle.jani_meaning.specs.Elements.{Owned}
-use Rattle.prism_flat.specs.Instance.{numbered}
+use Rattle.process_core.specs.Instance.{numbered}
 use Rattle.prism_translation.specs.Elements.{Element, elements, may_use}
 use Rattle.prism_translation.specs.Marks.{Given, given_by, given_to}
 use Rattle.prism_translator.specs.declared.given.Given.{Given as CodeGiven}
 use Rattle.prism_translator.specs.declared.given.GivenTable.{GivenTable}
-use Rattle.prism_translator.specs.declared.lists.NameLists.{NameLists}
-use Rattle.prism_translator.specs.Code.{element_with, list_at}
-use Rattle.prism_translator.specs.Given.{given_of, given_in, lists_in, GivesOf, AreGiven}
+use Rattle.gathering.specs.declared.name_lists.NameLists.{NameLists}
+use Rattle.prism_translator.specs.Code.{element_with}
+use Rattle.prism_translator.specs.Given.{list_at, given_of, given_in, lists_in, GivesOf, AreGiven}
 
 -- what an element gives, if there is one
 abbrev pub given_at : Option Element → Name → List Given

@@ -1,13 +1,13 @@
 -- Those that pass a test, walked through; and homes by the table of writers.
 use Rattle.std.proofs.Common.{◌≡◌, ◌+◌, ◌<◌, List, [], ◌∷◌, ◌++◌, map, length, take, get_or, cond, refl, sym, ap, ap₂, ◌∙◌, append-nil, append_assoc}
 use Rattle.std.specs.Prelude.{Bool, true, false, ℕ, Option, Some, None}
-use Rattle.std.specs.List.{flat_map, filter, AllZip}
+use Rattle.std.specs.List.{flat_map, filter}
 use Rattle.std.proofs.lemmas.List.{map-append}
 use Rattle.std.proofs.lemmas.List.Concat.{flat_map-append}
 use Rattle.jani_tree.specs.Syntax.{File}
 use Rattle.jani_meaning.specs.Elements.{is_owner}
-use Rattle.prism_flat.specs.Instance.{only_if}
-use Rattle.name_table.proofs.Gathering.{taken}
+use Rattle.process_core.specs.Instance.{only_if}
+use Rattle.gathering.proofs.Loops.{taken}
 use Rattle.prism_translation.specs.Elements.{Lasting, home, home_by, writers, is_at}
 use Rattle.prism_translator.specs.declared.writers.WriterTable.{WriterTable}
 use Rattle.prism_translator.specs.Writers.{home_for, writers_at}
@@ -32,10 +32,6 @@ kept_walk q s (x ∷ xs) = by_test (q (s x)) (kept_walk q s xs)
     by_test true e = ap (λ l. s x ∷ l) e
     by_test false e = e
 
-pub filter_agree : {A : Type 0} (p q : A → Bool) → ((x : A) → p x ≡ q x) → (xs : List A) → filter p xs ≡ filter q xs
-filter_agree p q h [] = refl
-filter_agree p q h (x ∷ xs) = ap₂ (λ b l. cond b (x ∷ l) l) (h x) (filter_agree p q h xs)
-
 -- one member more, whose part comes last
 pub walk_more : {A B Z : Type 0} (f : B → List Z) (s : A → B) (before : List Z) (xs : List A) (i : ℕ) (x : A) (old new : List Z) → i < length xs → x ≡ get_or xs i x →
     old ≡ before ++ flat_map f (map s (take i xs)) → new ≡ old ++ f (s x) → new ≡ before ++ flat_map f (map s (take (i + 1) xs))
@@ -46,12 +42,6 @@ walk_more f s before xs i x old new h e so_far next =
     ∙ ap (λ l. before ++ l)
     (sym (flat_map-append f (map s (take i xs)) (s x ∷ []))
     ∙ ap (flat_map f) (sym (map-append s (take i xs) (x ∷ [])) ∙ ap (map s) (sym (taken xs i x h e))))
-
-pub zip_push : {A B : Type 0} (R : A → B → Type 0) (xs : List A) (ys : List B) (x : A) (y : B) → AllZip R xs ys → R x y → AllZip R (xs ++ x ∷ []) (ys ++ y ∷ [])
-zip_push R [] [] x y h r = (r, tt)
-zip_push R [] (b ∷ ys) x y h r = absurd h
-zip_push R (a ∷ xs) [] x y h r = absurd h
-zip_push R (a ∷ xs) (b ∷ ys) x y h r = (h.0, zip_push R xs ys x y h.1 r)
 
 pub at_owner : (k : ℕ) (o : Option ℕ) → is_at k o ≡ is_owner k o
 at_owner k None = refl

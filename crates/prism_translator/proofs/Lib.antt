@@ -1,13 +1,10 @@
-mod Buckets
 mod ByPlaces
 mod Classes
 mod GainItems
-mod Gathering
 mod GivenTo
 mod Images
 mod Kept
 mod LineLists
 mod LongActions
-mod Numbers
 mod Singles
 mod WritersOf

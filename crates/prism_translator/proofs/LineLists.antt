@@ -2,6 +2,7 @@
 use Rattle.std.proofs.Common.{◌≡◌, ℕ, ◌-◌, ◌≤◌, List, [], ◌∷◌, ◌++◌, map, length, take, drop, get_or, refl, sym, ap, ◌∙◌, append-nil, append_assoc, take_all, arith}
 use Rattle.std.specs.Prelude.{codes}
 use Rattle.std.specs.List.{flat_map}
+use Rattle.std.proofs.lemmas.List.Folds.{flat_map-map}
 use Rattle.decimal_json.specs.Text.{quoted}
 use Rattle.jani_tree.specs.declared.syntax.JaniLocation.{JaniLocation}
 use Rattle.jani_tree.specs.Syntax.{Location, location_of}
@@ -16,10 +17,6 @@ pub joined_by : (x : List ℕ) (ys : List (List ℕ)) → joined (x ∷ ys) ≡ 
 joined_by x [] = sym (append-nil x)
 joined_by x (y ∷ ys) = ap (λ l. x ++ (codes "," ++ l)) (joined_by y ys) ∙ ap (λ l. x ++ l) (sym (append_assoc (codes ",") y (flat_map (λ y. codes "," ++ y) ys)))
 
-walk_map : {X Y : Type 0} (f : Y → List ℕ) (q : X → Y) (xs : List X) → flat_map f (map q xs) ≡ flat_map (λ x. f (q x)) xs
-walk_map f q [] = refl
-walk_map f q (x ∷ xs) = ap (λ l. f (q x) ++ l) (walk_map f q xs)
-
 -- the first name, and all others behind commas
 pub locations_joined : (ls : List JaniLocation) (first : JaniLocation) (i : ℕ) (before : List ℕ) → 1 ≤ length ls → first ≡ get_or ls 0 first →
     length (take (length ls - 1) (drop 1 ls)) ≤ i →
@@ -32,5 +29,5 @@ locations_joined (l ∷ ls) first i before h e t =
     ∙ append_assoc before (quoted first.name.name) (flat_map (λ (k : Location). codes "," ++ quoted k.name.name) (map location_of ls))
     ∙ ap (λ z. before ++ z)
     (ap (λ (z : JaniLocation). quoted z.name.name ++ flat_map (λ (k : Location). codes "," ++ quoted k.name.name) (map location_of ls)) e
-    ∙ ap (λ z. quoted l.name.name ++ z) (sym (walk_map (λ y. codes "," ++ y) (λ (k : Location). quoted k.name.name) (map location_of ls)))
+    ∙ ap (λ z. quoted l.name.name ++ z) (sym (flat_map-map (λ y. codes "," ++ y) (λ (k : Location). quoted k.name.name) (map location_of ls)))
     ∙ sym (joined_by (quoted l.name.name) (map (λ (k : Location). quoted k.name.name) (map location_of ls))))

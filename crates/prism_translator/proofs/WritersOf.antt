@@ -4,9 +4,9 @@ use Rattle.std.specs.Prelude.{Bool, true, false, ◌||◌, fold, nat_eq, slice_g
 use Rattle.std.specs.List.{filter, list_any}
 use Rattle.std.proofs.lemmas.List.{map-append}
 use Rattle.std.proofs.lemmas.List.Folds.{list_any-append}
+use Rattle.std.proofs.Math.Bool.{or-false}
 use Rattle.jani_tree.specs.Syntax.{Automaton, File}
-use Rattle.prism_flat.specs.Instance.{numbered}
-use Rattle.name_table.proofs.Gathering.{taken}
+use Rattle.process_core.specs.Instance.{numbered}
 use Rattle.jani_meaning.specs.Elements as jani
 use Rattle.prism_translation.specs.Elements.{Element, elements, writers, shared_home}
 use Rattle.prism_translator.specs.declared.elements.Element.{Element as CodeElement}
@@ -14,7 +14,8 @@ use Rattle.prism_translator.specs.declared.writers.Writers.{Writers}
 use Rattle.prism_translator.specs.declared.writers.Writers.TheVariants.{Nobody, One, Several}
 use Rattle.prism_translator.specs.Code.{element_of, element_with}
 use Rattle.prism_translator.specs.Writers.{with_writer, with_if, home_for, writes, writers_through}
-use Rattle.prism_translator.proofs.Buckets.{first_apart, apart_first, next_same}
+use Rattle.gathering.proofs.Loops.{taken}
+use Rattle.gathering.proofs.Lists.{first_apart, apart_first, next_same}
 
 -- ---- the table
 pub room_behind : (ws : List Writers) (i : ℕ) → unwrap_or (slice_get (ws ++ Nobody ∷ []) i) Nobody ≡ unwrap_or (slice_get ws i) Nobody
@@ -47,10 +48,6 @@ both_if true true k w = again k w
 both_if true false k w = refl
 both_if false b k w = refl
 
-or_false : (b : Bool) → (b || false) ≡ b
-or_false true = refl
-or_false false = refl
-
 -- one more of those that a loop has seen
 pub with_more : {X Y : Type 0} (p : Y → Bool) (s : X → Y) (xs : List X) (i : ℕ) (x : X) (k : ℕ) (start old new : Writers) → i < length xs → x ≡ get_or xs i x →
     old ≡ with_if (list_any p (map s (take i xs))) k start → new ≡ with_if (p (s x)) k old → new ≡ with_if (list_any p (map s (take (i + 1) xs))) k start
@@ -59,7 +56,7 @@ with_more p s xs i x k start old new h e so_far next =
     ∙ ap (with_if (p (s x)) k) so_far
     ∙ both_if (list_any p (map s (take i xs))) (p (s x)) k start
     ∙ ap (λ (b : Bool). with_if b k start)
-    (ap (λ b. list_any p (map s (take i xs)) || b) (sym (or_false (p (s x))))
+    (ap (λ b. list_any p (map s (take i xs)) || b) (sym (or-false (p (s x))))
     ∙ sym (list_any-append p (map s (take i xs)) (s x ∷ []))
     ∙ ap (list_any p) (sym (map-append s (take i xs) (x ∷ [])) ∙ ap (map s) (sym (taken xs i x h e))))
 

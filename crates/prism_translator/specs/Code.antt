@@ -2,47 +2,23 @@
 use Rattle.std.specs.Prelude.{◌≡◌, ℕ, List, [], ◌∷◌, ◌++◌, map, length, Bool, ◌&&◌, Option, Some, None, nat_eq, bytes_eq, slice_get, unwrap_or, if◌then◌else◌}
 use Rattle.std.specs.List.{position, All}
 use Rattle.std.specs.Option.{option_or}
-use Rattle.indexmap.specs.IndexMap.{get_by}
 use Rattle.process_core.specs.Ready.{Name}
 use Rattle.bridge_io.specs.declared.reason.Named.{Named}
 use Rattle.prism_tree.specs.Syntax as prism
 use Rattle.jani_tree.specs.Syntax.{File, Automaton, Edge, file_of, automaton_of}
 use Rattle.jani_meaning.specs.Elements.{Owned, is_called, lasting, place_of}
-use Rattle.name_table.specs.declared.name_map.NameMap.{NameMap}
 use Rattle.name_table.specs.JaniParts.{under, owned_of}
-use Rattle.prism_flat.specs.Instance.{numbered, only_if}
+use Rattle.process_core.specs.Instance.{numbered, only_if}
 use Rattle.prism_translation.specs.Elements.{Lasting, Element}
 use Rattle.name_table.specs.PrismAsks.{NewNames, name_at, name_at_some}
 use Rattle.prism_translation.specs.Targets.{targets}
 use Rattle.prism_translation.specs.Parts.{made}
 use Rattle.prism_translation.specs.Modules.{falsehood, guard, branch, is_single, command}
-use Rattle.prism_translator.specs.declared.places.Places.{Places}
+use Rattle.prism_targets.specs.Places.{place_in}
 use Rattle.prism_translator.specs.declared.names.Classes.{Classes}
 use Rattle.prism_translator.specs.declared.names.Names.{Names}
 use Rattle.prism_translator.specs.declared.parts.LastingVar.{LastingVar}
-use Rattle.prism_translator.specs.declared.lists.Buckets.{Buckets}
-use Rattle.prism_translator.specs.declared.lists.NameLists.{NameLists}
 use Rattle.prism_translator.specs.declared.elements.Element.{Element as CodeElement}
-
--- ---- numbers by names
-abbrev pub only_then : {X : Type 0} → Bool → X → Option X
-only_then b x = if b then Some x else None
-
-abbrev pub under_some : Option (NameMap ℕ) → Name → Option ℕ
-under_some None x = None
-under_some (Some m) x = under m x
-
--- the number of an element's own variable
-abbrev pub own_in : Places → ℕ → Name → Option ℕ
-own_in p k x = under_some (slice_get p.own.items k) x
-
--- the number of the variable that a name stands for in an element
-abbrev pub place_in : Places → ℕ → Name → Option ℕ
-place_in p k x = option_or (own_in p k x) (under p.global x)
-
--- an element and a name are these
-abbrev pub is_named_own : ℕ → Name → ℕ → Name → Bool
-is_named_own element name k x = nat_eq k element && bytes_eq name x
 
 -- ---- new names
 abbrev pub file_in : Names → File
@@ -82,20 +58,6 @@ lasting_of x = record { number = x.number; owned = owned_of x.owned }
 
 abbrev pub lasting_with : ℕ → Owned → List Lasting
 lasting_with i o = record { number = i; owned = o } ∷ []
-
--- ---- lists under numbers and under names
--- the list for a number
-abbrev pub bucket : {X : Type 0} → Buckets X → ℕ → List X
-bucket b k = unwrap_or (slice_get b.lists.items k) []
-
--- the list for a name
-abbrev pub list_under : {X : Type 0} → NameLists X → Name → List X
-list_under t x = unwrap_or (get_by (λ k. bytes_eq x k.now) t.lists) []
-
--- where there are lists
-abbrev pub list_at : {X : Type 0} → Option (NameLists X) → Name → List X
-list_at None x = []
-list_at (Some t) x = list_under t x
 
 -- ---- elements
 abbrev pub element_of : CodeElement → Element

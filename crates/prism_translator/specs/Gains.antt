@@ -12,9 +12,9 @@ use Rattle.prism_translation.specs.Image.{image}
 use Rattle.prism_translation.specs.Parts.{made, instead}
 use Rattle.prism_translation.specs.Modules.{truth}
 use Rattle.prism_translation.specs.Marks.{Given, assigned_to, state_item, or_nought}
-use Rattle.prism_translator.specs.declared.places.Places.{Places}
+use Rattle.prism_targets.specs.declared.places.Places.{Places}
 use Rattle.prism_translator.specs.declared.gains.Gain.{Gain as CodeGain}
-use Rattle.prism_translator.specs.Code.{place_in}
+use Rattle.prism_targets.specs.Places.{place_in}
 
 -- a value that a structure gets by the target of this number, whose edge belongs to the element of this number
 pub record Gain : Type 0 where

@@ -1,5 +1,5 @@
 -- What locations give to transient variables, as the code gathers it.
-use Rattle.std.specs.Prelude.{◌≡◌, ℕ, List, map, Option, Some, None, slice_get, if◌then◌else◌}
+use Rattle.std.specs.Prelude.{◌≡◌, ℕ, List, [], map, Option, Some, None, slice_get, if◌then◌else◌}
 use Rattle.std.specs.List.{flat_map, AllZip}
 use Rattle.op_trees.specs.Tree.{Three, tree}
 use Rattle.process_core.specs.Ready.{Name}
@@ -13,8 +13,9 @@ use Rattle.prism_translation.specs.Parts.{is_there}
 use Rattle.prism_translation.specs.Marks.{Given, given_by, given_image}
 use Rattle.prism_translator.specs.declared.given.Given.{Given as CodeGiven}
 use Rattle.prism_translator.specs.declared.given.GivenTable.{GivenTable}
-use Rattle.prism_translator.specs.declared.lists.NameLists.{NameLists}
-use Rattle.prism_translator.specs.Code.{element_of, list_under, list_at}
+use Rattle.gathering.specs.declared.name_lists.NameLists.{NameLists}
+use Rattle.gathering.specs.Lists.{list_under}
+use Rattle.prism_translator.specs.Code.{element_of}
 
 abbrev pub given_of : CodeGiven → Given
 given_of g = record { element = element_of g.element.now; location = g.location; value = tree g.value.now }
@@ -26,6 +27,11 @@ given_with el i w = record { element = el; location = i; value = w.value }
 -- the list for a name has what the locations of an element give
 abbrev pub GivesOf : NameLists CodeGiven → Element → Type 0
 GivesOf t el = (x : Name) → map given_of (list_under t x) ≡ given_by x el
+
+-- the list for a name, where there are lists
+abbrev pub list_at : {X : Type 0} → Option (NameLists X) → Name → List X
+list_at None x = []
+list_at (Some t) x = list_under t x
 
 -- what may give something to a variable with this owner
 abbrev pub lists_in : GivenTable → Option ℕ → Option (NameLists CodeGiven)

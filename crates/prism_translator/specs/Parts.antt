@@ -5,7 +5,7 @@ use Rattle.prism_tree.specs.Syntax as prism
 use Rattle.prism_tree.specs.Syntax.{plain}
 use Rattle.jani_tree.specs.Syntax.{File}
 use Rattle.jani_meaning.specs.Elements as jani
-use Rattle.prism_flat.specs.Instance.{numbered}
+use Rattle.process_core.specs.Instance.{numbered}
 use Rattle.name_table.specs.PrismAsks.{NewNames, name_at}
 use Rattle.prism_translation.specs.Elements.{elements, shared}
 use Rattle.prism_translation.specs.Parts.{constant, variable}

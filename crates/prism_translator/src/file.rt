@@ -3,7 +3,7 @@
 ghost use Rattle.std.specs.Prelude.{◌≡◌, ℕ, map, IfOk};
 ghost use Rattle.std.specs.List.{All};
 ghost use Rattle.prism_tree.specs.Syntax as prism;
-ghost use Rattle.prism_flat.specs.Instance.{numbered};
+ghost use Rattle.process_core.specs.Instance.{numbered};
 ghost use Rattle.prism_translation.specs.Elements.{elements, lasting_variables};
 ghost use Rattle.prism_translation.specs.Targets.{targets};
 ghost use Rattle.prism_translation.specs.Translated.{translated_by};
@@ -11,7 +11,8 @@ ghost use Rattle.prism_targets.specs.Code.{element_served};
 ghost use Rattle.prism_targets.specs.Serving.{target_in, served_in, IsServing};
 ghost use Rattle.jani_meaning.specs.Elements.{lasting as lasting_of_file, labels as labels_of, structures as structures_of};
 ghost use Rattle.name_table.specs.JaniParts.{owned_of};
-ghost use Rattle.prism_translator.specs.Code.{file_in, names_in, IsReady, element_of, IsElement, HasActions, lasting_of, bucket};
+ghost use Rattle.gathering.specs.Lists.{list_for};
+ghost use Rattle.prism_translator.specs.Code.{file_in, names_in, IsReady, element_of, IsElement, HasActions, lasting_of};
 ghost use Rattle.prism_translator.specs.Gains.{gain_of, gains_of};
 ghost use Rattle.prism_translator.specs.Homes.{AreWriters};
 ghost use Rattle.prism_translator.specs.Gathered.{AreGathered};
@@ -24,16 +25,15 @@ use crate::gathered::FileParts;
 use crate::given::GivenTable;
 use crate::homes::{at_home, globals, lasting_variables};
 use crate::labels::labels;
-use crate::lists::Buckets;
 use crate::modules::modules;
 use crate::names::Names;
 use crate::parts::{LastingVar, constants};
-use crate::places::Places;
 use crate::rewards::structures;
 use crate::writers::WriterTable;
 use bridge_io::List;
+use gathering::NumberLists;
 use name_table::OwnedVar;
-use prism_targets::{ElementServing, Serving, Target};
+use prism_targets::{ElementServing, Places, Serving, Target};
 use prism_tree::{PrismFile, PrismLabel, PrismModule, PrismRewards, PrismVar};
 use std::alloc::{AllocError, Global};
 
@@ -114,11 +114,11 @@ fn gains_by<'a>(
     els: &[Element<'a>],
     vars: &[OwnedVar],
     made: &[Target],
-) -> Result<Buckets<Gain<'a>>, AllocError>
+) -> Result<NumberLists<Gain<'a>>, AllocError>
     requires elements { map element_of els.now ≡ elements (file_in names.now) }
     requires vars { map owned_of vars.now ≡ structures_of (file_in names.now) }
     requires targets { map (target_in (file_in names.now)) made.now ≡ targets (file_in names.now) }
-    ensures { IfOk result (λ b. (j : ℕ) → map gain_of (bucket b j) ≡ numbered (λ i t. gains_of (file_in names.now) j i t.maker) 0 (targets (file_in names.now))) }
+    ensures { IfOk result (λ b. (j : ℕ) → map gain_of (list_for b j) ≡ numbered (λ i t. gains_of (file_in names.now) j i t.maker) 0 (targets (file_in names.now))) }
 {
     let places = Places::of(alloc, vars)?;
     let all = gains(alloc, names, els, &places, made)?;

@@ -5,22 +5,22 @@ ghost use Rattle.std.specs.List.{filter};
 ghost use Rattle.std.specs.Option.{option_map};
 ghost use Rattle.jani_tree.specs.Syntax as jani;
 ghost use Rattle.jani_meaning.specs.Elements.{structure_number};
-ghost use Rattle.prism_flat.specs.Instance.{numbered, only_if};
+ghost use Rattle.process_core.specs.Instance.{numbered, only_if};
 ghost use Rattle.prism_translation.specs.Elements.{elements, placed_edges, is_at};
 ghost use Rattle.prism_translation.specs.Targets.{targets};
 ghost use Rattle.prism_translation.specs.Marks.{first_writes};
 ghost use Rattle.prism_targets.specs.Code.{maker_view};
 ghost use Rattle.prism_targets.specs.Made.{placed_at};
 ghost use Rattle.prism_targets.specs.Serving.{target_in};
-ghost use Rattle.prism_translator.specs.Code.{file_in, element_of, bucket};
+ghost use Rattle.gathering.specs.Lists.{list_for};
+ghost use Rattle.prism_translator.specs.Code.{file_in, element_of};
 ghost use Rattle.prism_translator.specs.Gains.{gain_of, gain_with, gains_of, ArePlaces};
 
 use crate::elements::Element;
-use crate::lists::Buckets;
 use crate::names::Names;
-use crate::places::Places;
+use gathering::NumberLists;
 use jani_tree::{JaniEdge, JaniWrite, Je};
-use prism_targets::{Maker, Target};
+use prism_targets::{Maker, Places, Target};
 use std::alloc::{AllocError, Global};
 
 /// A value that a structure gets by the target of this number, whose edge belongs to the element of this number.
@@ -38,13 +38,13 @@ pub(crate) fn gains<'a>(
     els: &[Element<'a>],
     places: &Places,
     made: &[Target],
-) -> Result<Buckets<Gain<'a>>, AllocError>
+) -> Result<NumberLists<Gain<'a>>, AllocError>
     requires elements { map element_of els.now ≡ elements (file_in names.now) }
     requires places { ArePlaces places.now (file_in names.now) }
     requires targets { map (target_in (file_in names.now)) made.now ≡ targets (file_in names.now) }
-    ensures { IfOk result (λ b. (j : ℕ) → map gain_of (bucket b j) ≡ numbered (λ i t. gains_of (file_in names.now) j i t.maker) 0 (targets (file_in names.now))) }
+    ensures { IfOk result (λ b. (j : ℕ) → map gain_of (list_for b j) ≡ numbered (λ i t. gains_of (file_in names.now) j i t.maker) 0 (targets (file_in names.now))) }
 {
-    let mut all = Buckets::new(alloc);
+    let mut all = NumberLists::new(alloc);
     for i in 0..made.len() {
         add_target(alloc, &mut all, names, els, places, i, made[i].maker)?;
     }
@@ -54,7 +54,7 @@ pub(crate) fn gains<'a>(
 /// Adds what the edge assigns that a target is made for, if it is made for one.
 fn add_target<'a>(
     alloc: Global,
-    all: &mut Buckets<Gain<'a>>,
+    all: &mut NumberLists<Gain<'a>>,
     names: &Names,
     els: &[Element<'a>],
     places: &Places,
@@ -63,7 +63,7 @@ fn add_target<'a>(
 ) -> Result<(), AllocError>
     requires elements { map element_of els.now ≡ elements (file_in names.now) }
     requires places { ArePlaces places.now (file_in names.now) }
-    ensures { OnOk result ((j : ℕ) → map gain_of (bucket all.new j) ≡ map gain_of (bucket all.old j)
+    ensures { OnOk result ((j : ℕ) → map gain_of (list_for all.new j) ≡ map gain_of (list_for all.old j)
         ++ gains_of (file_in names.now) j target (placed_at (file_in names.now) (option_map maker_view maker))) }
 {
     match maker {
@@ -75,7 +75,7 @@ fn add_target<'a>(
 /// Adds what the edge assigns that a target is made for.
 fn add_maker<'a>(
     alloc: Global,
-    all: &mut Buckets<Gain<'a>>,
+    all: &mut NumberLists<Gain<'a>>,
     names: &Names,
     els: &[Element<'a>],
     places: &Places,
@@ -84,7 +84,7 @@ fn add_maker<'a>(
 ) -> Result<(), AllocError>
     requires elements { map element_of els.now ≡ elements (file_in names.now) }
     requires places { ArePlaces places.now (file_in names.now) }
-    ensures { OnOk result ((j : ℕ) → map gain_of (bucket all.new j) ≡ map gain_of (bucket all.old j)
+    ensures { OnOk result ((j : ℕ) → map gain_of (list_for all.new j) ≡ map gain_of (list_for all.old j)
         ++ gains_of (file_in names.now) j target (placed_at (file_in names.now) (Some (maker_view maker)))) }
 {
     if maker.element >= els.len() {
@@ -98,7 +98,7 @@ fn add_maker<'a>(
 /// Adds what the edge of this number assigns.
 fn add_edge<'a>(
     alloc: Global,
-    all: &mut Buckets<Gain<'a>>,
+    all: &mut NumberLists<Gain<'a>>,
     names: &Names,
     el: &Element<'a>,
     places: &Places,
@@ -106,7 +106,7 @@ fn add_edge<'a>(
     edge: usize,
 ) -> Result<(), AllocError>
     requires places { ArePlaces places.now (file_in names.now) }
-    ensures { OnOk result ((j : ℕ) → map gain_of (bucket all.new j) ≡ map gain_of (bucket all.old j)
+    ensures { OnOk result ((j : ℕ) → map gain_of (list_for all.new j) ≡ map gain_of (list_for all.old j)
         ++ gains_of (file_in names.now) j target (slice_get (placed_edges (element_of el.now)) edge)) }
 {
     if let Some(e) = el.automaton.edges.get(edge) {
@@ -136,7 +136,7 @@ fn first_writes(e: &JaniEdge) -> &[JaniWrite]
 /// Adds the assignments to structures among these.
 fn add_writes<'a>(
     alloc: Global,
-    all: &mut Buckets<Gain<'a>>,
+    all: &mut NumberLists<Gain<'a>>,
     names: &Names,
     element: usize,
     places: &Places,
@@ -144,7 +144,7 @@ fn add_writes<'a>(
     writes: &'a [JaniWrite],
 ) -> Result<(), AllocError>
     requires places { ArePlaces places.now (file_in names.now) }
-    ensures { OnOk result ((j : ℕ) → map gain_of (bucket all.new j) ≡ map gain_of (bucket all.old j)
+    ensures { OnOk result ((j : ℕ) → map gain_of (list_for all.new j) ≡ map gain_of (list_for all.old j)
         ++ map (gain_with target element) (filter (λ w. is_at j (structure_number (file_in names.now) element w.target.name)) (map jani.write_of writes.now))) }
 {
     for w in writes {
@@ -156,7 +156,7 @@ fn add_writes<'a>(
 /// Adds an assignment, if it is to a structure.
 fn add_write<'a>(
     alloc: Global,
-    all: &mut Buckets<Gain<'a>>,
+    all: &mut NumberLists<Gain<'a>>,
     names: &Names,
     element: usize,
     places: &Places,
@@ -164,7 +164,7 @@ fn add_write<'a>(
     w: &'a JaniWrite,
 ) -> Result<(), AllocError>
     requires places { ArePlaces places.now (file_in names.now) }
-    ensures { OnOk result ((j : ℕ) → map gain_of (bucket all.new j) ≡ map gain_of (bucket all.old j)
+    ensures { OnOk result ((j : ℕ) → map gain_of (list_for all.new j) ≡ map gain_of (list_for all.old j)
         ++ only_if (is_at j (structure_number (file_in names.now) element w.now.target.name)) (gain_with target element (jani.write_of w.now))) }
 {
     match places.place(element, w.target.name.as_str()) {

@@ -3,15 +3,16 @@
 ghost use Rattle.std.specs.Prelude.{◌≡◌, ◌++◌, List as ListOf, ℕ, map, option_copied, IfOk, OnOk};
 ghost use Rattle.std.specs.List.{filter, flat_map, AllZip};
 ghost use Rattle.jani_tree.specs.Syntax as jani;
-ghost use Rattle.prism_flat.specs.Instance.{only_if};
+ghost use Rattle.process_core.specs.Instance.{only_if};
 ghost use Rattle.jani_meaning.specs.Elements.{is_called};
 ghost use Rattle.name_table.specs.JaniParts.{owned_of};
 ghost use Rattle.prism_translation.specs.Marks.{given_by};
-ghost use Rattle.prism_translator.specs.Code.{element_of, list_under};
-ghost use Rattle.prism_translator.specs.Given.{given_of, given_with, given_in, lists_in, GivesOf, AreGiven};
+ghost use Rattle.gathering.specs.Lists.{list_under};
+ghost use Rattle.prism_translator.specs.Code.{element_of};
+ghost use Rattle.prism_translator.specs.Given.{given_of, given_with, given_in, list_at, lists_in, GivesOf, AreGiven};
 
 use crate::elements::Element;
-use crate::lists::{NameLists, list_of};
+use gathering::NameLists;
 use jani_tree::{JaniLocation, JaniWrite, Je};
 use name_table::OwnedVar;
 use std::alloc::{AllocError, Global};
@@ -59,6 +60,16 @@ impl<'s, 'a> GivenTable<'s, 'a> {
             None => Some(&self.all),
             Some(k) => self.own.get(k),
         }
+    }
+}
+
+/// The list for a name, if there are lists.
+fn list_of<'t, 'a, T: Drop>(lists: Option<&'t NameLists<'a, T>>, name: &str) -> &'t [T]
+    ensures { result.now ≡ list_at (option_copied lists.entry) name.now }
+{
+    match lists {
+        Some(lists) => lists.get(name),
+        None => &[],
     }
 }
 

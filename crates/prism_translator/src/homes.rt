@@ -5,17 +5,18 @@ ghost use Rattle.std.specs.List.{filter};
 ghost use Rattle.jani_meaning.specs.Elements.{is_owner};
 ghost use Rattle.name_table.specs.JaniParts.{owned_of};
 ghost use Rattle.prism_tree.specs.Syntax as prism;
-ghost use Rattle.prism_flat.specs.Instance.{numbered, only_if};
+ghost use Rattle.process_core.specs.Instance.{numbered, only_if};
 ghost use Rattle.prism_translation.specs.Elements.{lasting_variables, shared, at_home, is_at};
 ghost use Rattle.prism_translation.specs.Parts.{variable};
-ghost use Rattle.prism_translator.specs.Code.{file_in, names_in, IsReady, lasting_of, lasting_with, bucket};
+ghost use Rattle.gathering.specs.Lists.{list_for};
+ghost use Rattle.prism_translator.specs.Code.{file_in, names_in, IsReady, lasting_of, lasting_with};
 ghost use Rattle.prism_translator.specs.Homes.{AreWriters, home_by_table, is_adopted};
 
-use crate::lists::Buckets;
 use crate::names::Names;
 use crate::parts::{LastingVar, variable};
 use crate::writers::WriterTable;
 use bridge_io::List;
+use gathering::NumberLists;
 use name_table::OwnedVar;
 use prism_tree::PrismVar;
 use std::alloc::{AllocError, Global};
@@ -93,12 +94,12 @@ pub(crate) fn at_home<'a>(
     names: &Names,
     writers: &WriterTable,
     vars: &[LastingVar<'a>],
-) -> Result<Buckets<LastingVar<'a>>, AllocError>
+) -> Result<NumberLists<LastingVar<'a>>, AllocError>
     requires writers { AreWriters writers.now (file_in names.now) }
     requires vars { map lasting_of vars.now ≡ lasting_variables (file_in names.now) }
-    ensures { IfOk result (λ b. (k : ℕ) → map lasting_of (bucket b k) ≡ at_home (file_in names.now) k) }
+    ensures { IfOk result (λ b. (k : ℕ) → map lasting_of (list_for b k) ≡ at_home (file_in names.now) k) }
 {
-    let mut all = Buckets::new(alloc);
+    let mut all = NumberLists::new(alloc);
     add_own(alloc, &mut all, vars)?;
     add_adopted(alloc, &mut all, writers, vars)?;
     Ok(all)
@@ -107,11 +108,11 @@ pub(crate) fn at_home<'a>(
 /// Adds each element's own variables.
 fn add_own<'a>(
     alloc: Global,
-    all: &mut Buckets<LastingVar<'a>>,
+    all: &mut NumberLists<LastingVar<'a>>,
     vars: &[LastingVar<'a>],
 ) -> Result<(), AllocError>
-    ensures { OnOk result ((k : ℕ) → map lasting_of (bucket all.new k) ≡
-        map lasting_of (bucket all.old k) ++ filter (λ x. is_owner k x.owned.owner) (map lasting_of vars.now)) }
+    ensures { OnOk result ((k : ℕ) → map lasting_of (list_for all.new k) ≡
+        map lasting_of (list_for all.old k) ++ filter (λ x. is_owner k x.owned.owner) (map lasting_of vars.now)) }
 {
     for x in vars {
         add_to(alloc, all, x.owned.owner, x)?;
@@ -122,11 +123,11 @@ fn add_own<'a>(
 /// Adds a variable to an element, if there is one.
 fn add_to<'a>(
     alloc: Global,
-    all: &mut Buckets<LastingVar<'a>>,
+    all: &mut NumberLists<LastingVar<'a>>,
     element: Option<usize>,
     x: &LastingVar<'a>,
 ) -> Result<(), AllocError>
-    ensures { OnOk result ((k : ℕ) → bucket all.new k ≡ bucket all.old k ++ only_if (is_at k element) x.now) }
+    ensures { OnOk result ((k : ℕ) → list_for all.new k ≡ list_for all.old k ++ only_if (is_at k element) x.now) }
 {
     match element {
         Some(k) => all.add(alloc, k, *x),
@@ -137,12 +138,12 @@ fn add_to<'a>(
 /// Adds the global variables to the elements that they are at home with.
 fn add_adopted<'a>(
     alloc: Global,
-    all: &mut Buckets<LastingVar<'a>>,
+    all: &mut NumberLists<LastingVar<'a>>,
     writers: &WriterTable,
     vars: &[LastingVar<'a>],
 ) -> Result<(), AllocError>
-    ensures { OnOk result ((k : ℕ) → map lasting_of (bucket all.new k) ≡
-        map lasting_of (bucket all.old k) ++ filter (is_adopted writers.now k) (map lasting_of vars.now)) }
+    ensures { OnOk result ((k : ℕ) → map lasting_of (list_for all.new k) ≡
+        map lasting_of (list_for all.old k) ++ filter (is_adopted writers.now k) (map lasting_of vars.now)) }
 {
     for x in vars {
         add_to(alloc, all, adopter(writers, x), x)?;

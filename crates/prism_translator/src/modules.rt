@@ -4,20 +4,21 @@ ghost use Rattle.std.specs.Prelude.{◌≡◌, ◌++◌, ℕ, map, IfOk, OnOk};
 ghost use Rattle.std.specs.List.{All};
 ghost use Rattle.prism_tree.specs.Syntax as prism;
 ghost use Rattle.prism_tree.specs.Syntax.{plain};
-ghost use Rattle.prism_flat.specs.Instance.{only_if};
+ghost use Rattle.process_core.specs.Instance.{only_if};
 ghost use Rattle.prism_translation.specs.Elements.{elements, has_several, at_home};
 ghost use Rattle.prism_translation.specs.Parts.{location_variable, variable};
 ghost use Rattle.prism_translation.specs.Modules.{module_of};
 ghost use Rattle.prism_targets.specs.Code.{element_served};
 ghost use Rattle.prism_targets.specs.Serving.{served_in};
-ghost use Rattle.prism_translator.specs.Code.{file_in, names_in, IsReady, element_of, IsElement, HasActions, lasting_of, bucket};
+ghost use Rattle.gathering.specs.Lists.{list_for};
+ghost use Rattle.prism_translator.specs.Code.{file_in, names_in, IsReady, element_of, IsElement, HasActions, lasting_of};
 
 use crate::elements::Element;
-use crate::lists::Buckets;
 use crate::names::{Names, name_at};
 use crate::parts::{LastingVar, counted, made, variable};
 use crate::served::commands;
 use bridge_io::List;
+use gathering::NumberLists;
 use prism_targets::ElementServing;
 use prism_tree::{PlainModule, PrismModule, PrismRange, PrismVar};
 use std::alloc::{AllocError, Global};
@@ -105,14 +106,14 @@ pub(crate) fn modules(
     alloc: Global,
     names: &Names,
     els: &[Element],
-    homes: &Buckets<LastingVar>,
+    homes: &NumberLists<LastingVar>,
     serving: &[ElementServing],
 ) -> Result<List<PrismModule>, AllocError>
     requires names { IsReady names.now }
     requires actions { HasActions names.now }
     requires elements { map element_of els.now ≡ elements (file_in names.now) }
     requires located { All IsElement els.now }
-    requires homes { (k : ℕ) → map lasting_of (bucket homes.now k) ≡ at_home (file_in names.now) k }
+    requires homes { (k : ℕ) → map lasting_of (list_for homes.now k) ≡ at_home (file_in names.now) k }
     requires serving { map element_served serving.now ≡ map (served_in (file_in names.now)) (elements (file_in names.now)) }
     ensures { IfOk result (λ all. map prism.module_of all ≡
         map (λ el. plain (module_of (file_in names.now) (names_in names.now) el)) (elements (file_in names.now))) }

@@ -4,9 +4,9 @@ ghost use Rattle.std.specs.Prelude.{◌≡◌};
 ghost use Rattle.name_table.specs.PrismAsks.{name_at, outside};
 ghost use Rattle.prism_translator.specs.Code.{file_in, value_in, constant_in};
 
-use crate::places::Places;
 use jani_tree::JaniFile;
 use name_table::{Entry, NameMap};
+use prism_targets::Places;
 
 /// The entries of a file by their classes.
 #[derive(Drop)]

@@ -9,9 +9,9 @@ ghost use Rattle.name_table.specs.PrismAsks.{names_by};
 ghost use Rattle.prism_translator.specs.Code.{file_in, names_in, classes_in, IsReady};
 
 use crate::names::{Classes, Names};
-use crate::places::Places;
 use jani_tree::{JaniConst, JaniFile};
 use name_table::{Entry, NameMap, OwnedVar};
+use prism_targets::Places;
 use std::alloc::{AllocError, Global};
 
 /// The entries from a place on.

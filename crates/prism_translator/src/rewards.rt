@@ -3,13 +3,14 @@
 ghost use Rattle.std.specs.Prelude.{◌≡◌, ◌++◌, ◌∷◌, [], ℕ, map, IfOk, OnOk};
 ghost use Rattle.op_trees.specs.Tree.{tree};
 ghost use Rattle.prism_tree.specs.Syntax as prism;
-ghost use Rattle.prism_flat.specs.Instance.{numbered};
+ghost use Rattle.process_core.specs.Instance.{numbered};
 ghost use Rattle.name_table.specs.JaniParts.{owned_of};
 ghost use Rattle.name_table.specs.PrismAsks.{name_at};
 ghost use Rattle.prism_translation.specs.Elements.{elements};
 ghost use Rattle.prism_translation.specs.Targets.{targets};
 ghost use Rattle.prism_translation.specs.Marks.{given_where, state_item, or_nought, structure};
-ghost use Rattle.prism_translator.specs.Code.{file_in, names_in, IsReady, HasActions, bucket};
+ghost use Rattle.gathering.specs.Lists.{list_for};
+ghost use Rattle.prism_translator.specs.Code.{file_in, names_in, IsReady, HasActions};
 ghost use Rattle.prism_translator.specs.Given.{given_of, AreGiven};
 ghost use Rattle.prism_translator.specs.Gains.{gain_of, gain_item, gains_of, structure_by};
 
@@ -17,10 +18,10 @@ use crate::gains::Gain;
 use crate::given::{Given, GivenTable};
 use crate::image::image;
 use crate::labels::given_image;
-use crate::lists::Buckets;
 use crate::names::{Names, name_at};
 use crate::parts::{counted, instead, is_there, made, truth};
 use bridge_io::List;
+use gathering::NumberLists;
 use name_table::OwnedVar;
 use prism_tree::{ItemOn, Pe, PrismItem, PrismRewards};
 use std::alloc::{AllocError, Global};
@@ -134,13 +135,13 @@ pub(crate) fn structures(
     alloc: Global,
     names: &Names,
     table: &GivenTable,
-    gains: &Buckets<Gain>,
+    gains: &NumberLists<Gain>,
     vars: &[OwnedVar],
 ) -> Result<List<PrismRewards>, AllocError>
     requires names { IsReady names.now }
     requires actions { HasActions names.now }
     requires given { AreGiven table.now (elements (file_in names.now)) }
-    requires gains { (j : ℕ) → map gain_of (bucket gains.now j) ≡ numbered (λ i t. gains_of (file_in names.now) j i t.maker) 0 (targets (file_in names.now)) }
+    requires gains { (j : ℕ) → map gain_of (list_for gains.now j) ≡ numbered (λ i t. gains_of (file_in names.now) j i t.maker) 0 (targets (file_in names.now)) }
     ensures { IfOk result (λ all. map prism.rewards_of all ≡
         numbered (λ j o. structure (file_in names.now) (names_in names.now) j o (name_at (names_in names.now).rewards j) ∷ []) 0 (map owned_of vars.now)) }
 {
@@ -155,13 +156,13 @@ fn add_structures(
     all: &mut List<PrismRewards>,
     names: &Names,
     table: &GivenTable,
-    gains: &Buckets<Gain>,
+    gains: &NumberLists<Gain>,
     vars: &[OwnedVar],
 ) -> Result<(), AllocError>
     requires names { IsReady names.now }
     requires actions { HasActions names.now }
     requires given { AreGiven table.now (elements (file_in names.now)) }
-    requires gains { (j : ℕ) → map gain_of (bucket gains.now j) ≡ numbered (λ i t. gains_of (file_in names.now) j i t.maker) 0 (targets (file_in names.now)) }
+    requires gains { (j : ℕ) → map gain_of (list_for gains.now j) ≡ numbered (λ i t. gains_of (file_in names.now) j i t.maker) 0 (targets (file_in names.now)) }
     ensures { OnOk result (map prism.rewards_of all.new ≡ map prism.rewards_of all.old
         ++ numbered (λ j o. structure (file_in names.now) (names_in names.now) j o (name_at (names_in names.now).rewards j) ∷ []) 0 (map owned_of vars.now)) }
 {

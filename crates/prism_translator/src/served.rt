@@ -3,7 +3,7 @@
 ghost use Rattle.std.specs.Prelude.{◌≡◌, ◌++◌, Some, None, map, IfOk, OnOk};
 ghost use Rattle.std.specs.List.{flat_map};
 ghost use Rattle.prism_tree.specs.Syntax as prism;
-ghost use Rattle.prism_flat.specs.Instance.{only_if};
+ghost use Rattle.process_core.specs.Instance.{only_if};
 ghost use Rattle.jani_tree.specs.Syntax as jani;
 ghost use Rattle.name_table.specs.PrismAsks.{name_at};
 ghost use Rattle.prism_translation.specs.Elements.{placed_edges};

@@ -5,10 +5,10 @@ use Rattle.prism_tree.specs.Syntax.{file_of, rewards_of}
 use Rattle.prism_tree.specs.declared.syntax.PrismRewards.{PrismRewards}
 use Rattle.jani_tree.specs.Syntax as jani
 use Rattle.process_core.specs.Ready.{Name}
+use Rattle.gathering.proofs.Loops.{mapped_more}
 use Rattle.jani_translation.specs.Parts.{made}
 use Rattle.jani_translation.specs.Automata.{monitor_edge, for_action, reward_of}
 use Rattle.jani_translation.specs.Code.{names_in}
-use Rattle.jani_translation.proofs.Gathering.{mapped_more}
 use Rattle.jani_translation.proofs.automata.action_edges.Goals as goal
 
 pub loop-a-preserved : goal.loop-a-preserved

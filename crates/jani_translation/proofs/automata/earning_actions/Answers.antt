@@ -4,9 +4,9 @@ use Rattle.std.specs.Borrow.{Bor}
 use Rattle.prism_tree.specs.declared.syntax.PrismRewards.{PrismRewards}
 use Rattle.prism_tree.specs.Syntax.{Rewards, Item, file_of, rewards_of}
 use Rattle.process_core.specs.Ready.{Name}
+use Rattle.gathering.proofs.Loops.{kept_step}
 use Rattle.name_table.specs.Gathered.{is_in}
 use Rattle.jani_translation.specs.Automata.{has_items, for_action}
-use Rattle.jani_translation.proofs.Gathering2.{kept_step}
 use Rattle.jani_translation.proofs.automata.earning_actions.Goals as goal
 
 pub loop-a-preserved : goal.loop-a-preserved

@@ -3,8 +3,8 @@ use Rattle.prism_tree.specs.Syntax.{file_of}
 use Rattle.jani_tree.specs.Syntax as jani
 use Rattle.jani_translation.specs.Automata.{edge}
 use Rattle.jani_translation.specs.Code.{names_in}
-use Rattle.jani_translation.proofs.Gathering.{mapped_more}
 use Rattle.jani_translation.proofs.automata.edges.Goals as goal
+use Rattle.gathering.proofs.Loops.{mapped_more}
 
 pub loop-c-preserved : goal.loop-c-preserved
 loop-c-preserved c =

@@ -1,11 +1,11 @@
 use Rattle.std.proofs.Common.{◌∙◌, ap, map, min, length, refl, List, [], arith}
+use Rattle.gathering.proofs.Loops.{paired_all}
 use Rattle.prism_tree.specs.declared.syntax.PrismModule.{PrismModule}
 use Rattle.jani_tree.specs.Syntax as jani
 use Rattle.name_table.specs.declared.entry.Entry.{Entry}
 use Rattle.name_table.specs.Gathered.{body_in}
 use Rattle.jani_translation.specs.Automata.{module_automata}
 use Rattle.jani_translation.specs.Code.{names_in}
-use Rattle.jani_translation.proofs.Gathering.{paired_all}
 use Rattle.jani_translation.proofs.Monitored.{no_entries}
 use Rattle.jani_translation.proofs.automata.module_automata.Goals as goal
 

@@ -2,7 +2,7 @@ use Rattle.std.proofs.Common.{◌≡◌, ◌++◌, ◌∙◌, ap, ap₂, map, �
 use Rattle.std.specs.Prelude.{Bool}
 use Rattle.std.specs.Borrow.{Bor}
 use Rattle.process_core.specs.Ready.{Name}
-use Rattle.prism_flat.specs.Instance.{only_if}
+use Rattle.process_core.specs.Instance.{only_if}
 use Rattle.prism_tree.specs.Syntax.{file_of}
 use Rattle.jani_tree.specs.Syntax as jani
 use Rattle.jani_translation.specs.Parts.{made}

@@ -1,9 +1,9 @@
 use Rattle.std.specs.Prelude.{◌++◌, ◌∷◌, [], bytes_eq}
 use Rattle.std.proofs.Common.{refl, ◌∙◌, ap}
 use Rattle.std.proofs.lemmas.Map.Text.{hash_map_updates_str}
+use Rattle.gathering.proofs.Lists.{put_back}
 use Rattle.indexmap.specs.IndexMap.{get_by}
 use Rattle.jani_translation.specs.Code.{list_under}
-use Rattle.jani_translation.proofs.Listed.{put_back}
 use Rattle.jani_translation.proofs.lists.add_under.Goals as goal
 
 pub returns-in-Ok : goal.returns-in-Ok

@@ -1,7 +1,7 @@
 use Rattle.std.specs.Prelude.{bytes_eq}
 use Rattle.std.proofs.lemmas.Map.Text.{hash_map_updates_str}
+use Rattle.gathering.proofs.Lists.{taken_out}
 use Rattle.indexmap.specs.IndexMap.{get_by}
-use Rattle.jani_translation.proofs.Listed.{taken_out}
 use Rattle.jani_translation.proofs.lists.take_list.Goals as goal
 
 pub returns-in-Some-clause-rest : goal.returns-in-Some-clause-rest

@@ -1,8 +1,8 @@
 use Rattle.std.specs.Prelude.{Some, false}
 use Rattle.process_core.specs.Ready.{same_label}
+use Rattle.gathering.proofs.Loops.{any_more}
 use Rattle.prism_tree.specs.Syntax.{Command, command_of}
 use Rattle.name_table.specs.Asks.{action_of}
-use Rattle.jani_translation.proofs.Listed.{any_more}
 use Rattle.jani_translation.proofs.partners.command_actions.Goals as goal
 
 pub loop-c-preserved : goal.loop-c-preserved

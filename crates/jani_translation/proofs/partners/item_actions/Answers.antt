@@ -1,11 +1,11 @@
 use Rattle.std.specs.Prelude.{false, List, map, ◌||◌}
 use Rattle.std.specs.List.{list_any}
 use Rattle.std.proofs.Common.{◌∙◌, ap}
+use Rattle.gathering.proofs.Loops.{any_more}
 use Rattle.prism_tree.specs.declared.syntax.PrismItem.{PrismItem}
 use Rattle.prism_tree.specs.Syntax.{Item, Rewards, item_of, rewards_of}
 use Rattle.name_table.specs.Gathered.{is_in}
 use Rattle.jani_translation.specs.Automata.{for_action}
-use Rattle.jani_translation.proofs.Listed.{any_more}
 use Rattle.jani_translation.proofs.partners.item_actions.Goals as goal
 
 pub loop-r-preserved : goal.loop-r-preserved

@@ -2,12 +2,12 @@ use Rattle.std.proofs.Common.{◌∙◌, ap}
 use Rattle.std.specs.List.{list_any}
 use Rattle.std.specs.Prelude.{List, Some}
 use Rattle.process_core.specs.Ready.{same_label}
+use Rattle.gathering.proofs.Loops.{mapped_more}
 use Rattle.prism_tree.specs.Syntax.{Command}
 use Rattle.name_table.specs.Asks.{action_of}
 use Rattle.name_table.specs.Gathered.{body_in, is_in}
 use Rattle.name_table.specs.declared.name_set.NameSet.{NameSet}
 use Rattle.jani_translation.specs.Translated.{has_command}
-use Rattle.jani_translation.proofs.Gathering.{mapped_more}
 use Rattle.jani_translation.proofs.partners.module_actions.Goals as goal
 
 pub loop-m-preserved : goal.loop-m-preserved

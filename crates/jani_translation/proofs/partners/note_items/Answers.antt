@@ -1,8 +1,9 @@
 use Rattle.prism_tree.specs.Syntax.{Item, item_of}
+use Rattle.basics.specs.Booleans.{or_none}
 use Rattle.name_table.specs.Gathered.{is_in}
 use Rattle.jani_translation.specs.Automata.{for_action}
-use Rattle.jani_translation.proofs.Listed.{any_more, or_none}
 use Rattle.jani_translation.proofs.partners.note_items.Goals as goal
+use Rattle.gathering.proofs.Loops.{any_more}
 
 pub loop-i-init : goal.loop-i-init
 loop-i-init c = λ x. or_none (is_in c.args.seen.now x)

@@ -1,11 +1,12 @@
 use Rattle.std.proofs.Common.{arith, refl, map, List}
 use Rattle.std.specs.List.{zip}
+use Rattle.basics.specs.Lists.{zip_none}
+use Rattle.gathering.proofs.Loops.{paired_more, paired_all}
 use Rattle.prism_tree.specs.Syntax as prism
 use Rattle.prism_tree.specs.declared.syntax.PrismRewards.{PrismRewards}
 use Rattle.jani_tree.specs.Syntax as jani
 use Rattle.name_table.specs.declared.entry.Entry.{Entry}
 use Rattle.jani_translation.specs.Parts.{structure}
-use Rattle.jani_translation.proofs.Gathering.{paired_more, paired_all, zip_none}
 use Rattle.jani_translation.proofs.parts.add_structures.Goals as goal
 
 pub loop-i-preserved : goal.loop-i-preserved

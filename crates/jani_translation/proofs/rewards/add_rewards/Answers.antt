@@ -1,13 +1,12 @@
 use Rattle.std.proofs.Common.{arith, refl, map, List, ◌++◌, ◌∙◌, ap, sym}
 use Rattle.std.specs.List.{zip, flat_map}
+use Rattle.gathering.proofs.Loops.{paired_all, paired_flat, flat_zip_none}
 use Rattle.prism_tree.specs.Syntax as prism
 use Rattle.prism_tree.specs.declared.syntax.PrismRewards.{PrismRewards}
 use Rattle.jani_tree.specs.Syntax as jani
 use Rattle.name_table.specs.declared.entry.Entry.{Entry}
 use Rattle.jani_translation.specs.Automata.{reward_of}
 use Rattle.jani_translation.specs.Code.{names_in, wanted_by}
-use Rattle.jani_translation.proofs.Gathering2.{paired_flat, flat_zip_none}
-use Rattle.jani_translation.proofs.Gathering.{paired_all}
 use Rattle.jani_translation.proofs.rewards.add_rewards.Goals as goal
 
 pub loop-i-preserved : goal.loop-i-preserved

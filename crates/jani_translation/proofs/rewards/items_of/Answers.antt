@@ -1,9 +1,9 @@
 use Rattle.std.proofs.Common.{refl}
 use Rattle.std.specs.Borrow.{Bor}
+use Rattle.gathering.proofs.Loops.{kept_step}
 use Rattle.prism_tree.specs.Syntax as prism
 use Rattle.prism_tree.specs.declared.syntax.PrismItem.{PrismItem}
 use Rattle.jani_translation.specs.Code.{wanted_by}
-use Rattle.jani_translation.proofs.Gathering2.{kept_step}
 use Rattle.jani_translation.proofs.rewards.items_of.Goals as goal
 
 pub loop-i-preserved : goal.loop-i-preserved

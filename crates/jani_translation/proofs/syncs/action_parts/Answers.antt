@@ -1,6 +1,6 @@
 use Rattle.std.proofs.Common.{◌∙◌, ap, ap₂, List, ◌++◌, map, Bool, Option}
 use Rattle.bridge_io.specs.declared.reason.Named.{Named}
-use Rattle.prism_flat.specs.Instance.{only_if}
+use Rattle.process_core.specs.Instance.{only_if}
 use Rattle.prism_tree.specs.Syntax.{Body, file_of}
 use Rattle.name_table.specs.Asks.{bodies}
 use Rattle.name_table.specs.Gathered.{is_in}

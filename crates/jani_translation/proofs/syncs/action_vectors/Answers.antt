@@ -1,10 +1,10 @@
 use Rattle.std.proofs.Common.{ℕ, List}
 use Rattle.std.specs.Borrow.{Bor}
+use Rattle.gathering.proofs.Loops.{mapped_more}
 use Rattle.prism_tree.specs.Syntax.{file_of}
 use Rattle.jani_tree.specs.Syntax as jani
 use Rattle.jani_translation.specs.Translated.{action_vector}
 use Rattle.jani_translation.specs.Code.{names_in}
-use Rattle.jani_translation.proofs.Gathering.{mapped_more}
 use Rattle.jani_translation.proofs.syncs.action_vectors.Goals as goal
 
 pub loop-a-preserved : goal.loop-a-preserved

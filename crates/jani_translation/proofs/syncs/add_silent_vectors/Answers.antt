@@ -1,6 +1,6 @@
 use Rattle.std.proofs.Common.{◌∙◌, ap, sym, ℕ, List, ◌++◌, map}
 use Rattle.process_core.specs.Product.{map-map}
-use Rattle.prism_flat.specs.Instance.{numbered, only_if}
+use Rattle.process_core.specs.Instance.{numbered, only_if}
 use Rattle.prism_tree.specs.Syntax.{Body, file_of, module_of}
 use Rattle.jani_tree.specs.Syntax as jani
 use Rattle.name_table.specs.Asks.{contents}

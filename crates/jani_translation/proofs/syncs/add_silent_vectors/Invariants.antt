@@ -1,5 +1,5 @@
 use Rattle.std.proofs.Common.{◌≡◌, ◌++◌, map, drop}
-use Rattle.prism_flat.specs.Instance.{numbered, only_if}
+use Rattle.process_core.specs.Instance.{numbered, only_if}
 use Rattle.prism_tree.specs.Syntax.{file_of}
 use Rattle.jani_tree.specs.Syntax as jani
 use Rattle.name_table.specs.Gathered.{body_in}

@@ -1,6 +1,6 @@
 use Rattle.std.proofs.Common.{◌≡◌, ◌++◌, ◌∷◌, [], map, drop}
 use Rattle.std.specs.Prelude.{nat_eq}
-use Rattle.prism_flat.specs.Instance.{numbered}
+use Rattle.process_core.specs.Instance.{numbered}
 use Rattle.name_table.specs.Gathered.{body_in}
 use Rattle.jani_translation.specs.Automata.{zz_silent}
 use Rattle.jani_translation.specs.Translated.{part_if}

@@ -2,7 +2,7 @@ use Rattle.std.proofs.Common.{◌∙◌, ap, sym, List, ◌∷◌, [], ◌++◌,
 use Rattle.std.specs.Prelude.{nat_eq}
 use Rattle.bridge_io.specs.declared.reason.Named.{Named}
 use Rattle.process_core.specs.Product.{map-map}
-use Rattle.prism_flat.specs.Instance.{numbered}
+use Rattle.process_core.specs.Instance.{numbered}
 use Rattle.prism_tree.specs.Syntax.{module_of}
 use Rattle.name_table.specs.Asks.{contents}
 use Rattle.name_table.specs.Gathered.{body_in}

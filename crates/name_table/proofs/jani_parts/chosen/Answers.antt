@@ -1,12 +1,13 @@
 use Rattle.std.proofs.Common.{◌∙◌, sym, ap, List, ◌++◌, map, Some, None}
 use Rattle.std.specs.Borrow.{Bor}
 use Rattle.std.specs.List.{filter}
-use Rattle.prism_flat.specs.Instance.{numbered}
+use Rattle.process_core.specs.Instance.{numbered}
 use Rattle.jani_tree.specs.declared.syntax.JaniAutomaton.{JaniAutomaton}
 use Rattle.jani_tree.specs.Syntax.{Automaton, automaton_of, file_of, var_of}
 use Rattle.jani_meaning.specs.Elements.{owned_by}
 use Rattle.name_table.specs.JaniParts.{is_wanted}
-use Rattle.name_table.proofs.JaniGathering.{numbered_all as numbered_rest, chosen_are}
+use Rattle.name_table.proofs.JaniGathering.{chosen_are}
+use Rattle.gathering.proofs.Loops.{numbered_all as numbered_rest}
 use Rattle.name_table.proofs.jani_parts.chosen.Goals as goal
 
 pub returns : goal.returns

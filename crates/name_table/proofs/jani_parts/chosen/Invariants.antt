@@ -1,6 +1,6 @@
 use Rattle.std.proofs.Common.{◌≡◌, ◌++◌, Some, None, map, drop}
 use Rattle.std.specs.List.{filter}
-use Rattle.prism_flat.specs.Instance.{numbered}
+use Rattle.process_core.specs.Instance.{numbered}
 use Rattle.jani_tree.specs.Syntax.{automaton_of, var_of}
 use Rattle.jani_meaning.specs.Elements.{owned_by}
 use Rattle.name_table.specs.JaniParts.{owned_of, is_wanted}

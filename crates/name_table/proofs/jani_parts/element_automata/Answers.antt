@@ -2,12 +2,14 @@ use Rattle.std.proofs.Common.{◌≡◌, ◌∙◌, sym, ap, subst, List, map, l
 use Rattle.std.specs.Prelude.{IfOk, unwrap_or, slice_index_or, ◌<◌}
 use Rattle.std.specs.Borrow.{Bor}
 use Rattle.std.specs.List.{find}
+use Rattle.basics.specs.Lists.{map_agree}
+use Rattle.basics.specs.Options.{is_some-map}
 use Rattle.bridge_io.specs.declared.reason.Named.{Named}
 use Rattle.jani_tree.specs.declared.syntax.JaniAutomaton.{JaniAutomaton}
 use Rattle.jani_tree.specs.Syntax.{Automaton, automaton_of, file_of}
 use Rattle.jani_meaning.specs.Elements.{is_called, nothing_called, automaton_called}
 use Rattle.name_table.specs.JaniParts.{under, element_under}
-use Rattle.name_table.proofs.JaniGathering.{element_there, some_of, map_same}
+use Rattle.name_table.proofs.JaniGathering.{element_there}
 use Rattle.name_table.proofs.jani_parts.element_automata.Goals as goal
 
 pub elements_in-requires : goal.elements_in-requires
@@ -18,7 +20,7 @@ elements_in-requires c = λ k d h.
     let F : List Named → Type 0 = λ ns. k < length ns → is_some (under t (slice_index_or ns k d).name) ≡ true in
     let there : F file.elements = λ l.
     let x = (slice_index_or file.elements k d).name in
-    sym (some_of (λ (a : Bor JaniAutomaton). automaton_of a.now) (under t x))
+    sym (is_some-map (λ (a : Bor JaniAutomaton). automaton_of a.now) (under t x))
     ∙ ap is_some (c.in_ok-automata.ensures x ∙ ap (λ (list : List JaniAutomaton). find (λ (a : Automaton). is_called x a.name) (map automaton_of list)) c.as_slice.ensures)
     ∙ element_there file c.requires k d l in
     subst F (sym same) there h
@@ -30,4 +32,4 @@ returns c =
     ap (λ o. unwrap_or o (nothing_called n))
     (c.in_ok-automata.ensures n.name ∙ ap (λ (list : List JaniAutomaton). find (λ (a : Automaton). is_called n.name a.name) (map automaton_of list)) c.as_slice.ensures) in
     let G : List Automaton → Type 0 = λ l. IfOk c.elements_in.result (λ xs. map (λ a. automaton_of a.now) xs.items ≡ l) in
-    subst G (ap (map (element_under c.in_ok-automata.automata)) c.as_slice-2.ensures ∙ map_same (element_under c.in_ok-automata.automata) (automaton_called file) each file.elements) c.elements_in.ensures
+    subst G (ap (map (element_under c.in_ok-automata.automata)) c.as_slice-2.ensures ∙ map_agree (element_under c.in_ok-automata.automata) (automaton_called file) each file.elements) c.elements_in.ensures

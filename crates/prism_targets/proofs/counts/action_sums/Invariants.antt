@@ -6,4 +6,4 @@ use Rattle.prism_targets.specs.Code.{split_view, sum_under}
 use Rattle.prism_targets.proofs.counts.action_sums.Given as goal
 
 abbrev pub invariant-loop-split : goal.invariant-loop-split
-invariant-loop-split l = (x : List ℕ) → sum_under l.sums x ≡ capped (sum_by (weight l.number) (filter (names_split l.number x) (map split_view (take l.split-index l.splits))))
+invariant-loop-split l = (x : List ℕ) → sum_under l.sums x ≡ capped (sum_by (weight l.number) (filter (names_split l.number x) (map (λ s. split_view s.now) (take l.split-index l.splits))))

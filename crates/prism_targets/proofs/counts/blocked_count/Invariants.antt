@@ -7,4 +7,4 @@ use Rattle.prism_targets.specs.Code.{table_view, split_view}
 use Rattle.prism_targets.proofs.counts.blocked_count.Given as goal
 
 abbrev pub invariant-loop-split : goal.invariant-loop-split
-invariant-loop-split l = l.sum ≡ capped (sum_by split_count (filter (blocks_split l.number (table_view l.element)) (map split_view (take l.split-index l.splits))))
+invariant-loop-split l = l.sum ≡ capped (sum_by split_count (filter (blocks_split l.number (table_view l.element)) (map (λ s. split_view s.now) (take l.split-index l.splits))))

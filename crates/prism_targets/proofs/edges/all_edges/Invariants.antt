@@ -1,6 +1,6 @@
 use Rattle.std.proofs.Common.{◌≡◌, [], ◌∷◌, ◌++◌, map, drop}
 use Rattle.jani_tree.specs.Syntax.{automaton_of}
-use Rattle.prism_flat.specs.Instance.{numbered}
+use Rattle.process_core.specs.Instance.{numbered}
 use Rattle.prism_targets.specs.Tables.{table_of}
 use Rattle.prism_targets.specs.Code.{table_view, pays_by}
 use Rattle.prism_targets.proofs.edges.all_edges.Given as goal

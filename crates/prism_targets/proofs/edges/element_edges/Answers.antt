@@ -1,4 +1,4 @@
-use Rattle.std.specs.Prelude.{◌≡◌, [], ◌∷◌, List, map, length, Ok, Err, IfOk, Result, Vec}
+use Rattle.std.specs.Prelude.{◌≡◌, [], ◌∷◌, List, map, Ok, Err, IfOk, Result, Vec}
 use Rattle.std.specs.Global.{Global}
 use Rattle.std.specs.Borrow.{Bor}
 use Rattle.std.specs.declared.alloc.AllocError.{AllocError}
@@ -7,16 +7,17 @@ use Rattle.jani_tree.specs.declared.syntax.JaniAutomaton.{JaniAutomaton}
 use Rattle.jani_tree.specs.Syntax.{File, Automaton, automaton_of}
 use Rattle.jani_meaning.specs.Elements as jani
 use Rattle.jani_meaning.specs.Elements.{Owned, structures}
-use Rattle.prism_flat.specs.Instance.{numbered}
+use Rattle.process_core.specs.Instance.{numbered}
 use Rattle.prism_translation.specs.Elements.{elements}
 use Rattle.prism_targets.specs.declared.edges.ElementEdges.{ElementEdges}
 use Rattle.prism_targets.specs.declared.places.Places.{Places}
 use Rattle.prism_targets.specs.Tables.{table_in, table_of}
-use Rattle.prism_targets.specs.Code.{ArePlaces, table_view, pays_by}
+use Rattle.prism_targets.specs.Places.{ArePlaces}
+use Rattle.prism_targets.specs.Code.{table_view, pays_by}
 use Rattle.prism_targets.proofs.Standing.{tables_are}
 use Rattle.prism_targets.proofs.edges.element_edges.Goals as goal
 
-told : (t : Places) (vars : List Owned) (automata : List (Bor JaniAutomaton)) → ArePlaces t vars (length automata) → (r : Result (Vec ElementEdges Global) AllocError) →
+told : (t : Places) (vars : List Owned) (automata : List (Bor JaniAutomaton)) → ArePlaces t vars → (r : Result (Vec ElementEdges Global) AllocError) →
     IfOk r (λ ts. map table_view ts.items ≡ numbered (λ k (a : Automaton). table_of (pays_by t k) a.edges ∷ []) 0 (map (λ a. automaton_of a.now) automata)) →
     IfOk r (λ ts. (file : File) → vars ≡ structures file → map (λ a. automaton_of a.now) automata ≡ jani.elements file → map table_view ts.items ≡ map (table_in file) (elements file))
 told t vars automata h (Ok ts) e = λ file v a. e ∙ tables_are file t vars automata v h a

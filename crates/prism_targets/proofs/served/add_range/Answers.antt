@@ -1,7 +1,7 @@
 use Rattle.std.specs.Prelude.{◌≡◌, ℕ, List, ◌++◌, ◌∷◌, [], ◌+◌, ◌-◌}
 use Rattle.std.specs.List.{range_with_len}
 use Rattle.std.proofs.Common.{◌∙◌, ap, sym, append_assoc, arith}
-use Rattle.prism_targets.proofs.Listed.{range_more}
+use Rattle.gathering.proofs.Loops.{range_more}
 use Rattle.prism_targets.proofs.served.add_range.Goals as goal
 
 pub loop-number-preserved : goal.loop-number-preserved

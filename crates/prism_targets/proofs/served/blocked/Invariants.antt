@@ -5,4 +5,4 @@ use Rattle.prism_targets.specs.Code.{table_view, row_view}
 use Rattle.prism_targets.proofs.served.blocked.Given as goal
 
 abbrev pub invariant-loop-row : goal.invariant-loop-row
-invariant-loop-row l = l.all.items ≡ flat_map all_numbers (filter (blocks l.element (table_view l.edges)) (map row_view (take l.row-index l.rows)))
+invariant-loop-row l = l.all.items ≡ flat_map all_numbers (filter (blocks l.element (table_view l.edges)) (map (λ r. row_view r.now) (take l.row-index l.rows)))

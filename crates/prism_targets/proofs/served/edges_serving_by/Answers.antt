@@ -1,6 +1,6 @@
 use Rattle.prism_targets.specs.Tables.{edge_serves}
 use Rattle.prism_targets.specs.Code.{ranked_view, edge_served}
-use Rattle.prism_targets.proofs.Listed.{mapped_more}
+use Rattle.gathering.proofs.Loops.{mapped_more}
 use Rattle.prism_targets.proofs.served.edges_serving_by.Goals as goal
 
 pub loop-e-preserved : goal.loop-e-preserved

@@ -1,9 +1,10 @@
 use Rattle.std.proofs.Common.{◌≡◌, ℕ, List, map, take}
 use Rattle.std.specs.List.{filter}
 use Rattle.prism_targets.specs.Tables.{Row, calls, edge_serves}
-use Rattle.prism_targets.specs.Code.{ranked_view, edge_served, list_under, row_view}
+use Rattle.gathering.specs.Lists.{list_under}
+use Rattle.prism_targets.specs.Code.{ranked_view, edge_served, row_view}
 use Rattle.prism_targets.proofs.served.edges_serving_by.Given as goal
 
 abbrev pub invariant-loop-e : goal.invariant-loop-e
-invariant-loop-e l = (rows : List Row) → ((x : List ℕ) → map (λ r. row_view r.now) (list_under l.naming.by_action x) ≡ filter (calls l.element x) rows) →
+invariant-loop-e l = (rows : List Row) → ((x : List ℕ) → map (λ r. row_view r.now) (list_under l.naming x) ≡ filter (calls l.element x) rows) →
     map edge_served l.all.items ≡ map (edge_serves rows l.element l.first) (map ranked_view (take l.e-index l.edges))

@@ -2,7 +2,7 @@ use Rattle.std.specs.Prelude.{map}
 use Rattle.jani_tree.specs.Syntax.{vector_of}
 use Rattle.prism_targets.specs.Tables.{split_from}
 use Rattle.prism_targets.specs.Code.{table_view, split_view}
-use Rattle.prism_targets.proofs.Listed.{mapped_more}
+use Rattle.gathering.proofs.Loops.{mapped_more}
 use Rattle.prism_targets.proofs.splits.all_splits.Goals as goal
 
 pub loop-v-preserved : goal.loop-v-preserved

@@ -6,7 +6,7 @@ use Rattle.jani_tree.specs.declared.syntax.JaniWrite.{JaniWrite}
 use Rattle.jani_tree.specs.Syntax.{Location, automaton_of, location_of, write_of}
 use Rattle.prism_targets.specs.Counts.{is_crowded}
 use Rattle.prism_targets.specs.Code.{usable_in}
-use Rattle.prism_targets.proofs.Listed.{any_left, any_here}
+use Rattle.gathering.proofs.Loops.{any_left, any_here}
 use Rattle.prism_targets.proofs.values.is_crowded.Goals as goal
 
 pub loop-l-preserved : goal.loop-l-preserved

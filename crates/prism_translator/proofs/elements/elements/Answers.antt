@@ -4,9 +4,9 @@ use Rattle.std.specs.Borrow.{Bor}
 use Rattle.std.proofs.lemmas.List.Elements.{All-push}
 use Rattle.jani_tree.specs.declared.syntax.JaniAutomaton.{JaniAutomaton}
 use Rattle.jani_tree.specs.Syntax.{automaton_of}
-use Rattle.prism_flat.specs.Instance.{numbered}
+use Rattle.process_core.specs.Instance.{numbered}
 use Rattle.prism_translation.specs.Elements.{Element}
-use Rattle.prism_translator.proofs.Gathering.{numbered_more, none_left}
+use Rattle.gathering.proofs.Loops.{numbered_more, none_left}
 use Rattle.prism_translator.specs.Code.{element_of, element_with, IsElement}
 use Rattle.prism_translator.proofs.elements.elements.Goals as goal
 

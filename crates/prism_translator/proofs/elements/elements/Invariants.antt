@@ -1,7 +1,7 @@
 use Rattle.std.proofs.Common.{◌≡◌, ◌++◌, map, drop}
 use Rattle.std.specs.List.{All}
 use Rattle.jani_tree.specs.Syntax.{automaton_of}
-use Rattle.prism_flat.specs.Instance.{numbered}
+use Rattle.process_core.specs.Instance.{numbered}
 use Rattle.prism_translator.specs.Code.{element_of, IsElement, element_with}
 use Rattle.prism_translator.proofs.elements.elements.Given as goal
 

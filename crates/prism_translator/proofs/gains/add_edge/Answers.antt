@@ -8,7 +8,8 @@ use Rattle.jani_tree.specs.Syntax.{Write, edge_of}
 use Rattle.jani_meaning.specs.Elements.{structure_number}
 use Rattle.prism_translation.specs.Elements.{Placed, is_at}
 use Rattle.prism_translation.specs.Marks.{first_writes}
-use Rattle.prism_translator.specs.Code.{file_in, element_of, bucket}
+use Rattle.gathering.specs.Lists.{list_for}
+use Rattle.prism_translator.specs.Code.{file_in, element_of}
 use Rattle.prism_translator.specs.Gains.{Gain, gain_of, gain_with, gain_by, gains_of}
 use Rattle.prism_translator.proofs.ByPlaces.{placed_with}
 use Rattle.prism_translator.proofs.GainItems.{edge_there}
@@ -21,7 +22,7 @@ returns-in_ok-add_writes c = λ j.
     let q = λ (w : Write). is_at j (structure_number f k w.target.name) in
     let at = edge_there c.args.el.now c.args.edge ∙ ap (option_map (λ (e : JaniEdge). placed_with (element_of c.args.el.now) c.args.edge (edge_of e))) (sym c.in-Some.ensures) in
     c.in_ok-add_writes.ensures j
-    ∙ ap (λ (l : List Gain). map gain_of (bucket c.args.all.now j) ++ l)
+    ∙ ap (λ (l : List Gain). map gain_of (list_for c.args.all.now j) ++ l)
     (ap (λ (ws : List Write). map (gain_with c.args.target k) (filter q ws)) c.first_writes.ensures
     ∙ sym (map-map (gain_by c.args.target k) (λ (w : Write). w.value) (filter q (first_writes (edge_of c.in-Some.e.now).destinations)))
     ∙ sym (ap (λ (o : Option Placed). gains_of f j c.args.target o) at))
@@ -29,5 +30,5 @@ returns-in_ok-add_writes c = λ j.
 pub returns-in_default : goal.returns-in_default
 returns-in_default c = λ j.
     let at = edge_there c.args.el.now c.args.edge ∙ ap (option_map (λ (e : JaniEdge). placed_with (element_of c.args.el.now) c.args.edge (edge_of e))) (sym c.in_default.ensures) in
-    sym (append-nil (map gain_of (bucket c.args.all.now j)))
-    ∙ ap (λ (o : Option Placed). map gain_of (bucket c.args.all.now j) ++ gains_of (file_in c.args.names.now) j c.args.target o) (sym at)
+    sym (append-nil (map gain_of (list_for c.args.all.now j)))
+    ∙ ap (λ (o : Option Placed). map gain_of (list_for c.args.all.now j) ++ gains_of (file_in c.args.names.now) j c.args.target o) (sym at)

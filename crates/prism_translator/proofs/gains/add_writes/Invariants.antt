@@ -1,15 +1,16 @@
 use Rattle.std.proofs.Common.{◌≡◌, ◌++◌, ℕ, map, take}
 use Rattle.std.specs.List.{flat_map}
-use Rattle.prism_flat.specs.Instance.{only_if}
+use Rattle.process_core.specs.Instance.{only_if}
 use Rattle.jani_tree.specs.Syntax.{write_of}
 use Rattle.jani_meaning.specs.Elements.{structure_number}
 use Rattle.prism_translation.specs.Elements.{is_at}
-use Rattle.prism_translator.specs.Code.{file_in, bucket}
+use Rattle.gathering.specs.Lists.{list_for}
+use Rattle.prism_translator.specs.Code.{file_in}
 use Rattle.prism_translator.specs.Gains.{gain_of, gain_with}
 use Rattle.prism_translator.proofs.gains.add_writes.Given as goal
 
 abbrev pub invariant-loop-w : goal.invariant-loop-w
 invariant-loop-w l =
-    (j : ℕ) → map gain_of (bucket l.all j)
-    ≡ map gain_of (bucket l.initial.all j)
+    (j : ℕ) → map gain_of (list_for l.all j)
+    ≡ map gain_of (list_for l.initial.all j)
     ++ flat_map (λ w. only_if (is_at j (structure_number (file_in l.names) l.element w.target.name)) (gain_with l.target l.element w)) (map write_of (take l.w-index l.writes))

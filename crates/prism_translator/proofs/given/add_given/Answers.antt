@@ -1,11 +1,12 @@
 use Rattle.std.proofs.Common.{◌++◌, ◌∙◌, ap, map, refl, arith, ℕ, List}
 use Rattle.std.specs.List.{filter}
-use Rattle.prism_flat.specs.Instance.{numbered}
+use Rattle.process_core.specs.Instance.{numbered}
 use Rattle.jani_tree.specs.declared.syntax.JaniLocation.{JaniLocation}
 use Rattle.jani_tree.specs.Syntax.{Location, location_of}
 use Rattle.jani_meaning.specs.Elements.{is_called}
-use Rattle.name_table.proofs.JaniGathering.{numbered_step, numbered_all}
-use Rattle.prism_translator.specs.Code.{element_of, list_under}
+use Rattle.gathering.proofs.Loops.{numbered_step, numbered_all}
+use Rattle.gathering.specs.Lists.{list_under}
+use Rattle.prism_translator.specs.Code.{element_of}
 use Rattle.prism_translator.specs.Given.{given_of, given_with}
 use Rattle.prism_translator.proofs.given.add_given.Goals as goal
 

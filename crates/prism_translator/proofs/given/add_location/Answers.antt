@@ -1,11 +1,12 @@
 use Rattle.std.proofs.Common.{◌++◌, ◌∙◌, ap, map, take_all, arith, List}
 use Rattle.std.specs.List.{flat_map}
-use Rattle.prism_flat.specs.Instance.{only_if}
+use Rattle.process_core.specs.Instance.{only_if}
 use Rattle.jani_tree.specs.declared.syntax.JaniWrite.{JaniWrite}
 use Rattle.jani_tree.specs.Syntax.{Write, write_of}
 use Rattle.jani_meaning.specs.Elements.{is_called}
 use Rattle.choice_laws.proofs.Walks.{filter_walk}
-use Rattle.prism_translator.specs.Code.{element_of, list_under}
+use Rattle.gathering.specs.Lists.{list_under}
+use Rattle.prism_translator.specs.Code.{element_of}
 use Rattle.prism_translator.specs.Given.{given_of, given_with}
 use Rattle.prism_translator.proofs.Kept.{walk_more}
 use Rattle.prism_translator.proofs.given.add_location.Goals as goal

@@ -1,9 +1,10 @@
 use Rattle.std.proofs.Common.{◌≡◌, ◌++◌, ℕ, List, map, take}
 use Rattle.std.specs.List.{flat_map}
-use Rattle.prism_flat.specs.Instance.{only_if}
+use Rattle.process_core.specs.Instance.{only_if}
 use Rattle.jani_tree.specs.Syntax.{write_of}
 use Rattle.jani_meaning.specs.Elements.{is_called}
-use Rattle.prism_translator.specs.Code.{element_of, list_under}
+use Rattle.gathering.specs.Lists.{list_under}
+use Rattle.prism_translator.specs.Code.{element_of}
 use Rattle.prism_translator.specs.Given.{given_of, given_with}
 use Rattle.prism_translator.proofs.given.add_location.Given as goal
 

@@ -1,9 +1,9 @@
 use Rattle.std.proofs.Common.{◌++◌, ◌∙◌, ap, ap₂, map, List}
 use Rattle.std.specs.Prelude.{◌&&◌, is_none}
 use Rattle.std.specs.List.{filter}
+use Rattle.std.proofs.lemmas.List.Elements.{filter_agree}
 use Rattle.jani_meaning.specs.Elements.{is_owner}
 use Rattle.prism_translation.specs.Elements.{Lasting, lasting_variables, home, is_at}
-use Rattle.prism_translator.proofs.Kept.{filter_agree}
 use Rattle.prism_translator.specs.declared.parts.LastingVar.{LastingVar}
 use Rattle.prism_translator.specs.Code.{file_in, lasting_of}
 use Rattle.prism_translator.specs.Homes.{is_adopted}

@@ -1,10 +1,10 @@
 use Rattle.std.proofs.Common.{◌∙◌, ap, map, take_all, arith, List}
 use Rattle.std.specs.Prelude.{is_none}
 use Rattle.std.specs.List.{flat_map, filter}
-use Rattle.prism_flat.specs.Instance.{only_if}
+use Rattle.std.proofs.lemmas.List.Elements.{filter_agree}
+use Rattle.process_core.specs.Instance.{only_if}
 use Rattle.prism_translation.specs.Elements.{Lasting, lasting_variables, home}
 use Rattle.prism_translation.specs.Parts.{variable}
-use Rattle.prism_translator.proofs.Kept.{filter_agree}
 use Rattle.prism_translator.specs.declared.parts.LastingVar.{LastingVar}
 use Rattle.prism_translator.specs.Code.{file_in, names_in, lasting_of}
 use Rattle.prism_translator.specs.Homes.{home_by_table}

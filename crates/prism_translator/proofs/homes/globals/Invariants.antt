@@ -1,7 +1,7 @@
 use Rattle.std.proofs.Common.{◌≡◌, map, take}
 use Rattle.std.specs.Prelude.{is_none}
 use Rattle.std.specs.List.{flat_map}
-use Rattle.prism_flat.specs.Instance.{only_if}
+use Rattle.process_core.specs.Instance.{only_if}
 use Rattle.prism_tree.specs.Syntax as prism
 use Rattle.prism_translation.specs.Parts.{variable}
 use Rattle.prism_translator.specs.Code.{file_in, names_in, lasting_of}

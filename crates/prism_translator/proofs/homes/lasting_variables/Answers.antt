@@ -1,8 +1,8 @@
 use Rattle.std.proofs.Common.{◌∷◌, [], map, refl, arith, List}
-use Rattle.prism_flat.specs.Instance.{numbered}
+use Rattle.process_core.specs.Instance.{numbered}
 use Rattle.name_table.specs.declared.jani_parts.OwnedVar.{OwnedVar}
 use Rattle.name_table.specs.JaniParts.{owned_of}
-use Rattle.prism_translator.proofs.Gathering.{numbered_more, none_left}
+use Rattle.gathering.proofs.Loops.{numbered_more, none_left}
 use Rattle.prism_translator.specs.Code.{lasting_of, lasting_with}
 use Rattle.prism_translator.proofs.homes.lasting_variables.Goals as goal
 

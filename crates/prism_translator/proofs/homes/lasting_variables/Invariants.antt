@@ -1,5 +1,5 @@
 use Rattle.std.proofs.Common.{◌≡◌, ◌++◌, map, drop}
-use Rattle.prism_flat.specs.Instance.{numbered}
+use Rattle.process_core.specs.Instance.{numbered}
 use Rattle.name_table.specs.JaniParts.{owned_of}
 use Rattle.prism_translator.specs.Code.{lasting_of, lasting_with}
 use Rattle.prism_translator.proofs.homes.lasting_variables.Given as goal

@@ -1,11 +1,12 @@
 use Rattle.std.proofs.Common.{arith, refl, map, List, ap, sym, ◌∙◌}
 use Rattle.std.specs.List.{zip}
+use Rattle.basics.specs.Lists.{zip_none}
 use Rattle.prism_tree.specs.Syntax as prism
 use Rattle.name_table.specs.declared.entry.Entry.{Entry}
 use Rattle.name_table.specs.declared.jani_parts.OwnedVar.{OwnedVar}
 use Rattle.name_table.specs.JaniParts.{owned_of}
 use Rattle.prism_translation.specs.Marks.{label}
-use Rattle.prism_translator.proofs.Gathering.{paired_more, paired_all, zip_none}
+use Rattle.gathering.proofs.Loops.{paired_more, paired_all}
 use Rattle.prism_translator.specs.Code.{file_in, names_in}
 use Rattle.prism_translator.proofs.labels.labels.Goals as goal
 

@@ -1,5 +1,5 @@
 use Rattle.std.proofs.Common.{◌≡◌, ◌++◌, map, take}
-use Rattle.prism_flat.specs.Instance.{only_if}
+use Rattle.process_core.specs.Instance.{only_if}
 use Rattle.prism_tree.specs.Syntax as prism
 use Rattle.prism_translation.specs.Elements.{has_several}
 use Rattle.prism_translation.specs.Parts.{location_variable, variable}

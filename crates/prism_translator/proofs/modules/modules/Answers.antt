@@ -2,7 +2,7 @@ use Rattle.std.proofs.Common.{◌∙◌, sym, subst, ap, map, take_all, arith, L
 use Rattle.prism_tree.specs.Syntax as prism
 use Rattle.prism_tree.specs.Syntax.{plain}
 use Rattle.std.proofs.lemmas.List.Elements.{All-get_or}
-use Rattle.prism_translator.proofs.Gathering.{mapped_more}
+use Rattle.gathering.proofs.Loops.{mapped_more}
 use Rattle.prism_translation.specs.Elements.{Element}
 use Rattle.prism_translation.specs.Modules.{module_of}
 use Rattle.prism_translator.specs.declared.elements.Element.{Element as CodeElement}

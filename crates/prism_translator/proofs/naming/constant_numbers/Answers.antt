@@ -6,8 +6,8 @@ use Rattle.jani_tree.specs.declared.syntax.JaniConst.{JaniConst}
 use Rattle.jani_tree.specs.Syntax.{const_of}
 use Rattle.jani_meaning.specs.Elements.{is_called}
 use Rattle.name_table.specs.JaniParts.{under}
-use Rattle.prism_translator.specs.Code.{only_then}
-use Rattle.prism_translator.proofs.Numbers.{position_more}
+use Rattle.prism_targets.specs.Places.{only_then}
+use Rattle.prism_targets.proofs.Positions.{position_more}
 use Rattle.prism_translator.proofs.naming.constant_numbers.Goals as goal
 
 pub loop-i-preserved : goal.loop-i-preserved

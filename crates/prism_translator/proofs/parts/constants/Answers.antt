@@ -1,12 +1,13 @@
 use Rattle.std.proofs.Common.{arith, refl, map, List, ap, sym, ◌∙◌}
 use Rattle.std.specs.List.{zip}
+use Rattle.basics.specs.Lists.{zip_none}
 use Rattle.prism_tree.specs.Syntax as prism
 use Rattle.jani_tree.specs.Syntax as jani
 use Rattle.jani_tree.specs.declared.syntax.JaniConst.{JaniConst}
 use Rattle.name_table.specs.declared.entry.Entry.{Entry}
 use Rattle.prism_translation.specs.Parts.{constant}
 use Rattle.prism_translator.specs.Code.{file_in, names_in}
-use Rattle.prism_translator.proofs.Gathering.{paired_more, paired_all, zip_none}
+use Rattle.gathering.proofs.Loops.{paired_more, paired_all}
 use Rattle.prism_translator.proofs.parts.constants.Goals as goal
 
 pub loop-i-preserved : goal.loop-i-preserved

@@ -5,7 +5,7 @@ use Rattle.jani_meaning.specs.Elements.{Owned}
 use Rattle.name_table.specs.JaniParts.{owned_of}
 use Rattle.name_table.specs.PrismAsks.{name_at}
 use Rattle.prism_translation.specs.Marks.{structure}
-use Rattle.prism_translator.proofs.Gathering.{numbered_more}
+use Rattle.gathering.proofs.Loops.{numbered_more}
 use Rattle.prism_translator.specs.Code.{file_in, names_in}
 use Rattle.prism_translator.specs.Given.{given_of}
 use Rattle.prism_translator.specs.Gains.{gain_of}

@@ -1,5 +1,5 @@
 use Rattle.std.proofs.Common.{◌≡◌, ◌++◌, ◌∷◌, [], map, drop}
-use Rattle.prism_flat.specs.Instance.{numbered}
+use Rattle.process_core.specs.Instance.{numbered}
 use Rattle.prism_tree.specs.Syntax as prism
 use Rattle.name_table.specs.JaniParts.{owned_of}
 use Rattle.name_table.specs.PrismAsks.{name_at}

@@ -1,6 +1,6 @@
 use Rattle.std.specs.Prelude.{List, ◌++◌}
 use Rattle.std.proofs.Common.{◌∙◌, ap, sym}
-use Rattle.prism_flat.specs.Instance.{only_if}
+use Rattle.process_core.specs.Instance.{only_if}
 use Rattle.prism_tree.specs.Syntax.{Item, item_of}
 use Rattle.jani_translation.specs.Automata.{for_action}
 use Rattle.jani_translation.proofs.Gathering2.{kept_more}

@@ -1,12 +1,13 @@
 use Rattle.std.specs.Prelude.{List, [], ◌++◌, map, take, if◌then◌else◌}
 use Rattle.std.specs.List.{filter, list_any}
 use Rattle.std.proofs.Common.{◌∙◌, ap, refl, take_all}
+use Rattle.gathering.proofs.Loops.{any_next}
 use Rattle.prism_tree.specs.declared.syntax.PrismItem.{PrismItem}
 use Rattle.prism_tree.specs.Syntax.{Item, item_of}
 use Rattle.jani_translation.specs.Parts.{instead_if}
 use Rattle.jani_translation.specs.Automata.{for_action, sum_to}
 use Rattle.jani_translation.specs.Code.{shared_writes, items_under}
-use Rattle.jani_translation.proofs.Listed.{any_next, left_more, moved_more, moved_all}
+use Rattle.jani_translation.proofs.Listed.{left_more, moved_more, moved_all}
 use Rattle.jani_translation.proofs.shares.Shares.add_structure.Goals as goal
 
 pub loop-i-preserved : goal.loop-i-preserved

@@ -1,11 +1,10 @@
 use Rattle.std.proofs.Common.{arith, refl, map, List}
 use Rattle.std.specs.List.{zip, flat_map}
+use Rattle.gathering.proofs.Loops.{paired_all, paired_flat, flat_zip_none}
 use Rattle.prism_tree.specs.Syntax.{rewards_of}
 use Rattle.prism_tree.specs.declared.syntax.PrismRewards.{PrismRewards}
 use Rattle.name_table.specs.declared.entry.Entry.{Entry}
 use Rattle.jani_translation.specs.Automata.{for_action, reward_of}
-use Rattle.jani_translation.proofs.Gathering2.{paired_flat, flat_zip_none}
-use Rattle.jani_translation.proofs.Gathering.{paired_all}
 use Rattle.jani_translation.proofs.shares.Shares.of.Goals as goal
 
 pub loop-i-preserved : goal.loop-i-preserved

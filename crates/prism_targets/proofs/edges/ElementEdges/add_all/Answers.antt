@@ -6,7 +6,8 @@ use Rattle.jani_tree.specs.declared.syntax.JaniEdge.{JaniEdge}
 use Rattle.jani_tree.specs.declared.syntax.JaniDestination.{JaniDestination}
 use Rattle.jani_tree.specs.Syntax.{Destination, Write, destination_of, edge_of}
 use Rattle.prism_targets.specs.Tables.{table_of}
-use Rattle.prism_targets.specs.Code.{pays_by, place_in}
+use Rattle.prism_targets.specs.Code.{pays_by}
+use Rattle.prism_targets.specs.Places.{place_in}
 use Rattle.prism_targets.proofs.EdgeTables.{table_step}
 use Rattle.prism_targets.proofs.edges.ElementEdges.add_all.Goals as goal
 
