@@ -1,0 +1,14 @@
+pub mod Commas
+pub mod Digits
+pub mod Numbers
+pub mod Ratios
+pub mod Values
+pub mod Items
+pub mod Spelled
+pub mod Quoted
+pub mod Late
+pub mod Faultless
+pub mod Reading
+pub mod Once
+pub mod Printed
+pub mod PlainNames

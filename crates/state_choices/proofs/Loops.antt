@@ -1,0 +1,91 @@
+-- What the loops over ways gather.
+use Rattle.std.proofs.Common.{◌≡◌, List, [], ◌∷◌, map, Bool, Vec, Global, ◌||◌, refl, sym, ap, ◌∙◌}
+use Rattle.std.specs.Borrow.{Bor}
+use Rattle.std.specs.List.{list_any, flat_map, filter}
+use Rattle.std.proofs.lemmas.List.Folds.{list_any-append, flat_map-map}
+use Rattle.std.proofs.lemmas.List.Concat.{flat_map_single}
+use Rattle.basics.specs.Members.{any-map}
+use Rattle.frac_core.specs.Fraction.{Fraction, unit, is_wide}
+use Rattle.process_core.specs.Process.{Branch, Choice}
+use Rattle.process_core.specs.Product.{map-map, flat_map-flat_map, one_of_each}
+use Rattle.process_core.specs.Ready.{Values, Name, Sum}
+use Rattle.process_core.specs.Ready as core
+use Rattle.process_core.specs.Choices.{weight_of, branch_of, choice_of, choices}
+use Rattle.process_core.specs.Bounds.{partial_products, is_wide_rest, is_enabled, has_wide_guard}
+use Rattle.state_choices.specs.declared.data.Update.{Update}
+use Rattle.state_choices.specs.declared.data.Command.{Command}
+use Rattle.state_choices.specs.declared.data.Group.{Group}
+use Rattle.state_choices.specs.Views.{update_of, updates_of, combination_of, participants_of, group_of}
+use Rattle.state_choices.specs.Groups.{of_group, of_groups}
+use Rattle.state_choices.specs.Counted.{may_hold}
+use Rattle.state_choices.proofs.Opened.{enabled_group, wide_enabled, choices_enabled}
+
+abbrev pub wide_updates : List (Bor Update) → Bool
+wide_updates us = list_any is_wide (partial_products unit (map weight_of (updates_of us)))
+
+abbrev pub way_wide : Vec (Bor Update) Global → Bool
+way_wide w = list_any is_wide (partial_products unit (map weight_of (updates_of w.items)))
+
+abbrev pub way_branch : Values → List Sum → Vec (Bor Update) Global → List (Branch Fraction Values)
+way_branch s rewards w = branch_of s rewards (updates_of w.items) ∷ []
+
+abbrev pub participants_wide : Group → Vec (Bor Command) Global → Bool
+participants_wide g w = is_wide_rest (combination_of g w.items)
+
+abbrev pub participants_choice : Values → Group → Vec (Bor Command) Global → List (Choice Name Fraction Values)
+participants_choice s g w = choice_of s (combination_of g w.items)
+
+abbrev pub joined : Group → List core.Ready → core.Combination
+joined g rs = record { label = (group_of g).label; rewards = (group_of g).rewards; participants = rs }
+
+any_flat : {A B : Type 0} (p : B → Bool) (f : A → List B) (xs : List A) → list_any p (flat_map f xs) ≡ list_any (λ x. list_any p (f x)) xs
+any_flat p f [] = refl
+any_flat p f (x ∷ xs) = list_any-append p (f x) (flat_map f xs) ∙ ap (λ b. list_any p (f x) || b) (any_flat p f xs)
+
+pub weights_map : (us : List (Bor Update)) → map weight_of (updates_of us) ≡ map (λ u. weight_of (update_of u.now)) us
+weights_map us = map-map weight_of (λ (u : Bor Update). update_of u.now) us
+
+-- the ways by themselves
+pub wide_ways : (ws : List (Vec (Bor Update) Global)) (all : List (List core.Update)) → map (λ w. updates_of w.items) ws ≡ all →
+    list_any way_wide ws ≡ list_any (λ us. list_any is_wide (partial_products unit (map weight_of us))) all
+wide_ways ws all e =
+    sym (any-map (λ (us : List core.Update). list_any is_wide (partial_products unit (map weight_of us))) (λ (w : Vec (Bor Update) Global). updates_of w.items) ws)
+    ∙ ap (list_any (λ us. list_any is_wide (partial_products unit (map weight_of us)))) e
+
+pub branches_of_ways : (s : Values) (rewards : List Sum) (ws : List (Vec (Bor Update) Global)) (all : List (List core.Update)) → map (λ w. updates_of w.items) ws ≡ all →
+    flat_map (way_branch s rewards) ws ≡ map (branch_of s rewards) all
+branches_of_ways s rewards ws all e =
+    flat_map_single (λ (w : Vec (Bor Update) Global). branch_of s rewards (updates_of w.items)) ws
+    ∙ sym (map-map (branch_of s rewards) (λ (w : Vec (Bor Update) Global). updates_of w.items) ws)
+    ∙ ap (map (branch_of s rewards)) e
+
+-- the combinations by themselves
+module _ (g : Group) (ws : List (Vec (Bor Command) Global)) (e : map (λ w. participants_of w.items) ws ≡ one_of_each (map (filter may_hold) (group_of g).lists)) where
+  are_enabled : map (λ w. combination_of g w.items) ws ≡ filter is_enabled (of_group (group_of g))
+  are_enabled =
+      sym (map-map (joined g) (λ (w : Vec (Bor Command) Global). participants_of w.items) ws)
+      ∙ ap (map (joined g)) e
+      ∙ sym (enabled_group (group_of g))
+
+  pub wide_combinations : list_any (participants_wide g) ws ≡ list_any is_wide_rest (of_group (group_of g))
+  wide_combinations =
+      sym (any-map is_wide_rest (λ (w : Vec (Bor Command) Global). combination_of g w.items) ws)
+      ∙ ap (list_any is_wide_rest) are_enabled
+      ∙ wide_enabled (of_group (group_of g))
+
+  pub choices_of_combinations : (s : Values) → flat_map (participants_choice s g) ws ≡ choices s (of_group (group_of g))
+  choices_of_combinations s =
+      sym (flat_map-map (choice_of s) (λ (w : Vec (Bor Command) Global). combination_of g w.items) ws)
+      ∙ ap (choices s) are_enabled
+      ∙ choices_enabled s (of_group (group_of g))
+
+-- the groups by themselves
+pub wide_groups : (gs : List Group) → list_any (λ g. list_any is_wide_rest (of_group (group_of g))) gs ≡ list_any is_wide_rest (of_groups (map group_of gs))
+wide_groups gs = sym (any_flat is_wide_rest (of_group) (map group_of gs) ∙ any-map (λ g. list_any is_wide_rest (of_group g)) group_of gs)
+
+pub wide_guards : (gs : List Group) → list_any (λ g. list_any has_wide_guard (of_group (group_of g))) gs ≡ list_any has_wide_guard (of_groups (map group_of gs))
+wide_guards gs = sym (any_flat has_wide_guard (of_group) (map group_of gs) ∙ any-map (λ g. list_any has_wide_guard (of_group g)) group_of gs)
+
+pub choices_of_groups : (s : Values) (gs : List Group) → flat_map (λ g. choices s (of_group (group_of g))) gs ≡ choices s (of_groups (map group_of gs))
+choices_of_groups s gs =
+    sym (flat_map-flat_map (choice_of s) of_group (map group_of gs) ∙ flat_map-map (λ g. choices s (of_group g)) group_of gs)

@@ -1,0 +1,160 @@
+//! The branches of a combination.
+ghost use Rattle.std.specs.Prelude.{◌≡◌, map, IfOk};
+ghost use Rattle.std.specs.List.{flat_map, list_any};
+ghost use Rattle.frac_core.specs.Fraction.{is_wide, unit};
+ghost use Rattle.frac_core.specs.Sums.{product};
+ghost use Rattle.process_core.specs.Choices.{weight_of, written, assigned, own_rewards, branch_of, ways};
+ghost use Rattle.process_core.specs.Bounds.{partial_products};
+ghost use Rattle.process_core.specs.Answers.{Answers, only_wide};
+ghost use Rattle.process_core.specs.Seen.{seen_branch};
+ghost use Rattle.state_choices.specs.Views.{participants_of, update_of, updates_of, write_of, reward_of, sum_of};
+
+use crate::data::{Command, Reward, Update, Write};
+use crate::faults::weight_of;
+use crate::product::one_of_each;
+use crate::values::number_of;
+use bridge_io::List;
+use frac_core::Frac;
+use op_trees::{EvalFail, Value};
+use process_core::{Branch, State, StepFail};
+use std::alloc::{AllocError, Global};
+
+/// The branch of each way to take one update from each participant. `Wide` exactly where a partial product is.
+pub(crate) fn branches(
+    alloc: Global,
+    s: &[Value],
+    rewards: &[Result<Frac, EvalFail>],
+    participants: &[&Command],
+) -> Result<List<Branch>, StepFail>
+    ensures { Answers (only_wide (list_any (λ us. list_any is_wide (partial_products unit (map weight_of us))) (ways (participants_of participants.now))))
+        (λ bs. map seen_branch bs ≡ map (branch_of s.now (map sum_of rewards.now)) (ways (participants_of participants.now))) result }
+{
+    let ways = ways(alloc, participants)?;
+    let mut all = List::with_capacity(alloc, ways.len())?;
+    for way in ways.as_slice() {
+        all.push(branch_of(alloc, s, rewards, way.as_slice())?)?;
+    }
+    Ok(all)
+}
+
+/// The ways to take one update from each participant.
+fn ways<'a>(alloc: Global, participants: &[&'a Command]) -> Result<Vec<Vec<&'a Update>>, AllocError>
+    ensures { IfOk result (λ all. map (λ w. updates_of w.items) all.items ≡ ways (participants_of participants.now)) }
+{
+    let mut lists = Vec::new(alloc);
+    for r in participants {
+        lists.push(references(alloc, r.updates.as_slice())?)?;
+    }
+    let all = one_of_each(alloc, lists.as_slice())?;
+    Ok(all)
+}
+
+/// A reference to each update.
+fn references<'a>(alloc: Global, updates: &'a [Update]) -> Result<Vec<&'a Update>, AllocError>
+    ensures { IfOk result (λ all. updates_of all.items ≡ map update_of updates.now) }
+{
+    let mut all = Vec::new(alloc);
+    for update in updates {
+        all.push(update)?;
+    }
+    Ok(all)
+}
+
+/// The branch of one update from each participant: the product of the probabilities, the state after all assignments,
+/// and the rewards.
+fn branch_of(
+    alloc: Global,
+    s: &[Value],
+    rewards: &[Result<Frac, EvalFail>],
+    updates: &[&Update],
+) -> Result<Branch, StepFail>
+    ensures { Answers (only_wide (list_any is_wide (partial_products unit (map weight_of (updates_of updates.now)))))
+        (λ b. seen_branch b ≡ branch_of s.now (map sum_of rewards.now) (updates_of updates.now)) result }
+{
+    let weight = product(updates)?;
+    Ok(Branch {
+        weight,
+        target: State {
+            values: List::from_vec(written(alloc, s, updates)?),
+        },
+        rewards: List::from_vec(earned(alloc, rewards, updates)?),
+    })
+}
+
+/// The product of the probabilities.
+fn product(updates: &[&Update]) -> Result<Frac, StepFail>
+    ensures { Answers (only_wide (list_any is_wide (partial_products unit (map (λ u. weight_of (update_of u.now)) updates.now))))
+        (λ x. x ≡ product (map (λ u. weight_of (update_of u.now)) updates.now)) result }
+{
+    let mut weight = Frac::one();
+    for u in updates {
+        match weight.mul(weight_of(u)) {
+            Ok(more) => weight = more,
+            Err(_) => return Err(StepFail::Wide),
+        }
+    }
+    Ok(weight)
+}
+
+// ---- assignments
+
+/// The state after all assignments of the updates.
+fn written(alloc: Global, s: &[Value], updates: &[&Update]) -> Result<Vec<Value>, AllocError>
+    ensures { IfOk result (λ t. t.items ≡ written s.now (flat_map (λ u. u.writes) (updates_of updates.now))) }
+{
+    let mut values = s.to_vec(alloc)?;
+    for update in updates {
+        values = write(values, update.writes.as_slice());
+    }
+    Ok(values)
+}
+
+/// Makes assignments. Other columns keep their values.
+fn write(mut values: Vec<Value>, writes: &[Write]) -> Vec<Value>
+    ensures { result.items ≡ written values.items (map write_of writes.now) }
+{
+    for w in writes {
+        if w.column < values.len() {
+            values[w.column] = w.value.unwrap_or(Value::Truth(false));
+        }
+    }
+    values
+}
+
+/// The rewards of a combination, and in their places those that updates assign.
+fn earned(
+    alloc: Global,
+    rewards: &[Result<Frac, EvalFail>],
+    updates: &[&Update],
+) -> Result<Vec<Frac>, AllocError>
+    ensures { IfOk result (λ t. t.items ≡ assigned (own_rewards (map sum_of rewards.now)) (flat_map (λ u. u.rewards) (updates_of updates.now))) }
+{
+    let mut earned = own_rewards(alloc, rewards)?;
+    for update in updates {
+        earned = assign(earned, update.rewards.as_slice());
+    }
+    Ok(earned)
+}
+
+/// The rewards that a combination has by itself.
+fn own_rewards(alloc: Global, rewards: &[Result<Frac, EvalFail>]) -> Result<Vec<Frac>, AllocError>
+    ensures { IfOk result (λ own. own.items ≡ own_rewards (map sum_of rewards.now)) }
+{
+    let mut own = Vec::with_capacity(alloc, rewards.len())?;
+    for reward in rewards {
+        own.push(reward.unwrap_or(Frac::zero()))?;
+    }
+    Ok(own)
+}
+
+/// Puts rewards in their places.
+fn assign(mut earned: Vec<Frac>, rewards: &[Reward]) -> Vec<Frac>
+    ensures { result.items ≡ assigned earned.items (map reward_of rewards.now) }
+{
+    for r in rewards {
+        if r.structure < earned.len() {
+            earned[r.structure] = number_of(r.value).unwrap_or(Frac::zero());
+        }
+    }
+    earned
+}
