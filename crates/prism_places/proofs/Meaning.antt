@@ -21,7 +21,7 @@ use Rattle.process_core.specs.Instance.{Valuation, Between, Column, write_to}
 use Rattle.prism_flat.specs.Scene.{constant_called, constant_seen, constant_value, constant_within, constant, constant_names, domain_of, first_of, column, part_columns, columns_of, scene}
 use Rattle.prism_flat.specs.Moment.{Moment, value_in, names_in, place_of, weight_seen, action_of, write_at, update_at, command_at, part_at, adds_of, item_at, moment}
 use Rattle.prism_flat.specs.FlatLaws.{model_alike, meaning_alike}
-use Rattle.prism_places.specs.PlacesLaws.{PlacesMeanNothing, PlacesBoundNothing}
+use Rattle.prism_places.specs.PlacesLaws.{PlacesMeanNothing, PlacesBoundNothing, PlacesKeepScenes, PlacesKeepMoments}
 use Rattle.prism_flat.specs.FlatLaws.{found_after}
 use Rattle.prism_check.proofs.Each.{map_same, flat_map_same}
 use Rattle.prism_places.proofs.Lists.{some_mapped}
@@ -166,3 +166,9 @@ meaning_nothing f g e = model_alike g f (same_scene f g e) (same_moment f g e)
 
 pub bound_nothing : PlacesBoundNothing
 bound_nothing f g e = meaning_alike f g (same_scene g f (sym e)) (same_moment g f (sym e))
+
+pub scenes_kept : PlacesKeepScenes
+scenes_kept f g e = same_scene f g e
+
+pub moments_kept : PlacesKeepMoments
+moments_kept f g e = same_moment f g e

@@ -5,6 +5,10 @@ use Rattle.prism_tree.specs.Syntax.{File}
 use Rattle.prism_names.specs.Flat.{flat}
 use Rattle.prism_print.specs.Printable.{IsPrintable}
 use Rattle.prism_print.specs.Same.{bare_file}
+use Rattle.process_core.specs.Ready.{Values}
+use Rattle.process_core.specs.Instance.{Valuation}
+use Rattle.prism_flat.specs.Scene.{scene}
+use Rattle.prism_flat.specs.Moment.{moment}
 use Rattle.prism_flat.specs.Process.{model}
 use Rattle.prism_flat.specs.Kept.{SameMeaning, IsWrittenOut}
 use Rattle.prism_check.specs.Checked.{IsChecked}
@@ -24,6 +28,13 @@ PlacesMeanNothing = OfSame (λ f g. model f ≡ model g)
 
 abbrev pub PlacesBoundNothing : Type 0
 PlacesBoundNothing = OfSame SameMeaning
+
+-- ---- they come out as the same under each valuation, and at each state
+abbrev pub PlacesKeepScenes : Type 0
+PlacesKeepScenes = OfSame (λ f g. (v : Valuation) → scene f v ≡ scene g v)
+
+abbrev pub PlacesKeepMoments : Type 0
+PlacesKeepMoments = OfSame (λ f g. (v : Valuation) (s : Values) → moment f v s ≡ moment g v s)
 
 -- ---- texts spell both or neither, and both or neither have formulas or copies of modules
 abbrev pub PlacesKeepForm : Type 0

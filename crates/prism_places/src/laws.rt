@@ -1,11 +1,14 @@
 // Laws of files that are the same but for places: functions that do nothing, whose contracts are the laws.
 
-ghost use Rattle.prism_places.specs.PlacesLaws.{CheckedAlike, CleanAlike, CommandsAlike, FaultsAlike, NamesFaultAlike, PlacesBoundNothing, PlacesKeepForm, PlacesKeepWrittenOut, PlacesMeanNothing, PlacesStayAside, SizesFaultAlike, TypesFaultAlike};
+ghost use Rattle.prism_places.specs.PlacesLaws.{CheckedAlike, CleanAlike, CommandsAlike, FaultsAlike, NamesFaultAlike, PlacesBoundNothing, PlacesKeepForm, PlacesKeepMoments, PlacesKeepScenes, PlacesKeepWrittenOut, PlacesMeanNothing, PlacesStayAside, SizesFaultAlike, TypesFaultAlike};
 
-/// Files that are the same but for the places that their trees keep mean the same, and the same passes a bound.
+/// Files that are the same but for the places that their trees keep mean the same, and the same passes a bound: they come
+/// out as the same under each valuation, and at each state.
 pub fn meaning_law()
     ensures process { PlacesMeanNothing }
     ensures meaning { PlacesBoundNothing }
+    ensures scenes { PlacesKeepScenes }
+    ensures moments { PlacesKeepMoments }
 {}
 
 /// Texts spell both or neither of such files, and both or neither have no formula and no copy of a module. Written out they

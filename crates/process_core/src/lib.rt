@@ -19,4 +19,4 @@ pub use laws::{
     often_laws, product_laws,
 };
 pub use merging::{key_of, merged};
-pub use steps::Steps;
+pub use steps::{InitialWide, Steps};

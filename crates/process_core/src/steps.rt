@@ -1,18 +1,23 @@
 // Whatever can be stepped.
 
-ghost use Rattle.std.specs.Prelude.{◌≡◌, ◌<◌, Some, IfOk, IsTrue, length, map, slice_get};
+ghost use Rattle.std.specs.Prelude.{◌≡◌, ◌<◌, Some, Ok, Err, IfOk, IsTrue, length, map, slice_get, if◌then◌else◌};
+ghost use Rattle.std.specs.Option.{option_map};
 ghost use Rattle.process_core.specs.Answers.{Answers, only_wide};
 ghost use Rattle.process_core.specs.Seen.{seen_choice};
-ghost use Rattle.process_core.specs.Steps.{IsProcess, Process};
+ghost use Rattle.process_core.specs.Steps.{IsProcess, Process, values_of};
 
 use crate::data::{Choice, Mark, State, StepFail};
 use bridge_io::{List, Text};
 use std::alloc::{AllocError, Global};
 
+/// The test of whether a state is initial has a value that passes the bound of fractions.
+#[derive(Clone, Copy, Debug, PartialEq, Eq)]
+pub struct InitialWide;
+
 /// A process that can be stepped, a model under given constants. `process` says what it is over unbounded numbers, and
-/// the calls answer by it. Its law: a state has a value for each column and a mark for each name; the first state is the
-/// one that is initial; in each good choice of a state every target is a state, no probability is negative, and the
-/// probabilities add up to 1.
+/// the calls answer by it. Its laws: a state has a value for each column and a mark for each name, labels first; initial
+/// states are states, and a first state is the only one and narrow; in each good choice of a state every target is a state,
+/// no probability is negative, and the probabilities add up to 1.
 pub trait Steps {
     ghost process: { Self → Process };
 
@@ -29,13 +34,13 @@ pub trait Steps {
     fn valid(&self, s: &State) -> bool
         ensures { result ≡ (process self.now).is_state s.now.values };
 
-    /// Whether this is the initial state.
-    fn initial(&self, s: &State) -> bool
-        ensures { result ≡ (process self.now).is_initial s.now.values };
+    /// Whether this is an initial state, or that the test of it is wide.
+    fn initial(&self, s: &State) -> Result<bool, InitialWide>
+        ensures { result ≡ (if (process self.now).has_wide_initial s.now.values then Err (record {}) else Ok ((process self.now).is_initial s.now.values)) };
 
-    /// The initial state.
-    fn first(&self, alloc: Global) -> Result<State, AllocError>
-        ensures { IfOk result (λ s. s.values ≡ (process self.now).first) };
+    /// The one initial state, or none where the model has an initial condition.
+    fn first(&self, alloc: Global) -> Result<Option<State>, AllocError>
+        ensures { IfOk result (λ s. option_map values_of s ≡ (process self.now).first) };
 
     /// The choices of a state, in order: `Wide` or `TooMany` exactly where one of them passes a bound.
     fn choices(&self, alloc: Global, s: &State) -> Result<List<Choice>, StepFail>
@@ -45,6 +50,10 @@ pub trait Steps {
     /// How many marks a state has.
     fn mark_count(&self) -> usize
         ensures { result ≡ length (process self.now).mark_names };
+
+    /// How many of them are labels. These come first; the others are rewards.
+    fn label_count(&self) -> usize
+        ensures { result ≡ (process self.now).labels };
 
     /// The name of a mark.
     fn mark_name(&self, alloc: Global, i: usize) -> Result<Text, AllocError>

@@ -3,7 +3,7 @@
 use bridge_io::{List, Text};
 use frac_core::Frac;
 use op_trees::Value;
-use process_core::{Branch, Choice, Mark, Outcome, State, StepFail, Steps};
+use process_core::{Branch, Choice, InitialWide, Mark, Outcome, State, StepFail, Steps};
 use std::alloc::{AllocError, Global};
 
 /// A switch with one column, `on`, and two marks: the label `lit` and the reward `cost`. Its one choice turns it, with
@@ -29,12 +29,12 @@ impl Steps for Switch {
         position(s).is_some()
     }
 
-    fn initial(&self, s: &State) -> bool {
-        position(s) == Some(false)
+    fn initial(&self, s: &State) -> Result<bool, InitialWide> {
+        Ok(position(s) == Some(false))
     }
 
-    fn first(&self, alloc: Global) -> Result<State, AllocError> {
-        state(alloc, false)
+    fn first(&self, alloc: Global) -> Result<Option<State>, AllocError> {
+        Ok(Some(state(alloc, false)?))
     }
 
     fn choices(&self, alloc: Global, s: &State) -> Result<List<Choice>, StepFail> {
@@ -45,6 +45,10 @@ impl Steps for Switch {
 
     fn mark_count(&self) -> usize {
         2
+    }
+
+    fn label_count(&self) -> usize {
+        1
     }
 
     fn mark_name(&self, alloc: Global, i: usize) -> Result<Text, AllocError> {

@@ -94,12 +94,18 @@ pub fn show_switch(rt: &HostRuntime) -> io::Result<()> {
 }
 
 fn show_first(rt: &HostRuntime) -> io::Result<()> {
-    let first = Switch.first(rt.alloc())?;
-    let (valid, initial) = (Switch.valid(&first), Switch.initial(&first));
+    match Switch.first(rt.alloc())? {
+        Some(first) => show_state(rt, &first),
+        None => println!(rt; "no first state"),
+    }
+}
+
+fn show_state(rt: &HostRuntime, s: &State) -> io::Result<()> {
+    let (valid, initial) = (Switch.valid(s), Switch.initial(s) == Ok(true));
     println!(rt; "valid {valid}, initial {initial}")?;
     if valid {
-        show_marks(rt, &Switch.marks(rt.alloc(), &first))?;
-        show_turned(rt, &Switch.choices(rt.alloc(), &first))?;
+        show_marks(rt, &Switch.marks(rt.alloc(), s))?;
+        show_turned(rt, &Switch.choices(rt.alloc(), s))?;
     }
     Ok(())
 }

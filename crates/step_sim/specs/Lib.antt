@@ -1,0 +1,4 @@
+pub mod Walks
+pub mod Words
+pub mod Paths
+pub mod Laws

@@ -1,0 +1,4 @@
+pub mod Lines
+pub mod Stops
+pub mod Jobs
+pub mod Laws

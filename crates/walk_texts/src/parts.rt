@@ -1,0 +1,79 @@
+// The parts of lines.
+
+ghost use Rattle.std.specs.Prelude.{◌≡◌, ◌++◌, OnOk, decimal};
+ghost use Rattle.process_core.specs.Seen.{seen_kinds};
+ghost use Rattle.process_texts.specs.Texts.{fraction_text, name_text, state_text};
+ghost use Rattle.walk_texts.specs.Lines.{kinds_text, label_text};
+
+use bridge_io::Text;
+use frac_core::Frac;
+use itoa::Buffer;
+use process_core::{Bad, State};
+use process_texts::{name_text, state_text};
+use std::alloc::{AllocError, Global};
+
+/// Writes a number.
+pub(crate) fn push_number(out: &mut Vec<u8>, n: usize) -> Result<(), AllocError>
+    ensures { OnOk result (out.new.items ≡ out.old.items ++ decimal n) }
+{
+    out.extend_from_slice(Buffer::new().format(n).as_bytes())
+}
+
+/// Writes a fraction.
+pub(crate) fn push_fraction(out: &mut Vec<u8>, x: Frac) -> Result<(), AllocError>
+    ensures { OnOk result (out.new.items ≡ out.old.items ++ fraction_text x) }
+{
+    let mut buffer = Buffer::new();
+    out.extend_from_slice(buffer.format(x.num()).as_bytes())?;
+    if x.den() != 1 {
+        out.extend_from_slice(b"/")?;
+        out.extend_from_slice(buffer.format(x.den()).as_bytes())?;
+    }
+    Ok(())
+}
+
+/// Writes a state.
+pub(crate) fn push_state(alloc: Global, out: &mut Vec<u8>, s: &State) -> Result<(), AllocError>
+    ensures { OnOk result (out.new.items ≡ out.old.items ++ state_text s.now.values) }
+{
+    let text = state_text(alloc, s)?;
+    out.extend_from_slice(text.as_str().as_bytes())
+}
+
+/// Writes a name.
+pub(crate) fn push_name(alloc: Global, out: &mut Vec<u8>, name: &str) -> Result<(), AllocError>
+    ensures { OnOk result (out.new.items ≡ out.old.items ++ name_text name.now) }
+{
+    let text = name_text(alloc, name)?;
+    out.extend_from_slice(text.as_str().as_bytes())
+}
+
+/// Writes a label, or that it is missing.
+pub(crate) fn push_label(
+    alloc: Global,
+    out: &mut Vec<u8>,
+    label: &Option<Text>,
+) -> Result<(), AllocError>
+    ensures { OnOk result (out.new.items ≡ out.old.items ++ label_text label.now) }
+{
+    match label {
+        Some(name) => push_name(alloc, out, name.as_str()),
+        None => out.extend_from_slice(b"-"),
+    }
+}
+
+/// The kinds of faults, with commas between them.
+pub(crate) fn kinds_text(bad: Bad) -> &'static str
+    ensures { result.now ≡ kinds_text (seen_kinds bad) }
+{
+    match (bad.undef, bad.range, bad.weight) {
+        (false, false, false) => "",
+        (false, false, true) => "weight",
+        (false, true, false) => "range",
+        (false, true, true) => "range,weight",
+        (true, false, false) => "undef",
+        (true, false, true) => "undef,weight",
+        (true, true, false) => "undef,range",
+        (true, true, true) => "undef,range,weight",
+    }
+}
