@@ -1,0 +1,185 @@
+-- Words ask for one thing at most.
+use Rattle.std.proofs.Common.{arith, ◌≡◌, ◌≢◌, ◌∙◌, sym, ap, ap₂, subst, ℕ, ◌^◌, ◌<◌, true, false, List, [], ◌∷◌, ◌++◌, map, length, Option, Some, None, refl, codes, append-nil}
+use Rattle.std.specs.Fmt.{decimal}
+use Rattle.std.specs.Prelude.{◌||◌}
+use Rattle.std.specs.List.{AllZip, AllByRecursion}
+use Rattle.std.proofs.lemmas.Fmt.{decimal_injective}
+use Rattle.op_trees.specs.declared.tree.Value.{Value}
+use Rattle.process_texts.specs.Given.{Answers, IsValue, is_wide_value}
+use Rattle.process_texts.specs.Laws.{OneValueText}
+use Rattle.process_texts.specs.declared.given.GivenText.{GivenText}
+use Rattle.process_texts.specs.declared.given.GivenText.TheVariants.{Good, Past, NoForm}
+use Rattle.command_words.specs.Numbers.{IsSmall, numbers_of, pairs_text}
+use Rattle.command_words.specs.Given.{Assignment, IsAssignment, IsGivenText}
+use Rattle.command_words.specs.Words.{Job, showing, along, seeded, Walking, on_file, walk, verb_of, lang_word, from_words, job_verb, job_words, IsJob, IsWalk, OneRequest, WordsCount}
+use Rattle.command_words.specs.declared.request.Lang.{Lang}
+use Rattle.command_words.specs.declared.request.Lang.TheVariants.{Prism, Jani}
+use Rattle.command_words.specs.declared.request.Task.{Task}
+use Rattle.command_words.specs.declared.request.Task.TheVariants.{ToJani, ToPrism, CheckPrism, CheckJani}
+use Rattle.command_words.proofs.Pairs.{partition_of, no_comma_in}
+use Rattle.command_words.proofs.Assignments.{one_split}
+use Rattle.command_words.proofs.Forms.{differ}
+use Rattle.command_words.proofs.Requests.{heads, tails, length-front}
+
+-- ---- numbers
+same_number : (m n : ℕ) → m < 2 ^ 32 → n < 2 ^ 32 → decimal m ≡ decimal n → m ≡ n
+same_number m n a b e = decimal_injective m n (let c : m < 2 ^ 64 = omega (arith, a) in c) (let c : n < 2 ^ 64 = omega (arith, b) in c) e
+
+same_pairs : (ps qs : List (ℕ × ℕ)) → ps ≢ [] → qs ≢ [] → AllByRecursion IsSmall ps → AllByRecursion IsSmall qs → pairs_text ps ≡ pairs_text qs → ps ≡ qs
+same_pairs [] qs a b h k e = absurd (a refl)
+same_pairs (p ∷ ps) [] a b h k e = absurd (b refl)
+same_pairs (p ∷ []) (q ∷ qs) a b h k e =
+    let rest = map decimal (numbers_of qs) in
+    let r = partition_of (pairs_text (p ∷ [])) (decimal p.0) (Some (decimal p.1 ++ [])) (decimal q.0) (decimal q.1 ∷ rest) (refl, no_comma_in p.0 h.0.0) (no_comma_in q.0 k.0.0) e in
+    let s = partition_of (decimal p.1 ++ []) (decimal p.1) None (decimal q.1) rest (append-nil (decimal p.1), no_comma_in p.1 h.0.1) (no_comma_in q.1 k.0.1) r.1.1 in
+    by_rest qs s.1 (same_number p.0 q.0 h.0.0 k.0.0 r.0) (same_number p.1 q.1 h.0.1 k.0.1 s.0)
+  where
+    by_rest : (qs : List (ℕ × ℕ)) → map decimal (numbers_of qs) ≡ [] → p.0 ≡ q.0 → p.1 ≡ q.1 → p ∷ [] ≡ q ∷ qs
+    by_rest [] z f g = ap₂ (λ a b. (a, b) ∷ []) f g
+    by_rest (x ∷ xs) z f g = absurd cc
+same_pairs (p ∷ t ∷ ps) (q ∷ qs) a b h k e =
+    let rest = map decimal (numbers_of qs) in
+    let more = pairs_text (t ∷ ps) in
+    let r = partition_of (pairs_text (p ∷ t ∷ ps)) (decimal p.0) (Some (decimal p.1 ++ 44 ∷ more)) (decimal q.0) (decimal q.1 ∷ rest) (refl, no_comma_in p.0 h.0.0) (no_comma_in q.0 k.0.0) e in
+    let s = partition_of (decimal p.1 ++ 44 ∷ more) (decimal p.1) (Some more) (decimal q.1) rest (refl, no_comma_in p.1 h.0.1) (no_comma_in q.1 k.0.1) r.1.1 in
+    let u : t ∷ ps ≡ qs = same_pairs (t ∷ ps) qs (λ z. cc) (λ z. s.1.0 (ap (λ xs. map decimal (numbers_of xs)) z)) h.1 k.1 s.1.1 in
+    ap₂ (λ x y. x ∷ y) (ap₂ (λ x y. (x, y)) (same_number p.0 q.0 h.0.0 k.0.0 r.0) (same_number p.1 q.1 h.0.1 k.0.1 s.0)) u
+
+-- ---- values
+module _ (one : OneValueText) where
+  not_past : (w : List ℕ) (v : Value) → Answers (IsValue w) (Good v) → Answers (IsValue w) Past → ⊥
+  not_past w v h k =
+      let e = one w v k.0 false k.1 h.0 k.2 in
+      let z : false ≡ true = sym (ap₂ (λ a b. a || b) h.1 refl) ∙ ap₂ (λ u b. is_wide_value u || b) e.0 e.1 ∙ k.3 in cc
+
+  same_value : (w : List ℕ) (g h : GivenText) → IsGivenText w g → IsGivenText w h → g ≡ h
+  same_value w (Good v) (Good u) a b = ap Good (one w v u false false a.0 b.0).0
+  same_value w (Good v) Past a b = absurd (not_past w v a b)
+  same_value w (Good v) NoForm a b = absurd b
+  same_value w Past (Good u) a b = absurd (not_past w u b a)
+  same_value w Past Past a b = refl
+  same_value w Past NoForm a b = absurd b
+  same_value w NoForm h a b = absurd a
+
+  same_assignment : (w : List ℕ) (a b : Assignment) → IsAssignment w a → IsAssignment w b → a ≡ b
+  same_assignment w a b h k =
+      let s = one_split w a b h k in
+      let f : a.value ≡ b.value = same_value k.text a.value b.value (subst (λ t. IsGivenText t a.value) s.1 h.value) k.value in
+      ap₂ (λ x y. record { name = x; value = y }) s.0 f
+
+  same_given : (ws : List (List ℕ)) (gs hs : List Assignment) → AllZip IsAssignment ws gs → AllZip IsAssignment ws hs → gs ≡ hs
+  same_given [] [] [] h k = refl
+  same_given [] [] (b ∷ hs) h k = absurd k
+  same_given [] (a ∷ gs) hs h k = absurd h
+  same_given (w ∷ ws) [] hs h k = absurd h
+  same_given (w ∷ ws) (a ∷ gs) [] h k = absurd k
+  same_given (w ∷ ws) (a ∷ gs) (b ∷ hs) h k = ap₂ (λ x xs. x ∷ xs) (same_assignment w a b h.0 k.0) (same_given ws gs hs h.1 k.1)
+
+-- ---- jobs
+same_lang : (l m : Lang) → lang_word l ≡ lang_word m → l ≡ m
+same_lang Prism Prism e = refl
+same_lang Prism Jani e = absurd (differ _ _ refl e)
+same_lang Jani Prism e = absurd (differ _ _ refl e)
+same_lang Jani Jani e = refl
+
+-- what may stand before `given` or `seed`
+same_from : (f g : Option (List ℕ)) (a b : List ℕ) (xs ys : List (List ℕ)) → a ≢ codes "from" → b ≢ codes "from" → from_words f ++ a ∷ xs ≡ from_words g ++ b ∷ ys → (f ≡ g) × (a ∷ xs ≡ b ∷ ys)
+same_from None None a b xs ys p q e = (refl, e)
+same_from None (Some s) a b xs ys p q e = absurd (p (heads _ _ _ _ e))
+same_from (Some s) None a b xs ys p q e = absurd (q (sym (heads _ _ _ _ e)))
+same_from (Some s) (Some t) a b xs ys p q e = (ap Some (heads _ _ _ _ (tails _ _ _ _ e)), tails _ _ _ _ (tails _ _ _ _ e))
+
+along_words : (f : Option (List ℕ)) (ps : List (ℕ × ℕ)) (rest : List (List ℕ)) → job_words (along f ps) ++ rest ≡ from_words f ++ codes "given" ∷ pairs_text ps ∷ rest
+along_words None ps rest = refl
+along_words (Some s) ps rest = refl
+
+seeded_words : (f : Option (List ℕ)) (n k : ℕ) (rest : List (List ℕ)) → job_words (seeded f n k) ++ rest ≡ from_words f ++ codes "seed" ∷ decimal n ∷ decimal k ∷ rest
+seeded_words None n k rest = refl
+seeded_words (Some s) n k rest = refl
+
+same_job : (i j : Job) (xs ys : List (List ℕ)) → IsJob i → IsJob j → job_verb i ≡ job_verb j → job_words i ++ xs ≡ job_words j ++ ys → (i ≡ j) × (xs ≡ ys)
+same_job (showing s) (showing t) xs ys a b v e = (ap showing (heads _ _ _ _ e), tails _ _ _ _ e)
+same_job (showing s) (along f ps) xs ys a b v e = absurd (differ _ _ refl v)
+same_job (showing s) (seeded f n k) xs ys a b v e = absurd (differ _ _ refl v)
+same_job (along f ps) (showing t) xs ys a b v e = absurd (differ _ _ refl v)
+same_job (seeded f n k) (showing t) xs ys a b v e = absurd (differ _ _ refl v)
+same_job (along f ps) (along g qs) xs ys a b v e =
+    let r = same_from f g _ _ _ _ (differ (codes "given") _ refl) (differ (codes "given") _ refl) (sym (along_words f ps xs) ∙ e ∙ along_words g qs ys) in
+    let t = tails _ _ _ _ r.1 in
+    (ap₂ along r.0 (same_pairs ps qs a.1 b.1 a.2 b.2 (heads _ _ _ _ t)), tails _ _ _ _ t)
+same_job (along f ps) (seeded g n k) xs ys a b v e =
+    let r = same_from f g _ _ _ _ (differ (codes "given") _ refl) (differ (codes "seed") _ refl) (sym (along_words f ps xs) ∙ e ∙ seeded_words g n k ys) in
+    absurd (differ _ _ refl (heads _ _ _ _ r.1))
+same_job (seeded f n k) (along g qs) xs ys a b v e =
+    let r = same_from f g _ _ _ _ (differ (codes "seed") _ refl) (differ (codes "given") _ refl) (sym (seeded_words f n k xs) ∙ e ∙ along_words g qs ys) in
+    absurd (differ _ _ refl (heads _ _ _ _ r.1))
+same_job (seeded f n k) (seeded g m l) xs ys a b v e =
+    let r = same_from f g _ _ _ _ (differ (codes "seed") _ refl) (differ (codes "seed") _ refl) (sym (seeded_words f n k xs) ∙ e ∙ seeded_words g m l ys) in
+    let t = tails _ _ _ _ r.1 in
+    let u = tails _ _ _ _ t in
+    let x : n ≡ m = decimal_injective n m a.1 b.1 (heads _ _ _ _ t) in
+    let y : k ≡ l = decimal_injective k l (let c : k < 2 ^ 64 = omega (arith, a.2) in c) (let c : l < 2 ^ 64 = omega (arith, b.2) in c) (heads _ _ _ _ u) in
+    (ap₂ (λ o p. seeded o p k) r.0 x ∙ ap (λ p. seeded g m p) y, tails _ _ _ _ u)
+
+-- ---- requests
+same_task : (s t : Task) (f g : List ℕ) → verb_of s ++ f ∷ [] ≡ verb_of t ++ g ∷ [] → (s ≡ t) × (f ≡ g)
+same_task ToJani ToJani f g e = (refl, heads _ _ _ _ (tails _ _ _ _ e))
+same_task ToJani ToPrism f g e = absurd (differ _ _ refl (heads _ _ _ _ e))
+same_task ToJani CheckPrism f g e = absurd (differ _ _ refl (heads _ _ _ _ e))
+same_task ToJani CheckJani f g e = absurd (differ _ _ refl (heads _ _ _ _ e))
+same_task ToPrism ToJani f g e = absurd (differ _ _ refl (heads _ _ _ _ e))
+same_task ToPrism ToPrism f g e = (refl, heads _ _ _ _ (tails _ _ _ _ e))
+same_task ToPrism CheckPrism f g e = absurd (differ _ _ refl (heads _ _ _ _ e))
+same_task ToPrism CheckJani f g e = absurd (differ _ _ refl (heads _ _ _ _ e))
+same_task CheckPrism ToJani f g e = absurd (differ _ _ refl (heads _ _ _ _ e))
+same_task CheckPrism ToPrism f g e = absurd (differ _ _ refl (heads _ _ _ _ e))
+same_task CheckPrism CheckPrism f g e = (refl, heads _ _ _ _ (tails _ _ _ _ (tails _ _ _ _ e)))
+same_task CheckPrism CheckJani f g e = absurd (differ _ _ refl (heads _ _ _ _ (tails _ _ _ _ e)))
+same_task CheckJani ToJani f g e = absurd (differ _ _ refl (heads _ _ _ _ e))
+same_task CheckJani ToPrism f g e = absurd (differ _ _ refl (heads _ _ _ _ e))
+same_task CheckJani CheckPrism f g e = absurd (differ _ _ refl (heads _ _ _ _ (tails _ _ _ _ e)))
+same_task CheckJani CheckJani f g e = (refl, heads _ _ _ _ (tails _ _ _ _ (tails _ _ _ _ e)))
+
+not_both : (words : List (List ℕ)) (t : Task) (f : List ℕ) (w : Walking) → words ≡ verb_of t ++ f ∷ [] → IsWalk words w → ⊥
+not_both words t f w e h = by_task t (sym e ∙ h.words_are)
+  where
+    by_verb : (v : List ℕ) (vs us : List (List ℕ)) (j : Job) → v ≢ codes "show" → v ≢ codes "simulate" → v ∷ vs ≡ job_verb j ∷ us → ⊥
+    by_verb v vs us (showing s) a b z = a (heads _ _ _ _ z)
+    by_verb v vs us (along g ps) a b z = b (heads _ _ _ _ z)
+    by_verb v vs us (seeded g n k) a b z = b (heads _ _ _ _ z)
+
+    by_task : (t : Task) → verb_of t ++ f ∷ [] ≡ job_verb w.job ∷ lang_word w.lang ∷ w.file ∷ (job_words w.job ++ h.rest) → ⊥
+    by_task ToJani z = by_verb _ _ _ w.job (differ _ _ refl) (differ _ _ refl) z
+    by_task ToPrism z = by_verb _ _ _ w.job (differ _ _ refl) (differ _ _ refl) z
+    by_task CheckPrism z = by_verb _ _ _ w.job (differ _ _ refl) (differ _ _ refl) z
+    by_task CheckJani z = by_verb _ _ _ w.job (differ _ _ refl) (differ _ _ refl) z
+
+same_walking : (l m : Lang) (f g : List ℕ) (i j : Job) (xs ys : List Assignment) → l ≡ m → f ≡ g → i ≡ j → xs ≡ ys
+    → ◌≡◌ {A = Walking} (record { lang = l; file = f; job = i; given = xs }) (record { lang = m; file = g; job = j; given = ys })
+same_walking l m f g i j xs ys a b c d = cc
+
+pub one_request : OneValueText → OneRequest
+one_request one words (on_file s f) (on_file t g) h k = let e = same_task s t f g (sym h.1 ∙ k.1) in ap₂ on_file e.0 e.1
+one_request one words (on_file s f) (walk w) h k = absurd (not_both words s f w h.1 k)
+one_request one words (walk w) (on_file t g) h k = absurd (not_both words t g w k.1 h)
+one_request one words (walk w) (walk v) h k =
+    let e = sym h.words_are ∙ k.words_are in
+    let e1 = tails _ _ _ _ e in
+    let e2 = tails _ _ _ _ e1 in
+    let e3 = tails _ _ _ _ e2 in
+    let j = same_job w.job v.job h.rest k.rest h.job k.job (heads _ _ _ _ e) e3 in
+    ap walk (same_walking w.lang v.lang w.file v.file w.job v.job w.given v.given (same_lang w.lang v.lang (heads _ _ _ _ e1)) (heads _ _ _ _ e2) j.0
+    (same_given one h.rest w.given v.given h.given.are (subst (λ ws. AllZip IsAssignment ws v.given) (sym j.1) k.given.are)))
+
+-- ---- their number
+length-zip : (ws : List (List ℕ)) (gs : List Assignment) → AllZip IsAssignment ws gs → length ws ≡ length gs
+length-zip [] [] h = refl
+length-zip [] (g ∷ gs) h = absurd h
+length-zip (w ∷ ws) [] h = absurd h
+length-zip (w ∷ ws) (g ∷ gs) h = let e = length-zip ws gs h.1 in omega arith
+
+pub words_count : WordsCount
+words_count words w h =
+    let a = length-front words (job_verb w.job) (lang_word w.lang) w.file w.job h.rest h.words_are in
+    let b = length-zip h.rest w.given h.given.are in
+    omega (arith, a, b)

@@ -1,0 +1,304 @@
+-- Words of all forms, and where words leave them.
+use Rattle.std.proofs.Common.{arith, ◌≡◌, ◌≢◌, ◌⊎◌, ◌∙◌, sym, ap, ap₂, subst, ℕ, ◌+◌, ◌^◌, ◌<◌, ◌≤◌, List, [], ◌∷◌, ◌++◌, length, Option, Some, None, inl, inr, refl, codes, append_assoc}
+use Rattle.std.specs.Fmt.{decimal}
+use Rattle.std.specs.List.{AllByRecursion}
+use Rattle.command_words.specs.Numbers.{IsSmall, pairs_text}
+use Rattle.command_words.specs.Given.{Assignment, HasGiven, AreGiven}
+use Rattle.command_words.specs.Words.{Begins, IsWrong, Job, showing, along, seeded, Walking, on_file, walk, HasFileWord, verb_of, lang_word, IsStateWord, IsFrom, from_words, job_verb, job_words, IsJob, IsWalk, HasForm, job_count}
+use Rattle.command_words.specs.Fronts.{One, IsFileName, IsPairsWord, IsSeedWord, IsStepsWord, GivenForm, SeedForm, WayForm, WalkForm, StateForm, HeadForm}
+use Rattle.command_words.specs.declared.request.Lang.{Lang}
+use Rattle.command_words.specs.declared.request.Task.{Task}
+use Rattle.command_words.specs.declared.request.Task.TheVariants.{ToJani, ToPrism, CheckPrism, CheckJani}
+use Rattle.command_words.proofs.Wrong.{wrong_end, wrong_first, wrong_behind, wrong_next, one_next}
+use Rattle.command_words.proofs.Forms.{differ, way_given, way_seed, walk_from, walk_way, behind_head, state_begins, walk_begins}
+
+pub heads : (x y : List ℕ) (xs ys : List (List ℕ)) → x ∷ xs ≡ y ∷ ys → x ≡ y
+heads x y xs ys e = cc
+
+pub tails : (x y : List ℕ) (xs ys : List (List ℕ)) → x ∷ xs ≡ y ∷ ys → xs ≡ ys
+tails x y xs ys e = cc
+
+-- ---- first words
+pub not_walk : (v : List ℕ) (vs : List (List ℕ)) (w : Walking) → v ≢ codes "show" → v ≢ codes "simulate" → IsWalk (v ∷ vs) w → ⊥
+not_walk v vs w a b h = by_job w.job (heads _ _ _ _ h.words_are)
+  where
+    by_job : (j : Job) → v ≡ job_verb j → ⊥
+    by_job (showing s) e = a e
+    by_job (along f ps) e = b e
+    by_job (seeded f n k) e = b e
+
+pub not_task : (v : List ℕ) (vs : List (List ℕ)) (task : Task) (name : List ℕ) → v ≢ codes "to-jani" → v ≢ codes "to-prism" → v ≢ codes "check" → v ∷ vs ≡ verb_of task ++ name ∷ [] → ⊥
+not_task v vs ToJani name a b c e = a (heads _ _ _ _ e)
+not_task v vs ToPrism name a b c e = b (heads _ _ _ _ e)
+not_task v vs CheckPrism name a b c e = c (heads _ _ _ _ e)
+not_task v vs CheckJani name a b c e = c (heads _ _ _ _ e)
+
+-- ---- the file's word
+some_name : HasFileWord ((102 ∷ []) ∷ [])
+some_name = (102 ∷ [], ((λ e. cc), refl))
+
+file_begins : Begins HasFileWord []
+file_begins = ((102 ∷ []) ∷ [], some_name)
+
+pub no_file_word : IsWrong HasFileWord [] 1
+no_file_word = wrong_end HasFileWord file_begins (λ form. let e = form.1.1 in cc)
+
+pub empty_file_word : (ws : List (List ℕ)) → IsWrong HasFileWord ([] ∷ ws) 1
+empty_file_word ws = wrong_first HasFileWord [] ws file_begins (λ begins. begins.1.1.0 (let e = begins.1.1.1 in cc))
+
+-- ---- behind `to-jani` and `to-prism`
+to_jani_form : (ws : List (List ℕ)) → HasFileWord ws → HasForm (codes "to-jani" ∷ ws)
+to_jani_form ws f = (on_file ToJani f.0, (f.1.0, ap (λ v. codes "to-jani" ∷ v) f.1.1))
+
+to_jani_file : (ws : List (List ℕ)) → HasForm (codes "to-jani" ∷ ws) → HasFileWord ws
+to_jani_file ws (on_file ToJani name, f) = (name, (f.0, tails _ _ _ _ f.1))
+to_jani_file ws (on_file ToPrism name, f) = absurd (differ _ _ refl (heads _ _ _ _ f.1))
+to_jani_file ws (on_file CheckPrism name, f) = absurd (differ _ _ refl (heads _ _ _ _ f.1))
+to_jani_file ws (on_file CheckJani name, f) = absurd (differ _ _ refl (heads _ _ _ _ f.1))
+to_jani_file ws (walk w, h) = absurd (not_walk _ ws w (differ _ _ refl) (differ _ _ refl) h)
+
+pub behind_to_jani : (ws : List (List ℕ)) (k : ℕ) → IsWrong HasFileWord ws k → IsWrong HasForm (codes "to-jani" ∷ ws) (k + 1)
+behind_to_jani ws k e = wrong_behind HasFileWord HasForm (codes "to-jani") ws k to_jani_form to_jani_file e
+
+to_prism_form : (ws : List (List ℕ)) → HasFileWord ws → HasForm (codes "to-prism" ∷ ws)
+to_prism_form ws f = (on_file ToPrism f.0, (f.1.0, ap (λ v. codes "to-prism" ∷ v) f.1.1))
+
+to_prism_file : (ws : List (List ℕ)) → HasForm (codes "to-prism" ∷ ws) → HasFileWord ws
+to_prism_file ws (on_file ToJani name, f) = absurd (differ _ _ refl (heads _ _ _ _ f.1))
+to_prism_file ws (on_file ToPrism name, f) = (name, (f.0, tails _ _ _ _ f.1))
+to_prism_file ws (on_file CheckPrism name, f) = absurd (differ _ _ refl (heads _ _ _ _ f.1))
+to_prism_file ws (on_file CheckJani name, f) = absurd (differ _ _ refl (heads _ _ _ _ f.1))
+to_prism_file ws (walk w, h) = absurd (not_walk _ ws w (differ _ _ refl) (differ _ _ refl) h)
+
+pub behind_to_prism : (ws : List (List ℕ)) (k : ℕ) → IsWrong HasFileWord ws k → IsWrong HasForm (codes "to-prism" ∷ ws) (k + 1)
+behind_to_prism ws k e = wrong_behind HasFileWord HasForm (codes "to-prism") ws k to_prism_form to_prism_file e
+
+-- ---- behind `check`
+abbrev pub CheckForm : List (List ℕ) → Type 0
+CheckForm ws = HasForm (codes "check" ∷ ws)
+
+prism_form : (ws : List (List ℕ)) → HasFileWord ws → CheckForm (codes "prism" ∷ ws)
+prism_form ws f = (on_file CheckPrism f.0, (f.1.0, ap (λ v. codes "check" ∷ codes "prism" ∷ v) f.1.1))
+
+prism_file : (ws : List (List ℕ)) → CheckForm (codes "prism" ∷ ws) → HasFileWord ws
+prism_file ws (on_file ToJani name, f) = absurd (differ _ _ refl (heads _ _ _ _ f.1))
+prism_file ws (on_file ToPrism name, f) = absurd (differ _ _ refl (heads _ _ _ _ f.1))
+prism_file ws (on_file CheckPrism name, f) = (name, (f.0, tails _ _ _ _ (tails _ _ _ _ f.1)))
+prism_file ws (on_file CheckJani name, f) = absurd (differ _ _ refl (heads _ _ _ _ (tails _ _ _ _ f.1)))
+prism_file ws (walk w, h) = absurd (not_walk _ _ w (differ _ _ refl) (differ _ _ refl) h)
+
+jani_form : (ws : List (List ℕ)) → HasFileWord ws → CheckForm (codes "jani" ∷ ws)
+jani_form ws f = (on_file CheckJani f.0, (f.1.0, ap (λ v. codes "check" ∷ codes "jani" ∷ v) f.1.1))
+
+jani_file : (ws : List (List ℕ)) → CheckForm (codes "jani" ∷ ws) → HasFileWord ws
+jani_file ws (on_file ToJani name, f) = absurd (differ _ _ refl (heads _ _ _ _ f.1))
+jani_file ws (on_file ToPrism name, f) = absurd (differ _ _ refl (heads _ _ _ _ f.1))
+jani_file ws (on_file CheckPrism name, f) = absurd (differ _ _ refl (heads _ _ _ _ (tails _ _ _ _ f.1)))
+jani_file ws (on_file CheckJani name, f) = (name, (f.0, tails _ _ _ _ (tails _ _ _ _ f.1)))
+jani_file ws (walk w, h) = absurd (not_walk _ _ w (differ _ _ refl) (differ _ _ refl) h)
+
+pub behind_jani : (ws : List (List ℕ)) (k : ℕ) → IsWrong HasFileWord ws k → IsWrong CheckForm (codes "jani" ∷ ws) (k + 1)
+behind_jani ws k e = wrong_behind HasFileWord CheckForm (codes "jani") ws k jani_form jani_file e
+
+pub behind_prism : (ws : List (List ℕ)) (k : ℕ) → IsWrong HasFileWord ws k → IsWrong CheckForm (codes "prism" ∷ ws) (k + 1)
+behind_prism ws k e = wrong_behind HasFileWord CheckForm (codes "prism") ws k prism_form prism_file e
+
+pub behind_check : (ws : List (List ℕ)) (k : ℕ) → IsWrong CheckForm ws k → IsWrong HasForm (codes "check" ∷ ws) (k + 1)
+behind_check ws k e = wrong_next HasForm (codes "check") ws k e
+
+check_begins : Begins CheckForm []
+check_begins = (codes "prism" ∷ (102 ∷ []) ∷ [], prism_form _ some_name)
+
+not_check_end : CheckForm [] → ⊥
+not_check_end (on_file ToJani name, f) = differ _ _ refl (heads _ _ _ _ f.1)
+not_check_end (on_file ToPrism name, f) = differ _ _ refl (heads _ _ _ _ f.1)
+not_check_end (on_file CheckPrism name, f) = let e = tails _ _ _ _ f.1 in cc
+not_check_end (on_file CheckJani name, f) = let e = tails _ _ _ _ f.1 in cc
+not_check_end (walk w, h) = not_walk _ _ w (differ _ _ refl) (differ _ _ refl) h
+
+pub no_language : IsWrong CheckForm [] 1
+no_language = wrong_end CheckForm check_begins not_check_end
+
+language : (lang : List ℕ) → Begins CheckForm (lang ∷ []) → (lang ≡ codes "prism") ⊎ (lang ≡ codes "jani")
+language lang (more, (on_file ToJani name, f)) = absurd (differ _ _ refl (heads _ _ _ _ f.1))
+language lang (more, (on_file ToPrism name, f)) = absurd (differ _ _ refl (heads _ _ _ _ f.1))
+language lang (more, (on_file CheckPrism name, f)) = inl (heads _ _ _ _ (tails _ _ _ _ f.1))
+language lang (more, (on_file CheckJani name, f)) = inr (heads _ _ _ _ (tails _ _ _ _ f.1))
+language lang (more, (walk w, h)) = absurd (not_walk _ _ w (differ _ _ refl) (differ _ _ refl) h)
+
+pub other_language : (lang : List ℕ) (ws : List (List ℕ)) → lang ≢ codes "prism" → lang ≢ codes "jani" → IsWrong CheckForm (lang ∷ ws) 1
+other_language lang ws a b = wrong_first CheckForm lang ws check_begins (λ begins. neither (language lang begins))
+  where
+    neither : (lang ≡ codes "prism") ⊎ (lang ≡ codes "jani") → ⊥
+    neither (inl e) = a e
+    neither (inr e) = b e
+
+-- ---- behind `show`
+show_form : (ws : List (List ℕ)) → HeadForm StateForm ws → HasForm (codes "show" ∷ ws)
+show_form [] h = absurd h
+show_form (l ∷ []) h = absurd h.1
+show_form (l ∷ f ∷ []) h = absurd h.1.1
+show_form (l ∷ f ∷ s ∷ ws) h = (
+  walk (record { lang = h.0.0; file = f; job = showing s; given = h.1.1.1.0 }),
+  record { file = h.1.0; job = h.1.1.0; rest = ws; words_are = ap (λ v. codes "show" ∷ v ∷ f ∷ s ∷ ws) h.0.1; given = h.1.1.1.1 },
+)
+
+show_parts : (ws rest : List (List ℕ)) (l : Lang) (f : List ℕ) (j : Job) (given : List Assignment) → IsFileName f → IsJob j → AreGiven rest given
+    → codes "show" ∷ ws ≡ job_verb j ∷ lang_word l ∷ f ∷ (job_words j ++ rest) → HeadForm StateForm ws
+show_parts ws rest l f (showing s) given a b g e = subst (HeadForm StateForm) (sym (tails _ _ _ _ e)) ((l, refl), (a, (b, (given, g))))
+show_parts ws rest l f (along from ps) given a b g e = absurd (differ _ _ refl (heads _ _ _ _ e))
+show_parts ws rest l f (seeded from n k) given a b g e = absurd (differ _ _ refl (heads _ _ _ _ e))
+
+show_rest : (ws : List (List ℕ)) → HasForm (codes "show" ∷ ws) → HeadForm StateForm ws
+show_rest ws (on_file task name, f) = absurd (not_task _ ws task name (differ _ _ refl) (differ _ _ refl) (differ _ _ refl) f.1)
+show_rest ws (walk w, h) = show_parts ws h.rest w.lang w.file w.job w.given h.file h.job h.given h.words_are
+
+pub behind_show : (ws : List (List ℕ)) (k : ℕ) → IsWrong (HeadForm StateForm) ws k → IsWrong HasForm (codes "show" ∷ ws) (k + 1)
+behind_show ws k e = wrong_behind (HeadForm StateForm) HasForm (codes "show") ws k show_form show_rest e
+
+-- ---- behind `simulate`
+-- a walk, and the words behind its own
+record IsWalkOf (from : Option (List ℕ)) (ws : List (List ℕ)) : Type 0 where
+  walk_job : Job
+  is_job : IsFrom from → IsJob walk_job
+  verb_is : job_verb walk_job ≡ codes "simulate"
+  behind : List (List ℕ)
+  words_are : from_words from ++ ws ≡ job_words walk_job ++ behind
+  given : HasGiven behind
+
+way_form : (from : Option (List ℕ)) (ws : List (List ℕ)) → WayForm ws → IsWalkOf from ws
+way_form from [] (inl h) = absurd h
+way_form from [] (inr h) = absurd h
+way_form from (w ∷ []) (inl h) = absurd h.1
+way_form from (w ∷ p ∷ ws) (inl h) = record {
+  walk_job = along from h.1.0.0;
+  is_job = λ f. (f, h.1.0.1.some, h.1.0.1.small);
+  verb_is = refl;
+  behind = ws;
+  words_are = ap₂ (λ a b. from_words from ++ a ∷ b ∷ ws) h.0 h.1.0.1.text ∙ sym (append_assoc (from_words from) (codes "given" ∷ pairs_text h.1.0.0 ∷ []) ws);
+  given = h.1.1;
+}
+way_form from (w ∷ []) (inr h) = absurd h.1
+way_form from (w ∷ n ∷ []) (inr h) = absurd h.1.1
+way_form from (w ∷ n ∷ k ∷ ws) (inr h) = record {
+  walk_job = seeded from h.1.0.0 h.1.1.0.0;
+  is_job = λ f. (f, (let b = h.1.0.1.0 in omega arith), h.1.1.0.1.0);
+  verb_is = refl;
+  behind = ws;
+  words_are = ap (λ a. from_words from ++ a ∷ n ∷ k ∷ ws) h.0 ∙ ap₂ (λ a b. from_words from ++ codes "seed" ∷ a ∷ b ∷ ws) h.1.0.1.1 h.1.1.0.1.1
+      ∙ sym (append_assoc (from_words from) (codes "seed" ∷ decimal h.1.0.0 ∷ decimal h.1.1.0.0 ∷ []) ws);
+  given = h.1.1.1;
+}
+
+walk_form : (ws : List (List ℕ)) → WalkForm ws → IsWalkOf None ws
+walk_form ws (inl h) = way_form None ws h
+walk_form [] (inr h) = absurd h
+walk_form (w ∷ []) (inr h) = absurd h.1
+walk_form (w ∷ s ∷ ws) (inr h) =
+    let k = way_form (Some s) ws h.1.1 in
+    record { walk_job = k.walk_job; is_job = λ f. k.is_job h.1.0; verb_is = k.verb_is; behind = k.behind; words_are = ap (λ v. v ∷ s ∷ ws) h.0 ∙ k.words_are; given = k.given }
+
+simulate_form : (ws : List (List ℕ)) → HeadForm WalkForm ws → HasForm (codes "simulate" ∷ ws)
+simulate_form [] h = absurd h
+simulate_form (l ∷ []) h = absurd h.1
+simulate_form (l ∷ f ∷ ws) h =
+    let k = walk_form ws h.1.1 in (
+      walk (record { lang = h.0.0; file = f; job = k.walk_job; given = k.given.0 }),
+      record {
+        file = h.1.0;
+        job = k.is_job tt;
+        rest = k.behind;
+        words_are = ap (λ v. codes "simulate" ∷ v ∷ f ∷ ws) h.0.1 ∙ ap₂ (λ v vs. v ∷ lang_word h.0.0 ∷ f ∷ vs) (sym k.verb_is) k.words_are;
+        given = k.given.1;
+      },
+    )
+
+given_rest : (rest : List (List ℕ)) (ps : List (ℕ × ℕ)) → (ps ≢ []) → AllByRecursion IsSmall ps → HasGiven rest → GivenForm (pairs_text ps ∷ rest)
+given_rest rest ps a b g = ((ps, record { some = a; small = b; text = refl }), g)
+
+seed_rest : (rest : List (List ℕ)) (n k : ℕ) → n < 2 ^ 64 → k ≤ 1000000 → HasGiven rest → SeedForm (decimal n ∷ decimal k ∷ rest)
+seed_rest rest n k a b g = ((n, (omega arith, refl)), ((k, (b, refl)), g))
+
+walk_rest : (rest : List (List ℕ)) (j : Job) → job_verb j ≡ codes "simulate" → IsJob j → HasGiven rest → WalkForm (job_words j ++ rest)
+walk_rest rest (showing s) e h g = absurd (differ _ _ refl e)
+walk_rest rest (along None ps) e h g = inl (inl (refl, given_rest rest ps h.1 h.2 g))
+walk_rest rest (along (Some s) ps) e h g = inr (refl, (h.0, inl (refl, given_rest rest ps h.1 h.2 g)))
+walk_rest rest (seeded None n k) e h g = inl (inr (refl, seed_rest rest n k h.1 h.2 g))
+walk_rest rest (seeded (Some s) n k) e h g = inr (refl, (h.0, inr (refl, seed_rest rest n k h.1 h.2 g)))
+
+simulate_rest : (ws : List (List ℕ)) → HasForm (codes "simulate" ∷ ws) → HeadForm WalkForm ws
+simulate_rest ws (on_file task name, f) = absurd (not_task _ ws task name (differ _ _ refl) (differ _ _ refl) (differ _ _ refl) f.1)
+simulate_rest ws (walk w, h) =
+    subst (HeadForm WalkForm) (sym (tails _ _ _ _ h.words_are)) ((w.lang, refl), (h.file, walk_rest h.rest w.job (sym (heads _ _ _ _ h.words_are)) h.job (w.given, h.given)))
+
+pub behind_simulate : (ws : List (List ℕ)) (k : ℕ) → IsWrong (HeadForm WalkForm) ws k → IsWrong HasForm (codes "simulate" ∷ ws) (k + 1)
+behind_simulate ws k e = wrong_behind (HeadForm WalkForm) HasForm (codes "simulate") ws k simulate_form simulate_rest e
+
+-- ---- the first word
+form_begins : Begins HasForm []
+form_begins = (codes "to-jani" ∷ (102 ∷ []) ∷ [], to_jani_form _ some_name)
+
+not_form_end : HasForm [] → ⊥
+not_form_end (on_file ToJani name, f) = let e = f.1 in cc
+not_form_end (on_file ToPrism name, f) = let e = f.1 in cc
+not_form_end (on_file CheckPrism name, f) = let e = f.1 in cc
+not_form_end (on_file CheckJani name, f) = let e = f.1 in cc
+not_form_end (walk w, h) = let e = h.words_are in cc
+
+pub no_verb : IsWrong HasForm [] 1
+no_verb = wrong_end HasForm form_begins not_form_end
+
+module _ (v : List ℕ) (ws : List (List ℕ)) (a : v ≢ codes "to-jani") (b : v ≢ codes "to-prism") (c : v ≢ codes "check") (d : v ≢ codes "show") (e : v ≢ codes "simulate") where
+  not_begun : Begins HasForm (v ∷ []) → ⊥
+  not_begun (more, (on_file task name, f)) = not_task v more task name a b c f.1
+  not_begun (more, (walk w, h)) = not_walk v more w d e h
+
+  pub other_verb : IsWrong HasForm (v ∷ ws) 1
+  other_verb = wrong_first HasForm v ws form_begins not_begun
+
+-- ---- behind all words before those of the constants
+more : (Form : List (List ℕ) → Type 0) (ws : List (List ℕ)) (k n : ℕ) → k ≡ n → IsWrong Form ws k → IsWrong Form ws n
+more Form ws k n e h = subst (IsWrong Form ws) e h
+
+module _ (ws : List (List ℕ)) (k : ℕ) (h : IsWrong HasGiven ws k) where
+  given_wrong : (ps : List (ℕ × ℕ)) → (ps ≢ []) → AllByRecursion IsSmall ps → IsWrong WayForm (codes "given" ∷ pairs_text ps ∷ ws) (k + 1 + 1)
+  given_wrong ps a b = way_given _ _ (one_next IsPairsWord HasGiven (pairs_text ps) ws k (ps, record { some = a; small = b; text = refl }) h)
+
+  seed_wrong : (n m : ℕ) → n < 2 ^ 64 → m ≤ 1000000 → IsWrong WayForm (codes "seed" ∷ decimal n ∷ decimal m ∷ ws) (k + 1 + 1 + 1)
+  seed_wrong n m a b =
+      way_seed _ _ (one_next IsSeedWord (One IsStepsWord HasGiven) (decimal n) _ (k + 1) (n, (omega arith, refl)) (one_next IsStepsWord HasGiven (decimal m) ws k (m, (b, refl)) h))
+
+  pub job_wrong : (j : Job) → IsJob j → (l : Lang) (f : List ℕ) → IsFileName f → IsWrong HasForm (job_verb j ∷ lang_word l ∷ f ∷ (job_words j ++ ws)) ((3 + job_count j) + k)
+  job_wrong (showing s) b l f a =
+      more HasForm _ _ _ (let e : k + 1 + 2 + 1 ≡ (3 + 1) + k = omega arith in e)
+      (behind_show _ _ (behind_head StateForm state_begins (lang_word l) f _ _ (l, refl) a (one_next IsStateWord HasGiven s ws k b h)))
+  job_wrong (along None ps) b l f a =
+      more HasForm _ _ _ (let e : k + 1 + 1 + 2 + 1 ≡ (3 + 2) + k = omega arith in e)
+      (behind_simulate _ _ (behind_head WalkForm walk_begins (lang_word l) f _ _ (l, refl) a (walk_way _ _ (differ _ _ refl) _ (given_wrong ps b.1 b.2))))
+  job_wrong (along (Some s) ps) b l f a =
+      more HasForm _ _ _ (let e : k + 1 + 1 + 1 + 1 + 2 + 1 ≡ (3 + 4) + k = omega arith in e)
+      (behind_simulate _ _ (behind_head WalkForm walk_begins (lang_word l) f _ _ (l, refl) a (walk_from _ _ (one_next IsStateWord WayForm s _ _ b.0 (given_wrong ps b.1 b.2)))))
+  job_wrong (seeded None n m) b l f a =
+      more HasForm _ _ _ (let e : k + 1 + 1 + 1 + 2 + 1 ≡ (3 + 3) + k = omega arith in e)
+      (behind_simulate _ _ (behind_head WalkForm walk_begins (lang_word l) f _ _ (l, refl) a (walk_way _ _ (differ _ _ refl) _ (seed_wrong n m b.1 b.2))))
+  job_wrong (seeded (Some s) n m) b l f a =
+      more HasForm _ _ _ (let e : k + 1 + 1 + 1 + 1 + 1 + 2 + 1 ≡ (3 + 5) + k = omega arith in e)
+      (behind_simulate _ _ (behind_head WalkForm walk_begins (lang_word l) f _ _ (l, refl) a (walk_from _ _ (one_next IsStateWord WayForm s _ _ b.0 (seed_wrong n m b.1 b.2)))))
+
+-- how many words stand before those of the constants
+length-job : (j : Job) (rest : List (List ℕ)) → length (job_words j ++ rest) ≡ job_count j + length rest
+length-job (showing s) rest = omega arith
+length-job (along None ps) rest = omega arith
+length-job (along (Some s) ps) rest = omega arith
+length-job (seeded None n k) rest = omega arith
+length-job (seeded (Some s) n k) rest = omega arith
+
+pub length-front : (ws : List (List ℕ)) (v l f : List ℕ) (j : Job) (rest : List (List ℕ)) → ws ≡ v ∷ l ∷ f ∷ (job_words j ++ rest) → length ws ≡ (3 + job_count j) + length rest
+length-front ws v l f j rest e = let a = ap length e in let b = length-job j rest in omega (arith, a, b)
+
+-- behind the front of words, at so many
+pub wrong_given : (ws rest : List (List ℕ)) (l : Lang) (f : List ℕ) (j : Job) (k n : ℕ) → IsFileName f → IsJob j → ws ≡ job_verb j ∷ lang_word l ∷ f ∷ (job_words j ++ rest)
+    → n + length rest ≡ length ws → IsWrong HasGiven rest k → IsWrong HasForm ws (n + k)
+wrong_given ws rest l f j k n a b e c h =
+    let d = length-front ws (job_verb j) (lang_word l) f j rest e in
+    more HasForm ws ((3 + job_count j) + k) (n + k) (omega (arith, c, d)) (subst (λ vs. IsWrong HasForm vs ((3 + job_count j) + k)) (sym e) (job_wrong rest k h j b l f a))

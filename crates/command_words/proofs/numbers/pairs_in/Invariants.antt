@@ -1,0 +1,11 @@
+use Rattle.std.proofs.Common.{length}
+use denote.Text.{Utf8}
+use denote.Shadow.{shadow}
+use Rattle.command_words.proofs.Pairs.{AreRead}
+use Rattle.command_words.proofs.numbers.pairs_in.Given as goal
+
+abbrev pub invariant-loop-front : goal.invariant-loop-front
+invariant-loop-front l = shadow (Utf8 l.rest) × AreRead l.text l.pairs l.rest
+
+abbrev pub decreases-loop-front : goal.decreases-loop-front
+decreases-loop-front l = length l.rest

@@ -1,0 +1,103 @@
+-- The forms of words, one word after another. (This project's own rule.)
+use Rattle.std.specs.Prelude.{◌≡◌, ◌≢◌, ◌⊎◌, ℕ, ◌^◌, ◌-◌, List, [], ◌∷◌, ◌++◌, codes, Option, Some, None}
+use Rattle.command_words.specs.Numbers.{IsNumber, IsPairs}
+use Rattle.command_words.specs.Given.{HasGiven}
+use Rattle.command_words.specs.Words.{texts, IsStateWord, IsFrom, IsJob, job_of, job_verb, job_words, lang_word, from_words}
+use Rattle.command_words.specs.declared.request.Lang.{Lang}
+use Rattle.command_words.specs.declared.fronts.Head.{Head}
+use Rattle.command_words.specs.declared.fronts.StateFront.{StateFront}
+use Rattle.command_words.specs.declared.fronts.Front.{Front}
+use Rattle.command_words.specs.declared.words.Start.{Start}
+
+-- a word of one kind, and then the others
+abbrev pub One : (List ℕ → Type 0) → (List (List ℕ) → Type 0) → List (List ℕ) → Type 0
+One Word Rest [] = ⊥
+One Word Rest (w ∷ ws) = Word w × Rest ws
+
+abbrev pub Fixed : List ℕ → (List (List ℕ) → Type 0) → List (List ℕ) → Type 0
+Fixed v Rest ws = One (λ w. w ≡ v) Rest ws
+
+-- ---- kinds of words
+abbrev pub IsLangWord : List ℕ → Type 0
+IsLangWord w = (l : Lang) × (w ≡ lang_word l)
+
+abbrev pub IsFileName : List ℕ → Type 0
+IsFileName w = w ≢ []
+
+abbrev pub IsPairsWord : List ℕ → Type 0
+IsPairsWord w = (ps : List (ℕ × ℕ)) × IsPairs w ps
+
+abbrev pub IsSeedWord : List ℕ → Type 0
+IsSeedWord w = (n : ℕ) × IsNumber (2 ^ 64 - 1) w n
+
+abbrev pub IsStepsWord : List ℕ → Type 0
+IsStepsWord w = (n : ℕ) × IsNumber 1000000 w n
+
+-- ---- forms of words, each from where the last begins
+-- behind `given`, and behind `seed`
+abbrev pub GivenForm : List (List ℕ) → Type 0
+GivenForm ws = One IsPairsWord HasGiven ws
+
+abbrev pub SeedForm : List (List ℕ) → Type 0
+SeedForm ws = One IsSeedWord (One IsStepsWord HasGiven) ws
+
+-- behind `from STATE`
+abbrev pub WayForm : List (List ℕ) → Type 0
+WayForm ws = Fixed (codes "given") GivenForm ws ⊎ Fixed (codes "seed") SeedForm ws
+
+-- behind `simulate LANG FILE`
+abbrev pub FromForm : List (List ℕ) → Type 0
+FromForm ws = One IsStateWord WayForm ws
+
+abbrev pub WalkForm : List (List ℕ) → Type 0
+WalkForm ws = WayForm ws ⊎ Fixed (codes "from") FromForm ws
+
+-- behind `show LANG FILE`
+abbrev pub StateForm : List (List ℕ) → Type 0
+StateForm ws = One IsStateWord HasGiven ws
+
+-- behind `show`, and behind `simulate`
+abbrev pub HeadForm : (List (List ℕ) → Type 0) → List (List ℕ) → Type 0
+HeadForm Rest ws = One IsLangWord (One IsFileName Rest) ws
+
+-- ---- what is read of words
+-- the language that a word names
+abbrev pub ReadsLang : List ℕ → Option Lang → Type 0
+ReadsLang w (Some l) = w ≡ lang_word l
+ReadsLang w None = IsLangWord w → ⊥
+
+-- LANG FILE, and what stands behind
+pub record IsHead (ws : List (List ℕ)) (h : Head) : Type 0 where
+  pub name : IsFileName h.file.now
+  pub words_are : ws ≡ lang_word h.lang ∷ h.file.now ∷ texts h.rest.now
+
+-- The k-th word is no language or no name of a file, or it is missing.
+abbrev pub IsHeadWrong : List (List ℕ) → ℕ → Type 0
+IsHeadWrong [] k = k ≡ 1
+IsHeadWrong (l ∷ []) k = ((k ≡ 1) × (IsLangWord l → ⊥)) ⊎ ((k ≡ 2) × IsLangWord l)
+IsHeadWrong (l ∷ f ∷ ws) k = ((k ≡ 1) × (IsLangWord l → ⊥)) ⊎ ((k ≡ 2) × IsLangWord l × (f ≡ []))
+
+-- STATE, and what stands behind; or the first word is no state, or is missing
+pub record IsStateFront (ws : List (List ℕ)) (s : StateFront) : Type 0 where
+  pub state : IsStateWord s.state.now
+  pub words_are : ws ≡ s.state.now ∷ texts s.rest.now
+
+abbrev pub IsStateWrong : List (List ℕ) → Type 0
+IsStateWrong [] = Unit {0}
+IsStateWrong (w ∷ ws) = IsStateWord w → ⊥
+
+abbrev pub ReadsState : List (List ℕ) → Option StateFront → Type 0
+ReadsState ws (Some s) = IsStateFront ws s
+ReadsState ws None = IsStateWrong ws
+
+-- The words of a job, where `from STATE` may stand before them, and what stands behind these.
+pub record IsFront (verb : List ℕ) (from : Option (List ℕ)) (ws : List (List ℕ)) (f : Front) : Type 0 where
+  pub job : IsFrom from → IsJob (job_of f.job)
+  pub verb_is : job_verb (job_of f.job) ≡ verb
+  pub words_are : from_words from ++ ws ≡ job_words (job_of f.job) ++ texts f.rest.now
+
+-- all words before those of the constants, and what stands behind them
+pub record IsStart (ws : List (List ℕ)) (s : Start) : Type 0 where
+  pub name : IsFileName s.file.now
+  pub job : IsJob (job_of s.front.job)
+  pub words_are : ws ≡ job_verb (job_of s.front.job) ∷ lang_word s.lang ∷ s.file.now ∷ (job_words (job_of s.front.job) ++ texts s.front.rest.now)

@@ -1,0 +1,4 @@
+pub mod Numbers
+pub mod Given
+pub mod Words
+pub mod Fronts

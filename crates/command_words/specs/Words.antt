@@ -1,0 +1,167 @@
+-- The forms of the words, and where words leave them.
+-- (They are this project's own.)
+use Rattle.std.specs.Prelude.{◌≡◌, ◌≢◌, ◌⊎◌, ℕ, ◌+◌, ◌-◌, ◌^◌, ◌<◌, ◌≤◌, List, [], ◌∷◌, ◌++◌, length, take, map, codes, decimal, string_bytes, String, Option, Some, None, option_map, Result, Ok, Err}
+use Rattle.std.specs.Global.{Global}
+use Rattle.std.specs.List.{AllByRecursion}
+use Rattle.command_words.specs.Numbers.{IsSmall, pairs_text}
+pub use Rattle.command_words.specs.Given.{Assignment, assignments_of}
+use Rattle.command_words.specs.Given.{AreGiven}
+use Rattle.command_words.specs.declared.request.Task.{Task}
+use Rattle.command_words.specs.declared.request.Task.TheVariants.{ToJani, ToPrism, CheckPrism, CheckJani}
+use Rattle.command_words.specs.declared.request.Lang.{Lang}
+use Rattle.command_words.specs.declared.request.Lang.TheVariants.{Prism, Jani}
+use Rattle.command_words.specs.declared.request.Job as code_job
+use Rattle.command_words.specs.declared.request.Job.TheVariants as code_job_case
+use Rattle.command_words.specs.declared.request.Walking as code_walking
+use Rattle.command_words.specs.declared.request.Request as code_request
+use Rattle.command_words.specs.declared.request.Request.TheVariants as code_request_case
+use Rattle.command_words.specs.declared.request.WordsFail.{WordsFail}
+use Rattle.command_words.specs.declared.request.WordsFail.TheVariants.{Memory, At}
+
+-- the words as texts
+abbrev pub texts : List (String Global) → List (List ℕ)
+texts words = map string_bytes words
+
+-- ---- words of some forms
+-- some words of a form begin so
+abbrev pub Begins : (List (List ℕ) → Type 0) → List (List ℕ) → Type 0
+Begins Form words = (more : List (List ℕ)) × Form (words ++ more)
+
+-- The words up to the k-th begin no form, and those before it do; or the words end too soon, and k is their number
+-- plus 1.
+abbrev pub IsWrong : (List (List ℕ) → Type 0) → List (List ℕ) → ℕ → Type 0
+IsWrong Form words k =
+    ((0 < k) × (k ≤ length words) × Begins Form (take (k - 1) words) × (Begins Form (take k words) → ⊥))
+    ⊎ ((k ≡ length words + 1) × Begins Form words × (Form words → ⊥))
+
+-- ---- what is asked for
+-- what is done with a process: a state is shown, or a walk is taken along pairs of numbers, or along the words of a generator,
+-- from the initial state or from one that is named by its text
+pub data Job : Type 0 where
+  showing : (state : List ℕ) → Job
+  along : (from : Option (List ℕ)) (pairs : List (ℕ × ℕ)) → Job
+  seeded : (from : Option (List ℕ)) (seed : ℕ) (steps : ℕ) → Job
+
+pub record Walking : Type 0 where
+  pub lang : Lang
+  pub file : List ℕ
+  pub job : Job
+  pub given : List Assignment
+
+pub data Request : Type 0 where
+  on_file : (task : Task) (file : List ℕ) → Request
+  walk : (walking : Walking) → Request
+
+abbrev pub file_of : Request → List ℕ
+file_of (on_file task file) = file
+file_of (walk w) = w.file
+
+-- ---- the forms with a file alone: `to-jani FILE`, `to-prism FILE`, `check prism FILE`, `check jani FILE`
+-- the file's word alone
+abbrev pub IsFileWord : List (List ℕ) → List ℕ → Type 0
+IsFileWord words name = (name ≢ []) × (words ≡ name ∷ [])
+
+abbrev pub HasFileWord : List (List ℕ) → Type 0
+HasFileWord words = (name : List ℕ) × IsFileWord words name
+
+-- the words before the file's
+abbrev pub verb_of : Task → List (List ℕ)
+verb_of ToJani = codes "to-jani" ∷ []
+verb_of ToPrism = codes "to-prism" ∷ []
+verb_of CheckPrism = codes "check" ∷ codes "prism" ∷ []
+verb_of CheckJani = codes "check" ∷ codes "jani" ∷ []
+
+-- ---- the forms with a process: `show LANG FILE STATE`, `simulate LANG FILE given N,N,..`, `simulate LANG FILE seed N STEPS`,
+-- and `from STATE` before `given` or `seed`; then any number of words NAME=VALUE
+abbrev pub lang_word : Lang → List ℕ
+lang_word Prism = codes "prism"
+lang_word Jani = codes "jani"
+
+-- a word that begins with ( and ends with )
+pub record IsStateWord (w : List ℕ) : Type 0 where
+  pub inner : List ℕ
+  pub word : w ≡ codes "(" ++ (inner ++ codes ")")
+
+abbrev pub IsFrom : Option (List ℕ) → Type 0
+IsFrom None = Unit {0}
+IsFrom (Some state) = IsStateWord state
+
+abbrev pub from_words : Option (List ℕ) → List (List ℕ)
+from_words None = []
+from_words (Some state) = codes "from" ∷ state ∷ []
+
+abbrev pub job_verb : Job → List ℕ
+job_verb (showing state) = codes "show"
+job_verb (along from pairs) = codes "simulate"
+job_verb (seeded from seed steps) = codes "simulate"
+
+abbrev pub job_words : Job → List (List ℕ)
+job_words (showing state) = state ∷ []
+job_words (along from pairs) = from_words from ++ codes "given" ∷ pairs_text pairs ∷ []
+job_words (seeded from seed steps) = from_words from ++ codes "seed" ∷ decimal seed ∷ decimal steps ∷ []
+
+-- the words before those of the constants
+abbrev pub front_words : Walking → List (List ℕ)
+front_words w = job_verb w.job ∷ lang_word w.lang ∷ w.file ∷ job_words w.job
+
+-- a walk is along one pair or more of numbers below 2^32; a seed is below 2^64, and the steps are 1,000,000 at most
+abbrev pub IsJob : Job → Type 0
+IsJob (showing state) = IsStateWord state
+IsJob (along from pairs) = IsFrom from × (pairs ≢ []) × AllByRecursion IsSmall pairs
+IsJob (seeded from seed steps) = IsFrom from × (seed < 2 ^ 64) × (steps ≤ 1000000)
+
+pub record IsWalk (words : List (List ℕ)) (w : Walking) : Type 0 where
+  pub file : w.file ≢ []
+  pub job : IsJob w.job
+  pub rest : List (List ℕ)
+  pub words_are : words ≡ front_words w ++ rest
+  pub given : AreGiven rest w.given
+
+-- ---- all forms
+abbrev pub IsRequest : List (List ℕ) → Request → Type 0
+IsRequest words (on_file task name) = (name ≢ []) × (words ≡ verb_of task ++ name ∷ [])
+IsRequest words (walk w) = IsWalk words w
+
+abbrev pub HasForm : List (List ℕ) → Type 0
+HasForm words = (r : Request) × IsRequest words r
+
+-- no form goes on with the k-th word
+abbrev pub IsWrongAt : List (List ℕ) → ℕ → Type 0
+IsWrongAt words k = IsWrong HasForm words k
+
+-- ---- how many words stand before those of the constants
+abbrev pub job_count : Job → ℕ
+job_count (showing state) = 1
+job_count (along None pairs) = 2
+job_count (along (Some state) pairs) = 4
+job_count (seeded None seed steps) = 3
+job_count (seeded (Some state) seed steps) = 5
+
+abbrev pub words_before : Walking → ℕ
+words_before w = 3 + job_count w.job
+
+abbrev pub WordsCount : Type 0
+WordsCount = (words : List (List ℕ)) (w : Walking) → IsRequest words (walk w) → length words ≡ words_before w + length w.given
+
+-- words ask for one thing at most
+abbrev pub OneRequest : Type 0
+OneRequest = (words : List (List ℕ)) (r s : Request) → IsRequest words r → IsRequest words s → r ≡ s
+
+-- ---- what the code's types stand for
+abbrev pub job_of : code_job.Job → Job
+job_of (code_job_case.Show state) = showing state.now
+job_of (code_job_case.Given from pairs) = along (option_map (λ s. s.now) from) pairs
+job_of (code_job_case.Seed from seed steps) = seeded (option_map (λ s. s.now) from) seed steps
+
+abbrev pub walking_of : code_walking.Walking → Walking
+walking_of w = record { lang = w.lang; file = w.file.now; job = job_of w.job; given = assignments_of w.given }
+
+abbrev pub request_of : code_request.Request → Request
+request_of (code_request_case.OnFile task file) = on_file task file.now
+request_of (code_request_case.Walk w) = walk (walking_of w)
+
+-- what is answered: what the words ask for, or where they leave every form
+abbrev pub AnswersWords : {X : Type 0} → (X → Type 0) → (List (List ℕ) → Type 0) → List (List ℕ) → Result X WordsFail → Type 0
+AnswersWords Is Form words (Ok r) = Is r
+AnswersWords Is Form words (Err (Memory e)) = Unit {0}
+AnswersWords Is Form words (Err (At k)) = IsWrong Form words k

@@ -1,0 +1,13 @@
+//! The words of the command line: what they ask for, or where they leave every form.
+#![tactic(auto)]
+
+mod fronts;
+mod given;
+mod laws;
+mod numbers;
+mod request;
+mod words;
+
+pub use laws::words_law;
+pub use request::{Assignment, Job, Lang, Request, Task, Walking, WordsFail};
+pub use words::request_in;

@@ -1,0 +1,138 @@
+-- The columns that are settled are those of a scene where nothing is wide and nothing is at fault.
+use Rattle.std.proofs.Common.{◌≡◌, ◌≢◌, ℕ, ◌+◌, List, [], ◌∷◌, ◌++◌, map, length, false, ◌||◌, Option, Some, None, Result, Ok, Err, refl, sym, ap, ap₂, ◌∙◌, arith}
+use Rattle.std.proofs.lemmas.List.{length-map}
+use Rattle.std.specs.Prelude.{if◌then◌else◌, unwrap_or, MatchResult}
+use Rattle.std.specs.List.{flat_map, list_any}
+use Rattle.basics.specs.Booleans.{first_false, second_false}
+use Rattle.basics.specs.Lists.{append_parts}
+use Rattle.op_trees.specs.Seen.{Seen}
+use Rattle.op_trees.specs.declared.tree.Value.{Value}
+use Rattle.op_trees.specs.declared.tree.Value.TheVariants as V
+use Rattle.op_trees.specs.declared.tree.EvalFail.{EvalFail}
+use Rattle.op_trees.specs.declared.tree.EvalFail.TheVariants.{Undef, Wide}
+use Rattle.process_core.specs.Instance as core
+use Rattle.process_core.specs.Instance.{Scene, Domain, Truths, Between, is_wide_domain, is_wide_instance, instance_faults, numbered, constant_faults, column_faults, domain_faults, first_faults}
+use Rattle.process_core.specs.Product.{map-map}
+use Rattle.process_core.specs.declared.data.InstanceFault.{InstanceFault}
+use Rattle.process_core.specs.declared.data.StartFail.{StartFail}
+use Rattle.process_core.specs.declared.data.StartFail.TheVariants.{Memory, Faults, Word}
+use Rattle.process_core.specs.declared.data.StartFail.TheVariants as S
+use Rattle.state_choices.specs.Views.{seen_of}
+use Rattle.state_choices.specs.Trimmed.{trimmed_seen}
+use Rattle.instance_start.specs.Description.{Constant}
+use Rattle.instance_start.specs.Started.{FailsIn, named_fault, named_faults}
+use Rattle.instance_start.specs.Columns.{AreColumns, IsMemory, bounds_of, column_of, constant_of, domain_of, narrow, range_of, scene_of, settled_column, settled_domain, trimmed_column, trimmed_domain, variable_of}
+use Rattle.instance_start.specs.Kinds.{column_named, constants_named, named_are}
+use Rattle.instance_start.specs.declared.data.Bounds.{Bounds}
+use Rattle.instance_start.specs.declared.data.Column.{Column}
+use Rattle.instance_start.specs.declared.data.Constant as code_constant
+use Rattle.instance_start.specs.declared.data.Variable.{Variable}
+
+-- ---- one column
+between : (i : ℕ) (l h : Result Value EvalFail) → domain_faults i (Between (seen_of l) (seen_of h)) ≡ [] →
+    domain_of (settled_domain (range_of (Between (seen_of l) (seen_of h)))) ≡ Between (seen_of l) (seen_of h)
+between i (Ok (V.Number x)) (Ok (V.Number y)) e = refl
+between i (Ok (V.Number x)) (Ok (V.Truth b)) e = absurd cc
+between i (Ok (V.Number x)) (Err Undef) e = absurd cc
+between i (Ok (V.Number x)) (Err Wide) e = absurd cc
+between i (Ok (V.Truth b)) h e = absurd cc
+between i (Err Undef) h e = absurd cc
+between i (Err Wide) h e = absurd cc
+
+domain_settled : (i : ℕ) (b : Option Bounds) → domain_faults i (bounds_of b) ≡ [] → domain_of (settled_domain (range_of (bounds_of b))) ≡ bounds_of b
+domain_settled i None e = refl
+domain_settled i (Some b) e = between i b.low b.high e
+
+first_settled : (i : ℕ) (d : Domain) (r : Result Value EvalFail) → first_faults i d (seen_of r).value ≡ [] → narrow (unwrap_or (seen_of r).value (V.Truth false)) ≡ seen_of r
+first_settled i d (Ok v) e = refl
+first_settled i d (Err Undef) e = absurd cc
+first_settled i d (Err Wide) e = absurd cc
+
+pub columns_settled : (i : ℕ) (vs : List Variable) → numbered column_faults i (map variable_of vs) ≡ [] → map column_of (map settled_column vs) ≡ map variable_of vs
+columns_settled i [] e = refl
+columns_settled i (v ∷ vs) e =
+    let parts = append_parts (column_faults i (variable_of v)) (numbered column_faults (i + 1) (map variable_of vs)) e in
+    let here = append_parts (domain_faults i (bounds_of v.bounds)) (first_faults i (bounds_of v.bounds) (seen_of v.first).value) parts.0 in
+    ap₂ (λ (c : core.Column) l. c ∷ l)
+    (ap₂ (λ d f. record { name = v.name.now; domain = d; first = f }) (domain_settled i v.bounds here.0) (first_settled i (bounds_of v.bounds) v.first here.1))
+    (columns_settled (i + 1) vs parts.1)
+
+-- ---- what is trimmed
+domain_wide : (d : Domain) → is_wide_domain (trimmed_domain d) ≡ is_wide_domain d
+domain_wide Truths = refl
+domain_wide (Between l h) = refl
+
+any_wide : (ss : List Seen) → list_any (λ s. s.wide) (map trimmed_seen ss) ≡ list_any (λ s. s.wide) ss
+any_wide [] = refl
+any_wide (s ∷ ss) = ap (λ b. s.wide || b) (any_wide ss)
+
+any_wide_column : (cs : List core.Column) → list_any (λ c. is_wide_domain c.domain || c.first.wide) (map trimmed_column cs) ≡ list_any (λ c. is_wide_domain c.domain || c.first.wide) cs
+any_wide_column [] = refl
+any_wide_column (c ∷ cs) = ap₂ (λ a b. (a || c.first.wide) || b) (domain_wide c.domain) (any_wide_column cs)
+
+seen_kept : (s : Seen) → s.wide ≡ false → trimmed_seen s ≡ s
+seen_kept s h = ap (λ w. record { value = if w then None else s.value; wide = s.wide }) h
+
+domain_kept : (d : Domain) → is_wide_domain d ≡ false → trimmed_domain d ≡ d
+domain_kept Truths h = refl
+domain_kept (Between l h) e = ap₂ Between (seen_kept l (first_false l.wide h.wide e)) (seen_kept h (second_false l.wide h.wide e))
+
+constants_kept : (ss : List Seen) → list_any (λ s. s.wide) ss ≡ false → map trimmed_seen ss ≡ ss
+constants_kept [] h = refl
+constants_kept (s ∷ ss) h = ap₂ (λ x l. x ∷ l) (seen_kept s (first_false s.wide _ h)) (constants_kept ss (second_false s.wide _ h))
+
+columns_kept : (cs : List core.Column) → list_any (λ c. is_wide_domain c.domain || c.first.wide) cs ≡ false → map trimmed_column cs ≡ cs
+columns_kept [] h = refl
+columns_kept (c ∷ cs) h =
+    let here = first_false (is_wide_domain c.domain || c.first.wide) _ h in
+    ap₂ (λ (x : core.Column) l. x ∷ l)
+    (ap₂ (λ d f. record { name = c.name; domain = d; first = f }) (domain_kept c.domain (first_false (is_wide_domain c.domain) c.first.wide here)) (seen_kept c.first (second_false (is_wide_domain c.domain) c.first.wide here)))
+    (columns_kept cs (second_false (is_wide_domain c.domain || c.first.wide) _ h))
+
+-- ---- what the program sees is the scene
+module _ (k : Scene) (values : List (Result Value EvalFail)) (variables : List Variable) (e : map seen_of values ≡ map trimmed_seen k.constants) (f : map variable_of variables ≡ map trimmed_column k.columns) where
+  pub same_wide : is_wide_instance (scene_of values variables) ≡ is_wide_instance k
+  same_wide =
+      ap₂ (λ a b. list_any (λ (s : Seen). s.wide) a || list_any (λ (c : core.Column). is_wide_domain c.domain || c.first.wide) b) e f
+      ∙ ap₂ (λ a b. a || b) (any_wide k.constants) (any_wide_column k.columns)
+
+  pub same_scene : is_wide_instance k ≡ false → scene_of values variables ≡ k
+  same_scene h =
+      ap₂ (λ a b. record { constants = a; columns = b }) (e ∙ constants_kept k.constants (first_false (list_any (λ s. s.wide) k.constants) _ h))
+      (f ∙ columns_kept k.columns (second_false (list_any (λ s. s.wide) k.constants) _ h))
+
+-- ---- faults
+pub faults_are : (constants : List code_constant.Constant) (values : List (Result Value EvalFail)) (variables : List Variable) → length constants ≡ length values →
+    named_faults (map constant_of constants) (scene_of values variables) ≡ constants_named (map (λ (c : code_constant.Constant). c.name.now) constants) (map seen_of values) ++ flat_map column_named (map variable_of variables)
+faults_are constants values variables l =
+    let names = map-map (λ (c : Constant). c.name) constant_of constants in
+    named_are (map constant_of constants) (scene_of values variables) (length-map (map constant_of constants) (λ (c : Constant). c.name) ∙ length-map constants constant_of ∙ l ∙ sym (length-map values seen_of))
+    ∙ ap (λ ns. constants_named ns (map seen_of values) ++ flat_map column_named (map variable_of variables)) names
+
+nothing_mapped : {A B : Type 0} (f : A → B) (xs : List A) → map f xs ≡ [] → xs ≡ []
+nothing_mapped f [] h = refl
+nothing_mapped f (x ∷ xs) h = absurd cc
+
+nothing_long : {A : Type 0} (xs : List A) → length xs ≡ 0 → xs ≡ []
+nothing_long [] h = refl
+nothing_long (x ∷ xs) h = absurd (omega (arith, h))
+
+pub no_faults : (constants : List Constant) (k : Scene) (fs : List InstanceFault) → fs ≡ named_faults constants k → length fs ≡ 0 → instance_faults k ≡ []
+no_faults constants k fs e l = nothing_mapped _ (instance_faults k) (sym e ∙ nothing_long fs l)
+
+pub some_fault : (constants : List Constant) (k : Scene) (fs : List InstanceFault) → fs ≡ named_faults constants k → length fs ≢ 0 → instance_faults k ≢ []
+some_fault constants k fs e l h = l (ap length (e ∙ ap (map (named_fault (map (λ (c : Constant). c.name) constants) (map (λ (c : core.Column). c.name) k.columns))) h))
+
+-- ---- the answer
+pub settled_answer : {C : Type 0} (items : C → List Column) (constants : List Constant) (k : Scene) (variables : List Variable) (r : Result C StartFail) →
+    MatchResult r (λ cs. items cs ≡ map settled_column variables) IsMemory → is_wide_instance k ≡ false → instance_faults k ≡ [] → map variable_of variables ≡ k.columns →
+    MatchResult r (λ cs. AreColumns k (map column_of (items cs))) (λ fail. FailsIn constants k fail)
+settled_answer items constants k variables (Ok cs) h w s e = record {
+  narrow = w;
+  sound = s;
+  columns = ap (map column_of) h ∙ columns_settled 0 variables (ap (numbered column_faults 0) e ∙ (append_parts (numbered constant_faults 0 k.constants) (numbered column_faults 0 k.columns) s).1) ∙ e;
+}
+settled_answer items constants k variables (Err (Memory e)) h w s f = tt
+settled_answer items constants k variables (Err S.Wide) h w s f = absurd h
+settled_answer items constants k variables (Err (Faults fs)) h w s f = absurd h
+settled_answer items constants k variables (Err (Word i)) h w s f = absurd h

@@ -1,0 +1,9 @@
+pub mod Description
+pub mod Given
+pub mod Started
+pub mod Columns
+pub mod States
+pub mod Marks
+pub mod Firsts
+pub mod Participants
+pub mod Kinds

@@ -1,0 +1,13 @@
+pub mod Values
+pub mod Trimming
+pub mod Grouped
+pub mod Found
+pub mod Whole
+pub mod StateMarks
+pub mod PlaceLaws
+pub mod Turns
+pub mod TableLaws
+pub mod Once
+pub mod StartLaws
+pub mod Typed
+pub mod DescribedLaws

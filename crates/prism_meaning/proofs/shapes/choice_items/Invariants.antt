@@ -1,0 +1,11 @@
+use Rattle.std.proofs.Common.{◌≡◌, map, take}
+use Rattle.std.specs.Prelude.{option_copied}
+use Rattle.std.specs.List.{filter}
+use Rattle.prism_flat.specs.Moment.{adds_of}
+use Rattle.prism_flat.specs.Process.{is_for_choices}
+use Rattle.prism_tree.specs.Syntax.{item_of}
+use Rattle.prism_meaning.specs.Views.{items_of}
+use Rattle.prism_meaning.proofs.shapes.choice_items.Given as goal
+
+abbrev pub invariant-loop-item : goal.invariant-loop-item
+invariant-loop-item l = items_of l.these.items ≡ filter (λ i. is_for_choices (option_copied l.label) (adds_of i.on)) (map item_of (take l.item-index l.items))

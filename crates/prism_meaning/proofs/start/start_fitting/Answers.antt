@@ -1,0 +1,27 @@
+use Rattle.std.proofs.Common.{subst, map}
+use Rattle.instance_start.specs.Given.{given_by}
+use Rattle.instance_start.specs.Started.{FailsIn}
+use Rattle.prism_flat.specs.Scene.{scene}
+use Rattle.prism_meaning.specs.Described.{opened, prism_description}
+use Rattle.prism_meaning.specs.Knowing.{IsKnown}
+use Rattle.prism_meaning.proofs.StartLaws.{fails_start}
+use Rattle.prism_meaning.proofs.Typed.{begin_right}
+use Rattle.prism_meaning.proofs.start.start_fitting.Goals as goal
+
+pub returns-in-Err : goal.returns-in-Err
+returns-in-Err c =
+    fails_start (prism_description c.args.flat.now) c.args.given.now c.in-Err.e c.requires.fits
+    (subst (λ f. FailsIn (map opened f.constants) (scene f (given_by c.args.given.now)) c.in-Err.e) c.file-file.ensures.tree c.in-Err.ensures)
+
+pub instance_of-requires-clause-begin : goal.instance_of-requires-clause-begin
+instance_of-requires-clause-begin c = begin_right c.args.flat.now c.file-file.ensures.flat c.args.given.now c.requires.fits
+
+pub returns : goal.returns
+returns c =
+    let known = subst (λ f. IsKnown f (given_by c.args.given.now) c.in-Ok.known) c.file-file.ensures.tree c.in-Ok.ensures in
+    record {
+      fits = c.requires.fits;
+      narrow = known.columns.narrow;
+      sound = known.columns.sound;
+      process = c.instance_of.ensures;
+    }

@@ -1,0 +1,12 @@
+pub mod Described
+pub mod Shapes
+pub mod Views
+pub mod Codes
+pub mod Places
+pub mod Variables
+pub mod Constants
+pub mod Found
+pub mod Knowing
+pub mod Sound
+pub mod Instance
+pub mod Lawful

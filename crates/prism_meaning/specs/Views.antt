@@ -1,0 +1,62 @@
+-- What the code of an instance stands for: groups that are fixed at the start, and names in a state.
+use Rattle.std.specs.Prelude.{◌≡◌, length, List, [], map, Option, option_copied}
+use Rattle.std.specs.Borrow.{Bor}
+use Rattle.op_trees.specs.Meaning.{Environment}
+use Rattle.op_trees.specs.Seen.{Seen, known_names}
+use Rattle.op_trees.specs.Types.{Types, AgreesWith}
+use Rattle.process_core.specs.Ready.{Name}
+use Rattle.process_core.specs.Instance as core
+use Rattle.prism_tree.specs.declared.syntax.PrismCommand.{PrismCommand}
+use Rattle.prism_tree.specs.declared.syntax.PrismItem.{PrismItem}
+use Rattle.prism_tree.specs.Syntax.{command_of, item_of}
+use Rattle.name_rules.specs.Names.{under}
+use Rattle.name_rules.specs.declared.map.NameMap.{NameMap}
+use Rattle.op_trees.specs.declared.tree.Value.{Value}
+use Rattle.instance_start.specs.declared.data.Place.{Place}
+use Rattle.instance_start.specs.Columns.{column_of, value_at, column_at, type_of, agrees}
+use Rattle.state_choices.specs.Groups.{Group}
+use Rattle.state_choices.specs.Views as choices
+use Rattle.prism_flat.specs.Moment.{place_of}
+use Rattle.prism_tree.specs.Syntax as syntax
+use Rattle.prism_meaning.specs.Shapes as shapes
+use Rattle.prism_meaning.specs.declared.data.Shape.{Shape}
+use Rattle.prism_meaning.specs.declared.data.Evaluated.{Evaluated}
+use Rattle.prism_meaning.specs.declared.run.Run.{Run}
+
+-- ---- groups
+abbrev pub items_of : List (Bor PrismItem) → List syntax.Item
+items_of is = map (λ i. item_of i.now) is
+
+abbrev pub commands_of : List (Bor PrismCommand) → List syntax.Command
+commands_of cs = map (λ c. command_of c.now) cs
+
+abbrev pub shape_of : Shape → shapes.Shape
+shape_of g = record { label = option_copied g.label; rewards = map (λ is. items_of is.items) g.rewards.items; lists = map (λ cs. commands_of cs.items) g.lists.items }
+
+abbrev pub evaluated_of : Evaluated → Group
+evaluated_of g = record { label = option_copied g.label; rewards = map choices.sum_of g.rewards; lists = map (map choices.command_of) g.lists }
+
+-- ---- names in a state
+abbrev pub values_in : Run → Environment
+values_in r x = value_at r.values.now r.constants.now (under r.places.now x)
+
+abbrev pub seen_in : Run → Name → Seen
+seen_in r = known_names (values_in r)
+
+-- where there are constants alone
+abbrev pub names_by : NameMap Place → List (Option Value) → Name → Seen
+names_by places table = known_names (λ x. value_at [] table (under places x))
+
+abbrev pub columns_in : Run → List core.Column
+columns_in r = map column_of r.columns.now
+
+-- the column of a written name is that of the first variable of this name
+abbrev pub FindsColumns : Run → Type 0
+FindsColumns r = (x : Name) → column_at (length r.columns.now) (under r.places.now x) ≡ place_of (columns_in r) x
+
+abbrev pub types_in : Run → Types
+types_in r x = type_of (values_in r x)
+
+-- a value that a name has, has the type that the name has
+pub types_agree : (r : Run) (x : Name) → AgreesWith (types_in r x) (values_in r x)
+types_agree r x = agrees (values_in r x)

@@ -1,0 +1,175 @@
+//! The values of the constants of a file.
+ghost use Rattle.std.specs.Prelude.{◌≡◌, ◌<◌, ◌++◌, ℕ, List, IfOk, OnOk, MatchResult, [], ◌∷◌, length, map, Some};
+ghost use Rattle.std.specs.Option.{option_map};
+ghost use Rattle.op_trees.specs.Seen.{known};
+ghost use Rattle.op_trees.specs.Tree.{tree};
+ghost use Rattle.name_rules.specs.Circles.{AreTurns, circles, declared_by};
+ghost use Rattle.name_rules.specs.Names.{under};
+ghost use Rattle.name_rules.specs.Uses.{used};
+ghost use Rattle.prism_tree.specs.Syntax.{const_of, file_of};
+ghost use Rattle.prism_flat.specs.Scene.{constant, constant_seen};
+ghost use Rattle.state_choices.specs.Trimmed.{computed};
+ghost use Rattle.state_choices.specs.Views.{seen_of};
+ghost use Rattle.instance_start.specs.Given.{given_by};
+ghost use Rattle.prism_meaning.specs.Constants.{AreConstants, declared_const, HasWideConstant};
+ghost use Rattle.prism_meaning.specs.Places.{constant_place};
+ghost use Rattle.prism_meaning.specs.Views.{names_by, seen_in};
+
+use crate::run::{Run, value_of};
+use instance_start::{Place, given_value};
+use name_rules::{Declaration, NameMap, add_names, judge_circles};
+use op_trees::{EvalFail, Value};
+use prism_tree::{Pe, PrismConst, PrismFile};
+use process_core::{Given, StartFail};
+use std::alloc::{AllocError, Global};
+
+/// An order in which each constant stands behind those that its value needs.
+pub(crate) fn constant_order(
+    alloc: Global,
+    constants: &[PrismConst],
+) -> Result<Vec<usize>, AllocError>
+    requires { circles (map declared_const (map const_of constants.now)) ≡ [] }
+    ensures { IfOk result (λ ts. AreTurns (map declared_const (map const_of constants.now)) ts.items) }
+{
+    let all = declarations(alloc, constants)?;
+    let circles = judge_circles(alloc, &all, None)?;
+    Ok(circles.turns)
+}
+
+/// The constants with the names that they use.
+fn declarations(alloc: Global, constants: &[PrismConst]) -> Result<Vec<Declaration>, AllocError>
+    ensures { IfOk result (λ ds. map declared_by ds.items ≡ map declared_const (map const_of constants.now)) }
+{
+    let mut all = Vec::with_capacity(alloc, constants.len())?;
+    for constant in constants {
+        let uses = uses_of(alloc, constant.value.as_ref())?;
+        all.push(Declaration {
+            name: constant.name.name.as_str(),
+            at: constant.name.at,
+            uses,
+        })?;
+    }
+    Ok(all)
+}
+
+/// The names that an expression uses, if there is one.
+fn uses_of<'a>(alloc: Global, body: Option<&'a Pe>) -> Result<Vec<&'a str>, AllocError>
+    ensures { IfOk result (λ list. map (λ s. s.now) list.items ≡ used (option_map (λ e. tree e.now) body.entry)) }
+{
+    let mut list = Vec::new(alloc);
+    match body {
+        Some(body) => add_names(body, &mut list)?,
+        None => {}
+    }
+    Ok(list)
+}
+
+/// The values of the constants, in an order in which each stands behind those that its value needs. `Wide` where one is.
+pub(crate) fn constant_values(
+    alloc: Global,
+    file: &PrismFile,
+    given: &[Given],
+    places: &NameMap<Place>,
+    order: &[usize],
+) -> Result<Vec<Option<Value>>, StartFail>
+    requires form { (file_of file.now).formulas ≡ [] }
+    requires turns { AreTurns (map declared_const (map const_of file.now.constants)) order.now }
+    requires places { (x : List ℕ) → under places.now x ≡ constant_place 0 (map const_of file.now.constants) x }
+    ensures { MatchResult result (λ t. AreConstants (file_of file.now) (given_by given.now) t.items) (HasWideConstant (file_of file.now) (given_by given.now)) }
+{
+    let mut table = match no_values(alloc, file.constants.len()) {
+        Ok(table) => table,
+        Err(e) => return Err(StartFail::Memory(e)),
+    };
+    for turn in order {
+        let constant = &file.constants.as_slice()[*turn];
+        let value = value_under(constant, given, places, table.as_slice());
+        if is_wide(&value) {
+            return Err(StartFail::Wide);
+        }
+        table[*turn] = defined(&value);
+    }
+    Ok(table)
+}
+
+/// So many values that aren't known.
+fn no_values(alloc: Global, count: usize) -> Result<Vec<Option<Value>>, AllocError>
+    ensures { IfOk result (λ t. length t.items ≡ count) }
+{
+    let mut table = Vec::with_capacity(alloc, count)?;
+    for _i in 0..count {
+        table.push(None)?;
+    }
+    Ok(table)
+}
+
+/// The value of a constant, by those that are in the table.
+fn value_under(
+    constant: &PrismConst,
+    given: &[Given],
+    places: &NameMap<Place>,
+    table: &[Option<Value>],
+) -> Result<Value, EvalFail>
+    ensures { result ≡ computed (constant_seen (given_by given.now constant.now.name.name) (names_by places.now table.now) (option_map tree constant.now.value)) }
+{
+    match &constant.value {
+        Some(e) => value_of(e, &constants_alone(places, table)),
+        None => held(given_value(given, constant.name.name.as_str())),
+    }
+}
+
+/// The constants, without a state.
+pub(crate) fn constants_alone<'a>(
+    places: &'a NameMap<'a, Place>,
+    table: &'a [Option<Value>],
+) -> Run<'a>
+    ensures { seen_in result ≡ names_by places.now table.now }
+{
+    Run {
+        places,
+        values: &[],
+        constants: table,
+        columns: &[],
+    }
+}
+
+/// A value that the code holds is never wide.
+fn held(value: Option<Value>) -> Result<Value, EvalFail>
+    ensures { result ≡ computed (known value) }
+{
+    match value {
+        Some(value) => small(value),
+        None => Err(EvalFail::Undef),
+    }
+}
+
+fn small(value: Value) -> Result<Value, EvalFail>
+    ensures { result ≡ computed (known (Some value)) }
+{
+    match value {
+        Value::Truth(b) => Ok(Value::Truth(b)),
+        Value::Number(q) => {
+            let _num = q.num();
+            Ok(Value::Number(q))
+        }
+    }
+}
+
+/// Whether a value is wide.
+fn is_wide(value: &Result<Value, EvalFail>) -> bool
+    ensures { result ≡ (seen_of value.now).wide }
+{
+    match value {
+        Err(EvalFail::Wide) => true,
+        _ => false,
+    }
+}
+
+fn defined(value: &Result<Value, EvalFail>) -> Option<Value>
+    ensures { result ≡ (seen_of value.now).value }
+{
+    match value {
+        Ok(value) => Some(*value),
+        Err(_) => None,
+    }
+}

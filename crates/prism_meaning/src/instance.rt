@@ -1,0 +1,168 @@
+//! A file under given constants, as a process that can be stepped.
+ghost use Rattle.std.specs.Prelude.{◌≡◌, ◌++◌, IfOk, IsTrue, Option, Some, map};
+ghost use Rattle.std.specs.List.{list_any};
+ghost use Rattle.std.specs.Option.{option_map};
+ghost use Rattle.process_core.specs.Answers.{Answers, only_wide};
+ghost use Rattle.process_core.specs.Choices.{all_defined};
+ghost use Rattle.process_core.specs.Bounds as core;
+ghost use Rattle.process_core.specs.Choices as core_choices;
+ghost use Rattle.process_core.specs.Instance.{is_state};
+ghost use Rattle.process_core.specs.Seen.{seen_choice};
+ghost use Rattle.prism_flat.specs.Moment.{moment, names_in};
+ghost use Rattle.prism_flat.specs.Process.{choices, excess, has_wide_mark, marks};
+ghost use Rattle.prism_names.specs.Names.{unchanged};
+ghost use Rattle.prism_flat.specs.Kept.{IsWrittenOut};
+ghost use Rattle.prism_flat.specs.Scene.{columns_of};
+ghost use Rattle.instance_start.specs.Given.{given_by};
+ghost use Rattle.prism_meaning.specs.Sound.{IsSound, IsSound-prop};
+ghost use Rattle.instance_start.specs.Columns.{column_of};
+ghost use Rattle.prism_meaning.specs.Views.{columns_in, evaluated_of, seen_in, FindsColumns};
+ghost use Rattle.state_choices.specs.Groups.{of_groups};
+
+use crate::data::{Evaluated, Shape};
+use crate::groups::{evaluated, groups};
+use crate::marks::{add_labels, add_rewards};
+use crate::run::Run;
+use bridge_io::{List, Text};
+use instance_start::{Column, Place, first_values, is_initial, is_state};
+use name_rules::NameMap;
+use op_trees::Value;
+use prism_places::FlatPrism;
+use prism_tree::PrismItem;
+use process_core::{Choice, Given, InitialWide, Mark, State, StepFail, Steps};
+use state_choices::choices_of;
+use std::alloc::{AllocError, Global};
+
+/// A judged file under given constants. What its names stand for, the values of its constants, its variables, and which of
+/// its commands and reward items belong together, is found once, at the start.
+#[derive(Drop)]
+pub struct PrismInstance<'a> {
+    pub(crate) flat: &'a FlatPrism,
+    pub(crate) given: &'a [Given],
+    pub(crate) places: NameMap<'a, Place>,
+    pub(crate) constants: Vec<Option<Value>>,
+    pub(crate) columns: Vec<Column<'a>>,
+    pub(crate) groups: Vec<Shape<'a>>,
+    pub(crate) states: Vec<Vec<&'a PrismItem>>,
+    pub(crate) marks: Vec<&'a str>,
+    ghost sound: { IsSound flat.now given.now places constants.items columns.items groups.items (map (λ l. l.items) states.items) (map (λ n. n.now) marks.items) } by { IsSound-prop flat.now given.now places constants.items columns.items groups.items (map (λ l. l.items) states.items) (map (λ n. n.now) marks.items) },
+}
+
+impl<'a> Steps for PrismInstance<'a> {
+    ghost use Rattle.prism_meaning.specs.Instance.{process_of};
+    ghost use Rattle.prism_meaning.specs.Lawful.{instance_is};
+
+    ghost process = { process_of };
+
+    ghost lawful = { instance_is };
+
+    fn columns(&self) -> usize {
+        self.columns.len()
+    }
+
+    fn column_text(&self, alloc: Global, i: usize) -> Result<Text, AllocError> {
+        Text::copy_of(alloc, self.columns[i].name.as_str())
+    }
+
+    fn valid(&self, s: &State) -> bool {
+        is_state(self.columns.as_slice(), s.values.as_slice())
+    }
+
+    fn initial(&self, s: &State) -> Result<bool, InitialWide> {
+        Ok(is_initial(self.columns.as_slice(), s.values.as_slice()))
+    }
+
+    fn first(&self, alloc: Global) -> Result<Option<State>, AllocError> {
+        let values = first_values(alloc, self.columns.as_slice())?;
+        Ok(Some(State { values }))
+    }
+
+    fn choices(&self, alloc: Global, s: &State) -> Result<List<Choice>, StepFail> {
+        choices_at(alloc, self, s)
+    }
+
+    fn mark_count(&self) -> usize {
+        self.marks.len()
+    }
+
+    fn label_count(&self) -> usize {
+        self.flat.file().labels.len()
+    }
+
+    fn mark_name(&self, alloc: Global, i: usize) -> Result<Text, AllocError> {
+        Text::copy_of(alloc, self.marks[i])
+    }
+
+    fn marks(&self, alloc: Global, s: &State) -> Result<List<Mark>, StepFail> {
+        marks_at(alloc, self, s)
+    }
+}
+
+/// The instance in a state.
+fn run_at<'a>(instance: &'a PrismInstance<'a>, s: &'a State) -> Run<'a>
+    requires { IsTrue (is_state (columns_of instance.now.flat.now (given_by instance.now.given.now)) s.now.values) }
+    ensures columns { columns_in result ≡ columns_of instance.now.flat.now (given_by instance.now.given.now) }
+    ensures names { seen_in result ≡ names_in instance.now.flat.now (given_by instance.now.given.now) s.now.values unchanged }
+    ensures writes { FindsColumns result }
+    ensures form { IsWrittenOut instance.now.flat.now }
+{
+    let _file = instance.flat.file();
+    Run {
+        places: &instance.places,
+        values: s.values.as_slice(),
+        constants: instance.constants.as_slice(),
+        columns: instance.columns.as_slice(),
+    }
+}
+
+/// The choices of a state, in order.
+fn choices_at(alloc: Global, instance: &PrismInstance, s: &State) -> Result<List<Choice>, StepFail>
+    requires { IsTrue (is_state (columns_of instance.now.flat.now (given_by instance.now.given.now)) s.now.values) }
+    ensures { Answers (excess (moment instance.now.flat.now (given_by instance.now.given.now) s.now.values))
+        (λ cs. map seen_choice cs ≡ choices (moment instance.now.flat.now (given_by instance.now.given.now) s.now.values) s.now.values) result }
+{
+    let run = run_at(instance, s);
+    let all = evaluated(alloc, instance.groups.as_slice(), &run)?;
+    combined(alloc, s, all.as_slice())
+}
+
+/// The choices that are made of groups.
+fn combined<'a>(
+    alloc: Global,
+    s: &State,
+    all: &'a [Evaluated<'a>],
+) -> Result<List<Choice>, StepFail>
+    ensures { Answers (core.excess (of_groups (map evaluated_of all.now)))
+        (λ cs. map seen_choice cs ≡ core_choices.choices s.now.values (of_groups (map evaluated_of all.now))) result }
+{
+    let these = groups(alloc, all)?;
+    choices_of(alloc, s, these.as_slice())
+}
+
+/// The marks of a state: its labels, then its rewards.
+fn marks_at(alloc: Global, instance: &PrismInstance, s: &State) -> Result<List<Mark>, StepFail>
+    requires { IsTrue (is_state (columns_of instance.now.flat.now (given_by instance.now.given.now)) s.now.values) }
+    ensures { Answers (only_wide (has_wide_mark (moment instance.now.flat.now (given_by instance.now.given.now) s.now.values)))
+        (λ ms. ms ≡ marks (moment instance.now.flat.now (given_by instance.now.given.now) s.now.values)) result }
+{
+    let mut all = List::with_capacity(alloc, instance.marks.len())?;
+    add_marks(alloc, instance, s, &mut all)?;
+    Ok(all)
+}
+
+/// Adds the marks of a state.
+fn add_marks(
+    alloc: Global,
+    instance: &PrismInstance,
+    s: &State,
+    all: &mut List<Mark>,
+) -> Result<(), StepFail>
+    requires { IsTrue (is_state (columns_of instance.now.flat.now (given_by instance.now.given.now)) s.now.values) }
+    ensures { Answers (only_wide (has_wide_mark (moment instance.now.flat.now (given_by instance.now.given.now) s.now.values)))
+        (λ u. all.new ≡ all.old ++ marks (moment instance.now.flat.now (given_by instance.now.given.now) s.now.values)) result }
+{
+    let run = run_at(instance, s);
+    add_labels(instance.flat.file().labels.as_slice(), &run, all)?;
+    add_rewards(alloc, instance.states.as_slice(), &run, all)?;
+    Ok(())
+}

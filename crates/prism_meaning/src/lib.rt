@@ -1,0 +1,20 @@
+//! A judged PRISM file under given constants, stepped: its columns, first state, choices and marks.
+//! What belongs together is found once, at the start, so that a state costs time linear in its own commands and choices.
+#![tactic(auto)]
+
+mod commands;
+mod constants;
+mod data;
+mod groups;
+mod instance;
+mod laws;
+mod marks;
+mod places;
+mod run;
+mod shapes;
+mod start;
+mod variables;
+
+pub use instance::PrismInstance;
+pub use laws::described_law;
+pub use start::start_prism;

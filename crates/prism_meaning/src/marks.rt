@@ -1,0 +1,109 @@
+//! The marks of a state.
+ghost use Rattle.std.specs.Prelude.{◌≡◌, ◌++◌, map, Some};
+ghost use Rattle.std.specs.List.{list_any};
+ghost use Rattle.op_trees.specs.Tree.{tree};
+ghost use Rattle.state_choices.specs.Views.{seen_of, sum_of};
+ghost use Rattle.process_core.specs.Answers.{Answers, only_wide};
+ghost use Rattle.process_core.specs.Choices.{truth_of};
+ghost use Rattle.process_core.specs.declared.data.Mark.TheVariants.{Truth, Number};
+ghost use Rattle.prism_names.specs.Names.{see};
+ghost use Rattle.prism_meaning.specs.Shapes.{sum_under};
+ghost use Rattle.prism_meaning.specs.Views.{seen_in, items_of};
+
+use crate::groups::sum_under;
+use crate::run::{Run, value_of};
+use bridge_io::List;
+use frac_core::Frac;
+use op_trees::{EvalFail, Value};
+use prism_tree::{PrismItem, PrismLabel};
+use process_core::{Mark, StepFail};
+use std::alloc::Global;
+
+/// Adds a mark for each label. `Wide` exactly where one is.
+pub(crate) fn add_labels(
+    labels: &[PrismLabel],
+    run: &Run,
+    marks: &mut List<Mark>,
+) -> Result<(), StepFail>
+    ensures { Answers (only_wide (list_any (λ l. (see (tree l.body) (seen_in run.now)).wide) labels.now))
+        (λ u. marks.new ≡ marks.old ++ map (λ l. Truth (truth_of (see (tree l.body) (seen_in run.now)).value)) labels.now) result }
+{
+    // A mark holds a truth value or a number; the checker wants both types named where marks are pushed.
+    let _number: Option<Frac> = None;
+    for label in labels {
+        let value = value_of(&label.body, run);
+        if is_wide(&value) {
+            return Err(StepFail::Wide);
+        }
+        marks.push(Mark::Truth(truth_in(&value)))?;
+    }
+    Ok(())
+}
+
+/// Whether a value is wide.
+fn is_wide(value: &Result<Value, EvalFail>) -> bool
+    ensures { result ≡ (seen_of value.now).wide }
+{
+    match value {
+        Err(EvalFail::Wide) => true,
+        _ => false,
+    }
+}
+
+/// The truth value that a value is.
+fn truth_in(value: &Result<Value, EvalFail>) -> Option<bool>
+    ensures { result ≡ truth_of (seen_of value.now).value }
+{
+    match value {
+        Ok(Value::Truth(b)) => Some(*b),
+        _ => None,
+    }
+}
+
+/// Adds a mark for each reward structure: what the state earns in it. `Wide` exactly where one is.
+pub(crate) fn add_rewards(
+    alloc: Global,
+    rewards: &[Vec<&PrismItem>],
+    run: &Run,
+    marks: &mut List<Mark>,
+) -> Result<(), StepFail>
+    ensures { Answers (only_wide (list_any (λ is. (sum_under (seen_in run.now) (items_of is.items)).wide) rewards.now))
+        (λ u. marks.new ≡ marks.old ++ map (λ is. Number (sum_under (seen_in run.now) (items_of is.items)).value) rewards.now) result }
+{
+    for items in rewards {
+        let number: Option<Frac> = reward_number(alloc, items.as_slice(), run)?;
+        marks.push(Mark::Number(number))?;
+    }
+    Ok(())
+}
+
+fn reward_number(alloc: Global, items: &[&PrismItem], run: &Run) -> Result<Option<Frac>, StepFail>
+    ensures { Answers (only_wide (sum_under (seen_in run.now) (items_of items.now)).wide)
+        (λ m. m ≡ (sum_under (seen_in run.now) (items_of items.now)).value) result }
+{
+    let sum = sum_under(alloc, items, run)?;
+    if is_wide_sum(&sum) {
+        return Err(StepFail::Wide);
+    }
+    Ok(number_in(&sum))
+}
+
+/// Whether a sum is wide.
+fn is_wide_sum(sum: &Result<Frac, EvalFail>) -> bool
+    ensures { result ≡ (sum_of sum.now).wide }
+{
+    match sum {
+        Err(EvalFail::Wide) => true,
+        _ => false,
+    }
+}
+
+/// The number that a sum is.
+fn number_in(sum: &Result<Frac, EvalFail>) -> Option<Frac>
+    ensures { result ≡ (sum_of sum.now).value }
+{
+    match sum {
+        Ok(x) => Some(*x),
+        Err(_) => None,
+    }
+}

@@ -1,0 +1,285 @@
+//! Which commands and reward items belong together, found once.
+ghost use Rattle.std.specs.Prelude.{◌≡◌, ◌++◌, IfOk, OnOk, List, None, Some, bytes_eq, map, option_copied};
+ghost use Rattle.std.specs.List.{filter, flat_map, list_any};
+ghost use Rattle.process_core.specs.Instance.{only_if};
+ghost use Rattle.process_core.specs.Ready.{firsts, if_some};
+ghost use Rattle.prism_flat.specs.Moment.{action_of, adds_of};
+ghost use Rattle.prism_flat.specs.Process.{is_for_choices, is_for_states};
+ghost use Rattle.prism_names.specs.Names.{unchanged};
+ghost use Rattle.prism_tree.specs.Syntax as syntax;
+ghost use Rattle.prism_tree.specs.Syntax.{command_of, file_of, item_of, module_of, rewards_of};
+ghost use Rattle.prism_meaning.specs.Shapes.{acting, action_shape, acts, bodies, earned, earned_in_states, own_commands, shapes, sharing, silent_shape, unless_empty};
+ghost use Rattle.prism_meaning.specs.Views.{commands_of, items_of, shape_of};
+
+use crate::data::Shape;
+use bridge_io::Text;
+use name_rules::NameSet;
+use prism_tree::{ItemOn, PrismCommand, PrismFile, PrismItem, PrismModule, PrismRewards};
+use std::alloc::{AllocError, Global};
+
+/// The combinations of a file: those of each module's commands without action, then those of each action.
+pub(crate) fn shapes(alloc: Global, file: &PrismFile) -> Result<Vec<Shape>, AllocError>
+    ensures { IfOk result (λ gs. map shape_of gs.items ≡ shapes (map rewards_of file.now.rewards) (bodies (map module_of file.now.modules))) }
+{
+    let mut all = Vec::new(alloc);
+    add_silent(alloc, file, &mut all)?;
+    add_acting(alloc, file, &mut all)?;
+    Ok(all)
+}
+
+fn add_silent<'a>(
+    alloc: Global,
+    file: &'a PrismFile,
+    all: &mut Vec<Shape<'a>>,
+) -> Result<(), AllocError>
+    ensures { IfOk result (λ u. map shape_of all.new.items ≡ map shape_of all.old.items
+        ++ map (silent_shape (earned (map rewards_of file.now.rewards) None)) (bodies (map module_of file.now.modules))) }
+{
+    for one in file.modules.as_slice() {
+        let shape = silent_shape(alloc, file.rewards.as_slice(), one)?;
+        all.push(shape)?;
+    }
+    Ok(())
+}
+
+fn silent_shape<'a>(
+    alloc: Global,
+    rewards: &'a [PrismRewards],
+    one: &'a PrismModule,
+) -> Result<Shape<'a>, AllocError>
+    ensures { IfOk result (λ g. shape_of g ≡ silent_shape (earned (map rewards_of rewards.now) None) (own_commands (module_of one.now))) }
+{
+    let rewards = earned(alloc, rewards, None)?;
+    let mut lists = Vec::with_capacity(alloc, 1)?;
+    lists.push(commands_with(alloc, own_commands(one), None)?)?;
+    Ok(Shape {
+        label: None,
+        rewards,
+        lists,
+    })
+}
+
+fn add_acting<'a>(
+    alloc: Global,
+    file: &'a PrismFile,
+    all: &mut Vec<Shape<'a>>,
+) -> Result<(), AllocError>
+    ensures { IfOk result (λ u. map shape_of all.new.items ≡ map shape_of all.old.items
+        ++ map (action_shape (map rewards_of file.now.rewards) (bodies (map module_of file.now.modules))) (acting (bodies (map module_of file.now.modules)))) }
+{
+    let names = acting(alloc, file.modules.as_slice())?;
+    for action in names.as_slice() {
+        let shape = action_shape(alloc, file, *action)?;
+        all.push(shape)?;
+    }
+    Ok(())
+}
+
+fn action_shape<'a>(
+    alloc: Global,
+    file: &'a PrismFile,
+    action: &'a Text,
+) -> Result<Shape<'a>, AllocError>
+    ensures { IfOk result (λ g. shape_of g ≡ action_shape (map rewards_of file.now.rewards) (bodies (map module_of file.now.modules)) action.now) }
+{
+    let rewards = earned(alloc, file.rewards.as_slice(), Some(action))?;
+    let lists = sharing(alloc, file.modules.as_slice(), action)?;
+    Ok(Shape {
+        label: Some(action),
+        rewards,
+        lists,
+    })
+}
+
+/// Of the modules that have the action, the commands with it.
+fn sharing<'a>(
+    alloc: Global,
+    modules: &'a [PrismModule],
+    action: &Text,
+) -> Result<Vec<Vec<&'a PrismCommand>>, AllocError>
+    ensures { IfOk result (λ ls. map (λ l. commands_of l.items) ls.items ≡ sharing action.now (bodies (map module_of modules.now))) }
+{
+    let mut lists = Vec::new(alloc);
+    for one in modules {
+        let these = commands_with(alloc, own_commands(one), Some(action))?;
+        add_some(&mut lists, these)?;
+    }
+    Ok(lists)
+}
+
+/// Adds a list that isn't empty.
+fn add_some<'a>(
+    lists: &mut Vec<Vec<&'a PrismCommand>>,
+    these: Vec<&'a PrismCommand>,
+) -> Result<(), AllocError>
+    ensures { IfOk result (λ u. map (λ l. commands_of l.items) lists.new.items ≡ map (λ l. commands_of l.items) lists.old.items ++ unless_empty (commands_of these.entry.items)) }
+{
+    if these.len() > 0 {
+        lists.push(these)?;
+    }
+    Ok(())
+}
+
+/// The commands of a module.
+fn own_commands(one: &PrismModule) -> &[PrismCommand]
+    ensures { map command_of result.now ≡ own_commands (module_of one.now) }
+{
+    match one {
+        PrismModule::Plain(body) => body.commands.as_slice(),
+        PrismModule::Copied(_) => &[],
+    }
+}
+
+/// The commands with an action, or without one.
+fn commands_with<'a>(
+    alloc: Global,
+    commands: &'a [PrismCommand],
+    action: Option<&Text>,
+) -> Result<Vec<&'a PrismCommand>, AllocError>
+    ensures { IfOk result (λ cs. commands_of cs.items ≡ filter (acts (option_copied action.entry)) (map command_of commands.now)) }
+{
+    let mut these = Vec::new(alloc);
+    for command in commands {
+        let wanted = acts(command, action);
+        keep_if(&mut these, wanted, command)?;
+    }
+    Ok(these)
+}
+
+/// Adds one that is wanted.
+fn keep_if<'a, T>(all: &mut Vec<&'a T>, wanted: bool, x: &'a T) -> Result<(), AllocError>
+    ensures { OnOk result (all.new.items ≡ all.old.items ++ only_if wanted x.entry) }
+{
+    if wanted {
+        all.push(x)?;
+    }
+    Ok(())
+}
+
+fn acts(command: &PrismCommand, action: Option<&Text>) -> bool
+    ensures { result ≡ acts (option_copied action.entry) (command_of command.now) }
+{
+    match action {
+        None => command.action.is_none(),
+        Some(name) => match &command.action {
+            None => false,
+            Some(own) => name.as_str() == own.name.as_str(),
+        },
+    }
+}
+
+/// The actions of commands, in order of first occurrence.
+fn acting<'a>(alloc: Global, modules: &'a [PrismModule]) -> Result<Vec<&'a Text>, AllocError>
+    ensures { IfOk result (λ xs. map (λ x. x.now) xs.items ≡ acting (bodies (map module_of modules.now))) }
+{
+    let mut occurring = Vec::new(alloc);
+    for one in modules {
+        add_actions(own_commands(one), &mut occurring)?;
+    }
+    let all = each_once(alloc, occurring.as_slice())?;
+    Ok(all)
+}
+
+fn add_actions<'a>(commands: &'a [PrismCommand], all: &mut Vec<&'a Text>) -> Result<(), AllocError>
+    ensures { IfOk result (λ u. map (λ x. x.now) all.new.items ≡ map (λ x. x.now) all.old.items ++ flat_map (λ c. if_some (action_of unchanged c)) (map command_of commands.now)) }
+{
+    for command in commands {
+        match &command.action {
+            Some(action) => all.push(&action.name)?,
+            None => {}
+        }
+    }
+    Ok(())
+}
+
+/// Each name once, at its first place.
+fn each_once<'a>(alloc: Global, names: &[&'a Text]) -> Result<Vec<&'a Text>, AllocError>
+    ensures { IfOk result (λ xs. map (λ x. x.now) xs.items ≡ firsts bytes_eq (map (λ x. x.now) names.now)) }
+{
+    let mut all = Vec::new(alloc);
+    let mut seen = NameSet::new(alloc);
+    for name in names {
+        let text: &'a str = name.as_str();
+        let is_new = !seen.has(text);
+        seen.add(text)?;
+        keep_if(&mut all, is_new, *name)?;
+    }
+    Ok(all)
+}
+
+/// The items of each reward structure that choices with this label earn, or those without one.
+fn earned<'a>(
+    alloc: Global,
+    rewards: &'a [PrismRewards],
+    label: Option<&Text>,
+) -> Result<Vec<Vec<&'a PrismItem>>, AllocError>
+    ensures { IfOk result (λ ls. map (λ l. items_of l.items) ls.items ≡ earned (map rewards_of rewards.now) (option_copied label.entry)) }
+{
+    let mut lists = Vec::with_capacity(alloc, rewards.len())?;
+    for structure in rewards {
+        lists.push(choice_items(alloc, structure.items.as_slice(), label)?)?;
+    }
+    Ok(lists)
+}
+
+fn choice_items<'a>(
+    alloc: Global,
+    items: &'a [PrismItem],
+    label: Option<&Text>,
+) -> Result<Vec<&'a PrismItem>, AllocError>
+    ensures { IfOk result (λ is. items_of is.items ≡ filter (λ i. is_for_choices (option_copied label.entry) (adds_of i.on)) (map item_of items.now)) }
+{
+    let mut these = Vec::new(alloc);
+    for item in items {
+        let wanted = is_for_choices(&item.on, label);
+        keep_if(&mut these, wanted, item)?;
+    }
+    Ok(these)
+}
+
+fn is_for_choices(on: &ItemOn, label: Option<&Text>) -> bool
+    ensures { result ≡ is_for_choices (option_copied label.entry) (adds_of on.now) }
+{
+    match on {
+        ItemOn::InState => false,
+        ItemOn::Silent => label.is_none(),
+        ItemOn::Action(action) => match label {
+            None => false,
+            Some(name) => name.as_str() == action.name.as_str(),
+        },
+    }
+}
+
+/// The items of each reward structure that states earn.
+pub(crate) fn earned_in_states(
+    alloc: Global,
+    rewards: &[PrismRewards],
+) -> Result<Vec<Vec<&PrismItem>>, AllocError>
+    ensures { IfOk result (λ ls. map (λ l. items_of l.items) ls.items ≡ earned_in_states (map rewards_of rewards.now)) }
+{
+    let mut lists = Vec::with_capacity(alloc, rewards.len())?;
+    for structure in rewards {
+        lists.push(state_items(alloc, structure.items.as_slice())?)?;
+    }
+    Ok(lists)
+}
+
+fn state_items(alloc: Global, items: &[PrismItem]) -> Result<Vec<&PrismItem>, AllocError>
+    ensures { IfOk result (λ is. items_of is.items ≡ filter (λ i. is_for_states (adds_of i.on)) (map item_of items.now)) }
+{
+    let mut these = Vec::new(alloc);
+    for item in items {
+        let wanted = is_for_states(&item.on);
+        keep_if(&mut these, wanted, item)?;
+    }
+    Ok(these)
+}
+
+fn is_for_states(on: &ItemOn) -> bool
+    ensures { result ≡ is_for_states (adds_of on.now) }
+{
+    match on {
+        ItemOn::InState => true,
+        _ => false,
+    }
+}
