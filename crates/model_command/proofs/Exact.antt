@@ -1,5 +1,5 @@
 -- Which outcome comes where.
-use Rattle.std.proofs.Common.{arith, ◌≡◌, ◌⊎◌, ◌∙◌, sym, ap, subst, refl, ℕ, ◌+◌, ◌≤◌, List, [], ◌++◌, length, drop, Option, Some, None, inl, inr}
+use Rattle.std.proofs.Common.{arith, ◌≡◌, ◌⊎◌, ◌∙◌, sym, ap, subst, ℕ, ◌+◌, ◌≤◌, List, [], ◌++◌, length, drop, Option, Some, None, inl, inr}
 use Rattle.std.proofs.lemmas.List.{take-append-drop, append-nil}
 use Rattle.std.proofs.Common.{length-append, IsSome}
 use Rattle.std.specs.Io.KnownBytes.{prepend_known}
@@ -10,9 +10,10 @@ use Rattle.bridge_io.specs.declared.place.Place.{Place}
 use Rattle.prism_tree.specs.Syntax.{File}
 use Rattle.name_rules.specs.Least.{IsLeast}
 use Rattle.prism_check.specs.Faults.{faults}
-use Rattle.model_command.specs.declared.words.Task.{Task}
-use Rattle.model_command.specs.declared.words.Task.TheVariants.{ToJani, ToPrism, CheckPrism, CheckJani}
-use Rattle.model_command.specs.Words.{IsRequest, HasForm, IsWrongAt}
+use Rattle.command_words.specs.declared.request.Task.{Task}
+use Rattle.command_words.specs.declared.request.Task.TheVariants.{ToJani, ToPrism, CheckPrism, CheckJani}
+use Rattle.command_words.specs.Words.{Request, on_file, IsRequest, HasForm, IsWrongAt, OneRequest}
+use Rattle.model_walks.specs.declared.ending.Ending.{Ending}
 use Rattle.jani_table.specs.Least.{IsLeast as IsLeastOfJani}
 use Rattle.jani_table.specs.declared.table.Form.TheVariants as F
 use Rattle.jani_table.specs.Node.{node}
@@ -20,47 +21,30 @@ use Rattle.jani_table.specs.Faults.{faults as shape_faults}
 use Rattle.jani_tree.specs.Syntax.{File as JaniFile}
 use Rattle.jani_tree.specs.Jani.{IsFile}
 use Rattle.jani_check.specs.Faults.{faults as jani_faults}
-use Rattle.model_command.specs.PrismFile.{IsFaultless, IsPrismFault, of_text, of_tree}
-use Rattle.model_command.specs.JaniFile.{IsFaultlessJani, IsJaniFault, of_json, of_shape, of_model}
+use Rattle.model_files.specs.PrismFile.{IsFaultless, IsPrismFault, of_text, of_tree}
+use Rattle.model_files.specs.JaniFile.{IsFaultlessJani, IsJaniFault, of_json, of_shape, of_model}
 use Rattle.prism_translation.specs.Refused.{refused}
 use Rattle.model_command.specs.ToPrism.{IsTranslatable, IsRefusedBack, of_file, of_result}
 use Rattle.model_command.specs.Tasks.{IsFit, IsLeastFor}
 use Rattle.model_command.specs.Outcome.{status_of}
-use Rattle.model_command.specs.Run.{IsCause, IsWhole, IsRefusal}
+use Rattle.model_command.specs.Run.{IsCause, IsEnd, IsWhole, IsLongEnd, IsReadEnd}
 use Rattle.model_command.specs.declared.outcome.Outcome.{Outcome}
-use Rattle.model_command.specs.declared.outcome.Outcome.TheVariants.{Done, Refused, Words, ReadFault, NoMemory}
+use Rattle.model_command.specs.declared.outcome.Outcome.TheVariants.{Done, Ended, Refused, Words, ReadFault, NoMemory}
 
 -- words of a form have no wrong word
-pub wrong_not_form : (words : List (List ℕ)) (k : ℕ) (task : Task) (name : List ℕ) → IsWrongAt words k → IsRequest words task name → ⊥
-wrong_not_form words k task name (inl wrong) form = wrong.3 (drop k words, subst HasForm (sym (take-append-drop k words)) (task, name, form))
-wrong_not_form words k task name (inr wrong) form = wrong.2 (task, name, form)
-
--- and ask for one thing
-pub same_request : (words : List (List ℕ)) (s t : Task) (a b : List ℕ) → IsRequest words s a → IsRequest words t b → (s ≡ t) × (a ≡ b)
-same_request words ToJani ToJani a b one two = (refl, let e = one.1 in let f = two.1 in cc)
-same_request words ToJani ToPrism a b one two = absurd (let e = one.1 in let f = two.1 in cc)
-same_request words ToJani CheckPrism a b one two = absurd (let e = one.1 in let f = two.1 in cc)
-same_request words ToJani CheckJani a b one two = absurd (let e = one.1 in let f = two.1 in cc)
-same_request words ToPrism ToJani a b one two = absurd (let e = one.1 in let f = two.1 in cc)
-same_request words ToPrism ToPrism a b one two = (refl, let e = one.1 in let f = two.1 in cc)
-same_request words ToPrism CheckPrism a b one two = absurd (let e = one.1 in let f = two.1 in cc)
-same_request words ToPrism CheckJani a b one two = absurd (let e = one.1 in let f = two.1 in cc)
-same_request words CheckPrism ToJani a b one two = absurd (let e = one.1 in let f = two.1 in cc)
-same_request words CheckPrism ToPrism a b one two = absurd (let e = one.1 in let f = two.1 in cc)
-same_request words CheckPrism CheckPrism a b one two = (refl, let e = one.1 in let f = two.1 in cc)
-same_request words CheckPrism CheckJani a b one two = absurd (let e = one.1 in let f = two.1 in cc)
-same_request words CheckJani ToJani a b one two = absurd (let e = one.1 in let f = two.1 in cc)
-same_request words CheckJani ToPrism a b one two = absurd (let e = one.1 in let f = two.1 in cc)
-same_request words CheckJani CheckPrism a b one two = absurd (let e = one.1 in let f = two.1 in cc)
-same_request words CheckJani CheckJani a b one two = (refl, let e = one.1 in let f = two.1 in cc)
+pub wrong_not_form : (words : List (List ℕ)) (k : ℕ) (request : Request) → IsWrongAt words k → IsRequest words request → ⊥
+wrong_not_form words k request (inl wrong) form = wrong.3 (drop k words, subst HasForm (sym (take-append-drop k words)) (request, form))
+wrong_not_form words k request (inr wrong) form = wrong.2 (request, form)
 
 module _ {S : Type 0} (left : S → Option Lefts) (faults : S → ℕ) (steady : S → List ℕ → Type 0) (words : List (List ℕ)) (name : List ℕ) (old new : S) (answer : ℕ) where
   pub exact_words : (outcome : Outcome) → IsCause left faults steady words name old new outcome → (answer ≡ status_of outcome) ⊎ (answer ≡ 5) → (k : ℕ) → IsWrongAt words k → (answer ≡ 3) ⊎ (answer ≡ 5) ⊎ (answer ≡ 6)
-  exact_words (Done text) cause status k wrong = absurd (wrong_not_form words k cause.0 name wrong cause.1)
-  exact_words (Refused reason place) cause status k wrong = absurd (wrong_not_form words k cause.0 name wrong cause.1)
-  exact_words (Words j) cause status k wrong = grind (arith, status)
-  exact_words ReadFault cause status k wrong = absurd (wrong_not_form words k cause.0 name wrong cause.1)
-  exact_words NoMemory cause status k wrong = grind (arith, status)
+  exact_words outcome (inr cause) status k wrong = absurd (wrong_not_form words k cause.0 wrong cause.1)
+  exact_words (Done text) (inl cause) status k wrong = absurd cause
+  exact_words (Ended e) (inl cause) status k wrong = absurd cause
+  exact_words (Refused reason place) (inl cause) status k wrong = absurd cause
+  exact_words (Words j) (inl cause) status k wrong = grind (arith, status)
+  exact_words ReadFault (inl cause) status k wrong = absurd cause
+  exact_words NoMemory (inl cause) status k wrong = grind (arith, status)
 
 pub whole_bytes : (lefts : Lefts) (after : Option Lefts) (name bytes read : List ℕ) → lefts name ≡ Some bytes → IsWhole (Some lefts) after name read → read ≡ bytes
 whole_bytes lefts None name bytes read had whole = absurd whole.takes
@@ -123,26 +107,41 @@ least_not_fit ToPrism bytes f fault (tree, ok) = not_translatable bytes f tree f
 least_not_fit CheckPrism bytes f fault (tree, ok) = not_faultless bytes f tree fault ok
 least_not_fit CheckJani bytes f fault (tree, ok) = not_faultless_jani bytes f tree fault ok
 
-fit_kept : (task : Task) (lefts : Lefts) (after : Option Lefts) (name bytes : List ℕ) (reason : Reason) (place : Place) → lefts name ≡ Some bytes → IsFit task bytes → length bytes ≤ 16777216
-    → IsRefusal task (Some lefts) after name reason place → ⊥
-fit_kept task lefts None name bytes reason place had fit within (inl r) = absurd r.1.2
-fit_kept task lefts (Some now) name bytes reason place had fit within (inl r) =
-    let t = r.1 in
-    let long : length t.0 ≤ length bytes = too_long_told lefts now name bytes t.0 had t.2.was t.3 in
-    let many : length t.0 ≡ 16777216 + 1 = t.1 in
-    absurd (omega arith)
-fit_kept task lefts after name bytes reason place had fit within (inr r) =
-    least_not_fit task r.0 r.1 r.3 (subst (IsFit task) (sym (whole_bytes lefts after name bytes r.0 had r.2)) fit)
+module _ (task : Task) (name : List ℕ) (lefts : Lefts) (bytes : List ℕ) (had : lefts name ≡ Some bytes) (fit : IsFit task bytes) (within : length bytes ≤ 16777216) where
+  long_kept : (after : Option Lefts) (reason : Reason) (place : Place) → IsLongEnd (on_file task name) (Some lefts) after reason place → ⊥
+  long_kept None reason place r = absurd r.1.2
+  long_kept (Some now) reason place r =
+      let t = r.1 in
+      let long : length t.0 ≤ length bytes = too_long_told lefts now name bytes t.0 had t.2.was t.3 in
+      let many : length t.0 ≡ 16777216 + 1 = t.1 in
+      omega (arith, long, many, within)
 
-module _ {S : Type 0} (left : S → Option Lefts) (faults : S → ℕ) (steady : S → List ℕ → Type 0) (words : List (List ℕ)) (named : List ℕ) (old new : S) (answer : ℕ)
-    (lefts : Lefts) (task : Task) (name bytes : List ℕ) (told : left old ≡ Some lefts) (had : lefts name ≡ Some bytes) (form : IsRequest words task name) (fit : IsFit task bytes) (within : length bytes ≤ 16777216) where
+  fit_kept : (after : Option Lefts) (reason : Reason) (place : Place) → IsLongEnd (on_file task name) (Some lefts) after reason place ⊎ IsReadEnd (on_file task name) (Some lefts) after (Refused reason place) → ⊥
+  fit_kept after reason place (inl r) = long_kept after reason place r
+  fit_kept after reason place (inr r) =
+      least_not_fit task r.0 r.2.0 r.2.1 (subst (IsFit task) (sym (whole_bytes lefts after name bytes r.0 had r.1)) fit)
+
+module _ {S : Type 0} (left : S → Option Lefts) (faults : S → ℕ) (steady : S → List ℕ → Type 0) (words : List (List ℕ)) (named : List ℕ) (old new : S) (answer : ℕ) (one : OneRequest)
+    (lefts : Lefts) (task : Task) (name bytes : List ℕ) (told : left old ≡ Some lefts) (had : lefts name ≡ Some bytes) (form : IsRequest words (on_file task name)) (fit : IsFit task bytes) (within : length bytes ≤ 16777216) where
+  refusal_kept : (request : Request) (reason : Reason) (place : Place) → IsRequest words request → IsEnd left faults steady request old new (Refused reason place) → ⊥
+  refusal_kept request reason place asked end =
+      let P : Request → Option Lefts → Type 0 = λ r before. IsLongEnd r before (left new) reason place ⊎ IsReadEnd r before (left new) (Refused reason place) in
+      let e : P (on_file task name) (Some lefts) = subst (P (on_file task name)) told (subst (λ r. P r (left old)) (one words request (on_file task name) asked form) end) in
+      fit_kept task name lefts bytes had fit within (left new) reason place e
+
+  ended_not : (request : Request) (e : Ending) → IsRequest words request → IsEnd left faults steady request old new (Ended e) → ⊥
+  ended_not request e asked end =
+      let P : Request → Type 0 = λ r. IsReadEnd r (left old) (left new) (Ended e) in
+      let d : P (on_file task name) = subst P (one words request (on_file task name) asked form) end in
+      d.2
+
   pub exact_fit : (outcome : Outcome) → IsCause left faults steady words named old new outcome → (answer ≡ status_of outcome) ⊎ (answer ≡ 5) → (answer ≡ 0) ⊎ (answer ≡ 4) ⊎ (answer ≡ 5) ⊎ (answer ≡ 6)
   exact_fit (Done text) cause status = grind (arith, status)
-  exact_fit (Refused reason place) cause status =
-      let same = same_request words cause.0 task named name cause.1 form in
-      let P : Task → List ℕ → Option Lefts → Type 0 = λ t n before. IsRefusal t before (left new) n reason place in
-      let r : P task name (Some lefts) = subst (P task name) told (subst (λ n. P task n (left old)) same.1 (subst (λ t. P t named (left old)) same.0 cause.2)) in
-      absurd (fit_kept task lefts (left new) name bytes reason place had fit within r)
-  exact_fit (Words j) cause status = absurd (wrong_not_form words j task name cause form)
+  exact_fit (Ended e) (inl cause) status = absurd cause
+  exact_fit (Ended e) (inr cause) status = absurd (ended_not cause.0 e cause.1 cause.3)
+  exact_fit (Refused reason place) (inl cause) status = absurd cause
+  exact_fit (Refused reason place) (inr cause) status = absurd (refusal_kept cause.0 reason place cause.1 cause.3)
+  exact_fit (Words j) (inl cause) status = absurd (wrong_not_form words j (on_file task name) cause form)
+  exact_fit (Words j) (inr cause) status = absurd cause.3
   exact_fit ReadFault cause status = grind (arith, status)
   exact_fit NoMemory cause status = grind (arith, status)

@@ -14,8 +14,8 @@ use Rattle.prism_translation.specs.Lines.{lines}
 use Rattle.prism_translation.specs.Refused.{refused}
 use Rattle.prism_translation_names.specs.NameLaws.{LinesAreComments}
 use Rattle.jani_to_prism.specs.Promise.{IsTranslated, PlacesAside}
-use Rattle.model_command.specs.declared.words.Task.TheVariants.{ToPrism}
-use Rattle.model_command.specs.JaniFile.{IsFaultlessJani, RefusesJani}
+use Rattle.command_words.specs.declared.request.Task.TheVariants.{ToPrism}
+use Rattle.model_files.specs.JaniFile.{IsFaultlessJani, RefusesJani}
 use Rattle.model_command.specs.Tasks.{Judged}
 use Rattle.model_command.specs.ToPrism.{IsWrittenBack, of_file, of_result}
 

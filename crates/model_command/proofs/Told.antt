@@ -1,5 +1,5 @@
 -- What a run answers and writes where all is told.
-use Rattle.std.proofs.Common.{arith, ◌≡◌, ◌∙◌, refl, sym, ap, subst, ℕ, ◌+◌, ◌<◌, ◌≤◌, List, [], ◌++◌, length, take, Option, Some, None, inl, inr}
+use Rattle.std.proofs.Common.{arith, ◌≡◌, ◌⊎◌, ◌∙◌, refl, sym, ap, subst, ℕ, ◌+◌, ◌<◌, ◌≤◌, List, [], ◌++◌, length, take, Option, Some, None, inl, inr}
 use Rattle.std.proofs.Common.{length-append, IsSome, append-nil}
 use Rattle.std.specs.Prelude.{codes, ◌==◌, count_by}
 use Rattle.std.specs.List.{after_last}
@@ -14,17 +14,17 @@ use Rattle.bridge_io.specs.declared.reason.Reason.{Reason}
 use Rattle.bridge_io.specs.declared.reason.Reason.TheVariants.{TooLong}
 use Rattle.bridge_io.specs.declared.reason.Fault.{Fault}
 use Rattle.bridge_io.specs.declared.place.Place.{Place}
-use Rattle.model_command.specs.declared.words.Task.{Task}
-use Rattle.model_command.specs.declared.words.Task.TheVariants.{ToJani, ToPrism, CheckPrism, CheckJani}
-use Rattle.model_command.specs.Words.{IsRequest}
+use Rattle.command_words.specs.declared.request.Task.{Task}
+use Rattle.command_words.specs.declared.request.Task.TheVariants.{ToJani, ToPrism, CheckPrism, CheckJani}
+use Rattle.command_words.specs.Words.{Request, Walking, on_file, walk, file_of, IsRequest, OneRequest}
 use Rattle.model_command.specs.Tasks.{Makes, IsFit, IsLeastFor}
 use Rattle.model_command.specs.Outcome.{status_of, text_of, line_of, place_in, refusal_line}
-use Rattle.model_command.specs.Run.{IsCause, IsWhole, IsRefusal, EndsWith}
-use Rattle.model_command.specs.Headline.{IsAccepted, IsHeadline, IsFault, fault_line}
+use Rattle.model_command.specs.Run.{IsCause, IsWalkEnd, IsLongEnd, IsReadEnd, EndsWith}
+use Rattle.model_command.specs.Headline.{IsAccepted, IsHeadline, IsFault, IsShownAsTold, fault_line, too_long}
 use Rattle.model_command.specs.declared.outcome.Outcome.{Outcome}
-use Rattle.model_command.specs.declared.outcome.Outcome.TheVariants.{Done, Refused, Words, ReadFault, NoMemory}
+use Rattle.model_command.specs.declared.outcome.Outcome.TheVariants.{Done, Ended, Refused, Words, ReadFault, NoMemory}
 use Rattle.model_command.proofs.Place.{same_place}
-use Rattle.model_command.proofs.Exact.{whole_bytes, same_request, wrong_not_form, least_not_fit}
+use Rattle.model_command.proofs.Exact.{whole_bytes, wrong_not_form, least_not_fit}
 
 appended : (xs : List ℕ) (now : Option (List ℕ)) (more : List ℕ) → Appends (Some xs) now more → now ≡ Some (xs ++ more)
 appended xs None more h = absurd h
@@ -58,43 +58,50 @@ front_of lefts now name bytes read had was on many = of (now name) was on
           column = ap (λ l. 1 + length (after_last (λ b. b == 10) l)) fronts;
         }
 
+-- ---- a file that is too long
+module _ (lefts : Lefts) (name bytes : List ℕ) (had : lefts name ≡ Some bytes) where
+  pub told_long : (after : Option Lefts) (reason : Reason) (place : Place) → (reason ≡ TooLong) × IsTooLong (Some lefts) after name 16777216 (TooLongAt place) →
+      (16777216 < length bytes) × (refusal_line name place (number_of reason) (name_of reason) ≡ fault_line name bytes too_long)
+  told_long None reason place r = absurd r.1.2
+  told_long (Some now) reason place r =
+      let t = r.1 in
+      let f = front_of lefts now name bytes t.0 had t.2.was t.3 t.1 in (
+        f.long,
+        ap (λ q. refusal_line name place (number_of q) (name_of q)) r.0
+            ∙ ap (λ (p : Place). refusal_line name p 1 (codes "TooLong")) (same_place place _ _ (t.4 ∙ f.line) (t.5 ∙ f.column)),
+      )
+
+-- ---- tasks
 module _ (task : Task) (lefts : Lefts) (after : Option Lefts) (name bytes : List ℕ) (had : lefts name ≡ Some bytes) where
   -- why the file isn't accepted: its fault, and the line that tells it
   abbrev Refusal : Reason → Place → Type 0
   Refusal reason place = (IsAccepted task bytes → ⊥) × ((f : Fault) × IsFault task bytes f × (refusal_line name place (number_of reason) (name_of reason) ≡ fault_line name bytes f))
 
-  abbrev too_long : Fault
-  too_long = record { reason = TooLong; at = 16777216 }
-
-  refusal : (reason : Reason) (place : Place) → IsRefusal task (Some lefts) after name reason place → Refusal reason place
-  refusal reason place (inl r) = of after r.1
-    where
-      of : (after : Option Lefts) → IsTooLong (Some lefts) after name 16777216 (TooLongAt place) → (IsAccepted task bytes → ⊥) × ((f : Fault) × IsFault task bytes f × (refusal_line name place (number_of reason) (name_of reason) ≡ fault_line name bytes f))
-      of None t = absurd t.2
-      of (Some now) t =
-          let f = front_of lefts now name bytes t.0 had t.2.was t.3 t.1 in (
-            λ acc. let le : length bytes ≤ 16777216 = acc.0 in let gt : 16777216 < length bytes = f.long in absurd (omega arith),
-            (
-              too_long,
-              record { long = λ _. refl; short = λ le. let gt : 16777216 < length bytes = f.long in absurd (omega arith) },
-              ap (λ q. refusal_line name place (number_of q) (name_of q)) r.0
-                  ∙ ap (λ (p : Place). refusal_line name p 1 (codes "TooLong")) (same_place place _ _ (t.4 ∙ f.line) (t.5 ∙ f.column)),
-            ),
-          )
-  refusal reason place (inr r) =
-      let same : r.0 ≡ bytes = whole_bytes lefts after name bytes r.0 had r.2 in
-      let short : length bytes ≤ 16777216 = subst (λ b. length b ≤ 16777216) same r.2.within in
-      let least : IsLeastFor task bytes r.1 = subst (λ b. IsLeastFor task b r.1) same r.3 in
-      let there : place ≡ place_in bytes (r.1).at = subst (λ b. place ≡ place_in b (r.1).at) same r.5 in (
-        λ acc. least_not_fit task bytes r.1 least acc.1,
+  refusal : (reason : Reason) (place : Place) → IsLongEnd (on_file task name) (Some lefts) after reason place ⊎ IsReadEnd (on_file task name) (Some lefts) after (Refused reason place) → Refusal reason place
+  refusal reason place (inl r) =
+      let t = told_long lefts name bytes had after reason place r in (
+        λ acc. let le : length bytes ≤ 16777216 = acc.0 in let gt : 16777216 < length bytes = t.0 in absurd (omega arith),
         (
-          r.1,
+          too_long,
+          record { long = λ _. refl; short = λ le. let gt : 16777216 < length bytes = t.0 in absurd (omega arith) },
+          t.1,
+        ),
+      )
+  refusal reason place (inr r) =
+      let same : r.0 ≡ bytes = whole_bytes lefts after name bytes r.0 had r.1 in
+      let short : length bytes ≤ 16777216 = subst (λ b. length b ≤ 16777216) same r.1.within in
+      let f : Fault = r.2.0 in
+      let least : IsLeastFor task bytes f = subst (λ b. IsLeastFor task b f) same r.2.1 in
+      let there : place ≡ place_in bytes f.at = subst (λ b. place ≡ place_in b f.at) same r.2.3 in (
+        λ acc. least_not_fit task bytes f least acc.1,
+        (
+          f,
           record { long = λ gt. absurd (omega (arith, gt, short)); short = λ _. least },
-          ap (λ q. refusal_line name place (number_of q) (name_of q)) r.4 ∙ ap (λ (p : Place). refusal_line name p (number_of (r.1).reason) (name_of (r.1).reason)) there,
+          ap (λ q. refusal_line name place (number_of q) (name_of q)) r.2.2 ∙ ap (λ (p : Place). refusal_line name p (number_of f.reason) (name_of f.reason)) there,
         ),
       )
 
-  done : (text : List ℕ) → ((read : List ℕ) × IsWhole (Some lefts) after name read × Makes task read text) → IsAccepted task bytes × Makes task bytes text
+  done : (text : List ℕ) → IsReadEnd (on_file task name) (Some lefts) after (Done text) → IsAccepted task bytes × Makes task bytes text
   done text w =
       let same : w.0 ≡ bytes = whole_bytes lefts after name bytes w.0 had w.1 in
       let all : Makes task bytes text = subst (λ b. Makes task b text) same w.2 in
@@ -119,36 +126,96 @@ module _ (task : Task) (lefts : Lefts) (after : Option Lefts) (name bytes : List
         not_both : answer ≡ 0 → answer ≡ 2 → ⊥
         not_both a b = omega (arith, a, b)
 
+-- ---- one state, and walks
+module _ (w : Walking) (lefts : Lefts) (after : Option Lefts) (bytes was said : List ℕ) (out err : Option (List ℕ)) (answer : ℕ) (had : lefts w.file ≡ Some bytes) where
+  shown : (o : Outcome) → IsReadEnd (walk w) (Some lefts) after o → answer ≡ status_of o → out ≡ Some (was ++ text_of o) → err ≡ Some (said ++ line_of w.file o) → IsShownAsTold w bytes was said out err answer
+  shown o end status text line =
+      let same : end.0 ≡ bytes = whole_bytes lefts after w.file bytes end.0 had end.1 in
+      let short : length bytes ≤ 16777216 = subst (λ b. length b ≤ 16777216) same end.1.within in
+      record {
+        short = λ _. (o, subst (λ b. IsWalkEnd w b o) same end.2, status, text, line);
+        long = λ gt. absurd (omega (arith, gt, short));
+      }
+
+  long_shown : (reason : Reason) (place : Place) → IsLongEnd (walk w) (Some lefts) after reason place → answer ≡ 2 → out ≡ Some (was ++ []) →
+      err ≡ Some (said ++ refusal_line w.file place (number_of reason) (name_of reason)) → IsShownAsTold w bytes was said out err answer
+  long_shown reason place r status text line =
+      let t = told_long lefts w.file bytes had after reason place r in
+      let gt : 16777216 < length bytes = t.0 in
+      record {
+        short = λ le. absurd (omega (arith, gt, le));
+        long = λ _. (status, text ∙ ap Some (append-nil was), line ∙ ap (λ l. Some (said ++ l)) t.1);
+      }
+
+-- ---- the whole run
 module _ {S : Type 0} (left : S → Option Lefts) (faults : S → ℕ) (steady : S → List ℕ → Type 0) (words : List (List ℕ)) (named : List ℕ) (old new : S)
-    (lefts : Lefts) (task : Task) (name bytes : List ℕ) (told : left old ≡ Some lefts) (had : lefts name ≡ Some bytes) (form : IsRequest words task name)
+    (one : OneRequest) (lefts : Lefts) (asked : Request) (bytes : List ℕ) (told : left old ≡ Some lefts) (had : lefts (file_of asked) ≡ Some bytes) (form : IsRequest words asked)
     (was said : List ℕ) (out err : Option (List ℕ)) (answer : ℕ) (no_read : answer ≡ 4 → ⊥) (no_memory : answer ≡ 6 → ⊥) where
-  -- the task and the file are those of the words
-  asked : (P : Task → List ℕ → Option Lefts → Type 0) → ((t : Task) × IsRequest words t named × P t named (left old)) → (named ≡ name) × P task name (Some lefts)
-  asked P cause =
-      let same = same_request words cause.0 task named name cause.1 form in
-      (same.1, subst (P task name) told (subst (λ n. P task n (left old)) same.1 (subst (λ t. P t named (left old)) same.0 cause.2)))
+  -- the request is that of the words
+  of_asked : (P : Request → Option Lefts → Type 0) → (request : Request) → IsRequest words request → P request (left old) → P asked (Some lefts)
+  of_asked P request r p = subst (P asked) told (subst (λ q. P q (left old)) (one words request asked r form) p)
 
-  pub headline_of : (outcome : Outcome) → IsCause left faults steady words named old new outcome → answer ≡ status_of outcome → Appends (Some was) out (text_of outcome) → Appends (Some said) err (line_of named outcome) →
-      IsHeadline task bytes name was said out err answer
-  headline_of (Done text) cause status o e =
-      let w = asked (λ t n before. (read : List ℕ) × IsWhole before (left new) n read × Makes t read text) cause in
-      is_done task lefts (left new) name bytes had was said out err answer text (done task lefts (left new) name bytes had text w.1) status (appended was out text o) (appended said err [] e)
-  headline_of (Refused reason place) cause status o e =
-      let r = asked (λ t n before. IsRefusal t before (left new) n reason place) cause in
-      let line : err ≡ Some (said ++ refusal_line name place (number_of reason) (name_of reason)) =
-      appended said err _ e ∙ ap (λ n. Some (said ++ refusal_line n place (number_of reason) (name_of reason))) r.0 in
-      is_refused task lefts (left new) name bytes had was said out err answer _ (refusal task lefts (left new) name bytes had reason place r.1) status (appended was out [] o) line
-  headline_of (Words j) cause status o e = absurd (wrong_not_form words j task name cause form)
-  headline_of ReadFault cause status o e = absurd (no_read status)
-  headline_of NoMemory cause status o e = absurd (no_memory status)
+  -- the file that is named in what is written is that of the words
+  named_so : (o : Outcome) (request : Request) → IsRequest words request → named ≡ file_of request → Appends (Some said) err (line_of named o) → err ≡ Some (said ++ line_of (file_of asked) o)
+  named_so o request r same e =
+      appended said err _ e ∙ ap (λ n. Some (said ++ line_of n o)) (same ∙ ap file_of (one words request asked r form))
 
-pub ending : {S K E : Type 0} (left : S → Option Lefts) (faults : S → ℕ) (steady : S → List ℕ → Type 0)
-    (taken : K → Option (List ℕ)) (fails : K → ℕ) (said_by : E → Option (List ℕ)) (failures : E → ℕ) (words : List (List ℕ)) (named : List ℕ) (old new : S) (out out' : K) (err err' : E) (answer : ℕ)
-    (lefts : Lefts) (task : Task) (name bytes : List ℕ) → left old ≡ Some lefts → lefts name ≡ Some bytes → IsRequest words task name → (was said : List ℕ) → taken out ≡ Some was → said_by err ≡ Some said →
-    (answer ≡ 4 → ⊥) → (answer ≡ 5 → ⊥) → (answer ≡ 6 → ⊥) → (outcome : Outcome) → IsCause left faults steady words named old new outcome →
-    EndsWith taken fails said_by failures out out' err err' named outcome answer → IsHeadline task bytes name was said (taken out') (said_by err') answer
-ending left faults steady taken fails said_by failures words named old new out out' err err' answer lefts task name bytes told had form was said held heard no_read no_write no_memory outcome cause (inl e) =
-    headline_of left faults steady words named old new lefts task name bytes told had form was said (taken out') (said_by err') answer no_read no_memory outcome cause e.0
-    (subst (λ o. Appends o (taken out') (text_of outcome)) held e.1) (subst (λ o. Appends o (said_by err') (line_of named outcome)) heard e.2)
-ending left faults steady taken fails said_by failures words named old new out out' err err' answer lefts task name bytes told had form was said held heard no_read no_write no_memory outcome cause (inr (inl e)) = absurd (no_write e.0)
-ending left faults steady taken fails said_by failures words named old new out out' err err' answer lefts task name bytes told had form was said held heard no_read no_write no_memory outcome cause (inr (inr e)) = absurd (no_write e.0)
+module _ {S : Type 0} (left : S → Option Lefts) (faults : S → ℕ) (steady : S → List ℕ → Type 0) (words : List (List ℕ)) (named : List ℕ) (old new : S) (one : OneRequest) (lefts : Lefts) (told : left old ≡ Some lefts)
+    (bytes was said : List ℕ) (out err : Option (List ℕ)) (answer : ℕ) (no_read : answer ≡ 4 → ⊥) (no_memory : answer ≡ 6 → ⊥) where
+  pub headline_of : (task : Task) (name : List ℕ) → lefts name ≡ Some bytes → IsRequest words (on_file task name) → (outcome : Outcome) → IsCause left faults steady words named old new outcome →
+      answer ≡ status_of outcome → Appends (Some was) out (text_of outcome) → Appends (Some said) err (line_of named outcome) → IsHeadline task bytes name was said out err answer
+  headline_of task name had form (Done text) (inl cause) status o e = absurd cause
+  headline_of task name had form (Done text) (inr cause) status o e =
+      let w = of_asked left faults steady words named old new one lefts (on_file task name) bytes told had form was said out err answer no_read no_memory (λ r before. IsReadEnd r before (left new) (Done text)) cause.0 cause.1 cause.3 in
+      is_done task lefts (left new) name bytes had was said out err answer text (done task lefts (left new) name bytes had text w) status (appended was out text o) (appended said err [] e)
+  headline_of task name had form (Ended en) (inl cause) status o e = absurd cause
+  headline_of task name had form (Ended en) (inr cause) status o e =
+      let w = of_asked left faults steady words named old new one lefts (on_file task name) bytes told had form was said out err answer no_read no_memory (λ r before. IsReadEnd r before (left new) (Ended en)) cause.0 cause.1 cause.3 in
+      absurd w.2
+  headline_of task name had form (Refused reason place) (inl cause) status o e = absurd cause
+  headline_of task name had form (Refused reason place) (inr cause) status o e =
+      let w = of_asked left faults steady words named old new one lefts (on_file task name) bytes told had form was said out err answer no_read no_memory
+      (λ r before. IsLongEnd r before (left new) reason place ⊎ IsReadEnd r before (left new) (Refused reason place)) cause.0 cause.1 cause.3 in
+      is_refused task lefts (left new) name bytes had was said out err answer _ (refusal task lefts (left new) name bytes had reason place w) status (appended was out [] o)
+      (named_so left faults steady words named old new one lefts (on_file task name) bytes told had form was said out err answer no_read no_memory (Refused reason place) cause.0 cause.1 cause.2 e)
+  headline_of task name had form (Words j) (inl cause) status o e = absurd (wrong_not_form words j (on_file task name) cause form)
+  headline_of task name had form (Words j) (inr cause) status o e = absurd cause.3
+  headline_of task name had form ReadFault cause status o e = absurd (no_read status)
+  headline_of task name had form NoMemory cause status o e = absurd (no_memory status)
+
+  pub shown_of : (w : Walking) → lefts w.file ≡ Some bytes → IsRequest words (walk w) → (outcome : Outcome) → IsCause left faults steady words named old new outcome →
+      answer ≡ status_of outcome → Appends (Some was) out (text_of outcome) → Appends (Some said) err (line_of named outcome) → IsShownAsTold w bytes was said out err answer
+  shown_of w had form (Done text) (inl cause) status o e = absurd cause
+  shown_of w had form (Done text) (inr cause) status o e =
+      let v = of_asked left faults steady words named old new one lefts (walk w) bytes told had form was said out err answer no_read no_memory (λ r before. IsReadEnd r before (left new) (Done text)) cause.0 cause.1 cause.3 in
+      absurd v.2
+  shown_of w had form (Ended en) (inl cause) status o e = absurd cause
+  shown_of w had form (Ended en) (inr cause) status o e =
+      let v = of_asked left faults steady words named old new one lefts (walk w) bytes told had form was said out err answer no_read no_memory (λ r before. IsReadEnd r before (left new) (Ended en)) cause.0 cause.1 cause.3 in
+      shown w lefts (left new) bytes was said out err answer had (Ended en) v status (appended was out _ o)
+      (named_so left faults steady words named old new one lefts (walk w) bytes told had form was said out err answer no_read no_memory (Ended en) cause.0 cause.1 cause.2 e)
+  shown_of w had form (Refused reason place) (inl cause) status o e = absurd cause
+  shown_of w had form (Refused reason place) (inr cause) status o e =
+      by_end (of_asked left faults steady words named old new one lefts (walk w) bytes told had form was said out err answer no_read no_memory
+      (λ r before. IsLongEnd r before (left new) reason place ⊎ IsReadEnd r before (left new) (Refused reason place)) cause.0 cause.1 cause.3)
+    where
+      line : err ≡ Some (said ++ line_of w.file (Refused reason place))
+      line = named_so left faults steady words named old new one lefts (walk w) bytes told had form was said out err answer no_read no_memory (Refused reason place) cause.0 cause.1 cause.2 e
+
+      by_end : IsLongEnd (walk w) (Some lefts) (left new) reason place ⊎ IsReadEnd (walk w) (Some lefts) (left new) (Refused reason place) → IsShownAsTold w bytes was said out err answer
+      by_end (inl r) = long_shown w lefts (left new) bytes was said out err answer had reason place r status (appended was out [] o) line
+      by_end (inr r) = shown w lefts (left new) bytes was said out err answer had (Refused reason place) r status (appended was out [] o) line
+  shown_of w had form (Words j) (inl cause) status o e = absurd (wrong_not_form words j (walk w) cause form)
+  shown_of w had form (Words j) (inr cause) status o e = absurd cause.3
+  shown_of w had form ReadFault cause status o e = absurd (no_read status)
+  shown_of w had form NoMemory cause status o e = absurd (no_memory status)
+
+-- where no write failed, what was written are the texts of the outcome
+module _ {K E : Type 0} (taken : K → Option (List ℕ)) (fails : K → ℕ) (said_by : E → Option (List ℕ)) (failures : E → ℕ) (out out' : K) (err err' : E) (answer : ℕ) (was said : List ℕ)
+    (held : taken out ≡ Some was) (heard : said_by err ≡ Some said) (no_write : answer ≡ 5 → ⊥) where
+  pub written_whole : (named : List ℕ) (outcome : Outcome) → EndsWith taken fails said_by failures out out' err err' named outcome answer →
+      (answer ≡ status_of outcome) × Appends (Some was) (taken out') (text_of outcome) × Appends (Some said) (said_by err') (line_of named outcome)
+  written_whole named outcome (inl e) =
+      (e.0, subst (λ o. Appends o (taken out') (text_of outcome)) held e.1, subst (λ o. Appends o (said_by err') (line_of named outcome)) heard e.2)
+  written_whole named outcome (inr (inl e)) = absurd (no_write e.0)
+  written_whole named outcome (inr (inr e)) = absurd (no_write e.0)

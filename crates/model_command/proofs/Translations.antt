@@ -8,7 +8,7 @@ use Rattle.jani_tree.specs.Canonical.{FileForm, file_node}
 use Rattle.jani_tree.specs.Back.{TextSpells}
 use Rattle.jani_tree.specs.Text.{jani_text, SpellsNode}
 use Rattle.prism_to_jani.specs.Promise.{IsTranslated, PlacesAside}
-use Rattle.model_command.specs.PrismFile.{IsFaultless}
+use Rattle.model_files.specs.PrismFile.{IsFaultless}
 use Rattle.model_command.specs.Translation.{IsText, IsWritten, Translates}
 
 -- a text with its line feed

@@ -6,8 +6,8 @@ use Rattle.prism_tree.specs.Syntax.{File}
 use Rattle.prism_check.specs.SizeFaults.{command_count}
 use Rattle.jani_tree.specs.Syntax.{File as JaniFile}
 use Rattle.jani_check.specs.Faults.{edge_count}
-use Rattle.model_command.specs.PrismFile.{IsFaultless}
-use Rattle.model_command.specs.JaniFile.{IsFaultlessJani}
+use Rattle.model_files.specs.PrismFile.{IsFaultless}
+use Rattle.model_files.specs.JaniFile.{IsFaultlessJani}
 
 -- `ok prism modules M commands C`
 abbrev pub prism_line : ℕ → ℕ → List ℕ

@@ -3,19 +3,27 @@ use Rattle.std.specs.Prelude.{◌≡◌, ◌↔◌, ℕ, ◌<◌, ◌≤◌, Lis
 use Rattle.bridge_io.specs.Reason.{number_of, name_of}
 use Rattle.bridge_io.specs.declared.reason.Fault.{Fault}
 use Rattle.bridge_io.specs.declared.reason.Reason.TheVariants.{TooLong}
-use Rattle.model_command.specs.declared.words.Task.{Task}
-use Rattle.model_command.specs.Outcome.{place_in, refusal_line}
+use Rattle.command_words.specs.declared.request.Task.{Task}
+use Rattle.command_words.specs.Words.{Walking}
+use Rattle.model_command.specs.Outcome.{place_in, refusal_line, status_of, text_of, line_of}
 use Rattle.model_command.specs.Tasks.{Makes, IsFit, IsLeastFor}
+use Rattle.model_command.specs.Run.{IsWalkEnd}
+use Rattle.model_command.specs.declared.outcome.Outcome.{Outcome}
 
+-- ---- translations and checks
 -- a file that the task is done for, within the limits
 abbrev pub IsAccepted : Task → List ℕ → Type 0
 IsAccepted task bytes = (length bytes ≤ 16777216) × IsFit task bytes
 
--- The least fault of a file that isn't accepted: it is too long, which is said at the first byte past the limit; or, where it
+-- what is told of a file that is too long, at the first byte past the limit
+abbrev pub too_long : Fault
+too_long = record { reason = TooLong; at = 16777216 }
+
+-- The least fault of a file that isn't accepted: it is too long; or, where it
 -- isn't, the least fault of its tokens, else of its grammar, else of its names, else of its size, else of its types. Of a JANI file
 -- it is the least fault of its JSON, else of its shape, else of its names, else of its types, else of the profile.
 pub record IsFault (task : Task) (bytes : List ℕ) (f : Fault) : Type 0 where
-  pub long : 16777216 < length bytes → f ≡ record { reason = TooLong; at = 16777216 }
+  pub long : 16777216 < length bytes → f ≡ too_long
   pub short : length bytes ≤ 16777216 → IsLeastFor task bytes f
 
 -- the line that tells it
@@ -28,3 +36,10 @@ pub record IsHeadline (task : Task) (bytes name was said : List ℕ) (out err : 
   pub accepted : answer ≡ 0 → (text : List ℕ) × Makes task bytes text × (out ≡ Some (was ++ text)) × (err ≡ Some said)
   pub refused : (IsAccepted task bytes → ⊥) → (answer ≡ 2) × (out ≡ Some was)
       × ((f : Fault) × IsFault task bytes f × (err ≡ Some (said ++ fault_line name bytes f)))
+
+-- ---- one state, and walks
+-- A file within the limit ends as the definitions say, and this is answered and written; a file past it is refused.
+pub record IsShownAsTold (w : Walking) (bytes was said : List ℕ) (out err : Option (List ℕ)) (answer : ℕ) : Type 0 where
+  pub short : length bytes ≤ 16777216 → (o : Outcome) × IsWalkEnd w bytes o × (answer ≡ status_of o)
+      × (out ≡ Some (was ++ text_of o)) × (err ≡ Some (said ++ line_of w.file o))
+  pub long : 16777216 < length bytes → (answer ≡ 2) × (out ≡ Some was) × (err ≡ Some (said ++ fault_line w.file bytes too_long))

@@ -1,10 +1,7 @@
 pub mod Checking
 pub mod Headline
-pub mod JaniFile
 pub mod Outcome
-pub mod PrismFile
 pub mod Run
 pub mod Tasks
 pub mod Translation
 pub mod ToPrism
-pub mod Words

@@ -8,12 +8,14 @@ use Rattle.bridge_io.specs.declared.reason.Reason.{Reason}
 use Rattle.bridge_io.specs.declared.reason.Reason.TheVariants.{TooLong}
 use Rattle.bridge_io.specs.declared.reason.Fault.{Fault}
 use Rattle.bridge_io.specs.declared.place.Place.{Place}
-use Rattle.model_command.specs.declared.words.Task.{Task}
-use Rattle.model_command.specs.Words.{IsRequest, IsWrongAt}
+use Rattle.command_words.specs.declared.request.Task.{Task}
+use Rattle.command_words.specs.Words.{Request, Walking, on_file, walk, file_of, IsRequest, IsWrongAt}
 use Rattle.model_command.specs.Tasks.{Makes, IsLeastFor}
+use Rattle.model_walks.specs.Models.{IsModelFault}
+use Rattle.model_walks.specs.Walks.{EndsOnBytes, IsBehind}
 use Rattle.model_command.specs.Outcome.{status_of, line_of, text_of, place_in}
 use Rattle.model_command.specs.declared.outcome.Outcome.{Outcome}
-use Rattle.model_command.specs.declared.outcome.Outcome.TheVariants.{Done, Refused, Words, ReadFault, NoMemory}
+use Rattle.model_command.specs.declared.outcome.Outcome.TheVariants.{Done, Ended, Refused, Words, ReadFault, NoMemory}
 
 -- The whole file under the name was read: these bytes.
 pub record IsWhole (before after : Option Lefts) (name bytes : List ℕ) : Type 0 where
@@ -21,30 +23,64 @@ pub record IsWhole (before after : Option Lefts) (name bytes : List ℕ) : Type 
   pub spent : IsSpent after name
   pub within : length bytes ≤ 16777216
 
--- The file is longer than the limit, or it was read and this is its least fault.
-abbrev pub IsRefusal : Task → Option Lefts → Option Lefts → List ℕ → Reason → Place → Type 0
-IsRefusal task before after name reason place =
-    ((reason ≡ TooLong) × IsTooLong before after name 16777216 (TooLongAt place))
-    ⊎ ((bytes : List ℕ) × (f : Fault) × IsWhole before after name bytes × IsLeastFor task bytes f × (reason ≡ f.reason) × (place ≡ place_in bytes f.at))
+-- the position behind the words that ask for it
+abbrev pub IsNext : Request → ℕ → Type 0
+IsNext (on_file task name) next = Unit {0}
+IsNext (walk w) next = IsBehind w next
 
--- why a task on the file of this name ends so
-abbrev pub IsEnd : {S : Type 0} → (S → Option Lefts) → (S → ℕ) → (S → List ℕ → Type 0) → Task → List ℕ → S → S → Outcome → Type 0
-IsEnd left faults steady task name old new (Done text) = (bytes : List ℕ) × IsWhole (left old) (left new) name bytes × Makes task bytes text
-IsEnd left faults steady task name old new (Refused reason place) = IsRefusal task (left old) (left new) name reason place
-IsEnd left faults steady task name old new (Words k) = ⊥
-IsEnd left faults steady task name old new ReadFault = HasFailed (faults old) (faults new) × (steady old name → ⊥)
-IsEnd left faults steady task name old new NoMemory = Unit {0}
+-- how a task ends on the bytes of its file; want of memory may come at any time
+abbrev pub IsTaskEnd : Task → List ℕ → Outcome → Type 0
+IsTaskEnd task bytes (Done text) = Makes task bytes text
+IsTaskEnd task bytes (Ended e) = ⊥
+IsTaskEnd task bytes (Refused reason place) = (f : Fault) × IsLeastFor task bytes f × (reason ≡ f.reason) × (place ≡ place_in bytes f.at)
+IsTaskEnd task bytes (Words k) = ⊥
+IsTaskEnd task bytes ReadFault = ⊥
+IsTaskEnd task bytes NoMemory = Unit {0}
 
--- why a run of these words ends so, and on which file: the words are of no form, or ask for a task that ends so
+-- how a state is shown, or a walk ends
+abbrev pub IsWalkEnd : Walking → List ℕ → Outcome → Type 0
+IsWalkEnd w bytes (Done text) = ⊥
+IsWalkEnd w bytes (Ended e) = EndsOnBytes w.lang w bytes e
+IsWalkEnd w bytes (Refused reason place) = (f : Fault) × IsModelFault w.lang bytes f × (reason ≡ f.reason) × (place ≡ place_in bytes f.at)
+IsWalkEnd w bytes (Words k) = ⊥
+IsWalkEnd w bytes ReadFault = ⊥
+IsWalkEnd w bytes NoMemory = Unit {0}
+
+abbrev pub IsEndOn : Request → List ℕ → Outcome → Type 0
+IsEndOn (on_file task name) bytes o = IsTaskEnd task bytes o
+IsEndOn (walk w) bytes o = IsWalkEnd w bytes o
+
+-- it ends so once its file is read whole
+abbrev pub IsReadEnd : Request → Option Lefts → Option Lefts → Outcome → Type 0
+IsReadEnd request before after o = (bytes : List ℕ) × IsWhole before after (file_of request) bytes × IsEndOn request bytes o
+
+-- its file is longer than the limit
+abbrev pub IsLongEnd : Request → Option Lefts → Option Lefts → Reason → Place → Type 0
+IsLongEnd request before after reason place = (reason ≡ TooLong) × IsTooLong before after (file_of request) 16777216 (TooLongAt place)
+
+-- why a request ends so
+abbrev pub IsEnd : {S : Type 0} → (S → Option Lefts) → (S → ℕ) → (S → List ℕ → Type 0) → Request → S → S → Outcome → Type 0
+IsEnd left faults steady request old new (Done text) = IsReadEnd request (left old) (left new) (Done text)
+IsEnd left faults steady request old new (Ended e) = IsReadEnd request (left old) (left new) (Ended e)
+IsEnd left faults steady request old new (Refused reason place) =
+    IsLongEnd request (left old) (left new) reason place ⊎ IsReadEnd request (left old) (left new) (Refused reason place)
+IsEnd left faults steady request old new (Words k) = ⊥
+IsEnd left faults steady request old new ReadFault = HasFailed (faults old) (faults new) × (steady old (file_of request) → ⊥)
+IsEnd left faults steady request old new NoMemory = Unit {0}
+
+-- the words are of no form; want of memory may come at any time
+abbrev pub IsByWords : List (List ℕ) → Outcome → Type 0
+IsByWords words (Done text) = ⊥
+IsByWords words (Ended e) = ⊥
+IsByWords words (Refused reason place) = ⊥
+IsByWords words (Words k) = IsWrongAt words k
+IsByWords words ReadFault = ⊥
+IsByWords words NoMemory = Unit {0}
+
+-- why a run of these words ends so, and on which file: the words are of no form, or ask for something that ends so
 abbrev pub IsCause : {S : Type 0} → (S → Option Lefts) → (S → ℕ) → (S → List ℕ → Type 0) → List (List ℕ) → List ℕ → S → S → Outcome → Type 0
-IsCause left faults steady words name old new (Done text) =
-    (task : Task) × IsRequest words task name × IsEnd left faults steady task name old new (Done text)
-IsCause left faults steady words name old new (Refused reason place) =
-    (task : Task) × IsRequest words task name × IsEnd left faults steady task name old new (Refused reason place)
-IsCause left faults steady words name old new (Words k) = IsWrongAt words k
-IsCause left faults steady words name old new ReadFault =
-    (task : Task) × IsRequest words task name × IsEnd left faults steady task name old new ReadFault
-IsCause left faults steady words name old new NoMemory = Unit {0}
+IsCause left faults steady words name old new o =
+    IsByWords words o ⊎ ((request : Request) × IsRequest words request × (name ≡ file_of request) × IsEnd left faults steady request old new o)
 
 abbrev pub write_fault_line : List ℕ
 write_fault_line = codes "bridge: write fault\n"
@@ -66,3 +102,10 @@ abbrev pub IsTold : {K E : Type 0} → (K → Option (List ℕ)) → (K → ℕ)
 IsTold taken faults said failures out out' err err' name outcome answer =
     EndsWith taken faults said failures out out' err err' name outcome answer
     ⊎ EndsWith taken faults said failures out out' err err' name NoMemory answer
+
+-- ---- statuses by themselves
+-- a request ended so on the whole bytes of its file, and its texts were written
+abbrev pub IsCarriedOut : {K E : Type 0} → (K → Option (List ℕ)) → (E → Option (List ℕ)) → Option Lefts → Option Lefts → K → K → E → E → List (List ℕ) → Outcome → Type 0
+IsCarriedOut taken said before after out out' err err' words o =
+    (request : Request) × (bytes : List ℕ) × IsRequest words request × IsWhole before after (file_of request) bytes × IsEndOn request bytes o
+    × Appends (taken out) (taken out') (text_of o) × Appends (said err) (said err') (line_of (file_of request) o)

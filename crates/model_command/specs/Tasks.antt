@@ -3,10 +3,10 @@ use Rattle.std.specs.Prelude.{ℕ, List, Result, Ok, Err}
 use Rattle.bridge_io.specs.declared.reason.Fault.{Fault}
 use Rattle.bridge_io.specs.declared.reason.Refused.{Refused}
 use Rattle.bridge_io.specs.declared.reason.Refused.TheVariants as R
-use Rattle.model_command.specs.declared.words.Task.{Task}
-use Rattle.model_command.specs.declared.words.Task.TheVariants.{ToJani, ToPrism, CheckPrism, CheckJani}
-use Rattle.model_command.specs.PrismFile.{HasNoFault, IsPrismFault}
-use Rattle.model_command.specs.JaniFile.{HasNoJaniFault, IsJaniFault}
+use Rattle.command_words.specs.declared.request.Task.{Task}
+use Rattle.command_words.specs.declared.request.Task.TheVariants.{ToJani, ToPrism, CheckPrism, CheckJani}
+use Rattle.model_files.specs.PrismFile.{HasNoFault, IsPrismFault}
+use Rattle.model_files.specs.JaniFile.{HasNoJaniFault, IsJaniFault}
 use Rattle.model_command.specs.Checking.{Checks, ChecksJani}
 use Rattle.model_command.specs.Translation.{Translates}
 use Rattle.model_command.specs.ToPrism.{HasTranslation, TranslatesBack, IsRefusedBack}

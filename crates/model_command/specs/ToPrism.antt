@@ -11,7 +11,7 @@ use Rattle.jani_tree.specs.Syntax as jani
 use Rattle.prism_translation.specs.Lines.{lines}
 use Rattle.prism_translation.specs.Refused.{refused}
 use Rattle.jani_to_prism.specs.Promise.{IsTranslated}
-use Rattle.model_command.specs.JaniFile.{IsFaultlessJani, IsJaniFault}
+use Rattle.model_files.specs.JaniFile.{IsFaultlessJani, IsJaniFault}
 
 -- The text is the comment lines of the JANI tree and the canonical text of the PRISM tree. It spells the PRISM tree that the
 -- JANI tree is translated to: it has no fault, it has the shape of a translation, and it means the same process. Each tree

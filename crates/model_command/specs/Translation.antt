@@ -6,7 +6,7 @@ use Rattle.jani_tree.specs.Places.{bare_file}
 use Rattle.jani_tree.specs.Text.{jani_text}
 use Rattle.jani_tree.specs.Back.{SpellsFile, SpellsAside, SpellsOnly}
 use Rattle.prism_to_jani.specs.Promise.{IsTranslated}
-use Rattle.model_command.specs.PrismFile.{IsFaultless}
+use Rattle.model_files.specs.PrismFile.{IsFaultless}
 
 -- The text is the canonical one of the tree and a line feed; it spells the tree, places aside, and no other.
 pub record IsText (text : List ℕ) (model : jani.File) : Type 0 where

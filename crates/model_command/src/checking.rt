@@ -1,11 +1,11 @@
 //! What a file consists of, if it has no fault.
 ghost use Rattle.std.specs.Prelude.{◌≡◌, IfOk, string_bytes};
-ghost use Rattle.model_command.specs.declared.words.Task.TheVariants.{CheckJani, CheckPrism};
+ghost use Rattle.command_words.specs.declared.request.Task.TheVariants.{CheckJani, CheckPrism};
 ghost use Rattle.model_command.specs.Checking.{jani_line, prism_line};
 ghost use Rattle.model_command.specs.Tasks.{Judged};
 
-use crate::reading::{read_jani, read_prism};
 use bridge_io::{List, Refused};
+use model_files::{read_jani, read_prism};
 use std::alloc::{AllocError, Global};
 
 /// The line that counts the modules and commands of the PRISM file that the bytes are, or their least fault.

@@ -1,21 +1,22 @@
 //! One run of the program, from the words of the command line to what is written.
-ghost use Rattle.std.specs.Prelude.{◌≡◌, ◌≤◌, ◌⊎◌, ℕ, List, [], Some, length};
+ghost use Rattle.std.specs.Prelude.{◌≡◌, ◌≤◌, ◌⊎◌, ◌+◌, ℕ, List, [], Some, length};
 ghost use Rattle.std.specs.Io.KnownBytes.{Appends};
 ghost use Rattle.bridge_io.specs.Outside.{HasFailed, Lefts};
-ghost use Rattle.model_command.specs.Words.{texts, IsRequest, IsWrongAt};
-ghost use Rattle.model_command.specs.Outcome.{line_of, place_in};
-ghost use Rattle.model_command.specs.Run.{IsCause, IsEnd, IsDelivered, IsTold, EndsWith, IsWhole};
+ghost use Rattle.command_words.specs.Words.{Walking, texts, on_file, walk, file_of, request_of, IsRequest, IsWrongAt};
+ghost use Rattle.model_command.specs.Outcome.{status_of, word_line};
+ghost use Rattle.model_walks.specs.Walks.{EndsOnBytes, WalksOn};
+ghost use Rattle.model_walks.specs.declared.ending.Ending.TheVariants as Ending;
+ghost use Rattle.model_command.specs.Run.{IsCause, IsEnd, IsEndOn, IsNext, IsDelivered, IsTaskEnd, IsTold, IsWalkEnd, IsWhole, EndsWith, IsCarriedOut};
 ghost use Rattle.model_command.specs.Tasks.{Makes, IsFit, Judged};
-ghost use Rattle.model_command.specs.Headline.{IsHeadline};
+ghost use Rattle.model_command.specs.Headline.{IsHeadline, IsShownAsTold};
 
 use crate::checking::{count_jani, count_prism};
-use crate::outcome::Outcome;
+use crate::outcome::{Outcome, refusal};
 use crate::to_prism::translate_back;
 use crate::translation::translate;
-use crate::words::{Task, request_in};
-use bridge_io::{
-    List, Place, ReadFail, Reason, Refused, Shelf, Sink, place_of, read_all, write_whole,
-};
+use bridge_io::{List, ReadFail, Reason, Refused, Shelf, Sink, read_all, write_whole};
+use command_words::{Request, Task, WordsFail, request_in, words_law};
+use model_walks::{Ending, show_or_walk};
 use std::alloc::Global;
 
 // The most bytes of a file.
@@ -32,15 +33,23 @@ const WRITE_FAULT: u8 = 5;
 /// | `to-prism FILE` | the comment lines and the PRISM text of the translated JANI model |
 /// | `check prism FILE` | `ok prism modules M commands C` and LF, C being the number of commands after copies of modules are written out |
 /// | `check jani FILE` | `ok jani elements E edges G` and LF, G being the number of edges of the automata that take part |
+/// | `show LANG FILE STATE NAME=VALUE ..` | the columns, the state, its labels and rewards, and its choices |
+/// | `simulate LANG FILE given N,N,.. NAME=VALUE ..` | the path along these numbers of choices and branches |
+/// | `simulate LANG FILE seed N STEPS NAME=VALUE ..` | a path of so many steps, drawn by the words of the generator Pcg64 after this seed; or up to a state without choices |
+///
+/// LANG is `prism` or `jani`. A walk starts at the model's first state; with `from STATE` before `given` or `seed`, at that one.
 ///
 /// | status | when | on `out` | on `err`, each line with its LF |
 /// |---|---|---|---|
-/// | 0 | the file has no fault, and was translated or checked | the text | nothing |
+/// | 0 | the file has no fault, and was translated, checked, shown or walked to the end | the text | nothing |
+/// | 1 | a walk came to a choice that has no distribution, to a number that there is no choice or branch for, or to a branch of probability 0 | the path so far | `bridge: stopped at step K: WHY` |
 /// | 2 | the file is longer than 16,777,216 bytes; or a PRISM file has a fault of its tokens, its grammar, its names, its size or its types; or a JANI file has a fault of its JSON, its shape, its names, its types or the profile; or a JANI file to be translated has none and its translation would write a variable where PRISM forbids it, or be too large | nothing | `FILE:LINE:COLUMN: reason NO Name` |
-/// | 3 | the words are of no form | nothing | `bridge: word K`, K being the first word with which no form goes on |
+/// | 3 | the words are of no form; or a value is given for no open constant of the model, or is none of its type, or past the bound; or an open constant isn't given; or STATE is no state of the model, or no initial one where a walk starts | nothing | `bridge: word K`, K being the first word with which no form goes on, or that doesn't fit, or the one that is missing |
 /// | 4 | a read failed | nothing | `bridge: read fault FILE` |
 /// | 5 | a write failed | a front of the text | a front of `bridge: write fault`, or of the line, where `err` failed |
 /// | 6 | memory ran out | nothing | `bridge: no memory` |
+/// | 7 | the model has faults under the given constants | nothing | `instance KIND NAME` for each |
+/// | 8 | a value that is needed passes the bound of fractions, or a state has too many choices or branches | the path so far | `bridge: wide at WHERE` or `bridge: too many at WHERE` |
 ///
 /// All text is built before its first byte is written.
 pub fn run<H: Shelf, K: Sink, E: Sink>(
@@ -56,23 +65,23 @@ pub fn run<H: Shelf, K: Sink, E: Sink>(
         × EndsWith K.taken K.faults E.taken E.faults out.old out.new err.old err.new name outcome result }
 
     // Each status by itself.
-    ensures done { result ≡ 0 → (task : _) × (name : List ℕ) × (bytes : List ℕ) × (text : List ℕ) × IsRequest (texts words.now) task name
-        × IsWhole (H.left shelf.old) (H.left shelf.new) name bytes × Makes task bytes text
-        × Appends (K.taken out.old) (K.taken out.new) text × Appends (E.taken err.old) (E.taken err.new) [] }
-    ensures words { result ≡ 3 → (k : ℕ) × IsWrongAt (texts words.now) k × Appends (K.taken out.old) (K.taken out.new) []
-        × Appends (E.taken err.old) (E.taken err.new) (line_of [] (Outcome.Words k)) }
-    ensures read_fault { result ≡ 4 → (task : _) × (name : List ℕ) × IsRequest (texts words.now) task name
-        × HasFailed (H.faults shelf.old) (H.faults shelf.new) × (H.steady shelf.old name → ⊥) }
+    ensures written { (result ≡ 0) ⊎ (result ≡ 1) ⊎ (result ≡ 7) ⊎ (result ≡ 8) → (outcome : _) × (result ≡ status_of outcome)
+        × IsCarriedOut K.taken E.taken (H.left shelf.old) (H.left shelf.new) out.old out.new err.old err.new (texts words.now) outcome }
+    ensures words { result ≡ 3 → (k : ℕ) × Appends (K.taken out.old) (K.taken out.new) [] × Appends (E.taken err.old) (E.taken err.new) (word_line k)
+        × (IsWrongAt (texts words.now) k ⊎ ((w : _) × (bytes : List ℕ) × IsRequest (texts words.now) (walk w)
+        × IsWhole (H.left shelf.old) (H.left shelf.new) w.file bytes × EndsOnBytes w.lang w bytes (Ending.Word k))) }
+    ensures read_fault { result ≡ 4 → (request : _) × IsRequest (texts words.now) request
+        × HasFailed (H.faults shelf.old) (H.faults shelf.new) × (H.steady shelf.old (file_of request) → ⊥) }
     ensures write_fault { result ≡ 5 → HasFailed (K.faults out.old) (K.faults out.new) ⊎ HasFailed (E.faults err.old) (E.faults err.new) }
-    ensures bounded { (result ≤ 6) × (result ≡ 1 → ⊥) }
+    ensures bounded { result ≤ 8 }
 
     // Words of no form come to nothing else. Where the shelf tells its bytes, it is for these that the task is done or refused.
     ensures words_exactly { (k : ℕ) → IsWrongAt (texts words.now) k → (result ≡ 3) ⊎ (result ≡ 5) ⊎ (result ≡ 6) }
     ensures made { (left : Lefts) (task : Task) (name bytes : List ℕ) → H.left shelf.old ≡ Some left → left name ≡ Some bytes
-        → IsRequest (texts words.now) task name → result ≡ 0
+        → IsRequest (texts words.now) (on_file task name) → result ≡ 0
         → (text : List ℕ) × Makes task bytes text × Appends (K.taken out.old) (K.taken out.new) text }
     ensures accepted { (left : Lefts) (task : Task) (name bytes : List ℕ) → H.left shelf.old ≡ Some left → left name ≡ Some bytes
-        → IsRequest (texts words.now) task name → IsFit task bytes → length bytes ≤ 16777216
+        → IsRequest (texts words.now) (on_file task name) → IsFit task bytes → length bytes ≤ 16777216
         → (result ≡ 0) ⊎ (result ≡ 4) ⊎ (result ≡ 5) ⊎ (result ≡ 6) }
 
     // Where the shelf and the sinks tell their bytes, and no read, no write and no memory failed, the status is 0
@@ -80,10 +89,18 @@ pub fn run<H: Shelf, K: Sink, E: Sink>(
     // was written: the text of a file of the other language that means the same process under every valuation, or the line that counts; any
     // other file is refused at its least fault.
     ensures headline { (left : Lefts) (task : Task) (name bytes was said : List ℕ) → H.left shelf.old ≡ Some left → left name ≡ Some bytes
-        → K.taken out.old ≡ Some was → E.taken err.old ≡ Some said → IsRequest (texts words.now) task name
+        → K.taken out.old ≡ Some was → E.taken err.old ≡ Some said → IsRequest (texts words.now) (on_file task name)
         → (result ≡ 4 → ⊥) → (result ≡ 5 → ⊥) → (result ≡ 6 → ⊥)
         → IsHeadline task bytes name was said (K.taken out.new) (E.taken err.new) result }
+
+    // Likewise where the words ask for a state or a walk: what is answered and written is the end that the file, the constants
+    // and the process that the file describes under these make of it, and no other.
+    ensures shown { (left : Lefts) (w : _) (bytes was said : List ℕ) → H.left shelf.old ≡ Some left → left w.file ≡ Some bytes
+        → K.taken out.old ≡ Some was → E.taken err.old ≡ Some said → IsRequest (texts words.now) (walk w)
+        → (result ≡ 4 → ⊥) → (result ≡ 5 → ⊥) → (result ≡ 6 → ⊥)
+        → IsShownAsTold w bytes was said (K.taken out.new) (E.taken err.new) result }
 {
+    words_law();
     answer(alloc, words, shelf, out, err)
 }
 
@@ -99,39 +116,60 @@ fn answer<H: Shelf, K: Sink, E: Sink>(
         × IsCause H.left H.faults H.steady (texts words.now) name shelf.old shelf.new outcome
         × EndsWith K.taken K.faults E.taken E.faults out.old out.new err.old err.new name outcome result }
 {
-    match request_in(words) {
+    words_law();
+    match request_in(alloc, words) {
         Ok(request) => {
-            let outcome = judge(alloc, request.task, request.name, shelf);
-            tell(alloc, request.name, &outcome, out, err)
+            let outcome = judge(alloc, words.len() + 1, &request, shelf);
+            tell(alloc, request.file(), &outcome, out, err)
         }
-        Err(k) => tell(alloc, "", &Outcome::Words(k), out, err),
+        Err(WordsFail::At(k)) => tell(alloc, "", &Outcome::Words(k), out, err),
+        Err(WordsFail::Memory(_)) => tell(alloc, "", &Outcome::NoMemory, out, err),
     }
 }
 
-// How the task on the file of this name ends, before anything is written.
-fn judge<H: Shelf>(alloc: Global, task: Task, name: &str, shelf: &mut H) -> Outcome
-    ensures { IsEnd H.left H.faults H.steady task name.now shelf.old shelf.new result }
+// How a request ends before anything is written. `next` is the position behind its words.
+fn judge<H: Shelf>(alloc: Global, next: usize, request: &Request, shelf: &mut H) -> Outcome
+    requires { IsNext (request_of request.now) next }
+    ensures { IsEnd H.left H.faults H.steady (request_of request.now) shelf.old shelf.new result }
 {
-    let bytes = match read_all(alloc, shelf, name, LIMIT) {
+    let bytes = match read_all(alloc, shelf, request.file(), LIMIT) {
         Ok(bytes) => bytes,
         Err(ReadFail::Memory(_)) => return Outcome::NoMemory,
         Err(ReadFail::Fault) => return Outcome::ReadFault,
         Err(ReadFail::TooLong(place)) => return Outcome::Refused(Reason::TooLong, place),
     };
-    match perform(alloc, task, bytes.as_slice()) {
-        Ok(text) => Outcome::Done(text),
-        Err(Refused::At(fault)) => {
-            Outcome::Refused(fault.reason, place_within(bytes.as_slice(), fault.at))
-        }
-        Err(Refused::Memory(_)) => Outcome::NoMemory,
+    end_on(alloc, next, request, bytes.as_slice())
+}
+
+// How the request ends on the bytes of its file.
+fn end_on(alloc: Global, next: usize, request: &Request, bytes: &[u8]) -> Outcome
+    requires { IsNext (request_of request.now) next }
+    ensures { IsEndOn (request_of request.now) bytes.now result }
+{
+    match request {
+        Request::OnFile(task, _) => told(bytes, perform(alloc, *task, bytes)),
+        Request::Walk(walking) => ended(bytes, show_or_walk(alloc, next, walking, bytes)),
     }
 }
 
-// The place of an offset in the bytes. One past their end would have the place of the end.
-fn place_within(bytes: &[u8], at: usize) -> Place
-    ensures { result ≡ place_in bytes.now at }
+// What comes of a task on these bytes: the text that it makes of them, or the place of their least fault.
+fn told(bytes: &[u8], made: Result<List<u8>, Refused>) -> Outcome
+    ensures { (task : Task) → Judged task bytes.now made → IsTaskEnd task bytes.now result }
 {
-    place_of(bytes, at.min(bytes.len()))
+    match made {
+        Ok(text) => Outcome::Done(text),
+        Err(refused) => refusal(bytes, refused),
+    }
+}
+
+// The same of a state that is shown, or of a walk.
+fn ended(bytes: &[u8], made: Result<Ending, Refused>) -> Outcome
+    ensures { (w : Walking) → WalksOn w.lang w bytes.now made → IsWalkEnd w bytes.now result }
+{
+    match made {
+        Ok(ending) => Outcome::Ended(ending),
+        Err(refused) => refusal(bytes, refused),
+    }
 }
 
 // What the task makes of the bytes, or their least fault.
@@ -157,7 +195,7 @@ fn tell<K: Sink, E: Sink>(
     ensures { IsTold K.taken K.faults E.taken E.faults out.old out.new err.old err.new name.now outcome.now result }
 {
     match outcome.line(alloc, name) {
-        Ok(line) => deliver(out, err, outcome.text(), line.as_bytes(), outcome.status()),
+        Ok(line) => deliver(out, err, outcome.text(), line.as_slice(), outcome.status()),
         Err(_) => deliver(out, err, &[], b"bridge: no memory\n", 6),
     }
 }

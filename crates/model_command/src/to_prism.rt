@@ -8,14 +8,14 @@ ghost use Rattle.prism_print.specs.Text.{file_text};
 ghost use Rattle.jani_tree.specs.Syntax.{file_of};
 ghost use Rattle.jani_tree.specs.Faults.{FailsFor};
 ghost use Rattle.prism_translation.specs.Refused.{refused};
-ghost use Rattle.model_command.specs.declared.words.Task.TheVariants.{ToPrism};
+ghost use Rattle.command_words.specs.declared.request.Task.TheVariants.{ToPrism};
 ghost use Rattle.model_command.specs.Tasks.{Judged};
 ghost use Rattle.model_command.specs.ToPrism.{IsWrittenBack};
 
-use crate::reading::read_jani;
 use bridge_io::{List, Refused, Text};
 use jani_check::CheckedJani;
 use jani_to_prism::{CheckedPrismText, to_prism, translated_law};
+use model_files::read_jani;
 use prism_parse::one_tree;
 use prism_print::{commented_law, print};
 use prism_translation_names::lines_law;

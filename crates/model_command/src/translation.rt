@@ -1,15 +1,15 @@
 //! From the bytes of a PRISM file to the text of the JANI file that it is translated to.
 ghost use Rattle.std.specs.Prelude.{IfOk};
 ghost use Rattle.jani_tree.specs.Syntax.{File, file_of};
-ghost use Rattle.model_command.specs.declared.words.Task.TheVariants.{ToJani};
+ghost use Rattle.command_words.specs.declared.request.Task.TheVariants.{ToJani};
 ghost use Rattle.model_command.specs.Tasks.{Judged};
 ghost use Rattle.model_command.specs.Translation.{IsText, IsWritten};
 
-use crate::reading::read_prism;
 use bridge_io::{List, Refused};
 use decimal_json::line_feed_law;
 use jani_check::{CheckedJani, writable_law};
 use jani_tree::{write_jani, written_law};
+use model_files::read_prism;
 use prism_check::CheckedPrism;
 use prism_to_jani::{to_jani, translated_law};
 use std::alloc::{AllocError, Global};

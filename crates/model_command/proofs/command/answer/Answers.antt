@@ -1,16 +1,26 @@
-use Rattle.std.proofs.Common.{[]}
-use Rattle.model_command.specs.declared.outcome.Outcome.TheVariants.{Words}
-use Rattle.model_command.proofs.Causes.{cause, answered}
+use Rattle.std.proofs.Common.{[], ◌+◌, ap, inl, inr, sym}
+use Rattle.std.specs.Prelude.{string_bytes}
+use Rattle.std.proofs.lemmas.List.{length-map}
+use Rattle.command_words.specs.Words.{request_of, texts}
+use Rattle.model_command.specs.declared.outcome.Outcome.TheVariants.{NoMemory, Words}
+use Rattle.model_command.proofs.Causes.{answered, behind}
 use Rattle.model_command.proofs.command.answer.Goals as goal
+
+pub judge-outcome-requires : goal.judge-outcome-requires
+judge-outcome-requires g c =
+    behind (texts c.args.words.now) (request_of c.in-Ok.request) _ c.words_law.ensures.count c.in-Ok.ensures (ap (λ n. n + 1) (sym (length-map c.args.words.now string_bytes)))
 
 pub returns-in-Ok : goal.returns-in-Ok
 returns-in-Ok g c =
     answered g.H.Shelf.left g.H.Shelf.faults g.H.Shelf.steady _ _ _ g.K.Sink.taken g.K.Sink.faults g.E.Sink.taken g.E.Sink.faults _ _ _ _ c.tell.result
-    c.in-Ok.request.name.now c.judge-outcome.result
-    (cause g.H.Shelf.left g.H.Shelf.faults g.H.Shelf.steady _ _ _ c.in-Ok.request.task c.in-Ok.request.name.now c.in-Ok.ensures c.judge-outcome.result c.judge-outcome.ensures)
-    c.tell.ensures
+    c.file.result.now c.judge-outcome.result (inr (request_of c.in-Ok.request, c.in-Ok.ensures, c.file.ensures, c.judge-outcome.ensures)) c.tell.ensures
 
-pub returns-in-Err : goal.returns-in-Err
-returns-in-Err g c =
-    answered g.H.Shelf.left g.H.Shelf.faults g.H.Shelf.steady _ _ _ g.K.Sink.taken g.K.Sink.faults g.E.Sink.taken g.E.Sink.faults _ _ _ _ c.tell-in-Err.result
-    [] (Words c.in-Err.k) c.in-Err.ensures c.tell-in-Err.ensures
+pub returns-in-Err-At : goal.returns-in-Err-At
+returns-in-Err-At g c =
+    answered g.H.Shelf.left g.H.Shelf.faults g.H.Shelf.steady _ _ _ g.K.Sink.taken g.K.Sink.faults g.E.Sink.taken g.E.Sink.faults _ _ _ _ c.tell-in-Err-At.result
+    [] (Words c.in-Err-At.k) (inl (rw c.in-Err-At.field-0-is at c.in-Err-At.ensures)) c.tell-in-Err-At.ensures
+
+pub returns-in-Err-Memory : goal.returns-in-Err-Memory
+returns-in-Err-Memory g c =
+    answered g.H.Shelf.left g.H.Shelf.faults g.H.Shelf.steady _ _ _ g.K.Sink.taken g.K.Sink.faults g.E.Sink.taken g.E.Sink.faults _ _ _ _ c.tell-in-Err-Memory.result
+    [] NoMemory (inl tt) c.tell-in-Err-Memory.ensures

@@ -1,0 +1,248 @@
+-- What is kept of edges comes out as the edges do.
+use Rattle.std.specs.Prelude.{◌≡◌, ℕ, ◌+◌, ◌-◌, ◌<◌, ◌≤◌, List, [], ◌∷◌, ◌++◌, map, length, not, ◌&&◌, zero, suc, Bool, true, false, ◌||◌, Option, Some, None, bytes_eq, is_some, pos, nat_eq, unwrap_or, slice_get, if◌then◌else◌}
+use Rattle.std.specs.List.{AllZip, filter, flat_map, list_any, position, range_with_len}
+use Rattle.std.specs.Option.{option_map, option_or}
+use Rattle.std.proofs.Common.{refl, sym, ap, ap₂, subst, ◌∙◌, arith}
+use Rattle.std.proofs.lemmas.List.{map-append}
+use Rattle.std.proofs.lemmas.List.Elements.{filter_agree}
+use Rattle.std.proofs.lemmas.List.Folds.{list_any-append}
+use Rattle.std.proofs.lemmas.Option.{slice_get-map}
+use Rattle.std.proofs.Math.Bool.{or-false}
+use Rattle.bridge_io.specs.declared.reason.Named.{Named}
+use Rattle.basics.specs.Members.{filter-map}
+use Rattle.basics.specs.Numbers.{nat_eq_comm}
+use Rattle.frac_core.specs.Fraction.{whole}
+use Rattle.op_trees.specs.Seen.{Seen}
+use Rattle.op_trees.specs.declared.tree.Value.{Value}
+use Rattle.op_trees.specs.declared.tree.Value.TheVariants as V
+use Rattle.name_rules.specs.Names.{first_some, under}
+use Rattle.process_core.specs.Ready.{Name, Write, Reward, Update, Ready, has_action, if_some, same_label}
+use Rattle.process_core.proofs.Targets.{any_firsts}
+use Rattle.process_core.specs.Choices.{is_false}
+use Rattle.process_core.specs.Instance.{Column, write_to}
+use Rattle.state_choices.specs.Trimmed.{computed, trimmed, trimmed_reward, trimmed_seen, trimmed_update, trimmed_write}
+use Rattle.state_choices.specs.Views.{seen_of}
+use Rattle.state_choices.proofs.ComputedLaws.{computed_laws}
+use Rattle.jani_tree.specs.Syntax as syntax
+use Rattle.jani_tree.specs.Syntax.{Automaton, File}
+use Rattle.jani_tree.proofs.Mapped.{mapped, turned}
+use Rattle.jani_meaning.specs.Elements.{column_number, elements, is_called, is_global, is_own, lasting, location_number, place_of, structure_number, structures}
+use Rattle.jani_meaning.specs.Scene.{counted, see}
+use Rattle.jani_meaning.specs.Moment.{column_write, guard_seen, location_write, reward_of, weight_seen}
+use Rattle.instance_start.specs.declared.data.Place.TheVariants.{Constant, Variable}
+use Rattle.jani_instance.specs.Actions.{IsLinked, IsNumbered, Located, action_of, actions_among, actions_of, links_by, located_at, located_of, starts_at}
+use Rattle.jani_instance.specs.Built.{IsVectorOf, acts_with, edge_under, edges_from, global_place, links_from, member_from, reward_under, update_under, write_under}
+use Rattle.jani_instance.specs.Parts.{automaton_at, owned_at}
+use Rattle.jani_instance.specs.Shapes.{Assigned, Destination, Edge, assigned_by, assigned_of, assigned_to, column_in, column_of, destination_by, destination_of, edge_by, edge_of, location_in, structure_in}
+use Rattle.jani_instance.specs.Views.{Member, edge_seen, located_seen, location_seen, reward_seen, update_seen, write_seen}
+use Rattle.jani_instance.specs.declared.acting.Numbers.{Numbers}
+use Rattle.jani_instance.specs.declared.build.Site.{Site}
+use Rattle.jani_instance.specs.declared.data.Destination as code_destination
+use Rattle.jani_instance.specs.declared.data.Edge as code_edge
+use Rattle.jani_instance.specs.declared.data.Located as code_located
+use Rattle.jani_instance.specs.declared.data.Vector as code_vector
+use Rattle.jani_instance.specs.declared.parts.Part.{Part}
+use Rattle.jani_instance.proofs.Numbering.{names_equal, number_is}
+use Rattle.jani_instance.proofs.Trimming.{same_member, same_update}
+
+-- ---- the places of names
+by_columns : (n : ℕ) (p q r : Option ℕ) →
+    column_of (first_some (option_map (λ k. Variable (n + k)) p) (first_some (option_map (λ k. Variable (n + k)) q) (option_map Constant r)))
+    ≡ option_map (λ k. n + k) (option_or p q)
+by_columns n (Some k) q r = refl
+by_columns n None (Some k) r = refl
+by_columns n None None (Some j) = refl
+by_columns n None None None = refl
+
+same_write : (i : ℕ) (s t : Seen) (b c : Bool) → s ≡ t → b ≡ c → ◌≡◌ {A = Write} (record { column = i; value = s; fits = b }) (record { column = i; value = t; fits = c })
+same_write i s t b c e f = cc
+
+location_is : (i n : ℕ) → location_seen i (computed (counted n)) ≡ trimmed_write (location_write i n)
+location_is i n = same_write i _ _ _ _ (computed_laws.values (counted n)) (by_wide (counted n).wide (V.Number (whole (pos n))))
+  where
+    by_wide : (b : Bool) (v : Value) → is_some (seen_of (computed (record { value = Some v; wide = b }))).value ≡ (not b && true)
+    by_wide true v = refl
+    by_wide false v = refl
+
+got_range : (a n i : ℕ) → i < n → slice_get (range_with_len a n) i ≡ Some (a + i)
+got_range a zero i h = absurd (omega (arith, h))
+got_range a (suc n) zero h = ap Some (let d : a ≡ a + 0 = omega arith in d)
+got_range a (suc n) (suc i) h = got_range (a + 1) n i (let d : i < n = omega (arith, h) in d) ∙ ap Some (let d : a + 1 + i ≡ a + suc i = omega arith in d)
+
+-- a site of the element with this number
+pub record IsSite (file : File) (i : ℕ) (s : Site) : Type 0 where
+  pub number : s.number ≡ i
+  pub own : (x : Name) → under s.own.now x ≡ option_map (λ k. Variable (length file.elements + k)) (position (is_own i x) (lasting file))
+  pub global : (x : Name) → under s.places.now x ≡ global_place file x
+  pub locations : (x : Name) → under s.locations.now x ≡ position (λ l. is_called x l.name) (automaton_at s.part).locations
+  pub rewards : map owned_at s.structures.now ≡ structures file
+
+-- ---- what comes out of what is kept, by what it stands for
+module _ (cs : List Column) (names : Name → Seen) (i : ℕ) where
+  abbrev write_from : Assigned → Write
+  write_from w = trimmed_write (write_to cs w.place (see w.value names))
+
+  abbrev reward_from : Assigned → Reward
+  reward_from w = record { structure = w.place; value = trimmed_seen (see w.value names) }
+
+  abbrev update_from : Destination → Update
+  update_from d = record {
+    weight = trimmed_seen (weight_seen names d.weight);
+    writes = location_seen i d.location ∷ map write_from d.writes;
+    rewards = map reward_from d.rewards;
+  }
+
+  abbrev updates_from : Seen → List Destination → List Update
+  updates_from guard ds = if not guard.wide && is_false guard.value then [] else map update_from ds
+
+  abbrev edge_from : Edge → Ready
+  edge_from e = record { action = None; guard = trimmed_seen (guard_seen names e.guard); updates = updates_from (guard_seen names e.guard) e.destinations }
+
+  same_ready : (g : Seen) (m n : List Update) → m ≡ n → ◌≡◌ {A = Ready} (record { action = None; guard = g; updates = m }) (record { action = None; guard = g; updates = n })
+  same_ready g m n e = cc
+
+  update_kept : (d : code_destination.Destination) → update_seen cs names i d ≡ update_from (destination_of d)
+  update_kept d =
+      same_update _ _ _ _ _ _ refl (ap (λ l. location_seen i d.location ∷ l) (sym (mapped assigned_of write_from (write_seen cs names i) (λ w. refl) d.writes.items)))
+      (sym (mapped assigned_of reward_from (reward_seen cs names i) (λ w. refl) d.rewards.items))
+
+  edge_kept : (e : code_edge.Edge) → edge_seen cs names i e ≡ edge_from (edge_of e)
+  edge_kept e =
+      let g = guard_seen names (edge_of e).guard in
+      same_ready (trimmed_seen g) _ _
+      (ap (λ l. if not g.wide && is_false g.value then [] else l) (sym (mapped destination_of update_from (update_seen cs names i) (λ d. sym (update_kept d)) e.destinations.items)))
+
+  abbrev located_from : Located → Member
+  located_from l = record { silent = map edge_from l.silent; parts = map (map edge_from) l.parts }
+
+  located_kept : (l : code_located.Located) → located_seen cs names i (Some l) ≡ located_from (located_of l)
+  located_kept l =
+      same_member _ _ _ _ (sym (mapped edge_of edge_from (edge_seen cs names i) (λ e. sym (edge_kept e)) l.silent.items))
+      (sym (mapped (λ es. map edge_of es.items) (map edge_from) (λ es. map (edge_seen cs names i) es.items) (λ es. mapped edge_of edge_from (edge_seen cs names i) (λ e. sym (edge_kept e)) es.items) l.parts.items))
+
+  -- ---- and of the file's edges
+  module _ (file : File) (s : Site) (h : IsSite file i s) where
+    number_at : (x : Name) → location_in s x ≡ location_number (automaton_at s.part) x
+    number_at x = ap (λ o. unwrap_or o 0) (h.locations x)
+
+    column_is : (x : Name) → column_in s x ≡ column_number file i x
+    column_is x =
+        ap₂ (λ p q. column_of (first_some p q)) (h.own x) (h.global x)
+        ∙ by_columns (length file.elements) (position (is_own i x) (lasting file)) (position (is_global x) (lasting file)) (position (λ c. is_called x c.name) file.constants)
+
+    structure_is : (x : Name) → structure_in s x ≡ structure_number file i x
+    structure_is x = ap₂ (λ l n. place_of l n x) h.rewards h.number
+
+    one_write : (k : Option ℕ) (w : syntax.Write) → map write_from (assigned_to k w.value) ≡ map trimmed_write (column_write cs k (see w.value names))
+    one_write None w = refl
+    one_write (Some k) w = refl
+
+    one_reward : (k : Option ℕ) (w : syntax.Write) → map reward_from (assigned_to k w.value) ≡ map trimmed_reward (reward_of k (see w.value names))
+    one_reward None w = refl
+    one_reward (Some k) w = refl
+
+    writes_are : (ws : List syntax.Write) → map write_from (flat_map (assigned_by (column_in s)) ws) ≡ map trimmed_write (flat_map (write_under file cs names i (automaton_at s.part)) ws)
+    writes_are [] = refl
+    writes_are (w ∷ ws) =
+        map-append write_from (assigned_by (column_in s) w) (flat_map (assigned_by (column_in s)) ws)
+        ∙ ap₂ (λ x y. x ++ y)
+        (ap (λ k. map write_from (assigned_to k w.value)) (column_is w.target.name) ∙ one_write (column_number file i w.target.name) w) (writes_are ws)
+        ∙ sym (map-append trimmed_write (write_under file cs names i (automaton_at s.part) w) (flat_map (write_under file cs names i (automaton_at s.part)) ws))
+
+    rewards_are : (ws : List syntax.Write) → map reward_from (flat_map (assigned_by (structure_in s)) ws) ≡ map trimmed_reward (flat_map (reward_under file cs names i (automaton_at s.part)) ws)
+    rewards_are [] = refl
+    rewards_are (w ∷ ws) =
+        map-append reward_from (assigned_by (structure_in s) w) (flat_map (assigned_by (structure_in s)) ws)
+        ∙ ap₂ (λ x y. x ++ y)
+        (ap (λ k. map reward_from (assigned_to k w.value)) (structure_is w.target.name) ∙ one_reward (structure_number file i w.target.name) w) (rewards_are ws)
+        ∙ sym (map-append trimmed_reward (reward_under file cs names i (automaton_at s.part) w) (flat_map (reward_under file cs names i (automaton_at s.part)) ws))
+
+    update_is : (d : syntax.Destination) → update_from (destination_by s d) ≡ trimmed_update (update_under file cs names i (automaton_at s.part) d)
+    update_is d =
+        same_update _ _ _ _ _ _ refl (ap₂ (λ x l. x ∷ l) (ap (λ n. location_seen i (computed (counted n))) (number_at d.location.name) ∙ location_is i (location_number (automaton_at s.part) d.location.name)) (writes_are d.writes)) (rewards_are d.writes)
+
+    edge_is : (e : syntax.Edge) → edge_from (edge_by s e) ≡ trimmed (edge_under file cs names i (automaton_at s.part) e)
+    edge_is e =
+        let g = guard_seen names e.guard in
+        same_ready (trimmed_seen g) _ _
+        (ap (λ l. if not g.wide && is_false g.value then [] else l) (turned trimmed_update (destination_by s) update_from (update_under file cs names i (automaton_at s.part)) update_is e.destinations))
+
+    -- those that pass a test
+    kept_are : (p : Ready → Bool) (es : List syntax.Edge) →
+        map edge_from (map (edge_by s) (filter (λ e. p (edge_under file cs names i (automaton_at s.part) e)) es)) ≡ map trimmed (filter p (map (edge_under file cs names i (automaton_at s.part)) es))
+    kept_are p es =
+        turned trimmed (edge_by s) edge_from (edge_under file cs names i (automaton_at s.part)) edge_is (filter (λ e. p (edge_under file cs names i (automaton_at s.part) e)) es)
+        ∙ ap (map trimmed) (sym (filter-map p (edge_under file cs names i (automaton_at s.part)) es))
+
+    starting_are : (n : ℕ) → map (edge_under file cs names i (automaton_at s.part)) (filter (starts_at s n) (automaton_at s.part).edges) ≡ edges_from file cs names i (automaton_at s.part) n
+    starting_are n =
+        ap (map (edge_under file cs names i (automaton_at s.part)))
+        (filter_agree (starts_at s n) (λ e. nat_eq (location_number (automaton_at s.part) e.location.name) n) (λ e. ap (nat_eq n) (number_at e.location.name) ∙ nat_eq_comm n (location_number (automaton_at s.part) e.location.name)) (automaton_at s.part).edges)
+
+    one_location : (n : ℕ) → located_from (located_at s (automaton_at s.part).edges n) ≡ member_from file cs names i (automaton_at s.part) (actions_of (automaton_at s.part)) n
+    one_location n =
+        let es = filter (starts_at s n) (automaton_at s.part).edges in
+        same_member _ _ _ _ (kept_are (has_action None) es ∙ ap (λ l. map trimmed (filter (has_action None) l)) (starting_are n))
+        (mapped (λ x. map (edge_by s) (filter (acts_with x) es)) (map edge_from) (λ x. map trimmed (filter (has_action (Some x)) (edges_from file cs names i (automaton_at s.part) n)))
+        (λ x. kept_are (has_action (Some x)) es ∙ ap (λ l. map trimmed (filter (has_action (Some x)) l)) (starting_are n)) (actions_of (automaton_at s.part)))
+
+    by_get : (o : Option code_located.Located) (z : Located) → option_map located_of o ≡ Some z → located_seen cs names i o ≡ located_from z
+    by_get None z e = absurd cc
+    by_get (Some l) z e = located_kept l ∙ ap located_from (let d : located_of l ≡ z = cc in d)
+
+    pub locations_are : (ls : List code_located.Located) → map located_of ls ≡ map (located_at s (automaton_at s.part).edges) (range_with_len 0 (length (automaton_at s.part).locations - 1 + 1)) →
+        (n : ℕ) → n ≤ length (automaton_at s.part).locations - 1 → located_seen cs names i (slice_get ls n) ≡ member_from file cs names i (automaton_at s.part) (actions_of (automaton_at s.part)) n
+    locations_are ls e n k =
+        by_get (slice_get ls n) (located_at s (automaton_at s.part).edges n)
+        (sym (slice_get-map located_of ls n)
+        ∙ ap (λ l. slice_get l n) e
+        ∙ slice_get-map (located_at s (automaton_at s.part).edges) (range_with_len 0 (length (automaton_at s.part).locations - 1 + 1)) n
+        ∙ ap (option_map (located_at s (automaton_at s.part).edges)) (got_range 0 (length (automaton_at s.part).locations - 1 + 1) n (omega (arith, k)) ∙ ap Some (let d : 0 + n ≡ n = omega arith in d)))
+        ∙ one_location n
+
+-- the locations of an element
+pub element_locations : (file : File) (i : ℕ) (s : Site) → IsSite file i s → (p : Part) → s.part ≡ p → (ls : List code_located.Located) →
+    map located_of ls ≡ map (located_at s (automaton_at p).edges) (range_with_len 0 (length (automaton_at s.part).locations - 1 + 1)) →
+    (cs : List Column) (names : Name → Seen) (n : ℕ) → n ≤ length (automaton_at p).locations - 1 →
+    located_seen cs names i (slice_get ls n) ≡ member_from file cs names i (automaton_at p) (actions_of (automaton_at p)) n
+element_locations file i s h p e ls made cs names n k =
+    subst (λ q. located_seen cs names i (slice_get ls n) ≡ member_from file cs names i (automaton_at q) (actions_of (automaton_at q)) n) e
+    (locations_are cs names i file s h ls
+    (made ∙ ap (λ q. map (located_at s (automaton_at q).edges) (range_with_len 0 (length (automaton_at s.part).locations - 1 + 1))) (sym e)) n
+    (subst (λ q. n ≤ length (automaton_at q).locations - 1) (sym e) k))
+
+-- ---- actions that no edge has
+one_acts : (x : Name) (o : Option Name) → list_any (bytes_eq x) (if_some o) ≡ same_label (Some x) o
+one_acts x None = refl
+one_acts x (Some y) = or-false (bytes_eq x y)
+
+any_acts : (x : Name) (es : List syntax.Edge) → list_any (bytes_eq x) (flat_map (λ e. if_some (action_of e)) es) ≡ list_any (acts_with x) es
+any_acts x [] = refl
+any_acts x (e ∷ es) =
+    list_any-append (bytes_eq x) (if_some (action_of e)) (flat_map (λ d. if_some (action_of d)) es) ∙ ap₂ (λ b c. b || c) (one_acts x (action_of e)) (any_acts x es)
+
+pub none_act : (x : Name) (es : List syntax.Edge) → list_any (bytes_eq x) (actions_among es) ≡ false → list_any (acts_with x) es ≡ false
+none_act x es h =
+    sym (any_acts x es) ∙ sym (any_firsts bytes_eq names_equal (bytes_eq x) (flat_map (λ e. if_some (action_of e)) es)) ∙ h
+
+-- ---- links
+pub no_parts : (i : ℕ) (ts : List Numbers) → links_by i ts [] ≡ []
+no_parts i [] = refl
+no_parts i (t ∷ ts) = refl
+
+links_are : (i : ℕ) (as_ : List Automaton) (ts : List Numbers) (ps : List (Option Named)) → AllZip IsNumbered as_ ts → links_by i ts ps ≡ links_from actions_of i as_ ps
+links_are i [] [] ps h = refl
+links_are i [] (t ∷ ts) ps h = absurd h
+links_are i (a ∷ as_) [] ps h = absurd h
+links_are i (a ∷ as_) (t ∷ ts) [] h = refl
+links_are i (a ∷ as_) (t ∷ ts) (None ∷ ps) h = links_are (i + 1) as_ ts ps h.1
+links_are i (a ∷ as_) (t ∷ ts) (Some x ∷ ps) h =
+    ap₂ (λ n l. record { element = i; part = n } ∷ l) (number_is t.actions (actions_of a) h.0.acts x.name) (links_are (i + 1) as_ ts ps h.1)
+
+pub vectors_are : (file : File) (ts : List Numbers) → AllZip IsNumbered (elements file) ts → (us : List syntax.Vector) (ws : List code_vector.Vector) →
+    AllZip (IsLinked ts) us ws → AllZip (IsVectorOf file actions_of) us ws
+vectors_are file ts h [] [] k = tt
+vectors_are file ts h [] (w ∷ ws) k = absurd k
+vectors_are file ts h (u ∷ us) [] k = absurd k
+vectors_are file ts h (u ∷ us) (w ∷ ws) k =
+    (record { label = k.0.label; links = k.0.links ∙ links_are 0 (elements file) ts u.parts h }, vectors_are file ts h us ws k.1)

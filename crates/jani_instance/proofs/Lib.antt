@@ -1,0 +1,14 @@
+pub mod Values
+pub mod Trimming
+pub mod Places
+pub mod Whole
+pub mod Texts
+pub mod StateMarks
+pub mod Rounds
+pub mod Placed
+pub mod Typed
+pub mod Locations
+pub mod Givers
+pub mod StartLaws
+pub mod Numbering
+pub mod Kept

@@ -1,0 +1,8 @@
+use Rattle.std.proofs.Common.{◌≡◌, map, take}
+use Rattle.std.specs.List.{filter}
+use Rattle.jani_instance.specs.Actions.{is_silent, lent_edge}
+use Rattle.jani_instance.specs.Shapes.{edge_by, edge_of}
+use Rattle.jani_instance.proofs.located.silent.Given as goal
+
+abbrev pub invariant-loop-e : goal.invariant-loop-e
+invariant-loop-e l = map edge_of l.all.items ≡ map (edge_by l.site) (filter is_silent (map lent_edge (take l.e-index l.these)))

@@ -1,0 +1,19 @@
+use Rattle.std.proofs.Common.{Result, Ok, Err, subst, map}
+use Rattle.std.specs.Result.{IfOk}
+use Rattle.std.specs.List.{AllZip}
+use Rattle.jani_tree.specs.Syntax.{file_of, vector_of}
+use Rattle.jani_instance.specs.Actions.{IsLinked}
+use Rattle.jani_instance.proofs.Kept.{vectors_are}
+use Rattle.jani_instance.proofs.vectors.vectors.Goals as goal
+
+if_then : {X E : Type 0} (P Q : X → Type 0) → ((x : X) → P x → Q x) → (r : Result X E) → IfOk r P → IfOk r Q
+if_then P Q f (Ok x) h = f x h
+if_then P Q f (Err e) h = h
+
+pub returns : goal.returns
+returns c =
+    let b = c.args.basis.now in
+    let file = file_of b.file.now in
+    if_then _ _
+    (λ ws h. vectors_are file b.actions.now c.requires.acts file.vectors ws.items (subst (λ us. AllZip (IsLinked b.actions.now) (map vector_of us) ws.items) c.as_slice.ensures h))
+    c.vectors_among.result c.vectors_among.ensures

@@ -1,0 +1,116 @@
+-- The actions of an element and their numbers, what an edge needs to start at a location or to have an action, and what elements
+-- and vectors are built of (jani-model specification, version 1: "Edges", "Composition").
+use Rattle.std.specs.Prelude.{◌≡◌, ℕ, ◌+◌, ◌<◌, ◌^◌, List, [], ◌∷◌, ◌++◌, map, length, Bool, false, Option, Some, None, nat_eq, bytes_eq, option_copied, slice_get, unwrap_or, if◌then◌else◌}
+use Rattle.std.specs.Borrow.{Bor}
+use Rattle.std.specs.List.{AllZip, filter, flat_map, list_any, position}
+use Rattle.std.specs.Option.{option_map}
+use Rattle.bridge_io.specs.declared.reason.Named.{Named}
+use Rattle.name_rules.specs.Names.{under}
+use Rattle.process_core.specs.Ready.{Name, firsts, if_some, same_label}
+use Rattle.jani_tree.specs.declared.syntax.JaniEdge.{JaniEdge}
+use Rattle.jani_tree.specs.Syntax as syntax
+use Rattle.jani_tree.specs.Syntax.{Automaton, File, file_of}
+use Rattle.jani_meaning.specs.Elements.{elements, is_called, lasting, structures}
+use Rattle.jani_instance.specs.Built.{IsElementOf, acts_with, global_place}
+use Rattle.jani_instance.specs.Parts.{automaton_at, owned_at}
+use Rattle.jani_instance.specs.Shapes.{Edge, edge_by, edge_of, location_in}
+use Rattle.jani_instance.specs.declared.acting.ActionTable.{ActionTable}
+use Rattle.jani_instance.specs.declared.acting.Basis.{Basis}
+use Rattle.jani_instance.specs.declared.acting.Numbers.{Numbers}
+use Rattle.jani_instance.specs.declared.build.Site.{Site}
+use Rattle.jani_instance.specs.declared.data.Element as code_element
+use Rattle.jani_instance.specs.declared.data.Link.{Link}
+use Rattle.jani_instance.specs.declared.data.Located as code_located
+use Rattle.jani_instance.specs.declared.data.Vector as code_vector
+
+-- ---- the actions of an element
+abbrev pub action_of : syntax.Edge → Option Name
+action_of e = option_map (λ n. n.name) e.action
+
+abbrev pub actions_among : List syntax.Edge → List Name
+actions_among es = firsts bytes_eq (flat_map (λ e. if_some (action_of e)) es)
+
+-- each once, in order of first occurrence
+abbrev pub actions_of : Automaton → List Name
+actions_of a = actions_among a.edges
+
+-- this one besides, if it isn't there
+abbrev pub with_action : Name → List Name → List Name
+with_action x l = if list_any (bytes_eq x) l then l else l ++ x ∷ []
+
+-- a table of these actions
+pub record AreNumbered (l : List Name) (t : ActionTable) : Type 0 where
+  pub count : t.count ≡ length l
+  pub numbers : (x : Name) → under t.numbers x ≡ position (bytes_eq x) l
+
+-- the numbers of an element's actions and locations
+pub record IsNumbered (a : Automaton) (t : Numbers) : Type 0 where
+  pub acts : AreNumbered (actions_of a) t.actions
+  pub locations : (x : Name) → under t.locations x ≡ position (λ l. is_called x l.name) a.locations
+
+abbrev pub number_in : ActionTable → Name → ℕ
+number_in t x = unwrap_or (under t.numbers x) t.count
+
+-- ---- edges by location and action
+abbrev pub lent_edge : Bor JaniEdge → syntax.Edge
+lent_edge e = syntax.edge_of e.now
+
+abbrev pub starts_at : Site → ℕ → syntax.Edge → Bool
+starts_at s n e = nat_eq n (location_in s e.location.name)
+
+abbrev pub is_silent : syntax.Edge → Bool
+is_silent e = same_label None (action_of e)
+
+abbrev pub is_number : (Name → ℕ) → ℕ → Option Named → Bool
+is_number number k None = false
+is_number number k (Some x) = nat_eq k (number x.name)
+
+abbrev pub acts_as : (Name → ℕ) → ℕ → syntax.Edge → Bool
+acts_as number k e = is_number number k e.action
+
+pub record Located : Type 0 where
+  pub silent : List Edge
+  pub parts : List (List Edge)
+
+abbrev pub located_of : code_located.Located → Located
+located_of l = record { silent = map edge_of l.silent.items; parts = map (λ es. map edge_of es.items) l.parts.items }
+
+-- these edges, as one location keeps them
+abbrev pub located_among : Site → List syntax.Edge → Located
+located_among s es = record {
+  silent = map (edge_by s) (filter is_silent es);
+  parts = map (λ x. map (edge_by s) (filter (acts_with x) es)) (actions_of (automaton_at s.part));
+}
+
+abbrev pub located_at : Site → List syntax.Edge → ℕ → Located
+located_at s es n = located_among s (filter (starts_at s n) es)
+
+-- ---- links of a vector
+abbrev pub link_of : ℕ → ActionTable → Option Named → List Link
+link_of i t None = []
+link_of i t (Some x) = record { element = i; part = number_in t x.name } ∷ []
+
+abbrev pub links_by : ℕ → List Numbers → List (Option Named) → List Link
+links_by i [] ps = []
+links_by i (t ∷ ts) [] = []
+links_by i (t ∷ ts) (p ∷ ps) = link_of i t.actions p ++ links_by (i + 1) ts ps
+
+-- a vector with these links
+pub record IsLinked (ts : List Numbers) (v : syntax.Vector) (w : code_vector.Vector) : Type 0 where
+  pub label : option_copied w.label ≡ option_map (λ x. x.name) v.result
+  pub links : w.links.items ≡ links_by 0 ts v.parts
+
+-- ---- what elements and vectors are built of
+pub record IsBasis (b : Basis) : Type 0 where
+  pub parts : map automaton_at b.parts.now ≡ elements (file_of b.file.now)
+  pub acts : AllZip IsNumbered (elements (file_of b.file.now)) b.actions.now
+  pub variables : map owned_at b.lasting.now ≡ lasting (file_of b.file.now)
+  pub rewards : map owned_at b.structures.now ≡ structures (file_of b.file.now)
+  pub global : (x : Name) → under b.places.now x ≡ global_place (file_of b.file.now) x
+  pub room : length b.parts.now + length b.lasting.now < 2 ^ 64
+
+-- each element of the file
+pub record AreElementsOf (file : File) (es : List code_element.Element) : Type 0 where
+  pub count : length es ≡ length (elements file)
+  pub built : (i : ℕ) (a : Automaton) (e : code_element.Element) → slice_get (elements file) i ≡ Some a → slice_get es i ≡ Some e →
+      IsElementOf file (actions_of a) i a e

@@ -1,0 +1,13 @@
+pub mod Described
+pub mod Views
+pub mod Codes
+pub mod Built
+pub mod Constants
+pub mod Parts
+pub mod Shapes
+pub mod Sound
+pub mod Instance
+pub mod Lawful
+pub mod Transients
+pub mod Actions
+pub mod Knowing

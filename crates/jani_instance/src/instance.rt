@@ -1,0 +1,205 @@
+//! A file under given constants, as a process that can be stepped.
+ghost use Rattle.std.specs.Prelude.{◌≡◌, ◌++◌, IfOk, IsTrue, map, take, drop};
+ghost use Rattle.std.specs.Fmt.{decimal};
+ghost use Rattle.process_core.specs.Answers.{Answers, only_wide};
+ghost use Rattle.process_core.specs.Instance.{is_state};
+ghost use Rattle.process_core.specs.Seen.{seen_choice};
+ghost use Rattle.state_choices.specs.Views as choices_views;
+ghost use Rattle.jani_tree.specs.Syntax.{file_of};
+ghost use Rattle.jani_meaning.specs.Scene.{columns_of};
+ghost use Rattle.jani_meaning.specs.Moment.{moment};
+ghost use Rattle.jani_meaning.specs.Process.{choices, excess, has_wide_mark, marks};
+ghost use Rattle.instance_start.specs.Given.{given_by};
+ghost use Rattle.jani_instance.specs.Sound.{IsRight, IsSound, IsSound-prop, no_rewards};
+ghost use Rattle.jani_instance.specs.Views.{member_of, members_seen, setting_of};
+
+use crate::data::{Element, Evaluated, Transient, Vector};
+use crate::groups::{groups, members};
+use crate::marks::{add_labels, add_rewards};
+use crate::run::Here;
+use bridge_io::{List, Text};
+use frac_core::Frac;
+use instance_start::{Column, Place, first_values, is_initial, is_state};
+use itoa::Buffer;
+use jani_check::CheckedJani;
+use name_rules::NameMap;
+use op_trees::{EvalFail, Value};
+use process_core::{Choice, Given, InitialWide, Mark, State, StepFail, Steps};
+use state_choices::{choices_of, group_laws, trimming_law};
+use std::alloc::{AllocError, Global};
+
+/// A judged file under given constants. What its names stand for, the values of its constants, its columns, which of its edges
+/// start at each location and belong together, and which locations give values to its labels and reward structures, is found
+/// once, at the start.
+#[derive(Drop)]
+pub struct JaniInstance<'a> {
+    pub(crate) checked: &'a CheckedJani,
+    pub(crate) given: &'a [Given],
+    pub(crate) places: NameMap<'a, Place>,
+    pub(crate) constants: Vec<Option<Value>>,
+    pub(crate) columns: Vec<Column<'a>>,
+    pub(crate) elements: Vec<Element<'a>>,
+    pub(crate) vectors: Vec<Vector<'a>>,
+    pub(crate) labels: usize,
+    pub(crate) transients: Vec<Transient<'a>>,
+    ghost sound: { IsSound (file_of checked.now) given.now places constants.items columns.items elements.items vectors.items labels transients.items } by { IsSound-prop (file_of checked.now) given.now places constants.items columns.items elements.items vectors.items labels transients.items },
+}
+
+impl<'a> Steps for JaniInstance<'a> {
+    ghost use Rattle.jani_instance.specs.Instance.{process_of};
+    ghost use Rattle.jani_instance.specs.Lawful.{instance_is};
+
+    ghost process = { process_of };
+
+    ghost lawful = { instance_is };
+
+    fn columns(&self) -> usize {
+        self.columns.as_slice().len()
+    }
+
+    fn column_text(&self, alloc: Global, i: usize) -> Result<Text, AllocError> {
+        let count = self.elements.as_slice().len();
+        if i < count {
+            numbered_text(alloc, "@", i)
+        } else {
+            numbered_text(alloc, "#", i - count)
+        }
+    }
+
+    fn valid(&self, s: &State) -> bool {
+        is_state(self.columns.as_slice(), s.values.as_slice())
+    }
+
+    fn initial(&self, s: &State) -> Result<bool, InitialWide> {
+        Ok(is_initial(self.columns.as_slice(), s.values.as_slice()))
+    }
+
+    fn first(&self, alloc: Global) -> Result<Option<State>, AllocError> {
+        let values = first_values(alloc, self.columns.as_slice())?;
+        Ok(Some(State { values }))
+    }
+
+    fn choices(&self, alloc: Global, s: &State) -> Result<List<Choice>, StepFail> {
+        choices_at(alloc, self, s)
+    }
+
+    fn mark_count(&self) -> usize {
+        self.transients.len()
+    }
+
+    fn label_count(&self) -> usize {
+        self.labels
+    }
+
+    fn mark_name(&self, alloc: Global, i: usize) -> Result<Text, AllocError> {
+        Text::copy_of(alloc, self.transients[i].name.as_str())
+    }
+
+    fn marks(&self, alloc: Global, s: &State) -> Result<List<Mark>, StepFail> {
+        marks_at(alloc, self, s)
+    }
+}
+
+/// A mark and a number.
+fn numbered_text(alloc: Global, mark: &str, n: usize) -> Result<Text, AllocError>
+    ensures { IfOk result (λ t. t ≡ mark.now ++ decimal n) }
+{
+    let mut text = String::new(alloc);
+    text.push_str(mark)?;
+    let mut buffer = Buffer::new();
+    text.push_str(buffer.format(n))?;
+    Text::from_string(text)
+}
+
+/// The instance in a state.
+fn here<'a>(instance: &'a JaniInstance<'a>, s: &'a State) -> Here<'a>
+    requires { IsTrue (is_state (columns_of (file_of instance.now.checked.now) (given_by instance.now.given.now)) s.now.values) }
+    ensures values { result.values.now ≡ s.now.values }
+    ensures right { IsRight (file_of instance.now.checked.now) (given_by instance.now.given.now) (setting_of result) instance.now.vectors.items instance.now.labels instance.now.transients.items }
+{
+    Here {
+        places: &instance.places,
+        constants: instance.constants.as_slice(),
+        columns: instance.columns.as_slice(),
+        elements: instance.elements.as_slice(),
+        values: s.values.as_slice(),
+    }
+}
+
+/// The labels.
+fn labels<'a>(instance: &'a JaniInstance<'a>) -> &'a [Transient<'a>]
+    ensures { result.now ≡ take instance.now.labels instance.now.transients.items }
+{
+    &instance.transients.as_slice()[..instance.labels]
+}
+
+/// The reward structures.
+fn structures<'a>(instance: &'a JaniInstance<'a>) -> &'a [Transient<'a>]
+    ensures { result.now ≡ drop instance.now.labels instance.now.transients.items }
+{
+    &instance.transients.as_slice()[instance.labels..]
+}
+
+/// The choices of a state, in order.
+fn choices_at(alloc: Global, instance: &JaniInstance, s: &State) -> Result<List<Choice>, StepFail>
+    requires { IsTrue (is_state (columns_of (file_of instance.now.checked.now) (given_by instance.now.given.now)) s.now.values) }
+    ensures { Answers (excess (moment (file_of instance.now.checked.now) (given_by instance.now.given.now) s.now.values))
+        (λ cs. map seen_choice cs ≡ choices (moment (file_of instance.now.checked.now) (given_by instance.now.given.now) s.now.values) s.now.values) result }
+{
+    let here = here(instance, s);
+    let members = members(alloc, &here)?;
+    choices_of_members(alloc, instance, s, &here, members.as_slice())
+}
+
+/// The same from what the edges of each element come out as.
+fn choices_of_members(
+    alloc: Global,
+    instance: &JaniInstance,
+    s: &State,
+    here: &Here,
+    members: &[Evaluated],
+) -> Result<List<Choice>, StepFail>
+    requires members { map member_of members.now ≡ members_seen (setting_of here.now) }
+    requires values { here.now.values.now ≡ s.now.values }
+    requires right { IsRight (file_of instance.now.checked.now) (given_by instance.now.given.now) (setting_of here.now) instance.now.vectors.items instance.now.labels instance.now.transients.items }
+    ensures { Answers (excess (moment (file_of instance.now.checked.now) (given_by instance.now.given.now) s.now.values))
+        (λ cs. map seen_choice cs ≡ choices (moment (file_of instance.now.checked.now) (given_by instance.now.given.now) s.now.values) s.now.values) result }
+{
+    let rewards = no_rewards(alloc, structures(instance))?;
+    let groups = groups(
+        alloc,
+        rewards.as_slice(),
+        members,
+        instance.vectors.as_slice(),
+    )?;
+    trimming_law();
+    group_laws();
+    choices_of(alloc, s, groups.as_slice())
+}
+
+/// What a choice earns by itself in each reward structure: nothing.
+fn no_rewards(
+    alloc: Global,
+    structures: &[Transient],
+) -> Result<List<Result<Frac, EvalFail>>, AllocError>
+    ensures { IfOk result (λ rs. map choices_views.sum_of rs ≡ no_rewards structures.now) }
+{
+    let mut rewards = List::with_capacity(alloc, structures.len())?;
+    for _structure in structures {
+        rewards.push(Ok(Frac::zero()))?;
+    }
+    Ok(rewards)
+}
+
+/// The marks of a state: its labels, then its rewards.
+fn marks_at(alloc: Global, instance: &JaniInstance, s: &State) -> Result<List<Mark>, StepFail>
+    requires { IsTrue (is_state (columns_of (file_of instance.now.checked.now) (given_by instance.now.given.now)) s.now.values) }
+    ensures { Answers (only_wide (has_wide_mark (moment (file_of instance.now.checked.now) (given_by instance.now.given.now) s.now.values)))
+        (λ ms. ms ≡ marks (moment (file_of instance.now.checked.now) (given_by instance.now.given.now) s.now.values)) result }
+{
+    let here = here(instance, s);
+    let mut all = List::new(alloc);
+    add_labels(labels(instance), &here, &mut all)?;
+    add_rewards(structures(instance), &here, &mut all)?;
+    Ok(all)
+}

@@ -1,0 +1,23 @@
+//! A judged JANI file under given constants, stepped: its columns, first state, choices and marks.
+//! What its names stand for, which edges start at each location and what belongs together is found once, at the start, so
+//! that a state costs time linear in the edges at its own locations and in its choices and marks.
+#![tactic(auto)]
+
+mod acting;
+mod build;
+mod columns;
+mod constants;
+mod data;
+mod edges;
+mod groups;
+mod instance;
+mod located;
+mod marks;
+mod parts;
+mod run;
+mod start;
+mod transients;
+mod vectors;
+
+pub use instance::JaniInstance;
+pub use start::start_jani;

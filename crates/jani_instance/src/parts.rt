@@ -1,0 +1,250 @@
+//! The elements of a file with their automata, and its variables.
+ghost use Rattle.std.specs.Prelude.{◌≡◌, ◌++◌, ◌+◌, ◌<◌, ◌^◌, List, ℕ, IfOk, OnOk, Some, None, is_none, length, map};
+ghost use Rattle.std.specs.List.{filter, find, position};
+ghost use Rattle.std.specs.Option.{option_map};
+ghost use Rattle.name_rules.specs.Names.{first_some, under};
+ghost use Rattle.process_core.specs.Instance.{numbered};
+ghost use Rattle.jani_tree.specs.Syntax.{automaton_of, const_of, edge_of, file_of, location_of, var_of};
+ghost use Rattle.jani_meaning.specs.Elements.{elements, is_called, is_global, is_label, is_lasting, is_own, is_owner, is_structure, owned_by};
+ghost use Rattle.instance_start.specs.declared.data.Place.TheVariants.{Variable};
+ghost use Rattle.jani_instance.specs.Constants.{constant_place};
+ghost use Rattle.jani_instance.specs.Parts.{automaton_among, automaton_at, owned_at};
+
+use bridge_io::Named;
+use instance_start::Place;
+use jani_tree::{JaniAutomaton, JaniConst, JaniEdge, JaniFile, JaniKind, JaniLocation, JaniVar};
+use name_rules::NameMap;
+use std::alloc::{AllocError, Global};
+
+/// An element, and the automaton that it names.
+#[derive(Clone, Copy)]
+pub(crate) struct Part<'a> {
+    pub(crate) name: &'a Named,
+    pub(crate) automaton: Option<&'a JaniAutomaton>,
+}
+
+/// A variable, and the number of the element that it belongs to.
+#[derive(Clone, Copy)]
+pub(crate) struct Owned<'a> {
+    pub(crate) owner: Option<usize>,
+    pub(crate) var: &'a JaniVar,
+}
+
+/// The elements.
+pub(crate) fn parts<'a>(alloc: Global, file: &'a JaniFile) -> Result<Vec<Part<'a>>, AllocError>
+    ensures { IfOk result (λ ps. map automaton_at ps.items ≡ elements (file_of file.entry.now)) }
+{
+    parts_among(alloc, file.elements.as_slice(), file.automata.as_slice())
+}
+
+fn parts_among<'a>(
+    alloc: Global,
+    names: &'a [Named],
+    automata: &'a [JaniAutomaton],
+) -> Result<Vec<Part<'a>>, AllocError>
+    ensures { IfOk result (λ ps. map automaton_at ps.items ≡ map (automaton_among (map automaton_of automata.entry.now)) names.entry.now) }
+{
+    let mut all = Vec::with_capacity(alloc, names.len())?;
+    for name in names {
+        let automaton = automaton_called(automata, name.name.as_str());
+        all.push(Part { name, automaton })?;
+    }
+    Ok(all)
+}
+
+/// The first automaton of this name.
+fn automaton_called<'a>(automata: &'a [JaniAutomaton], name: &str) -> Option<&'a JaniAutomaton>
+    ensures { option_map (λ a. automaton_of a.now) result ≡ find (λ a. is_called name.now a.name) (map automaton_of automata.entry.now) }
+{
+    for automaton in automata {
+        if automaton.name.name.as_str() == name {
+            return Some(automaton);
+        }
+    }
+    None
+}
+
+/// The element's own variables.
+pub(crate) fn own_variables<'a>(part: Part<'a>) -> &'a [JaniVar]
+    ensures { map var_of result.now ≡ (automaton_at part.entry).variables }
+{
+    match part.automaton {
+        Some(automaton) => automaton.variables.as_slice(),
+        None => &[],
+    }
+}
+
+/// The element's locations.
+pub(crate) fn locations<'a>(part: Part<'a>) -> &'a [JaniLocation]
+    ensures { map location_of result.now ≡ (automaton_at part.entry).locations }
+{
+    match part.automaton {
+        Some(automaton) => automaton.locations.as_slice(),
+        None => &[],
+    }
+}
+
+/// The element's initial locations.
+pub(crate) fn initial<'a>(part: Part<'a>) -> &'a [Named]
+    ensures { result.now ≡ (automaton_at part.entry).initial }
+{
+    match part.automaton {
+        Some(automaton) => automaton.initial.as_slice(),
+        None => &[],
+    }
+}
+
+/// The element's edges.
+pub(crate) fn edges<'a>(part: Part<'a>) -> &'a [JaniEdge]
+    ensures { map edge_of result.now ≡ (automaton_at part.entry).edges }
+{
+    match part.automaton {
+        Some(automaton) => automaton.edges.as_slice(),
+        None => &[],
+    }
+}
+
+/// The global variables, then the own ones of each element.
+pub(crate) fn variables<'a>(
+    alloc: Global,
+    global: &'a [JaniVar],
+    parts: &[Part<'a>],
+) -> Result<Vec<Owned<'a>>, AllocError>
+    ensures { IfOk result (λ os. map owned_at os.items
+        ≡ owned_by None (map var_of global.entry.now) ++ numbered (λ i a. owned_by (Some i) a.variables) 0 (map automaton_at parts.now)) }
+{
+    let mut all = Vec::new(alloc);
+    push_owned(&mut all, None, global)?;
+    for (i, part) in parts.iter().enumerate() {
+        push_owned(&mut all, Some(i), own_variables(*part))?;
+    }
+    Ok(all)
+}
+
+fn push_owned<'a>(
+    all: &mut Vec<Owned<'a>>,
+    owner: Option<usize>,
+    vars: &'a [JaniVar],
+) -> Result<(), AllocError>
+    ensures { OnOk result (map owned_at all.new.items ≡ map owned_at all.old.items ++ owned_by owner (map var_of vars.entry.now)) }
+{
+    for var in vars {
+        all.push(Owned { owner, var })?;
+    }
+    Ok(())
+}
+
+/// The variables that are columns.
+pub(crate) fn lasting<'a>(alloc: Global, all: &[Owned<'a>]) -> Result<Vec<Owned<'a>>, AllocError>
+    ensures { IfOk result (λ os. os.items ≡ filter (λ o. is_lasting (owned_at o)) all.now) }
+{
+    all.iter()
+        .filter(|o| !o.var.transient)
+        .copied()
+        .collect(alloc)
+}
+
+/// The labels.
+pub(crate) fn labels<'a>(alloc: Global, all: &[Owned<'a>]) -> Result<Vec<Owned<'a>>, AllocError>
+    ensures { IfOk result (λ os. os.items ≡ filter (λ o. is_label (owned_at o)) all.now) }
+{
+    all.iter().filter(|o| is_label(**o)).copied().collect(alloc)
+}
+
+fn is_label(o: Owned) -> bool
+    ensures { result ≡ is_label (owned_at o.entry) }
+{
+    match o.var.kind {
+        JaniKind::Bool => o.var.transient,
+        _ => false,
+    }
+}
+
+/// The reward structures.
+pub(crate) fn structures<'a>(alloc: Global, all: &[Owned<'a>]) -> Result<Vec<Owned<'a>>, AllocError>
+    ensures { IfOk result (λ os. os.items ≡ filter (λ o. is_structure (owned_at o)) all.now) }
+{
+    all.iter()
+        .filter(|o| is_structure(**o))
+        .copied()
+        .collect(alloc)
+}
+
+fn is_structure(o: Owned) -> bool
+    ensures { result ≡ is_structure (owned_at o.entry) }
+{
+    match o.var.kind {
+        JaniKind::Bool => false,
+        _ => o.var.transient,
+    }
+}
+
+// ---- where names stand
+
+/// The element's own variables: which columns they are.
+pub(crate) fn own_places<'a>(
+    alloc: Global,
+    lasting: &[Owned<'a>],
+    i: usize,
+    first: usize,
+) -> Result<NameMap<'a, Place>, AllocError>
+    requires { first + length lasting.now < 2 ^ 64 }
+    ensures { IfOk result (λ m. (x : List ℕ) → under m x ≡ option_map (λ k. Variable (first + k)) (position (is_own i x) (map owned_at lasting.now))) }
+{
+    let mut places = NameMap::new(alloc);
+    for (k, o) in lasting.iter().enumerate() {
+        if is_owner(i, o.owner) {
+            places.put_first(o.var.name.name.as_str(), Place::Variable(first + k))?;
+        }
+    }
+    Ok(places)
+}
+
+pub(crate) fn is_owner(i: usize, owner: Option<usize>) -> bool
+    ensures { result ≡ is_owner i owner }
+{
+    match owner {
+        Some(k) => i == k,
+        None => false,
+    }
+}
+
+/// The global variables: which columns they are.
+pub(crate) fn global_places<'a>(
+    alloc: Global,
+    lasting: &[Owned<'a>],
+    first: usize,
+) -> Result<NameMap<'a, Place>, AllocError>
+    requires { first + length lasting.now < 2 ^ 64 }
+    ensures { IfOk result (λ m. (x : List ℕ) → under m x ≡ option_map (λ k. Variable (first + k)) (position (is_global x) (map owned_at lasting.now))) }
+{
+    let mut places = NameMap::new(alloc);
+    for (k, o) in lasting.iter().enumerate() {
+        if is_unowned(o.owner) {
+            places.put_first(o.var.name.name.as_str(), Place::Variable(first + k))?;
+        }
+    }
+    Ok(places)
+}
+
+pub(crate) fn is_unowned(owner: Option<usize>) -> bool
+    ensures { result ≡ is_none owner }
+{
+    match owner {
+        Some(_) => false,
+        None => true,
+    }
+}
+
+/// The constants besides.
+pub(crate) fn add_constants<'a>(
+    places: &mut NameMap<'a, Place>,
+    constants: &'a [JaniConst],
+) -> Result<(), AllocError>
+    ensures { OnOk result ((x : List ℕ) → under places.new x ≡ first_some (under places.old x) (constant_place (map const_of constants.entry.now) x)) }
+{
+    for (k, constant) in constants.iter().enumerate() {
+        places.put_first(constant.name.name.as_str(), Place::Constant(k))?;
+    }
+    Ok(())
+}

@@ -1,0 +1,425 @@
+//! A file that is started under given constants.
+ghost use Rattle.std.specs.Prelude.{◌≡◌, ◌++◌, [], ℕ, List, IfOk, MatchResult, None, Some, map};
+ghost use Rattle.op_trees.specs.Seen.{known_names};
+ghost use Rattle.name_rules.specs.Names.{under};
+ghost use Rattle.process_core.specs.Instance.{Valuation};
+ghost use Rattle.jani_check.specs.Faults.{IsChecked};
+ghost use Rattle.jani_meaning.specs.Scene.{columns_of, constant_names, scene};
+ghost use Rattle.jani_tree.specs.Syntax.{const_of, file_of};
+ghost use Rattle.instance_start.specs.Columns.{AreColumns, column_of, constant_of};
+ghost use Rattle.instance_start.specs.Firsts.{BeginRight};
+ghost use Rattle.instance_start.specs.Given.{given_by, misfit};
+ghost use Rattle.instance_start.specs.Started.{FailsIn, Starts};
+ghost use Rattle.jani_meaning.specs.Elements.{elements, labels as all_labels, structures as all_structures, variables as all_variables};
+ghost use Rattle.jani_instance.specs.Actions.{IsBasis};
+ghost use Rattle.jani_instance.specs.Built.{global_place};
+ghost use Rattle.jani_instance.specs.Constants.{Tabled, constant_place};
+ghost use Rattle.jani_instance.specs.Described.{described, jani_description};
+ghost use Rattle.jani_instance.specs.Instance.{process_of};
+ghost use Rattle.jani_instance.specs.Knowing.{AreKinds, HasRoom, HasWideConstant, IsBuilt, IsKnown, AreLinked, IsListed, opened};
+ghost use Rattle.jani_instance.specs.Parts.{automaton_at, owned_at};
+ghost use Rattle.jani_instance.specs.Transients.{transient_at, transient_by};
+ghost use Rattle.jani_instance.specs.Views.{seen_in, values_by};
+
+use crate::acting::{Basis, actions};
+use crate::columns::variables_of;
+use crate::constants::{constant_table, constant_values};
+use crate::data::{Element, Transient, Vector};
+use crate::instance::JaniInstance;
+use crate::located::elements;
+use crate::parts::{
+    Owned, Part, add_constants, global_places, labels, lasting, parts, structures, variables,
+};
+use crate::run::Run;
+use crate::transients::transients;
+use crate::vectors::vectors;
+use instance_start::{Column, Constant, Place, columns, misfit};
+use jani_check::CheckedJani;
+use jani_tree::{JaniConst, JaniFile};
+use name_rules::NameMap;
+use op_trees::Value;
+use process_core::{Given, StartFail};
+use std::alloc::{AllocError, Global};
+
+/// A judged file under given constants, as a process that can be stepped: or the first given constant that doesn't fit, else
+/// whether something is wide, else the faults of the instance.
+pub fn start_jani<'a>(
+    alloc: Global,
+    checked: &'a CheckedJani,
+    given: &'a [Given],
+) -> Result<JaniInstance<'a>, StartFail>
+    ensures { Starts process_of (jani_description (file_of checked.now)) given.now result }
+{
+    let file = checked.file();
+    let opens = match open_constants(alloc, file.constants.as_slice()) {
+        Ok(opens) => opens,
+        Err(e) => return Err(StartFail::Memory(e)),
+    };
+    match misfit(opens.as_slice(), given) {
+        Some(i) => Err(StartFail::Word(i)),
+        None => start_fitting(alloc, checked, given, opens.as_slice()),
+    }
+}
+
+/// The same where the given constants fit.
+fn start_fitting<'a>(
+    alloc: Global,
+    checked: &'a CheckedJani,
+    given: &'a [Given],
+    opens: &[Constant<'a>],
+) -> Result<JaniInstance<'a>, StartFail>
+    requires opens { map constant_of opens.now ≡ map opened (file_of checked.now).constants }
+    requires fits { misfit (map opened (file_of checked.now).constants) given.now ≡ None }
+    ensures { Starts process_of (jani_description (file_of checked.now)) given.now result }
+{
+    match what_is_listed(alloc, checked.file()) {
+        Err(e) => Err(StartFail::Memory(e)),
+        Ok(listed) => start_listed(alloc, checked, given, opens, &listed),
+    }
+}
+
+/// The same from the elements and the variables.
+fn start_listed<'a>(
+    alloc: Global,
+    checked: &'a CheckedJani,
+    given: &'a [Given],
+    opens: &[Constant<'a>],
+    listed: &Listed<'a>,
+) -> Result<JaniInstance<'a>, StartFail>
+    requires opens { map constant_of opens.now ≡ map opened (file_of checked.now).constants }
+    requires fits { misfit (map opened (file_of checked.now).constants) given.now ≡ None }
+    requires listed { IsListed (file_of checked.now) listed.now }
+    ensures { Starts process_of (jani_description (file_of checked.now)) given.now result }
+{
+    let file = checked.file();
+    match what_is_known(alloc, file, given, opens, listed) {
+        Err(e) => Err(e),
+        Ok(known) => match what_is_built(alloc, file, listed, &known) {
+            Err(e) => Err(StartFail::Memory(e)),
+            Ok(built) => Ok(instance_of(checked, given, known, built)),
+        },
+    }
+}
+
+/// The instance of what is known and built.
+fn instance_of<'a>(
+    checked: &'a CheckedJani,
+    given: &'a [Given],
+    known: Known<'a>,
+    built: Built<'a>,
+) -> JaniInstance<'a>
+    requires checked { IsChecked (file_of checked.now) }
+    requires known { IsKnown (file_of checked.now) (given_by given.now) known }
+    requires built { IsBuilt (file_of checked.now) (given_by given.now) built }
+    requires begin { BeginRight (columns_of (file_of checked.now) (given_by given.now)) }
+    ensures { process_of result ≡ described (file_of checked.now) (given_by given.now) }
+{
+    JaniInstance {
+        checked,
+        given,
+        places: known.places,
+        constants: known.constants,
+        columns: known.columns,
+        elements: built.elements,
+        vectors: built.vectors,
+        labels: built.labels,
+        transients: built.transients,
+    }
+}
+
+/// The constants, each with its type, and whether it is left open.
+fn open_constants(alloc: Global, constants: &[JaniConst]) -> Result<Vec<Constant>, AllocError>
+    ensures { IfOk result (λ cs. map constant_of cs.items ≡ map opened (map const_of constants.now)) }
+{
+    let mut all = Vec::with_capacity(alloc, constants.len())?;
+    for constant in constants {
+        all.push(Constant {
+            name: &constant.name.name,
+            ty: constant.ty,
+            is_open: constant.value.is_none(),
+        })?;
+    }
+    Ok(all)
+}
+
+// ---- whatever the given constants are
+
+/// Variables of each kind.
+#[derive(Drop)]
+pub(crate) struct Kinds<'a> {
+    pub(crate) lasting: Vec<Owned<'a>>,
+    pub(crate) labels: Vec<Owned<'a>>,
+    pub(crate) structures: Vec<Owned<'a>>,
+}
+
+/// The elements of a file, its variables, and where its constants stand.
+#[derive(Drop)]
+pub(crate) struct Listed<'a> {
+    pub(crate) parts: Vec<Part<'a>>,
+    pub(crate) kinds: Kinds<'a>,
+    pub(crate) constants: NameMap<'a, Place>,
+}
+
+fn what_is_listed<'a>(alloc: Global, file: &'a JaniFile) -> Result<Listed<'a>, AllocError>
+    ensures { IfOk result (IsListed (file_of file.now)) }
+{
+    let parts = parts(alloc, file)?;
+    let kinds = kinds_of(alloc, file, parts.as_slice())?;
+    let constants = constant_places(alloc, file.constants.as_slice())?;
+    Ok(Listed {
+        parts,
+        kinds,
+        constants,
+    })
+}
+
+fn kinds_of<'a>(
+    alloc: Global,
+    file: &'a JaniFile,
+    parts: &[Part<'a>],
+) -> Result<Kinds<'a>, AllocError>
+    requires { map automaton_at parts.now ≡ elements (file_of file.now) }
+    ensures { IfOk result (AreKinds (all_variables (file_of file.now))) }
+{
+    let all = variables(alloc, file.variables.as_slice(), parts)?;
+    each_kind(alloc, all.as_slice())
+}
+
+fn each_kind<'a>(alloc: Global, all: &[Owned<'a>]) -> Result<Kinds<'a>, AllocError>
+    ensures { IfOk result (AreKinds (map owned_at all.now)) }
+{
+    let lasting = lasting(alloc, all)?;
+    let labels = labels(alloc, all)?;
+    let structures = structures(alloc, all)?;
+    Ok(Kinds {
+        lasting,
+        labels,
+        structures,
+    })
+}
+
+/// Where the constants stand.
+fn constant_places<'a>(
+    alloc: Global,
+    constants: &'a [JaniConst],
+) -> Result<NameMap<'a, Place>, AllocError>
+    ensures { IfOk result (λ m. (x : List ℕ) → under m x ≡ constant_place (map const_of constants.now) x) }
+{
+    let mut places = NameMap::new(alloc);
+    add_constants(&mut places, constants)?;
+    Ok(places)
+}
+
+// ---- under given constants
+
+/// Where global names stand, the values of the constants, and the columns.
+#[derive(Drop)]
+pub(crate) struct Known<'a> {
+    pub(crate) places: NameMap<'a, Place>,
+    pub(crate) constants: Vec<Option<Value>>,
+    pub(crate) columns: Vec<Column<'a>>,
+}
+
+/// What is known of a file under given constants, or why it doesn't start.
+fn what_is_known<'a>(
+    alloc: Global,
+    file: &'a JaniFile,
+    given: &[Given],
+    opens: &[Constant<'a>],
+    listed: &Listed<'a>,
+) -> Result<Known<'a>, StartFail>
+    requires opens { map constant_of opens.now ≡ map opened (file_of file.now).constants }
+    requires listed { IsListed (file_of file.now) listed.now }
+    ensures { MatchResult result (IsKnown (file_of file.now) (given_by given.now)) (FailsIn (map opened (file_of file.now).constants) (scene (file_of file.now) (given_by given.now))) }
+{
+    let table = known_constants(alloc, file, given, &listed.constants)?;
+    let columns = known_columns(alloc, file, given, opens, listed, table.as_slice())?;
+    let _count = columns.as_slice().len();
+    match places(alloc, file, listed) {
+        Err(e) => Err(StartFail::Memory(e)),
+        Ok(places) => Ok(Known {
+            places,
+            constants: table,
+            columns,
+        }),
+    }
+}
+
+/// The values of the constants. `Wide` where one is.
+fn known_constants(
+    alloc: Global,
+    file: &JaniFile,
+    given: &[Given],
+    places: &NameMap<Place>,
+) -> Result<Vec<Option<Value>>, StartFail>
+    requires { (x : List ℕ) → under places.now x ≡ constant_place (map const_of file.now.constants) x }
+    ensures { MatchResult result (λ t. Tabled (file_of file.now) (given_by given.now) (Some t.items)) (HasWideConstant (file_of file.now) (given_by given.now)) }
+{
+    match constant_table(alloc, file, given, places) {
+        Err(e) => Err(StartFail::Memory(e)),
+        Ok(table) => match table {
+            None => Err(StartFail::Wide),
+            Some(table) => Ok(table),
+        },
+    }
+}
+
+/// The columns, or why there are none.
+fn known_columns<'a>(
+    alloc: Global,
+    file: &'a JaniFile,
+    given: &[Given],
+    opens: &[Constant<'a>],
+    listed: &Listed<'a>,
+    table: &[Option<Value>],
+) -> Result<Vec<Column<'a>>, StartFail>
+    requires opens { map constant_of opens.now ≡ map opened (file_of file.now).constants }
+    requires listed { IsListed (file_of file.now) listed.now }
+    requires constants { Tabled (file_of file.now) (given_by given.now) (Some table.now) }
+    ensures { MatchResult result (λ cs. AreColumns (scene (file_of file.now) (given_by given.now)) (map column_of cs.items))
+        (FailsIn (map opened (file_of file.now).constants) (scene (file_of file.now) (given_by given.now))) }
+{
+    let values = match constant_values(
+        alloc,
+        file.constants.as_slice(),
+        given,
+        &listed.constants,
+        table,
+    ) {
+        Ok(values) => values,
+        Err(e) => return Err(StartFail::Memory(e)),
+    };
+    let run = constants_alone(&listed.constants, table);
+    match variables_of(
+        alloc,
+        listed.parts.as_slice(),
+        listed.kinds.lasting.as_slice(),
+        &run,
+    ) {
+        Err(e) => Err(StartFail::Memory(e)),
+        Ok(variables) => columns(alloc, opens, values.as_slice(), variables.as_slice()),
+    }
+}
+
+/// The constants' names alone.
+fn constants_alone<'a>(places: &'a NameMap<'a, Place>, constants: &'a [Option<Value>]) -> Run<'a>
+    ensures { seen_in result ≡ known_names (values_by places.now places.now constants.now []) }
+{
+    Run {
+        number: 0,
+        own: places,
+        places,
+        constants,
+        columns: &[],
+        values: &[],
+    }
+}
+
+/// Where global names stand: behind the locations of the elements.
+fn places<'a>(
+    alloc: Global,
+    file: &'a JaniFile,
+    listed: &Listed<'a>,
+) -> Result<NameMap<'a, Place>, AllocError>
+    requires listed { IsListed (file_of file.now) listed.now }
+    requires room { HasRoom (file_of file.now) }
+    ensures { IfOk result (λ m. (x : List ℕ) → under m x ≡ global_place (file_of file.now) x) }
+{
+    let first = listed.parts.as_slice().len();
+    let mut places = global_places(alloc, listed.kinds.lasting.as_slice(), first)?;
+    add_constants(&mut places, file.constants.as_slice())?;
+    Ok(places)
+}
+
+// ---- elements, vectors and transient variables
+
+/// What an instance keeps besides.
+#[derive(Drop)]
+pub(crate) struct Built<'a> {
+    pub(crate) elements: Vec<Element<'a>>,
+    pub(crate) vectors: Vec<Vector<'a>>,
+    pub(crate) labels: usize,
+    pub(crate) transients: Vec<Transient<'a>>,
+}
+
+fn what_is_built<'a>(
+    alloc: Global,
+    file: &'a JaniFile,
+    listed: &Listed<'a>,
+    known: &Known<'a>,
+) -> Result<Built<'a>, AllocError>
+    requires listed { IsListed (file_of file.now) listed.now }
+    requires room { HasRoom (file_of file.now) }
+    requires places { (x : List ℕ) → under known.now.places x ≡ global_place (file_of file.now) x }
+    ensures { (v : Valuation) → Tabled (file_of file.now) v (Some known.now.constants.items) → IfOk result (IsBuilt (file_of file.now) v) }
+{
+    let transients = known_transients(alloc, file, listed, known.constants.as_slice())?;
+    let linked = what_is_linked(alloc, file, listed, &known.places)?;
+    Ok(Built {
+        elements: linked.elements,
+        vectors: linked.vectors,
+        labels: listed.kinds.labels.as_slice().len(),
+        transients,
+    })
+}
+
+/// The labels and the reward structures, by the values of the constants.
+fn known_transients<'a>(
+    alloc: Global,
+    file: &'a JaniFile,
+    listed: &Listed<'a>,
+    table: &[Option<Value>],
+) -> Result<Vec<Transient<'a>>, AllocError>
+    requires { IsListed (file_of file.now) listed.now }
+    ensures { (v : Valuation) → Tabled (file_of file.now) v (Some table.now) → IfOk result (λ ts. map transient_at ts.items
+        ≡ map (transient_by (elements (file_of file.now)) (constant_names (file_of file.now) v)) (all_labels (file_of file.now))
+        ++ map (transient_by (elements (file_of file.now)) (constant_names (file_of file.now) v)) (all_structures (file_of file.now))) }
+{
+    let run = constants_alone(&listed.constants, table);
+    transients(
+        alloc,
+        listed.parts.as_slice(),
+        listed.kinds.labels.as_slice(),
+        listed.kinds.structures.as_slice(),
+        &run,
+    )
+}
+
+/// The elements and the vectors.
+#[derive(Drop)]
+pub(crate) struct Linked<'a> {
+    pub(crate) elements: Vec<Element<'a>>,
+    pub(crate) vectors: Vec<Vector<'a>>,
+}
+
+fn what_is_linked<'a>(
+    alloc: Global,
+    file: &'a JaniFile,
+    listed: &Listed<'a>,
+    places: &NameMap<'a, Place>,
+) -> Result<Linked<'a>, AllocError>
+    requires listed { IsListed (file_of file.now) listed.now }
+    requires room { HasRoom (file_of file.now) }
+    requires places { (x : List ℕ) → under places.now x ≡ global_place (file_of file.now) x }
+    ensures { IfOk result (AreLinked (file_of file.now)) }
+{
+    let actions = actions(alloc, listed.parts.as_slice())?;
+    let basis = Basis {
+        file,
+        parts: listed.parts.as_slice(),
+        actions: actions.as_slice(),
+        lasting: listed.kinds.lasting.as_slice(),
+        structures: listed.kinds.structures.as_slice(),
+        places,
+    };
+    linked_on(alloc, &basis)
+}
+
+fn linked_on<'a>(alloc: Global, basis: &Basis<'_, 'a>) -> Result<Linked<'a>, AllocError>
+    requires { IsBasis basis.now }
+    ensures { IfOk result (AreLinked (file_of basis.now.file.now)) }
+{
+    let elements = elements(alloc, basis)?;
+    let vectors = vectors(alloc, basis)?;
+    Ok(Linked { elements, vectors })
+}

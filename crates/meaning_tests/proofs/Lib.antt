@@ -1,6 +1,0 @@
-pub mod Gathered
-pub mod Summed
-pub mod Joined
-pub mod Steps
-pub mod Lookups
-pub mod Written

@@ -1,7 +1,0 @@
-use Rattle.std.proofs.Common.{◌≡◌, map, drop}
-use Rattle.process_core.specs.Instance.{is_state}
-use Rattle.meaning_tests.specs.Plain.{column_of}
-use Rattle.meaning_tests.proofs.faults.is_state.Given as goal
-
-abbrev pub invariant-loop-i : goal.invariant-loop-i
-invariant-loop-i l = is_state (map column_of l.columns) l.s ≡ is_state (map column_of (drop l.i l.columns)) (drop l.i l.s)

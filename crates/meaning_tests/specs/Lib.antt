@@ -1,4 +1,0 @@
-pub mod Plain
-pub mod Choosing
-pub mod Ranges
-pub mod Tables

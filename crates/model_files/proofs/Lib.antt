@@ -1,0 +1,2 @@
+pub mod JaniFiles
+pub mod PrismFiles

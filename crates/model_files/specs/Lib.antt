@@ -1,0 +1,2 @@
+pub mod JaniFile
+pub mod PrismFile

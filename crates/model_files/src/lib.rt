@@ -1,0 +1,6 @@
+//! Model files from their bytes: a PRISM or a JANI file without fault, or its least fault.
+#![tactic(auto)]
+
+mod reading;
+
+pub use reading::{read_jani, read_prism};

@@ -1,0 +1,3 @@
+pub mod Constants
+pub mod Models
+pub mod Walks

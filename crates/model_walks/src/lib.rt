@@ -1,0 +1,8 @@
+//! One state of a model, and walks through it, from the bytes of its file: what the words `show` and `simulate` ask for.
+#![tactic(auto)]
+
+mod ending;
+mod walking;
+
+pub use ending::Ending;
+pub use walking::show_or_walk;
