@@ -4,8 +4,8 @@
     bench/walks.py [--program crates/bridge/out/bridge] [--runs 3]
 
 A walk of 100,000 steps through 10 modules of two commands each, of which every second synchronises with the next, in PRISM and in
-the JANI file that `to-jani` makes of it; the state of a model that has 60,000 choices; and a walk of 100,000 steps over a formula that
-names the one before it twice, seventeen times over. What is to be reached: at most 10 microseconds a step, 5 a choice, and 30 seconds for
+the JANI file that `to-jani` makes of it; the state of a model that has 60,000 choices; and a walk of 1,000 steps over a formula that
+names the one before it twice, seventeen times over. What is to be reached: at most 10 microseconds a step, 5 a choice, and 300 a step for
 the last. The plain program has the same model written out in Python, draws by the same words, and has to come to the same path.
 """
 
@@ -19,6 +19,7 @@ from timing import timed, words
 
 STEPS = 100000
 CHOICES = 60000
+DOUBLED = 1000
 SEED = 7
 MASK = (1 << 128) - 1
 
@@ -123,8 +124,8 @@ def main():
         seconds = best([program, "show", "prism", "choices", "(0)"])
         print("state of %d choices: %.2f us a choice, %.2f of them for reading the file" % (CHOICES, seconds / CHOICES * 1e6, read / CHOICES * 1e6))
         written("doubling", doubling(17))
-        seconds = best([program, "simulate", "prism", "doubling", "seed", str(SEED), str(STEPS)])
-        print("walk of %d steps over a formula doubled seventeen times: %.2f s" % (STEPS, seconds))
+        seconds = best([program, "simulate", "prism", "doubling", "seed", str(SEED), str(DOUBLED)])
+        print("walk of %d steps over a formula doubled seventeen times: %.0f us a step" % (DOUBLED, seconds / DOUBLED * 1e6))
 
 
 if __name__ == "__main__":
