@@ -1,4 +1,5 @@
 -- How the logic stores what is seen of models: each as the pair of its parts. So equations between these have one proof at most.
+-- (This project's own rule.)
 use Rattle.std.specs.Prelude.{◌≡◌, ℕ, List, Bool, Option, Some, None, Result}
 use Rattle.std.specs.Coded.{Coded, Coded-set, code_by, coded×, coded_ℕ, coded_bool, coded_list, coded_option, coded_result}
 use Rattle.std.proofs.Common.{refl}

@@ -1,4 +1,5 @@
 -- The process that an instance is.
+-- (This project's own rule.)
 use Rattle.process_core.specs.Steps.{Process}
 use Rattle.jani_tree.specs.Syntax.{file_of}
 use Rattle.instance_start.specs.Given.{given_by}

@@ -1,4 +1,5 @@
 -- What an instance keeps is what its file comes out as under the given constants, and the instance has no fault.
+-- (What a JANI file has there is defined after the jani-model specification in jani_meaning; what an instance keeps of it is this project's own rule.)
 use Rattle.std.specs.Prelude.{◌≡◌, ℕ, take, drop, List, [], map, length, Option, IsTrue}
 use Rattle.op_trees.specs.declared.tree.Value.{Value}
 use Rattle.name_rules.specs.declared.map.NameMap.{NameMap}

@@ -1,4 +1,5 @@
 -- What a run on a told file answers and writes.
+-- (This project's own rule.)
 use Rattle.std.specs.Prelude.{◌≡◌, ◌↔◌, ℕ, ◌<◌, ◌≤◌, List, ◌++◌, length, Option, Some}
 use Rattle.bridge_io.specs.Reason.{number_of, name_of}
 use Rattle.bridge_io.specs.declared.reason.Fault.{Fault}

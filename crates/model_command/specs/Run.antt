@@ -1,4 +1,5 @@
 -- How a run ends, why, and what it then wrote.
+-- (This project's own rule.)
 use Rattle.std.specs.Prelude.{◌≡◌, ◌⊎◌, ℕ, ◌≤◌, List, length, Option, codes}
 use Rattle.std.specs.Io.KnownBytes.{Appends}
 use Rattle.bridge_io.specs.Outside.{HasFailed, Lefts, Takes, IsSpent, AppendsFront}

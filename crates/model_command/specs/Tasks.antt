@@ -1,4 +1,5 @@
 -- What each task makes of a file, and which files it refuses.
+-- (This project's own rule.)
 use Rattle.std.specs.Prelude.{ℕ, List, Result, Ok, Err}
 use Rattle.bridge_io.specs.declared.reason.Fault.{Fault}
 use Rattle.bridge_io.specs.declared.reason.Refused.{Refused}

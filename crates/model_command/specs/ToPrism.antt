@@ -1,4 +1,5 @@
 -- What is written for a JANI file: comment lines, and the text of a PRISM file that means the same.
+-- (This project's own rule.)
 use Rattle.std.specs.Prelude.{◌≡◌, ℕ, List, [], ◌++◌}
 use Rattle.bridge_io.specs.declared.reason.Fault.{Fault}
 use Rattle.prism_tree.specs.Syntax as prism

@@ -1,4 +1,5 @@
 -- Which bytes are a PRISM file without fault, and the least fault of all others.
+-- (The files are those of the PRISM manual, "The PRISM Language"; which fault is the least is this project's own rule.)
 use Rattle.std.specs.Prelude.{◌≡◌, ℕ, List, []}
 use Rattle.bridge_io.specs.declared.reason.Fault.{Fault}
 use Rattle.bridge_io.specs.declared.reason.Refused.{Refused}

@@ -1,4 +1,5 @@
 -- What a model file describes, in either language, and the least fault of all other bytes.
+-- (This project's own rule, over what the two languages mean.)
 use Rattle.std.specs.Prelude.{◌≡◌, ℕ, List}
 use Rattle.bridge_io.specs.declared.reason.Fault.{Fault}
 use Rattle.prism_tree.specs.Syntax as prism

@@ -1,4 +1,5 @@
 -- The process that an instance is.
+-- (This project's own rule.)
 use Rattle.process_core.specs.Steps.{Process}
 use Rattle.prism_meaning.specs.Described.{described}
 use Rattle.instance_start.specs.Given.{given_by}

@@ -1,4 +1,5 @@
 -- The process that a file describes keeps the laws of processes, where the instance has no fault.
+-- (The laws are those of Markov decision processes, as the PRISM manual has them in "The PRISM Language".)
 use Rattle.std.specs.Prelude.{◌≡◌, List, []}
 use Rattle.std.specs.List.{All}
 use Rattle.std.proofs.Common.{refl}

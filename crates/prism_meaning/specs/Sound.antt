@@ -1,4 +1,5 @@
 -- What an instance keeps is what its file comes out as under the given constants, and the instance has no fault.
+-- (What a PRISM file has there is defined after the PRISM manual in prism_flat; what an instance keeps of it is this project's own rule.)
 use Rattle.std.specs.Prelude.{◌≡◌, List, [], map, length, Option}
 use Rattle.std.specs.Borrow.{Bor}
 use Rattle.op_trees.specs.Seen.{Seen}

@@ -1,4 +1,5 @@
 -- What the code of an instance stands for: groups that are fixed at the start, and names in a state.
+-- (This project's own rule.)
 use Rattle.std.specs.Prelude.{◌≡◌, length, List, [], map, Option, option_copied}
 use Rattle.std.specs.Borrow.{Bor}
 use Rattle.op_trees.specs.Meaning.{Environment}

@@ -1,4 +1,5 @@
 -- Walks along the same numbers, and along the same words, are the same.
+-- (This project's own rule.)
 use Rattle.std.specs.Prelude.{◌≡◌, ℕ, List}
 use Rattle.rand_core.specs.Stream.{Stream}
 use Rattle.process_core.specs.Ready.{Values}

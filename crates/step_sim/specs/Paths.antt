@@ -1,4 +1,5 @@
 -- Paths of a process.
+-- (PRISM manual, "Debugging Models With The Simulator": paths of a model. That a step is told by its label and its state is this project's own rule.)
 use Rattle.std.specs.Prelude.{◌≡◌, List, [], ◌∷◌, IsTrue}
 use Rattle.frac_core.specs.Fraction.{Fraction, nought}
 use Rattle.frac_core.specs.Order.{Below}

@@ -1,4 +1,5 @@
 -- The words that a generator gives, two by two.
+-- (How many words a step takes is this project's own rule; the generator is PCG XSL RR 128/64, as rand_pcg has it.)
 use Rattle.std.specs.Prelude.{◌≡◌, ℕ, zero, suc, List, [], ◌∷◌, Option, Some, None, Result, Err}
 use Rattle.rand_core.specs.Stream.{Stream, next_u64}
 use Rattle.rand_core.specs.Steps.{stream_of, steps_u64_low}
