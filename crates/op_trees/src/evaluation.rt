@@ -54,7 +54,7 @@ pub fn eval<O: Operator, N: Names>(e: &Expr<O>, names: &N) -> Result<Value, Eval
 }
 
 /// The value of a literal, or `Wide`.
-fn literal(d: Decimal) -> Result<Value, EvalFail>
+pub fn literal(d: Decimal) -> Result<Value, EvalFail>
     ensures { result ≡ narrowed (Some (number d)) }
 {
     match Frac::from_decimal(d) {
@@ -63,8 +63,8 @@ fn literal(d: Decimal) -> Result<Value, EvalFail>
     }
 }
 
-/// A value that the code holds is never wide.
-fn held(v: Option<Value>) -> Result<Value, EvalFail>
+/// A value that the code holds, which is never wide; `Undef` where there is none.
+pub fn held(v: Option<Value>) -> Result<Value, EvalFail>
     ensures { result ≡ narrowed v }
 {
     match v {
@@ -85,14 +85,16 @@ fn small(v: Value) -> Result<Value, EvalFail>
     }
 }
 
-fn apply_one<O: Operator>(o: O, a: Result<Value, EvalFail>) -> Result<Value, EvalFail>
+/// The value of a strict operator with one operand, by what its operand came out as.
+pub fn apply_one<O: Operator>(o: O, a: Result<Value, EvalFail>) -> Result<Value, EvalFail>
     ensures { result ≡ one_answer O.meaning o a }
 {
     o.apply(a?, None)
 }
 
-/// `Wide` of either operand comes before `Undef` of either.
-fn apply_both<O: Operator>(
+/// The value of a strict operator with two operands, by what these came out as. `Wide` of either operand comes before `Undef`
+/// of either.
+pub fn apply_both<O: Operator>(
     o: O,
     a: Result<Value, EvalFail>,
     b: Result<Value, EvalFail>,

@@ -12,7 +12,7 @@ mod standard;
 mod tree;
 mod typing;
 
-pub use evaluation::eval;
+pub use evaluation::{apply_both, apply_one, eval, held, literal};
 pub use laws::{
     evaluation_law, formula_law, mapping_law, offset_law, renaming_law, substitution_law,
     typing_law,

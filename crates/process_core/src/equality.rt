@@ -4,7 +4,7 @@ ghost use Rattle.std.specs.Prelude.{◌≡◌, ◌↔◌, IsTrue, Bool, count_by
 ghost use Rattle.std.specs.Cmp.Lexicographic.{pointwise};
 ghost use Rattle.frac_core.specs.Fraction.{same_number};
 ghost use Rattle.process_core.specs.Ready.{same_label};
-ghost use Rattle.process_core.specs.Equal.{equal_branches, equal_choices, equal_kinds, equal_outcomes, equal_values};
+ghost use Rattle.process_core.specs.Equal.{equal_branches, equal_choices, equal_kinds, equal_outcomes, equal_states, equal_values};
 
 use crate::data::{Bad, Branch, Choice, Outcome, State};
 use bridge_io::{List, Text};
@@ -37,7 +37,8 @@ pub fn times(list: &List<Choice>, c: &Choice) -> usize
 /// Whether two states are the same: the same values in the same columns.
 #[tactic(auto, using(crate::specs::Equal::states_decided))]
 pub fn same_state(a: &State, b: &State) -> bool
-    ensures { IsTrue result ↔ (a.now ≡ b.now) }
+    ensures equal { IsTrue result ↔ (a.now ≡ b.now) }
+    ensures test { result ≡ equal_states a.now.values b.now.values }
 {
     all_same(a.values.as_slice(), b.values.as_slice())
 }
