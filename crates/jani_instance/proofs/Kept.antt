@@ -24,17 +24,17 @@ use Rattle.state_choices.specs.Trimmed.{computed, trimmed, trimmed_reward, trimm
 use Rattle.state_choices.specs.Views.{seen_of}
 use Rattle.state_choices.proofs.ComputedLaws.{computed_laws}
 use Rattle.jani_tree.specs.Syntax as syntax
-use Rattle.jani_tree.specs.Syntax.{Automaton, File}
+use Rattle.jani_tree.specs.Syntax.{Automaton, Expression, File}
 use Rattle.jani_tree.proofs.Mapped.{mapped, turned}
 use Rattle.jani_meaning.specs.Elements.{column_number, elements, is_called, is_global, is_own, lasting, location_number, place_of, structure_number, structures}
 use Rattle.jani_meaning.specs.Scene.{counted, see}
 use Rattle.jani_meaning.specs.Moment.{column_write, guard_seen, location_write, reward_of, weight_seen}
 use Rattle.instance_start.specs.declared.data.Place.TheVariants.{Constant, Variable}
-use Rattle.jani_instance.specs.Actions.{IsLinked, IsNumbered, Located, action_of, actions_among, actions_of, links_by, located_at, located_of, starts_at}
+use Rattle.jani_instance.specs.Actions.{IsLinked, IsNumbered, action_of, actions_among, actions_of, links_by, located_at, starts_at}
 use Rattle.jani_instance.specs.Built.{IsVectorOf, acts_with, edge_under, edges_from, global_place, links_from, member_from, reward_under, update_under, write_under}
 use Rattle.jani_instance.specs.Parts.{automaton_at, owned_at}
-use Rattle.jani_instance.specs.Shapes.{Assigned, Destination, Edge, assigned_by, assigned_of, assigned_to, column_in, column_of, destination_by, destination_of, edge_by, edge_of, location_in, structure_in}
-use Rattle.jani_instance.specs.Views.{Member, edge_seen, located_seen, location_seen, reward_seen, update_seen, write_seen}
+use Rattle.jani_instance.specs.Shapes.{Assigned, Destination, Edge, Lent, Located, assigned_as, assigned_by, assigned_to, column_in, column_of, destination_as, destination_by, edge_as, edge_by, located_as, located_of, location_in, structure_in, tree_at}
+use Rattle.jani_instance.specs.Views.{Member, edge_seen, guard_as, located_seen, location_seen, reward_seen, see_at, update_seen, weight_as, write_seen}
 use Rattle.jani_instance.specs.declared.acting.Numbers.{Numbers}
 use Rattle.jani_instance.specs.declared.build.Site.{Site}
 use Rattle.jani_instance.specs.declared.data.Destination as code_destination
@@ -78,49 +78,76 @@ pub record IsSite (file : File) (i : ℕ) (s : Site) : Type 0 where
   pub rewards : map owned_at s.structures.now ≡ structures file
 
 -- ---- what comes out of what is kept, by what it stands for
-module _ (cs : List Column) (names : Name → Seen) (i : ℕ) where
-  abbrev write_from : Assigned → Write
-  write_from w = trimmed_write (write_to cs w.place (see w.value names))
+-- what an edge comes out as, by its guard and its updates
+abbrev ready_by : Seen → List Update → Ready
+ready_by g us = record { action = None; guard = trimmed_seen g; updates = if not g.wide && is_false g.value then [] else us }
 
-  abbrev reward_from : Assigned → Reward
-  reward_from w = record { structure = w.place; value = trimmed_seen (see w.value names) }
+module _ {X : Type 0} (f : X → Seen) (cs : List Column) (i : ℕ) where
+  abbrev write_from : Assigned X → Write
+  write_from w = trimmed_write (write_to cs w.place (f w.value))
 
-  abbrev update_from : Destination → Update
+  abbrev reward_from : Assigned X → Reward
+  reward_from w = record { structure = w.place; value = trimmed_seen (f w.value) }
+
+  abbrev update_from : Destination X → Update
   update_from d = record {
-    weight = trimmed_seen (weight_seen names d.weight);
+    weight = trimmed_seen (weight_as (option_map f d.weight));
     writes = location_seen i d.location ∷ map write_from d.writes;
     rewards = map reward_from d.rewards;
   }
 
-  abbrev updates_from : Seen → List Destination → List Update
-  updates_from guard ds = if not guard.wide && is_false guard.value then [] else map update_from ds
+  abbrev edge_from : Edge X → Ready
+  edge_from e = ready_by (guard_as (option_map f e.guard)) (map update_from e.destinations)
 
-  abbrev edge_from : Edge → Ready
-  edge_from e = record { action = None; guard = trimmed_seen (guard_seen names e.guard); updates = updates_from (guard_seen names e.guard) e.destinations }
-
-  same_ready : (g : Seen) (m n : List Update) → m ≡ n → ◌≡◌ {A = Ready} (record { action = None; guard = g; updates = m }) (record { action = None; guard = g; updates = n })
-  same_ready g m n e = cc
-
-  update_kept : (d : code_destination.Destination) → update_seen cs names i d ≡ update_from (destination_of d)
-  update_kept d =
-      same_update _ _ _ _ _ _ refl (ap (λ l. location_seen i d.location ∷ l) (sym (mapped assigned_of write_from (write_seen cs names i) (λ w. refl) d.writes.items)))
-      (sym (mapped assigned_of reward_from (reward_seen cs names i) (λ w. refl) d.rewards.items))
-
-  edge_kept : (e : code_edge.Edge) → edge_seen cs names i e ≡ edge_from (edge_of e)
-  edge_kept e =
-      let g = guard_seen names (edge_of e).guard in
-      same_ready (trimmed_seen g) _ _
-      (ap (λ l. if not g.wide && is_false g.value then [] else l) (sym (mapped destination_of update_from (update_seen cs names i) (λ d. sym (update_kept d)) e.destinations.items)))
-
-  abbrev located_from : Located → Member
+  abbrev located_from : Located X → Member
   located_from l = record { silent = map edge_from l.silent; parts = map (map edge_from) l.parts }
 
-  located_kept : (l : code_located.Located) → located_seen cs names i (Some l) ≡ located_from (located_of l)
-  located_kept l =
-      same_member _ _ _ _ (sym (mapped edge_of edge_from (edge_seen cs names i) (λ e. sym (edge_kept e)) l.silent.items))
-      (sym (mapped (λ es. map edge_of es.items) (map edge_from) (λ es. map (edge_seen cs names i) es.items) (λ es. mapped edge_of edge_from (edge_seen cs names i) (λ e. sym (edge_kept e)) es.items) l.parts.items))
+option_twice : {E X Y : Type 0} (g : E → X) (f : X → Y) (o : Option E) → option_map (λ e. f (g e)) o ≡ option_map f (option_map g o)
+option_twice g f None = refl
+option_twice g f (Some e) = refl
 
-  -- ---- and of the file's edges
+module _ {E X : Type 0} (g : E → X) (f : X → Seen) (cs : List Column) (i : ℕ) where
+  update_kept : (d : code_destination.Destination E) → update_seen cs (λ e. f (g e)) i d ≡ update_from f cs i (destination_as g d)
+  update_kept d =
+      same_update _ _ _ _ _ _ (ap (λ o. trimmed_seen (weight_as o)) (option_twice g f d.weight))
+      (ap (λ l. location_seen i d.location ∷ l) (sym (mapped (assigned_as g) (write_from f cs i) (write_seen cs (λ e. f (g e))) (λ w. refl) d.writes.items)))
+      (sym (mapped (assigned_as g) (reward_from f cs i) (reward_seen (λ e. f (g e))) (λ w. refl) d.rewards.items))
+
+  edge_kept : (e : code_edge.Edge E) → edge_seen cs (λ e. f (g e)) i e ≡ edge_from f cs i (edge_as g e)
+  edge_kept e =
+      ap₂ ready_by (ap guard_as (option_twice g f e.guard))
+      (sym (mapped (destination_as g) (update_from f cs i) (update_seen cs (λ e. f (g e)) i) (λ d. sym (update_kept d)) e.destinations.items))
+
+  pub located_kept : (l : code_located.Located E) → located_seen cs (λ e. f (g e)) i (Some l) ≡ located_from f cs i (located_as g l)
+  located_kept l =
+      let edges = λ (es : List (code_edge.Edge E)). mapped (edge_as g) (edge_from f cs i) (edge_seen cs (λ e. f (g e)) i) (λ e. sym (edge_kept e)) es in
+      same_member _ _ _ _ (sym (edges l.silent.items))
+      (sym (mapped (λ es. map (edge_as g) es.items) (map (edge_from f cs i)) (λ es. map (edge_seen cs (λ e. f (g e)) i) es.items) (λ es. edges es.items) l.parts.items))
+
+-- locations that are seen alike come out alike
+pub located_alike : {E F : Type 0} (look : E → Seen) (other : F → Seen) (cs : List Column) (i : ℕ) (l : Option (code_located.Located E)) (m : Option (code_located.Located F)) →
+    option_map (located_as look) l ≡ option_map (located_as other) m → located_seen cs look i l ≡ located_seen cs other i m
+located_alike look other cs i None None e = refl
+located_alike look other cs i None (Some m) e = absurd cc
+located_alike look other cs i (Some l) None e = absurd cc
+located_alike look other cs i (Some l) (Some m) e =
+    located_kept look (λ s. s) cs i l
+    ∙ ap (located_from (λ s. s) cs i) (let d : located_as look l ≡ located_as other m = cc in d)
+    ∙ sym (located_kept other (λ s. s) cs i m)
+
+-- ---- and of the file's edges
+module _ (cs : List Column) (names : Name → Seen) (i : ℕ) where
+  abbrev look : Expression → Seen
+  look t = see t names
+
+  weight_is : (o : Option Expression) → weight_as (option_map look o) ≡ weight_seen names o
+  weight_is None = refl
+  weight_is (Some t) = refl
+
+  guard_is : (o : Option Expression) → guard_as (option_map look o) ≡ guard_seen names o
+  guard_is None = refl
+  guard_is (Some t) = refl
+
   module _ (file : File) (s : Site) (h : IsSite file i s) where
     number_at : (x : Name) → location_in s x ≡ location_number (automaton_at s.part) x
     number_at x = ap (λ o. unwrap_or o 0) (h.locations x)
@@ -133,45 +160,42 @@ module _ (cs : List Column) (names : Name → Seen) (i : ℕ) where
     structure_is : (x : Name) → structure_in s x ≡ structure_number file i x
     structure_is x = ap₂ (λ l n. place_of l n x) h.rewards h.number
 
-    one_write : (k : Option ℕ) (w : syntax.Write) → map write_from (assigned_to k w.value) ≡ map trimmed_write (column_write cs k (see w.value names))
+    one_write : (k : Option ℕ) (w : syntax.Write) → map (write_from look cs i) (assigned_to k w.value) ≡ map trimmed_write (column_write cs k (see w.value names))
     one_write None w = refl
     one_write (Some k) w = refl
 
-    one_reward : (k : Option ℕ) (w : syntax.Write) → map reward_from (assigned_to k w.value) ≡ map trimmed_reward (reward_of k (see w.value names))
+    one_reward : (k : Option ℕ) (w : syntax.Write) → map (reward_from look cs i) (assigned_to k w.value) ≡ map trimmed_reward (reward_of k (see w.value names))
     one_reward None w = refl
     one_reward (Some k) w = refl
 
-    writes_are : (ws : List syntax.Write) → map write_from (flat_map (assigned_by (column_in s)) ws) ≡ map trimmed_write (flat_map (write_under file cs names i (automaton_at s.part)) ws)
+    writes_are : (ws : List syntax.Write) → map (write_from look cs i) (flat_map (assigned_by (column_in s)) ws) ≡ map trimmed_write (flat_map (write_under file cs names i (automaton_at s.part)) ws)
     writes_are [] = refl
     writes_are (w ∷ ws) =
-        map-append write_from (assigned_by (column_in s) w) (flat_map (assigned_by (column_in s)) ws)
+        map-append (write_from look cs i) (assigned_by (column_in s) w) (flat_map (assigned_by (column_in s)) ws)
         ∙ ap₂ (λ x y. x ++ y)
-        (ap (λ k. map write_from (assigned_to k w.value)) (column_is w.target.name) ∙ one_write (column_number file i w.target.name) w) (writes_are ws)
+        (ap (λ k. map (write_from look cs i) (assigned_to k w.value)) (column_is w.target.name) ∙ one_write (column_number file i w.target.name) w) (writes_are ws)
         ∙ sym (map-append trimmed_write (write_under file cs names i (automaton_at s.part) w) (flat_map (write_under file cs names i (automaton_at s.part)) ws))
 
-    rewards_are : (ws : List syntax.Write) → map reward_from (flat_map (assigned_by (structure_in s)) ws) ≡ map trimmed_reward (flat_map (reward_under file cs names i (automaton_at s.part)) ws)
+    rewards_are : (ws : List syntax.Write) → map (reward_from look cs i) (flat_map (assigned_by (structure_in s)) ws) ≡ map trimmed_reward (flat_map (reward_under file cs names i (automaton_at s.part)) ws)
     rewards_are [] = refl
     rewards_are (w ∷ ws) =
-        map-append reward_from (assigned_by (structure_in s) w) (flat_map (assigned_by (structure_in s)) ws)
+        map-append (reward_from look cs i) (assigned_by (structure_in s) w) (flat_map (assigned_by (structure_in s)) ws)
         ∙ ap₂ (λ x y. x ++ y)
-        (ap (λ k. map reward_from (assigned_to k w.value)) (structure_is w.target.name) ∙ one_reward (structure_number file i w.target.name) w) (rewards_are ws)
+        (ap (λ k. map (reward_from look cs i) (assigned_to k w.value)) (structure_is w.target.name) ∙ one_reward (structure_number file i w.target.name) w) (rewards_are ws)
         ∙ sym (map-append trimmed_reward (reward_under file cs names i (automaton_at s.part) w) (flat_map (reward_under file cs names i (automaton_at s.part)) ws))
 
-    update_is : (d : syntax.Destination) → update_from (destination_by s d) ≡ trimmed_update (update_under file cs names i (automaton_at s.part) d)
+    update_is : (d : syntax.Destination) → (update_from look cs i) (destination_by s d) ≡ trimmed_update (update_under file cs names i (automaton_at s.part) d)
     update_is d =
-        same_update _ _ _ _ _ _ refl (ap₂ (λ x l. x ∷ l) (ap (λ n. location_seen i (computed (counted n))) (number_at d.location.name) ∙ location_is i (location_number (automaton_at s.part) d.location.name)) (writes_are d.writes)) (rewards_are d.writes)
+        same_update _ _ _ _ _ _ (ap trimmed_seen (weight_is d.weight)) (ap₂ (λ x l. x ∷ l) (ap (λ n. location_seen i (computed (counted n))) (number_at d.location.name) ∙ location_is i (location_number (automaton_at s.part) d.location.name)) (writes_are d.writes)) (rewards_are d.writes)
 
-    edge_is : (e : syntax.Edge) → edge_from (edge_by s e) ≡ trimmed (edge_under file cs names i (automaton_at s.part) e)
-    edge_is e =
-        let g = guard_seen names e.guard in
-        same_ready (trimmed_seen g) _ _
-        (ap (λ l. if not g.wide && is_false g.value then [] else l) (turned trimmed_update (destination_by s) update_from (update_under file cs names i (automaton_at s.part)) update_is e.destinations))
+    edge_is : (e : syntax.Edge) → (edge_from look cs i) (edge_by s e) ≡ trimmed (edge_under file cs names i (automaton_at s.part) e)
+    edge_is e = ap₂ ready_by (guard_is e.guard) (turned trimmed_update (destination_by s) (update_from look cs i) (update_under file cs names i (automaton_at s.part)) update_is e.destinations)
 
     -- those that pass a test
     kept_are : (p : Ready → Bool) (es : List syntax.Edge) →
-        map edge_from (map (edge_by s) (filter (λ e. p (edge_under file cs names i (automaton_at s.part) e)) es)) ≡ map trimmed (filter p (map (edge_under file cs names i (automaton_at s.part)) es))
+        map (edge_from look cs i) (map (edge_by s) (filter (λ e. p (edge_under file cs names i (automaton_at s.part) e)) es)) ≡ map trimmed (filter p (map (edge_under file cs names i (automaton_at s.part)) es))
     kept_are p es =
-        turned trimmed (edge_by s) edge_from (edge_under file cs names i (automaton_at s.part)) edge_is (filter (λ e. p (edge_under file cs names i (automaton_at s.part) e)) es)
+        turned trimmed (edge_by s) (edge_from look cs i) (edge_under file cs names i (automaton_at s.part)) edge_is (filter (λ e. p (edge_under file cs names i (automaton_at s.part) e)) es)
         ∙ ap (map trimmed) (sym (filter-map p (edge_under file cs names i (automaton_at s.part)) es))
 
     starting_are : (n : ℕ) → map (edge_under file cs names i (automaton_at s.part)) (filter (starts_at s n) (automaton_at s.part).edges) ≡ edges_from file cs names i (automaton_at s.part) n
@@ -179,19 +203,19 @@ module _ (cs : List Column) (names : Name → Seen) (i : ℕ) where
         ap (map (edge_under file cs names i (automaton_at s.part)))
         (filter_agree (starts_at s n) (λ e. nat_eq (location_number (automaton_at s.part) e.location.name) n) (λ e. ap (nat_eq n) (number_at e.location.name) ∙ nat_eq_comm n (location_number (automaton_at s.part) e.location.name)) (automaton_at s.part).edges)
 
-    one_location : (n : ℕ) → located_from (located_at s (automaton_at s.part).edges n) ≡ member_from file cs names i (automaton_at s.part) (actions_of (automaton_at s.part)) n
+    one_location : (n : ℕ) → (located_from look cs i) (located_at s (automaton_at s.part).edges n) ≡ member_from file cs names i (automaton_at s.part) (actions_of (automaton_at s.part)) n
     one_location n =
         let es = filter (starts_at s n) (automaton_at s.part).edges in
         same_member _ _ _ _ (kept_are (has_action None) es ∙ ap (λ l. map trimmed (filter (has_action None) l)) (starting_are n))
-        (mapped (λ x. map (edge_by s) (filter (acts_with x) es)) (map edge_from) (λ x. map trimmed (filter (has_action (Some x)) (edges_from file cs names i (automaton_at s.part) n)))
+        (mapped (λ x. map (edge_by s) (filter (acts_with x) es)) (map (edge_from look cs i)) (λ x. map trimmed (filter (has_action (Some x)) (edges_from file cs names i (automaton_at s.part) n)))
         (λ x. kept_are (has_action (Some x)) es ∙ ap (λ l. map trimmed (filter (has_action (Some x)) l)) (starting_are n)) (actions_of (automaton_at s.part)))
 
-    by_get : (o : Option code_located.Located) (z : Located) → option_map located_of o ≡ Some z → located_seen cs names i o ≡ located_from z
+    by_get : (o : Option (code_located.Located Lent)) (z : Located Expression) → option_map located_of o ≡ Some z → located_seen cs (see_at names) i o ≡ (located_from look cs i) z
     by_get None z e = absurd cc
-    by_get (Some l) z e = located_kept l ∙ ap located_from (let d : located_of l ≡ z = cc in d)
+    by_get (Some l) z e = located_kept tree_at look cs i l ∙ ap (located_from look cs i) (let d : located_of l ≡ z = cc in d)
 
-    pub locations_are : (ls : List code_located.Located) → map located_of ls ≡ map (located_at s (automaton_at s.part).edges) (range_with_len 0 (length (automaton_at s.part).locations - 1 + 1)) →
-        (n : ℕ) → n ≤ length (automaton_at s.part).locations - 1 → located_seen cs names i (slice_get ls n) ≡ member_from file cs names i (automaton_at s.part) (actions_of (automaton_at s.part)) n
+    pub locations_are : (ls : List (code_located.Located Lent)) → map located_of ls ≡ map (located_at s (automaton_at s.part).edges) (range_with_len 0 (length (automaton_at s.part).locations - 1 + 1)) →
+        (n : ℕ) → n ≤ length (automaton_at s.part).locations - 1 → located_seen cs (see_at names) i (slice_get ls n) ≡ member_from file cs names i (automaton_at s.part) (actions_of (automaton_at s.part)) n
     locations_are ls e n k =
         by_get (slice_get ls n) (located_at s (automaton_at s.part).edges n)
         (sym (slice_get-map located_of ls n)
@@ -201,12 +225,12 @@ module _ (cs : List Column) (names : Name → Seen) (i : ℕ) where
         ∙ one_location n
 
 -- the locations of an element
-pub element_locations : (file : File) (i : ℕ) (s : Site) → IsSite file i s → (p : Part) → s.part ≡ p → (ls : List code_located.Located) →
+pub element_locations : (file : File) (i : ℕ) (s : Site) → IsSite file i s → (p : Part) → s.part ≡ p → (ls : List (code_located.Located Lent)) →
     map located_of ls ≡ map (located_at s (automaton_at p).edges) (range_with_len 0 (length (automaton_at s.part).locations - 1 + 1)) →
     (cs : List Column) (names : Name → Seen) (n : ℕ) → n ≤ length (automaton_at p).locations - 1 →
-    located_seen cs names i (slice_get ls n) ≡ member_from file cs names i (automaton_at p) (actions_of (automaton_at p)) n
+    located_seen cs (see_at names) i (slice_get ls n) ≡ member_from file cs names i (automaton_at p) (actions_of (automaton_at p)) n
 element_locations file i s h p e ls made cs names n k =
-    subst (λ q. located_seen cs names i (slice_get ls n) ≡ member_from file cs names i (automaton_at q) (actions_of (automaton_at q)) n) e
+    subst (λ q. located_seen cs (see_at names) i (slice_get ls n) ≡ member_from file cs names i (automaton_at q) (actions_of (automaton_at q)) n) e
     (locations_are cs names i file s h ls
     (made ∙ ap (λ q. map (located_at s (automaton_at q).edges) (range_with_len 0 (length (automaton_at s.part).locations - 1 + 1))) (sym e)) n
     (subst (λ q. n ≤ length (automaton_at q).locations - 1) (sym e) k))

@@ -12,3 +12,5 @@ pub mod Givers
 pub mod StartLaws
 pub mod Numbering
 pub mod Kept
+pub mod Prepared
+pub mod Resolved

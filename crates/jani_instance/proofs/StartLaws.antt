@@ -6,7 +6,7 @@ use Rattle.std.proofs.Common.{refl, ap, ◌∙◌}
 use Rattle.std.proofs.Math.Path.{fun_ext}
 use Rattle.op_trees.specs.Seen.{Seen, known, known_names}
 use Rattle.op_trees.specs.declared.tree.Value.{Value}
-use Rattle.name_rules.specs.Names.{first_some, under}
+use Rattle.name_rules.specs.Names.{under}
 use Rattle.name_rules.specs.declared.map.NameMap.{NameMap}
 use Rattle.process_core.specs.Ready.{Name}
 use Rattle.process_core.specs.Instance.{Valuation}
@@ -32,14 +32,14 @@ use Rattle.jani_instance.specs.Transients.{transient_by}
 use Rattle.jani_instance.specs.Views.{values_by}
 
 -- ---- the constants' names alone
-pub twice : (table : List (Option Value)) (o : Option ℕ) → value_at [] table (first_some (option_map Constant o) (option_map Constant o)) ≡ value_from table o
-twice table None = refl
-twice table (Some k) = refl
+pub constant_at : (table : List (Option Value)) (o : Option ℕ) → value_at [] table (option_map Constant o) ≡ value_from table o
+constant_at table None = refl
+constant_at table (Some k) = refl
 
 pub alone_names : (file : File) (v : Valuation) (places : NameMap Place) (table : List (Option Value)) → ((x : Name) → under places x ≡ constant_place file.constants x) → Tabled file v (Some table) →
-    known_names (values_by places places table []) ≡ constant_names file v
+    known_names (values_by places table) ≡ constant_names file v
 alone_names file v places table h t =
-    fun_ext (λ (x : Name). ap known (ap (λ p. value_at [] table (first_some p p)) (h x) ∙ twice table (position (λ c. is_called x c.name) file.constants) ∙ t x))
+    fun_ext (λ (x : Name). ap known (ap (value_at [] table) (h x) ∙ constant_at table (position (λ c. is_called x c.name) file.constants) ∙ t x))
 
 -- ---- what constants come out as
 pub constants_seen : (file : File) (v : Valuation) (table : List (Option Value)) → Tabled file v (Some table) → map seen_of (map computed (round_of file.constants v table)) ≡ map trimmed_seen (scene file v).constants

@@ -1,17 +1,19 @@
 -- What an instance keeps is right in each state, where it was built of its file.
 use Rattle.std.specs.Prelude.{◌≡◌, ℕ, zero, suc, ◌+◌, ◌-◌, ◌<◌, ◌≤◌, List, [], ◌∷◌, ◌++◌, map, length, Bool, true, false, not, ◌||◌, Option, Some, None, IsTrue, bytes_eq, nat_eq, slice_get, unwrap_or, take, drop, if◌then◌else◌}
-use Rattle.std.specs.List.{All, AllZip, filter, find, flat_map, list_any, position, position_or_len}
+use Rattle.std.specs.List.{AllZip, filter, find, list_any, position, position_or_len}
 use Rattle.std.specs.Option.{option_map, option_or}
 use Rattle.std.proofs.Common.{refl, sym, ap, ap₂, subst, ◌∙◌, arith}
 use Rattle.std.proofs.Math.Path.{fun_ext}
 use Rattle.std.proofs.lemmas.List.{map-append, length-map}
-use Rattle.std.proofs.lemmas.List.Elements.{All-head, All-tail}
 use Rattle.std.proofs.lemmas.Slice.Eq.{bytes_eq-Decides}
 use Rattle.bridge_io.specs.declared.reason.Named.{Named}
 use Rattle.op_trees.specs.Seen.{Seen, known}
 use Rattle.op_trees.specs.declared.tree.Value.{Value}
-use Rattle.name_rules.specs.Names.{first_some, under}
-use Rattle.name_rules.specs.declared.map.NameMap.{NameMap}
+use Rattle.expr_store.specs.Views.{nodes}
+use Rattle.expr_store.specs.declared.node.ExprId.{ExprId}
+use Rattle.expr_store.specs.declared.store.ExprStore.{ExprStore}
+use Rattle.jani_table.specs.declared.operator.JaniOp.{JaniOp}
+use Rattle.name_rules.specs.Names.{first_some}
 use Rattle.process_core.specs.Ready.{Name, Ready, Sum, Values, has_action, if_some, taking}
 use Rattle.process_core.specs.Instance.{Valuation, is_state, numbered}
 use Rattle.process_core.specs.Product.{map-map}
@@ -26,13 +28,12 @@ use Rattle.jani_meaning.specs.Moment.{edge_at, element_at, first_or, given_in, g
 use Rattle.jani_meaning.specs.Process.{no_reward}
 use Rattle.instance_start.specs.Columns.{column_of, value_at}
 use Rattle.instance_start.specs.declared.data.Column as code_column
-use Rattle.instance_start.specs.declared.data.Place.{Place}
 use Rattle.instance_start.specs.declared.data.Place.TheVariants.{Constant, Variable}
-use Rattle.jani_instance.specs.Built.{IsElementOf, IsTransientOf, IsVectorOf, acts_with, edges_from, given_from, giver_from, global_place, links_from, value_from}
+use Rattle.jani_instance.specs.Built.{IsElementOf, IsTransientOf, IsVectorOf, acts_with, edges_from, given_from, links_from, member_from, place_in, value_from}
+use Rattle.jani_instance.specs.Prepared.{placed_names}
 use Rattle.jani_instance.specs.Sound.{IsRight, no_rewards}
-use Rattle.jani_instance.specs.Views.{Member, Setting, count_in, first_else, given_values, giver_values, groups_of, located_seen, location_at, member_seen, members_seen, names_at, part_at, part_of, silent_group, transient_value, values_of_element, vector_group}
+use Rattle.jani_instance.specs.Views.{At, Member, Setting, count_in, first_else, groups_of, located_seen, location_at, look_at, member_seen, members_seen, part_at, part_of, silent_group, transient_value, vector_group}
 use Rattle.jani_instance.specs.declared.data.Element as code
-use Rattle.jani_instance.specs.declared.data.Giver.{Giver}
 use Rattle.jani_instance.specs.declared.data.Transient.{Transient}
 use Rattle.jani_instance.specs.declared.data.Vector as code_vector
 use Rattle.jani_instance.proofs.Places.{IsAt, at_place, same_count}
@@ -60,7 +61,7 @@ map_numbered : {X Y Z : Type 0} (c : Y → Z) (f : ℕ → X → List Y) (i : �
 map_numbered c f i [] = refl
 map_numbered c f i (x ∷ xs) = map-append c (f i x) (numbered f (i + 1) xs) ∙ ap (λ l. map c (f i x) ++ l) (map_numbered c f (i + 1) xs)
 
-there_is : {X : Type 0} (xs : List X) (i : ℕ) → i < length xs → (x : X) × (slice_get xs i ≡ Some x)
+pub there_is : {X : Type 0} (xs : List X) (i : ℕ) → i < length xs → (x : X) × (slice_get xs i ≡ Some x)
 there_is [] i h = absurd (omega (arith, h))
 there_is (x ∷ xs) zero h = (x, refl)
 there_is (x ∷ xs) (suc i) h = there_is xs i (let d : i < length xs = omega (arith, h) in d)
@@ -70,12 +71,12 @@ got f i [] k = refl
 got f i (x ∷ xs) zero = ap (λ n. Some (f n x)) (let d : i ≡ i + 0 = omega arith in d)
 got f i (x ∷ xs) (suc k) = got f (i + 1) xs k ∙ ap (λ n. option_map (f n) (slice_get xs k)) (let d : i + 1 + k ≡ i + suc k = omega arith in d)
 
-within : {X : Type 0} (xs : List X) (i : ℕ) (x : X) → slice_get xs i ≡ Some x → i < length xs
+pub within : {X : Type 0} (xs : List X) (i : ℕ) (x : X) → slice_get xs i ≡ Some x → i < length xs
 within [] i x e = absurd cc
 within (y ∷ ys) zero x e = omega arith
 within (y ∷ ys) (suc i) x e = let h = within ys i x e in omega (arith, h)
 
-lesser : {i n m : ℕ} → n ≡ m → i < m → i < n
+pub lesser : {i n m : ℕ} → n ≡ m → i < m → i < n
 lesser {i = i} e h = subst (λ z. i < z) (sym e) h
 
 later : {X : Type 0} (all : List X) (i : ℕ) (x : X) (xs : List X) → ((k : ℕ) → slice_get all (i + k) ≡ slice_get (x ∷ xs) k) → (k : ℕ) → slice_get all (i + 1 + k) ≡ slice_get xs k
@@ -83,10 +84,6 @@ later all i x xs h k = ap (slice_get all) (let d : i + 1 + k ≡ i + suc k = ome
 
 first_at : {X : Type 0} (all : List X) (i : ℕ) (x : X) (xs : List X) → ((k : ℕ) → slice_get all (i + k) ≡ slice_get (x ∷ xs) k) → slice_get all i ≡ Some x
 first_at all i x xs h = ap (slice_get all) (let d : i ≡ i + 0 = omega arith in d) ∙ h 0
-
-flat_all : {X Y : Type 0} (P : X → Type 0) (f g : X → List Y) → ((x : X) → P x → f x ≡ g x) → (xs : List X) → All P xs → flat_map f xs ≡ flat_map g xs
-flat_all P f g h [] p = refl
-flat_all P f g h (x ∷ xs) p = ap₂ (λ a b. a ++ b) (h x (All-head P x xs p)) (flat_all P f g h xs (All-tail P x xs p))
 
 neither : (b c : Bool) → (b || c) ≡ false → (b ≡ false) × (c ≡ false)
 neither true c h = absurd cc
@@ -130,16 +127,15 @@ by_places n table s None None (Some j) = refl
 by_places n table s None None None = refl
 
 -- ---- an element
-module _ (file : File) (v : Valuation) (acts : Automaton → List Name) (places : NameMap Place) (table : List (Option Value))
+module _ (file : File) (v : Valuation) (acts : Automaton → List Name) (store : ExprStore JaniOp) (table : List (Option Value))
     (columns : List code_column.Column) (es : List code.Element)
     (cols : map column_of columns ≡ columns_of file v)
-    (global : (x : Name) → under places x ≡ global_place file x)
     (values : (x : Name) → value_from table (position (λ c. is_called x c.name) file.constants) ≡ constant file v x)
     (count : length es ≡ length (elements file))
-    (built : (i : ℕ) (a : Automaton) (e : code.Element) → slice_get (elements file) i ≡ Some a → slice_get es i ≡ Some e → IsElementOf file (acts a) i a e)
+    (built : (i : ℕ) (a : Automaton) (e : code.Element) → slice_get (elements file) i ≡ Some a → slice_get es i ≡ Some e → IsElementOf file (nodes store) (acts a) i a e)
     (s : Values) (state : IsTrue (is_state (columns_of file v) s)) where
   abbrev k : Setting
-  k = record { places = places; constants = table; columns = columns; elements = es; values = s }
+  k = record { store = store; constants = table; columns = columns; elements = es; values = s }
 
   at : (i : ℕ) (a : Automaton) → slice_get (elements file) i ≡ Some a → IsAt s i a
   at i a e = at_place (elements file) (map (λ o. column (constant_names file v) o.var) (lasting file)) s i a e state
@@ -152,11 +148,14 @@ module _ (file : File) (v : Valuation) (acts : Automaton → List Name) (places 
       let p : (λ (e : Edge). nat_eq (location_number a e.location.name) h.number) ≡ (λ e. is_current s i a e.location.name) = fun_ext (λ e. sym (current i a h e.location.name)) in
       ap (λ q. map (edge_at file v s i a) (filter q a.edges)) p
 
-  names_are : (i : ℕ) (a : Automaton) (e : code.Element) → IsElementOf file (acts a) i a e → names_at k e ≡ names_in file v s i
-  names_are i a e b =
+  -- what stands at the places of names
+  abbrev here : At
+  here = value_at s table
+
+  names_are : (i : ℕ) → placed_names (place_in file i) here ≡ names_in file v s i
+  names_are i =
       fun_ext (λ x. ap known
-      (ap₂ (λ p q. value_at s table (first_some p q)) (b.own x) (global x)
-      ∙ by_places (length file.elements) table s (position (is_own i x) (lasting file)) (position (is_global x) (lasting file)) (position (λ c. is_called x c.name) file.constants)
+      (by_places (length file.elements) table s (position (is_own i x) (lasting file)) (position (is_global x) (lasting file)) (position (λ c. is_called x c.name) file.constants)
       ∙ ap (value_in s (column_number file i x)) (values x)))
 
   abbrev member_at : ℕ → Automaton → Member
@@ -172,10 +171,10 @@ module _ (file : File) (v : Valuation) (acts : Automaton → List Name) (places 
   member_is i a e p q =
       let h = at i a p in
       let b = built i a e p q in
-      ap (λ cs. located_seen cs (names_at k e) i (slice_get e.locations.items (location_at s i))) cols
-      ∙ ap (λ ns. located_seen (columns_of file v) ns i (slice_get e.locations.items (location_at s i))) (names_are i a e b)
-      ∙ ap (λ o. located_seen (columns_of file v) (names_in file v s i) i (slice_get e.locations.items (count_in o))) h.is
-      ∙ b.edges (columns_of file v) (names_in file v s i) h.number h.within
+      ap (λ cs. located_seen cs (look_at k) i (slice_get e.locations.items (location_at s i))) cols
+      ∙ ap (λ o. located_seen (columns_of file v) (look_at k) i (slice_get e.locations.items (count_in o))) h.is
+      ∙ b.edges (columns_of file v) here h.number h.within
+      ∙ ap (λ ns. member_from file (columns_of file v) ns i a (acts a) h.number) (names_are i)
       ∙ ap (of_edges a) (edges_are i a h)
 
   abbrev members_at : List Member
@@ -241,13 +240,6 @@ module _ (file : File) (v : Valuation) (acts : Automaton → List Name) (places 
   number_at : (i : ℕ) (a : Automaton) (h : IsAt s i a) → location_at s i ≡ h.number
   number_at i a h = ap count_in h.is
 
-  giver_is : (g : Giver) → g.element < length file.elements → giver_values k g ≡ giver_from (names_in file v s) (location_at s) g
-  giver_is g h =
-      let a = there_is (elements file) g.element (lesser (length-map file.elements _) h) in
-      let e = there_is es g.element (lesser (count ∙ length-map file.elements _) h) in
-      ap (λ o. values_of_element k o g) e.1
-      ∙ ap (λ ns. given_values ns (slice_get g.values.items (location_at s g.element))) (names_are g.element a.0 e.0 (built g.element a.0 e.0 a.1 e.1))
-
   given_is : (o : Owned) (i : ℕ) (a : Automaton) → slice_get (elements file) i ≡ Some a → given_from file v (names_in file v s) (location_at s) o i a ≡ map computed (given_to file v s o i a)
   given_is o i a e =
       let h = at i a e in
@@ -260,11 +252,11 @@ module _ (file : File) (v : Valuation) (acts : Automaton → List Name) (places 
       by_test true f l = sym (map-map computed f l)
       by_test false f l = refl
 
-  transient_is : (o : Owned) (t : Transient) → IsTransientOf file v o t → transient_value k t ≡ computed (transient_at file v s o)
+  transient_is : (o : Owned) (t : Transient ExprId) → IsTransientOf file v (nodes store) o t → transient_value k t ≡ computed (transient_at file v s o)
   transient_is o t b =
       ap₂ (λ x l. first_else x l) b.start
-      (flat_all (λ (g : Giver). g.element < length file.elements) (giver_values k) (giver_from (names_in file v s) (location_at s)) giver_is t.givers.items b.within
-      ∙ b.givers (names_in file v s) (location_at s) (λ i a e. let h = at i a e in subst (λ n. n ≤ length a.locations - 1) (sym (number_at i a h)) h.within)
+      (b.givers here (location_at s) (λ i a e. let h = at i a e in subst (λ n. n ≤ length a.locations - 1) (sym (number_at i a h)) h.within)
+      ∙ ap (λ (names : ℕ → Name → Seen). numbered (given_from file v names (location_at s) o) 0 (elements file)) (fun_ext names_are)
       ∙ numbered_agree _ _ 0 (elements file) (λ n a e. subst (λ m. given_from file v (names_in file v s) (location_at s) o m a ≡ map computed (given_to file v s o m a)) (let d : n ≡ 0 + n = omega arith in d) (given_is o n a e))
       ∙ sym (map_numbered computed (given_to file v s o) 0 (elements file)))
       ∙ first_is (start_of (constant_names file v) o.var.start) (numbered (given_to file v s o) 0 (elements file))
@@ -273,15 +265,15 @@ module _ (file : File) (v : Valuation) (acts : Automaton → List Name) (places 
       first_is z [] = refl
       first_is z (x ∷ l) = refl
 
-  transients_are : (os : List Owned) (ts : List Transient) → AllZip (IsTransientOf file v) os ts → map (transient_value k) ts ≡ map computed (map (transient_at file v s) os)
+  transients_are : (os : List Owned) (ts : List (Transient ExprId)) → AllZip (IsTransientOf file v (nodes store)) os ts → map (transient_value k) ts ≡ map computed (map (transient_at file v s) os)
   transients_are [] [] h = refl
   transients_are [] (t ∷ ts) h = absurd h
   transients_are (o ∷ os) [] h = absurd h
   transients_are (o ∷ os) (t ∷ ts) h = ap₂ (λ x l. x ∷ l) (transient_is o t h.0) (transients_are os ts h.1)
 
   -- ---- all of it
-  pub right : (ws : List code_vector.Vector) (n : ℕ) (ts : List Transient) → AllZip (IsVectorOf file acts) file.vectors ws →
-      AllZip (IsTransientOf file v) (labels file) (take n ts) → AllZip (IsTransientOf file v) (structures file) (drop n ts) →
+  pub right : (ws : List code_vector.Vector) (n : ℕ) (ts : List (Transient ExprId)) → AllZip (IsVectorOf file acts) file.vectors ws →
+      AllZip (IsTransientOf file v (nodes store)) (labels file) (take n ts) → AllZip (IsTransientOf file v (nodes store)) (structures file) (drop n ts) →
       IsRight file v k ws n ts
   right ws n ts vectors labelling rewarding =
       let rewards = transients_are (structures file) (drop n ts) rewarding in

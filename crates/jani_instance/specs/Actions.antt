@@ -5,22 +5,24 @@ use Rattle.std.specs.Borrow.{Bor}
 use Rattle.std.specs.List.{AllZip, filter, flat_map, list_any, position}
 use Rattle.std.specs.Option.{option_map}
 use Rattle.bridge_io.specs.declared.reason.Named.{Named}
+use Rattle.expr_store.specs.declared.node.Node.{Node}
+use Rattle.jani_table.specs.declared.operator.JaniOp.{JaniOp}
 use Rattle.name_rules.specs.Names.{under}
 use Rattle.process_core.specs.Ready.{Name, firsts, if_some, same_label}
 use Rattle.jani_tree.specs.declared.syntax.JaniEdge.{JaniEdge}
 use Rattle.jani_tree.specs.Syntax as syntax
-use Rattle.jani_tree.specs.Syntax.{Automaton, File, file_of}
+use Rattle.jani_tree.specs.Syntax.{Automaton, Expression, File, file_of}
 use Rattle.jani_meaning.specs.Elements.{elements, is_called, lasting, structures}
-use Rattle.jani_instance.specs.Built.{IsElementOf, acts_with, global_place}
+use Rattle.jani_instance.specs.Built.{IsElementOf, IsNamedElementOf, acts_with, global_place}
 use Rattle.jani_instance.specs.Parts.{automaton_at, owned_at}
-use Rattle.jani_instance.specs.Shapes.{Edge, edge_by, edge_of, location_in}
+use Rattle.jani_instance.specs.Shapes.{Located, edge_by, location_in}
 use Rattle.jani_instance.specs.declared.acting.ActionTable.{ActionTable}
 use Rattle.jani_instance.specs.declared.acting.Basis.{Basis}
 use Rattle.jani_instance.specs.declared.acting.Numbers.{Numbers}
 use Rattle.jani_instance.specs.declared.build.Site.{Site}
-use Rattle.jani_instance.specs.declared.data.Element as code_element
+use Rattle.jani_instance.specs.declared.data.Element.{Element}
+use Rattle.jani_instance.specs.declared.data.NamedElement.{NamedElement}
 use Rattle.jani_instance.specs.declared.data.Link.{Link}
-use Rattle.jani_instance.specs.declared.data.Located as code_located
 use Rattle.jani_instance.specs.declared.data.Vector as code_vector
 
 -- ---- the actions of an element
@@ -68,21 +70,14 @@ is_number number k (Some x) = nat_eq k (number x.name)
 abbrev pub acts_as : (Name → ℕ) → ℕ → syntax.Edge → Bool
 acts_as number k e = is_number number k e.action
 
-pub record Located : Type 0 where
-  pub silent : List Edge
-  pub parts : List (List Edge)
-
-abbrev pub located_of : code_located.Located → Located
-located_of l = record { silent = map edge_of l.silent.items; parts = map (λ es. map edge_of es.items) l.parts.items }
-
 -- these edges, as one location keeps them
-abbrev pub located_among : Site → List syntax.Edge → Located
+abbrev pub located_among : Site → List syntax.Edge → Located Expression
 located_among s es = record {
   silent = map (edge_by s) (filter is_silent es);
   parts = map (λ x. map (edge_by s) (filter (acts_with x) es)) (actions_of (automaton_at s.part));
 }
 
-abbrev pub located_at : Site → List syntax.Edge → ℕ → Located
+abbrev pub located_at : Site → List syntax.Edge → ℕ → Located Expression
 located_at s es n = located_among s (filter (starts_at s n) es)
 
 -- ---- links of a vector
@@ -110,7 +105,13 @@ pub record IsBasis (b : Basis) : Type 0 where
   pub room : length b.parts.now + length b.lasting.now < 2 ^ 64
 
 -- each element of the file
-pub record AreElementsOf (file : File) (es : List code_element.Element) : Type 0 where
+pub record AreNamedElementsOf (file : File) (es : List NamedElement) : Type 0 where
   pub count : length es ≡ length (elements file)
-  pub built : (i : ℕ) (a : Automaton) (e : code_element.Element) → slice_get (elements file) i ≡ Some a → slice_get es i ≡ Some e →
-      IsElementOf file (actions_of a) i a e
+  pub built : (i : ℕ) (a : Automaton) (e : NamedElement) → slice_get (elements file) i ≡ Some a → slice_get es i ≡ Some e →
+      IsNamedElementOf file (actions_of a) i a e
+
+-- and once its names are resolved
+pub record AreElementsOf (file : File) (ns : List (Node JaniOp)) (es : List Element) : Type 0 where
+  pub count : length es ≡ length (elements file)
+  pub built : (i : ℕ) (a : Automaton) (e : Element) → slice_get (elements file) i ≡ Some a → slice_get es i ≡ Some e →
+      IsElementOf file ns (actions_of a) i a e

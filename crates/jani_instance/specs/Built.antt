@@ -1,7 +1,7 @@
 -- What edges, locations and vectors of a file are to come out as, wherever names stand: by the numbers of columns, structures,
 -- locations and actions, before a state is known (jani-model specification, version 1: "Edges", "Composition").
-use Rattle.std.specs.Prelude.{◌≡◌, ℕ, ◌+◌, ◌-◌, ◌<◌, ◌≤◌, Result, option_copied, unwrap_or, List, [], ◌∷◌, map, length, Bool, false, Option, Some, None, nat_eq, bytes_eq, slice_get, if◌then◌else◌}
-use Rattle.std.specs.List.{All, flat_map, filter, find, list_any, position, position_or_len}
+use Rattle.std.specs.Prelude.{◌≡◌, ℕ, ◌+◌, ◌-◌, ◌≤◌, Result, option_copied, unwrap_or, List, [], ◌∷◌, map, length, Bool, false, Option, Some, None, nat_eq, bytes_eq, slice_get, if◌then◌else◌}
+use Rattle.std.specs.List.{flat_map, filter, find, list_any, position, position_or_len}
 use Rattle.std.specs.Option.{option_map}
 use Rattle.bridge_io.specs.declared.reason.Named.{Named}
 use Rattle.op_trees.specs.Seen.{Seen}
@@ -18,9 +18,14 @@ use Rattle.jani_meaning.specs.Scene.{constant_names, see, start_of}
 use Rattle.jani_meaning.specs.Moment.{column_write, given_in, guard_seen, location_write, may_give, reward_of, weight_seen}
 use Rattle.instance_start.specs.declared.data.Place.{Place}
 use Rattle.instance_start.specs.declared.data.Place.TheVariants.{Constant, Variable}
-use Rattle.jani_instance.specs.Views.{Member, given_values, located_seen}
+use Rattle.expr_store.specs.declared.node.ExprId.{ExprId}
+use Rattle.expr_store.specs.declared.node.Node.{Node}
+use Rattle.jani_table.specs.declared.operator.JaniOp.{JaniOp}
+use Rattle.jani_instance.specs.Prepared.{placed_names}
+use Rattle.jani_instance.specs.Shapes.{Lent}
+use Rattle.jani_instance.specs.Views.{At, Member, giver_from, located_seen, look_by, see_at}
 use Rattle.jani_instance.specs.declared.data.Element as code
-use Rattle.jani_instance.specs.declared.data.Giver.{Giver}
+use Rattle.jani_instance.specs.declared.data.NamedElement.{NamedElement}
 use Rattle.jani_instance.specs.declared.data.Transient.{Transient}
 use Rattle.jani_instance.specs.declared.data.Vector as code_vector
 use Rattle.jani_instance.specs.declared.data.Link.{Link}
@@ -61,11 +66,37 @@ module _ (file : File) (cs : List Column) (names : Name → Seen) (i : ℕ) (a :
 abbrev pub acts_with : Name → Edge → Bool
 acts_with x e = same_label (Some x) (option_map (λ n. n.name) e.action)
 
--- The code has of an element where its own variables stand, and its edges at each location; the actions are all that it has.
-pub record IsElementOf (file : File) (acts : List Name) (i : ℕ) (a : Automaton) (e : code.Element) : Type 0 where
-  pub own : (x : Name) → under e.own x ≡ option_map (λ k. Variable (length file.elements + k)) (position (is_own i x) (lasting file))
+-- ---- where names stand
+abbrev pub own_place : File → ℕ → Name → Option Place
+own_place file i x = option_map (λ k. Variable (length file.elements + k)) (position (is_own i x) (lasting file))
+
+abbrev pub global_place : File → Name → Option Place
+global_place file x =
+    first_some (option_map (λ k. Variable (length file.elements + k)) (position (is_global x) (lasting file)))
+    (option_map Constant (position (λ c. is_called x c.name) file.constants))
+
+-- in the element with this number
+abbrev pub place_in : File → ℕ → Name → Option Place
+place_in file i x = first_some (own_place file i x) (global_place file x)
+
+-- the value of the constant at a place
+abbrev pub value_from : List (Option Value) → Option ℕ → Option Value
+value_from table None = None
+value_from table (Some k) = unwrap_or (slice_get table k) None
+
+-- ---- elements
+-- What is known of an element before its names are resolved: where its own variables stand, and its edges at each location; the actions
+-- are all that it has.
+pub record IsNamedElementOf (file : File) (acts : List Name) (i : ℕ) (a : Automaton) (e : NamedElement) : Type 0 where
+  pub own : (x : Name) → under e.own x ≡ own_place file i x
   pub edges : (cs : List Column) (names : Name → Seen) (n : ℕ) → n ≤ length a.locations - 1 →
-      located_seen cs names i (slice_get e.locations.items n) ≡ member_from file cs names i a acts n
+      located_seen cs (see_at names) i (slice_get e.locations.items n) ≡ member_from file cs names i a acts n
+  pub covers : (x : Name) → list_any (bytes_eq x) acts ≡ false → list_any (acts_with x) a.edges ≡ false
+
+-- The code has of an element its edges at each location, whatever stands at the places of names; the actions are all that it has.
+pub record IsElementOf (file : File) (ns : List (Node JaniOp)) (acts : List Name) (i : ℕ) (a : Automaton) (e : code.Element) : Type 0 where
+  pub edges : (cs : List Column) (at : At) (n : ℕ) → n ≤ length a.locations - 1 →
+      located_seen cs (look_by at ns) i (slice_get e.locations.items n) ≡ member_from file cs (placed_names (place_in file i) at) i a acts n
   pub covers : (x : Name) → list_any (bytes_eq x) acts ≡ false → list_any (acts_with x) a.edges ≡ false
 
 -- the elements that a vector names an action for, with the number of that among the actions of the element
@@ -90,27 +121,18 @@ abbrev pub given_from : File → Valuation → (ℕ → Name → Seen) → (ℕ 
 given_from file v names at o i a =
     if may_give file v [] i o.owner then map (λ w. computed (see w.value (names i))) (if_some (given_in file v [] o.var.name.name (location_from a (at i)))) else []
 
-abbrev pub giver_from : (ℕ → Name → Seen) → (ℕ → ℕ) → Giver → List (Result Value EvalFail)
-giver_from names at g = given_values (names g.element) (slice_get g.values.items (at g.element))
-
 -- each element is in a location that it has
 abbrev pub AreWithin : File → (ℕ → ℕ) → Type 0
 AreWithin file at = (i : ℕ) (a : Automaton) → slice_get (elements file) i ≡ Some a → at i ≤ length a.locations - 1
 
-pub record IsTransientOf (file : File) (v : Valuation) (o : Owned) (t : Transient) : Type 0 where
+-- a transient variable before names are resolved
+pub record IsNamedTransientOf (file : File) (v : Valuation) (o : Owned) (t : Transient Lent) : Type 0 where
   pub name : t.name.now ≡ o.var.name.name
   pub start : t.start ≡ computed (start_of (constant_names file v) o.var.start)
-  pub within : All (λ g. g.element < length file.elements) t.givers.items
   pub givers : (names : ℕ → Name → Seen) (at : ℕ → ℕ) → AreWithin file at →
-      flat_map (giver_from names at) t.givers.items ≡ numbered (given_from file v names at o) 0 (elements file)
+      flat_map (giver_from (λ i. see_at (names i)) at) t.givers.items ≡ numbered (given_from file v names at o) 0 (elements file)
 
--- ---- names
--- the value of the constant at a place
-abbrev pub value_from : List (Option Value) → Option ℕ → Option Value
-value_from table None = None
-value_from table (Some k) = unwrap_or (slice_get table k) None
-
-abbrev pub global_place : File → Name → Option Place
-global_place file x =
-    first_some (option_map (λ k. Variable (length file.elements + k)) (position (is_global x) (lasting file)))
-    (option_map Constant (position (λ c. is_called x c.name) file.constants))
+pub record IsTransientOf (file : File) (v : Valuation) (ns : List (Node JaniOp)) (o : Owned) (t : Transient ExprId) : Type 0 where
+  pub start : t.start ≡ computed (start_of (constant_names file v) o.var.start)
+  pub givers : (values : At) (at : ℕ → ℕ) → AreWithin file at →
+      flat_map (giver_from (λ i. look_by values ns) at) t.givers.items ≡ numbered (given_from file v (λ i. placed_names (place_in file i) values) at o) 0 (elements file)

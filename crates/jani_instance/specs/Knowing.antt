@@ -1,5 +1,5 @@
 -- What the program knows of a file before any state: whatever the given constants are, and under them. (This project's own rule.)
-use Rattle.std.specs.Prelude.{◌≡◌, ◌+◌, ◌<◌, ◌^◌, List, ◌++◌, map, length, true, is_none, Some}
+use Rattle.std.specs.Prelude.{◌≡◌, ◌+◌, ◌<◌, ◌^◌, List, ◌++◌, map, length, take, drop, true, is_none, Some}
 use Rattle.std.specs.List.{AllZip, filter, list_any}
 use Rattle.name_rules.specs.Names.{under}
 use Rattle.process_core.specs.Ready.{Name}
@@ -12,11 +12,21 @@ use Rattle.jani_meaning.specs.Elements.{elements}
 use Rattle.jani_meaning.specs.Scene.{constant_names, scene}
 use Rattle.instance_start.specs.Columns.{AreColumns, column_of}
 use Rattle.instance_start.specs.Description.{Constant}
-use Rattle.jani_instance.specs.Actions.{AreElementsOf, actions_of}
-use Rattle.jani_instance.specs.Built.{IsVectorOf, global_place}
+use Rattle.expr_store.specs.Views.{nodes}
+use Rattle.instance_start.specs.declared.data.Place.{Place}
+use Rattle.name_rules.specs.declared.map.NameMap.{NameMap}
+use Rattle.jani_instance.specs.Actions.{AreElementsOf, AreNamedElementsOf, actions_of}
+use Rattle.jani_instance.specs.Built.{IsTransientOf, IsVectorOf, global_place}
+use Rattle.jani_instance.specs.Described.{mark_names}
+use Rattle.jani_instance.specs.Prepared.{places_at, places_of, see_from}
+use Rattle.jani_instance.specs.Shapes.{Lent, located_as, transient_as, transient_at}
+use Rattle.jani_instance.specs.Views.{At, look_by}
+use Rattle.jani_instance.specs.declared.data.NamedElement.{NamedElement}
+use Rattle.jani_instance.specs.declared.data.Transient.{Transient}
+use Rattle.jani_instance.specs.declared.start.Prepared.{Prepared}
 use Rattle.jani_instance.specs.Constants.{Tabled, constant_place}
 use Rattle.jani_instance.specs.Parts.{automaton_at, owned_at}
-use Rattle.jani_instance.specs.Transients.{transient_at, transient_by}
+use Rattle.jani_instance.specs.Transients.{transient_by}
 use Rattle.jani_instance.specs.declared.start.Built.{Built}
 use Rattle.jani_instance.specs.declared.start.Kinds.{Kinds}
 use Rattle.jani_instance.specs.declared.start.Known.{Known}
@@ -48,18 +58,33 @@ pub record IsKnown (file : File) (v : Valuation) (k : Known) : Type 0 where
   pub places_are : (x : Name) → under k.places x ≡ global_place file x
   pub room : HasRoom file
 
--- the elements, the vectors, the labels and the reward structures
+-- ---- elements, vectors, labels and reward structures
+-- the elements before names are resolved, and the vectors
+pub record AreLinked (file : File) (l : Linked) : Type 0 where
+  pub elements_are : AreNamedElementsOf file l.elements.items
+  pub vectors_are : AllZip (IsVectorOf file actions_of) file.vectors l.vectors.items
+
+-- the labels and then the reward structures, before names are resolved
+abbrev pub AreNamed : File → Valuation → List (Transient Lent) → Type 0
+AreNamed file v ts =
+    map transient_at ts
+    ≡ map (transient_by (elements file) (constant_names file v)) (meaning.labels file)
+    ++ map (transient_by (elements file) (constant_names file v)) (meaning.structures file)
+
+-- what the pass that resolves names makes of them
+pub record IsPreparedOf (places : NameMap Place) (es : List NamedElement) (ts : List (Transient Lent)) (p : Prepared) : Type 0 where
+  pub elements_are : (at : At) → map (λ e. map (located_as (look_by at (nodes p.store))) e.locations.items) p.elements.items
+      ≡ map (λ e. map (located_as (see_from (places_of e.own places) at)) e.locations.items) es
+  pub transients_are : (at : At) → map (transient_as (λ i. look_by at (nodes p.store))) p.transients.items
+      ≡ map (transient_as (λ i. see_from (places_at es places i) at)) ts
+
 pub record IsBuilt (file : File) (v : Valuation) (b : Built) : Type 0 where
-  pub elements_are : AreElementsOf file b.elements.items
+  pub elements_are : AreElementsOf file (nodes b.prepared.store) b.prepared.elements.items
   pub vectors_are : AllZip (IsVectorOf file actions_of) file.vectors b.vectors.items
   pub labels_are : b.labels ≡ length (meaning.labels file)
-  pub transients_are : map transient_at b.transients.items
-      ≡ map (transient_by (elements file) (constant_names file v)) (meaning.labels file)
-      ++ map (transient_by (elements file) (constant_names file v)) (meaning.structures file)
-
-pub record AreLinked (file : File) (l : Linked) : Type 0 where
-  pub elements_are : AreElementsOf file l.elements.items
-  pub vectors_are : AllZip (IsVectorOf file actions_of) file.vectors l.vectors.items
+  pub names_are : map (λ t. t.name.now) b.prepared.transients.items ≡ mark_names file
+  pub labelling : AllZip (IsTransientOf file v (nodes b.prepared.store)) (meaning.labels file) (take b.labels b.prepared.transients.items)
+  pub rewarding : AllZip (IsTransientOf file v (nodes b.prepared.store)) (meaning.structures file) (drop b.labels b.prepared.transients.items)
 
 -- a constant is wide, or memory is wanting
 abbrev pub HasWideConstant : File → Valuation → StartFail → Type 0

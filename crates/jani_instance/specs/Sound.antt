@@ -2,7 +2,9 @@
 -- (What a JANI file has there is defined after the jani-model specification in jani_meaning; what an instance keeps of it is this project's own rule.)
 use Rattle.std.specs.Prelude.{◌≡◌, ℕ, take, drop, List, [], map, length, Option, IsTrue}
 use Rattle.op_trees.specs.declared.tree.Value.{Value}
-use Rattle.name_rules.specs.declared.map.NameMap.{NameMap}
+use Rattle.expr_store.specs.declared.node.ExprId.{ExprId}
+use Rattle.expr_store.specs.declared.store.ExprStore.{ExprStore}
+use Rattle.jani_table.specs.declared.operator.JaniOp.{JaniOp}
 use Rattle.process_core.specs.Ready.{Values, Sum}
 use Rattle.process_core.specs.Instance.{Valuation, instance_faults, is_state}
 use Rattle.process_core.specs.declared.data.Given.{Given}
@@ -17,7 +19,6 @@ use Rattle.instance_start.specs.Given.{given_by}
 use Rattle.instance_start.specs.Columns.{column_of}
 use Rattle.instance_start.specs.Firsts.{BeginRight}
 use Rattle.instance_start.specs.declared.data.Column.{Column}
-use Rattle.instance_start.specs.declared.data.Place.{Place}
 use Rattle.jani_instance.specs.Codes.{one_answers, one_columns, one_faults, one_groups, one_names, one_number, one_truth}
 use Rattle.jani_instance.specs.Described.{mark_names}
 use Rattle.jani_instance.specs.Views.{Setting, members_seen, groups_of, transient_value}
@@ -29,11 +30,11 @@ use Rattle.jani_instance.specs.declared.data.Transient.{Transient}
 abbrev pub groups_at : Moment → List Group
 groups_at k = element_groups (map (λ r. no_reward) k.rewards) k.vectors k.elements
 
-abbrev pub no_rewards : List Transient → List Sum
+abbrev pub no_rewards : List (Transient ExprId) → List Sum
 no_rewards ts = map (λ t. no_reward) ts
 
 -- What a state has, where the instance is this one.
-module _ (file : File) (v : Valuation) (k : Setting) (vectors : List Vector) (n : ℕ) (transients : List Transient) where
+module _ (file : File) (v : Valuation) (k : Setting) (vectors : List Vector) (n : ℕ) (transients : List (Transient ExprId)) where
   pub record IsRight : Type 0 where
     pub groups : groups_of (no_rewards (drop n transients)) (members_seen k) vectors ≡ map trimmed_group (groups_at (moment file v k.values))
     pub labels : map (transient_value k) (take n transients) ≡ map computed (moment file v k.values).labels
@@ -43,10 +44,10 @@ module _ (file : File) (v : Valuation) (k : Setting) (vectors : List Vector) (n 
   IsRight-prop = hlevel (one_answers, one_groups)
 
 -- No fault; the columns of the file; how many elements and labels, and the names of the marks; and what each state has.
-module _ (file : File) (given : List Given) (places : NameMap Place) (constants : List (Option Value)) (columns : List Column)
-    (elements : List Element) (vectors : List Vector) (n : ℕ) (transients : List Transient) where
+module _ (file : File) (given : List Given) (store : ExprStore JaniOp) (constants : List (Option Value)) (columns : List Column)
+    (elements : List Element) (vectors : List Vector) (n : ℕ) (transients : List (Transient ExprId)) where
   abbrev pub setting_in : Values → Setting
-  setting_in s = record { places = places; constants = constants; columns = columns; elements = elements; values = s }
+  setting_in s = record { store = store; constants = constants; columns = columns; elements = elements; values = s }
 
   pub record IsSound : Type 0 where
     pub faultless : instance_faults (scene file (given_by given)) ≡ []

@@ -1,11 +1,8 @@
 -- Transient variables as they are kept, by what locations give to them (jani-model specification, version 1: "Transient
 -- variables", "Automata").
-use Rattle.std.specs.Prelude.{ℕ, List, [], ◌∷◌, map, Bool, true, Option, Some, None, Result, nat_eq, if◌then◌else◌}
+use Rattle.std.specs.Prelude.{ℕ, List, [], ◌∷◌, map, Bool, true, Option, Some, None, nat_eq, if◌then◌else◌}
 use Rattle.std.specs.Option.{option_map}
 use Rattle.op_trees.specs.Seen.{Seen}
-use Rattle.op_trees.specs.Tree.{tree}
-use Rattle.op_trees.specs.declared.tree.EvalFail.{EvalFail}
-use Rattle.op_trees.specs.declared.tree.Value.{Value}
 use Rattle.process_core.specs.Ready.{Name}
 use Rattle.process_core.specs.Instance.{numbered}
 use Rattle.state_choices.specs.Trimmed.{computed}
@@ -13,27 +10,8 @@ use Rattle.jani_tree.specs.Syntax.{Automaton, Expression, Location}
 use Rattle.std.specs.List.{find}
 use Rattle.jani_meaning.specs.Elements.{Owned, is_called}
 use Rattle.jani_meaning.specs.Scene.{start_of}
-use Rattle.jani_instance.specs.declared.data.Giver as code
-use Rattle.jani_instance.specs.declared.data.Transient as code_transient
+use Rattle.jani_instance.specs.Shapes.{Giver, Transient}
 
--- an element, and what each of its locations gives
-pub record Giver : Type 0 where
-  pub element : ℕ
-  pub values : List (Option Expression)
-
-pub record Transient : Type 0 where
-  pub name : Name
-  pub start : Result Value EvalFail
-  pub givers : List Giver
-
--- ---- what the program's data stands for
-abbrev pub giver_at : code.Giver → Giver
-giver_at g = record { element = g.element; values = map (option_map (λ e. tree e.now)) g.values.items }
-
-abbrev pub transient_at : code_transient.Transient → Transient
-transient_at t = record { name = t.name.now; start = t.start; givers = map giver_at t.givers.items }
-
--- ---- what it is of the file's data
 -- the first value that a location gives to a name
 abbrev pub given_by_location : Name → Location → Option Expression
 given_by_location x l = option_map (λ w. w.value) (find (λ w. is_called x w.target) l.values)
@@ -43,10 +21,10 @@ abbrev pub takes_from : ℕ → Option ℕ → Bool
 takes_from i None = true
 takes_from i (Some k) = nat_eq i k
 
-abbrev pub giver_by : Option ℕ → Name → ℕ → Automaton → List Giver
+abbrev pub giver_by : Option ℕ → Name → ℕ → Automaton → List (Giver Expression)
 giver_by owner x i a = if takes_from i owner then record { element = i; values = map (given_by_location x) a.locations } ∷ [] else []
 
-abbrev pub transient_by : List Automaton → (Name → Seen) → Owned → Transient
+abbrev pub transient_by : List Automaton → (Name → Seen) → Owned → Transient Expression
 transient_by as_ names o = record {
   name = o.var.name.name;
   start = computed (start_of names o.var.start);

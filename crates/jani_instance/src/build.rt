@@ -2,6 +2,7 @@
 ghost use Rattle.std.specs.Prelude.{◌≡◌, IfOk, bytes_eq, map};
 ghost use Rattle.std.specs.List.{flat_map, position};
 ghost use Rattle.std.specs.Option.{option_map, option_or};
+ghost use Rattle.op_trees.specs.Tree.{tree};
 ghost use Rattle.jani_tree.specs.Syntax as syntax;
 ghost use Rattle.jani_meaning.specs.Elements.{is_global, is_own, place_of};
 ghost use Rattle.jani_instance.specs.Parts.{automaton_at, owned_at};
@@ -11,7 +12,7 @@ use crate::columns::counted;
 use crate::data::{Assignment, Destination, Edge};
 use crate::parts::{Owned, Part, is_owner, is_unowned};
 use instance_start::Place;
-use jani_tree::{JaniDestination, JaniEdge, JaniWrite};
+use jani_tree::{JaniDestination, JaniEdge, JaniWrite, Je};
 use name_rules::NameMap;
 use std::alloc::{AllocError, Global};
 
@@ -104,7 +105,7 @@ fn writes<'a>(
     alloc: Global,
     writes: &'a [JaniWrite],
     site: &Site,
-) -> Result<Vec<Assignment<'a>>, AllocError>
+) -> Result<Vec<Assignment<&'a Je>>, AllocError>
     ensures { IfOk result (λ ws. map assigned_of ws.items ≡ flat_map (assigned_by (column_in site.now)) (map syntax.write_of writes.entry.now)) }
 {
     let mut all = Vec::new(alloc);
@@ -117,7 +118,7 @@ fn writes<'a>(
     Ok(all)
 }
 
-fn assignment<'a>(place: usize, write: &'a JaniWrite) -> Assignment<'a>
+fn assignment<'a>(place: usize, write: &'a JaniWrite) -> Assignment<&'a Je>
     ensures { assigned_of result ≡ record { place = place; value = (syntax.write_of write.entry.now).value } }
 {
     Assignment {
@@ -131,7 +132,7 @@ fn rewards<'a>(
     alloc: Global,
     writes: &'a [JaniWrite],
     site: &Site,
-) -> Result<Vec<Assignment<'a>>, AllocError>
+) -> Result<Vec<Assignment<&'a Je>>, AllocError>
     ensures { IfOk result (λ ws. map assigned_of ws.items ≡ flat_map (assigned_by (structure_in site.now)) (map syntax.write_of writes.entry.now)) }
 {
     let mut all = Vec::new(alloc);
@@ -144,19 +145,29 @@ fn rewards<'a>(
     Ok(all)
 }
 
+/// An expression, if there is one.
+fn lent<'a>(e: &'a Option<Je>) -> Option<&'a Je>
+    ensures { option_map (λ e. tree e.now) result ≡ option_map tree e.entry.now }
+{
+    match e {
+        Some(e) => Some(e),
+        None => None,
+    }
+}
+
 /// What is kept of a destination.
 fn destination<'a>(
     alloc: Global,
     d: &'a JaniDestination,
     site: &Site,
-) -> Result<Destination<'a>, AllocError>
+) -> Result<Destination<&'a Je>, AllocError>
     ensures { IfOk result (λ r. destination_of r ≡ destination_by site.now (syntax.destination_of d.entry.now)) }
 {
     let to_columns = writes(alloc, d.writes.as_slice(), site)?;
     let to_structures = rewards(alloc, d.writes.as_slice(), site)?;
     Ok(Destination {
         location: counted(location_in(site, d.location.name.as_str())),
-        weight: &d.weight,
+        weight: lent(&d.weight),
         writes: to_columns,
         rewards: to_structures,
     })
@@ -166,7 +177,7 @@ fn destinations<'a>(
     alloc: Global,
     ds: &'a [JaniDestination],
     site: &Site,
-) -> Result<Vec<Destination<'a>>, AllocError>
+) -> Result<Vec<Destination<&'a Je>>, AllocError>
     ensures { IfOk result (λ rs. map destination_of rs.items ≡ map (destination_by site.now) (map syntax.destination_of ds.entry.now)) }
 {
     let mut all = Vec::with_capacity(alloc, ds.len())?;
@@ -177,12 +188,16 @@ fn destinations<'a>(
 }
 
 /// What is kept of an edge.
-pub(crate) fn edge<'a>(alloc: Global, e: &'a JaniEdge, site: &Site) -> Result<Edge<'a>, AllocError>
+pub(crate) fn edge<'a>(
+    alloc: Global,
+    e: &'a JaniEdge,
+    site: &Site,
+) -> Result<Edge<&'a Je>, AllocError>
     ensures { IfOk result (λ r. edge_of r ≡ edge_by site.now (syntax.edge_of e.entry.now)) }
 {
     let destinations = destinations(alloc, e.destinations.as_slice(), site)?;
     Ok(Edge {
-        guard: &e.guard,
+        guard: lent(&e.guard),
         destinations,
     })
 }

@@ -72,12 +72,8 @@ pub(crate) fn constant_values(
     ensures { IfOk result (λ rs. rs.items ≡ map computed (round_of (map const_of constants.now) (given_by given.now) table.now)) }
 {
     let run = Run {
-        number: 0,
-        own: places,
         places,
         constants: table,
-        columns: &[],
-        values: &[],
     };
     each_value(alloc, constants, given, &run)
 }

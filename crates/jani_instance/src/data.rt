@@ -1,47 +1,56 @@
 //! What an instance keeps, and what its edges come out as at a state.
 
 use bridge_io::{List, Text};
+use expr_store::ExprId;
 use instance_start::Place;
 use jani_tree::Je;
 use name_rules::NameMap;
 use op_trees::{EvalFail, Value};
 use state_choices::Command;
 
+// ---- of what an instance keeps, the expressions are lent from the file at first, and stand in its store in the end
+
 /// An assignment of a destination: the number of a column or of a reward structure, and the value.
-#[derive(Clone, Copy)]
-pub struct Assignment<'a> {
+#[derive(Drop)]
+pub struct Assignment<E> {
     pub place: usize,
-    pub value: &'a Je,
+    pub value: E,
 }
 
 /// A destination of an edge: the value of its location's column, its probability, and what it assigns.
 #[derive(Drop)]
-pub struct Destination<'a> {
+pub struct Destination<E> {
     pub location: Result<Value, EvalFail>,
-    pub weight: &'a Option<Je>,
-    pub writes: Vec<Assignment<'a>>,
-    pub rewards: Vec<Assignment<'a>>,
+    pub weight: Option<E>,
+    pub writes: Vec<Assignment<E>>,
+    pub rewards: Vec<Assignment<E>>,
 }
 
 /// An edge: which location it starts at, and its action, follow from where it stands.
 #[derive(Drop)]
-pub struct Edge<'a> {
-    pub guard: &'a Option<Je>,
-    pub destinations: Vec<Destination<'a>>,
+pub struct Edge<E> {
+    pub guard: Option<E>,
+    pub destinations: Vec<Destination<E>>,
 }
 
 /// The edges that start at a location: the silent ones, and for each action of the element those with it.
 #[derive(Drop)]
-pub struct Located<'a> {
-    pub silent: Vec<Edge<'a>>,
-    pub parts: Vec<Vec<Edge<'a>>>,
+pub struct Located<E> {
+    pub silent: Vec<Edge<E>>,
+    pub parts: Vec<Vec<Edge<E>>>,
 }
 
-/// An element: where its own names stand, and its locations.
+/// An element: its locations.
 #[derive(Drop)]
-pub struct Element<'a> {
+pub struct Element {
+    pub locations: Vec<Located<ExprId>>,
+}
+
+/// An element before its names are resolved: where its own ones stand, and its locations.
+#[derive(Drop)]
+pub struct NamedElement<'a> {
     pub own: NameMap<'a, Place>,
-    pub locations: Vec<Located<'a>>,
+    pub locations: Vec<Located<&'a Je>>,
 }
 
 /// An element that takes part in a vector, and the number of the action that it does so with.
@@ -60,17 +69,17 @@ pub struct Vector<'a> {
 
 /// An element whose locations give values to a transient variable: for each location the value, if it gives one.
 #[derive(Drop)]
-pub struct Giver<'a> {
+pub struct Giver<E> {
     pub element: usize,
-    pub values: Vec<Option<&'a Je>>,
+    pub values: Vec<Option<E>>,
 }
 
 /// A transient variable: its name, its first value, and the elements that may give another.
 #[derive(Drop)]
-pub struct Transient<'a> {
+pub struct Transient<'a, E> {
     pub name: &'a Text,
     pub start: Result<Value, EvalFail>,
-    pub givers: Vec<Giver<'a>>,
+    pub givers: Vec<Giver<E>>,
 }
 
 /// What the edges of an element at its current location come out as.

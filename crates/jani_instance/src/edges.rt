@@ -1,59 +1,76 @@
 //! What edges come out as at a state.
 ghost use Rattle.std.specs.Prelude.{◌≡◌, IfOk, map, ◌∷◌, not, ◌&&◌};
 ghost use Rattle.std.specs.Option.{option_map};
-ghost use Rattle.op_trees.specs.Tree.{tree};
 ghost use Rattle.process_core.specs.Choices.{is_false};
-ghost use Rattle.jani_meaning.specs.Moment.{guard_seen, weight_seen};
 ghost use Rattle.state_choices.specs.Views.{seen_of, command_of, update_of, write_of, reward_of};
 ghost use Rattle.state_choices.specs.Trimmed.{computed};
-ghost use Rattle.jani_instance.specs.Views.{columns_in, seen_in, edge_seen, update_seen, write_seen, reward_seen, location_seen};
+ghost use Rattle.jani_instance.specs.Views.{IsIn, columns_of, guard_as, look_at, setting_of, weight_as, edge_seen, update_seen, write_seen, reward_seen, location_seen};
 
 use crate::data::{Assignment, Destination, Edge};
-use crate::run::{Run, value_of};
+use crate::run::{Here, value_here};
 use bridge_io::List;
+use expr_store::{Evaluation, ExprId};
 use frac_core::Frac;
 use instance_start::{domain_at, fits_in};
-use jani_tree::Je;
+use jani_table::JaniOp;
 use op_trees::{EvalFail, Value};
 use state_choices::{Command, Reward, Update, Write};
 use std::alloc::{AllocError, Global};
 
-/// What edges come out as.
+/// What edges of the element with this number come out as.
 pub(crate) fn commands(
     alloc: Global,
-    edges: &[Edge],
-    run: &Run,
+    edges: &[Edge<ExprId>],
+    i: usize,
+    here: &Here,
+    evaluation: &mut Evaluation<JaniOp>,
 ) -> Result<List<Command>, AllocError>
-    ensures { IfOk result (λ cs. map command_of cs ≡ map (edge_seen (columns_in run.now) (seen_in run.now) run.now.number) edges.now) }
+    requires { IsIn (setting_of here.now) evaluation.old }
+    ensures { IfOk result (λ cs. IsIn (setting_of here.now) evaluation.new
+        × (map command_of cs ≡ map (edge_seen (columns_of (setting_of here.now)) (look_at (setting_of here.now)) i) edges.now)) }
 {
     let mut all = List::with_capacity(alloc, edges.len())?;
     for edge in edges {
-        all.push(command_of(alloc, edge, run)?)?;
+        all.push(command_of(alloc, edge, i, here, evaluation)?)?;
     }
     Ok(all)
 }
 
 /// What an edge comes out as. Where its guard is false, its updates aren't asked for.
-fn command_of(alloc: Global, edge: &Edge, run: &Run) -> Result<Command, AllocError>
-    ensures { IfOk result (λ c. command_of c ≡ edge_seen (columns_in run.now) (seen_in run.now) run.now.number edge.now) }
+fn command_of(
+    alloc: Global,
+    edge: &Edge<ExprId>,
+    i: usize,
+    here: &Here,
+    evaluation: &mut Evaluation<JaniOp>,
+) -> Result<Command, AllocError>
+    requires { IsIn (setting_of here.now) evaluation.old }
+    ensures { IfOk result (λ c. IsIn (setting_of here.now) evaluation.new
+        × (command_of c ≡ edge_seen (columns_of (setting_of here.now)) (look_at (setting_of here.now)) i edge.now)) }
 {
-    let guard = guard_of(edge.guard, run);
+    let guard = guard_of(edge.guard, here, evaluation);
     if is_false(&guard) {
         return Ok(Command {
             guard,
             updates: List::new(alloc),
         });
     }
-    let updates = updates(alloc, edge.destinations.as_slice(), run)?;
+    let updates = updates(alloc, edge.destinations.as_slice(), i, here, evaluation)?;
     Ok(Command { guard, updates })
 }
 
 /// The value of a guard; a missing one is true.
-fn guard_of(e: &Option<Je>, run: &Run) -> Result<Value, EvalFail>
-    ensures { result ≡ computed (guard_seen (seen_in run.now) (option_map tree e.now)) }
+fn guard_of(
+    e: Option<ExprId>,
+    here: &Here,
+    evaluation: &mut Evaluation<JaniOp>,
+) -> Result<Value, EvalFail>
+    requires { IsIn (setting_of here.now) evaluation.old }
+    ensures value { result ≡ computed (guard_as (option_map (look_at (setting_of here.now)) e)) }
+    ensures same { IsIn (setting_of here.now) evaluation.new }
 {
     match e {
-        Some(e) => value_of(e, run),
+        Some(id) => value_here(id, here, evaluation),
         None => Ok(Value::Truth(true)),
     }
 }
@@ -71,70 +88,103 @@ fn is_false(answer: &Result<Value, EvalFail>) -> bool
 /// What destinations come out as.
 fn updates(
     alloc: Global,
-    destinations: &[Destination],
-    run: &Run,
+    destinations: &[Destination<ExprId>],
+    i: usize,
+    here: &Here,
+    evaluation: &mut Evaluation<JaniOp>,
 ) -> Result<List<Update>, AllocError>
-    ensures { IfOk result (λ us. map update_of us ≡ map (update_seen (columns_in run.now) (seen_in run.now) run.now.number) destinations.now) }
+    requires { IsIn (setting_of here.now) evaluation.old }
+    ensures { IfOk result (λ us. IsIn (setting_of here.now) evaluation.new
+        × (map update_of us ≡ map (update_seen (columns_of (setting_of here.now)) (look_at (setting_of here.now)) i) destinations.now)) }
 {
     let mut all = List::with_capacity(alloc, destinations.len())?;
     for destination in destinations {
-        all.push(update_of(alloc, destination, run)?)?;
+        all.push(update_of(alloc, destination, i, here, evaluation)?)?;
     }
     Ok(all)
 }
 
 /// What a destination comes out as.
-fn update_of(alloc: Global, destination: &Destination, run: &Run) -> Result<Update, AllocError>
-    ensures { IfOk result (λ u. update_of u ≡ update_seen (columns_in run.now) (seen_in run.now) run.now.number destination.now) }
+fn update_of(
+    alloc: Global,
+    destination: &Destination<ExprId>,
+    i: usize,
+    here: &Here,
+    evaluation: &mut Evaluation<JaniOp>,
+) -> Result<Update, AllocError>
+    requires { IsIn (setting_of here.now) evaluation.old }
+    ensures { IfOk result (λ u. IsIn (setting_of here.now) evaluation.new
+        × (update_of u ≡ update_seen (columns_of (setting_of here.now)) (look_at (setting_of here.now)) i destination.now)) }
 {
-    let writes = writes(alloc, destination, run)?;
-    let rewards = rewards(alloc, destination.rewards.as_slice(), run)?;
+    let weight = weight_of(destination.weight, here, evaluation);
+    let writes = writes(alloc, destination, i, here, evaluation)?;
+    let rewards = rewards(alloc, destination.rewards.as_slice(), here, evaluation)?;
     Ok(Update {
-        weight: weight_of(destination.weight, run),
+        weight,
         writes,
         rewards,
     })
 }
 
 /// The value of a probability; a missing one is 1.
-fn weight_of(e: &Option<Je>, run: &Run) -> Result<Value, EvalFail>
-    ensures { result ≡ computed (weight_seen (seen_in run.now) (option_map tree e.now)) }
+fn weight_of(
+    e: Option<ExprId>,
+    here: &Here,
+    evaluation: &mut Evaluation<JaniOp>,
+) -> Result<Value, EvalFail>
+    requires { IsIn (setting_of here.now) evaluation.old }
+    ensures value { result ≡ computed (weight_as (option_map (look_at (setting_of here.now)) e)) }
+    ensures same { IsIn (setting_of here.now) evaluation.new }
 {
     match e {
-        Some(e) => value_of(e, run),
+        Some(id) => value_here(id, here, evaluation),
         None => Ok(Value::Number(Frac::one())),
     }
 }
 
 /// What the assignments of a destination come out as: that of its location first.
-fn writes(alloc: Global, destination: &Destination, run: &Run) -> Result<List<Write>, AllocError>
-    ensures { IfOk result (λ ws. map write_of ws
-        ≡ location_seen run.now.number destination.now.location ∷ map (write_seen (columns_in run.now) (seen_in run.now) run.now.number) destination.now.writes.items) }
+fn writes(
+    alloc: Global,
+    destination: &Destination<ExprId>,
+    i: usize,
+    here: &Here,
+    evaluation: &mut Evaluation<JaniOp>,
+) -> Result<List<Write>, AllocError>
+    requires { IsIn (setting_of here.now) evaluation.old }
+    ensures { IfOk result (λ ws. IsIn (setting_of here.now) evaluation.new
+        × (map write_of ws
+        ≡ location_seen i destination.now.location ∷ map (write_seen (columns_of (setting_of here.now)) (look_at (setting_of here.now))) destination.now.writes.items)) }
 {
     let assignments = destination.writes.as_slice();
     let mut all = List::new(alloc);
-    all.push(location_write(destination.location, run))?;
+    all.push(location_write(destination.location, i))?;
     for assignment in assignments {
-        all.push(write_of(assignment, run))?;
+        all.push(write_of(assignment, here, evaluation))?;
     }
     Ok(all)
 }
 
-fn location_write(location: Result<Value, EvalFail>, run: &Run) -> Write
-    ensures { write_of result ≡ location_seen run.now.number location }
+fn location_write(location: Result<Value, EvalFail>, i: usize) -> Write
+    ensures { write_of result ≡ location_seen i location }
 {
     Write {
-        column: run.number,
+        column: i,
         value: location,
         fits: location.is_ok(),
     }
 }
 
-fn write_of(assignment: &Assignment, run: &Run) -> Write
-    ensures { write_of result ≡ write_seen (columns_in run.now) (seen_in run.now) run.now.number assignment.now }
+fn write_of(
+    assignment: &Assignment<ExprId>,
+    here: &Here,
+    evaluation: &mut Evaluation<JaniOp>,
+) -> Write
+    requires { IsIn (setting_of here.now) evaluation.old }
+    ensures write { write_of result ≡ write_seen (columns_of (setting_of here.now)) (look_at (setting_of here.now)) assignment.now }
+    ensures same { IsIn (setting_of here.now) evaluation.new }
 {
-    let value = value_of(assignment.value, run);
-    let fits = fits_in(domain_at(run.columns, assignment.place), &value);
+    let value = value_here(assignment.value, here, evaluation);
+    let fits = fits_in(domain_at(here.columns, assignment.place), &value);
     Write {
         column: assignment.place,
         value,
@@ -143,12 +193,19 @@ fn write_of(assignment: &Assignment, run: &Run) -> Write
 }
 
 /// What the assignments to reward structures come out as.
-fn rewards(alloc: Global, assignments: &[Assignment], run: &Run) -> Result<List<Reward>, AllocError>
-    ensures { IfOk result (λ rs. map reward_of rs ≡ map (reward_seen (columns_in run.now) (seen_in run.now) run.now.number) assignments.now) }
+fn rewards(
+    alloc: Global,
+    assignments: &[Assignment<ExprId>],
+    here: &Here,
+    evaluation: &mut Evaluation<JaniOp>,
+) -> Result<List<Reward>, AllocError>
+    requires { IsIn (setting_of here.now) evaluation.old }
+    ensures { IfOk result (λ rs. IsIn (setting_of here.now) evaluation.new
+        × (map reward_of rs ≡ map (reward_seen (look_at (setting_of here.now))) assignments.now)) }
 {
     let mut all = List::with_capacity(alloc, assignments.len())?;
     for assignment in assignments {
-        let value = value_of(assignment.value, run);
+        let value = value_here(assignment.value, here, evaluation);
         all.push(Reward {
             structure: assignment.place,
             value,

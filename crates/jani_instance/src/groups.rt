@@ -2,55 +2,49 @@
 ghost use Rattle.std.specs.Prelude.{◌≡◌, ◌++◌, IfOk, List, [], map, slice_get, unwrap_or};
 ghost use Rattle.std.specs.Option.{option_map};
 ghost use Rattle.state_choices.specs.Views as choices;
-ghost use Rattle.jani_instance.specs.Views.{columns_in, columns_of, edge_seen, groups_of, located_seen, member_of, member_seen, members_seen, names_at, part_at, part_of, seen_in, setting_of, silent_group, vector_group};
+ghost use Rattle.jani_instance.specs.Views.{IsIn, columns_of, edge_seen, groups_of, located_seen, look_at, member_of, member_seen, members_seen, part_at, part_of, setting_of, silent_group, vector_group};
 
 use crate::data::{Edge, Element, Evaluated, Link, Located, Vector};
 use crate::edges::commands;
-use crate::run::{Here, Run, location_at, run_of};
+use crate::run::{Here, location_at};
 use bridge_io::List;
+use expr_store::{Evaluation, ExprId};
 use frac_core::Frac;
+use jani_table::JaniOp;
 use op_trees::EvalFail;
 use state_choices::{Command, Group};
 use std::alloc::{AllocError, Global};
 
 /// What the edges of each element at its current location come out as.
-pub(crate) fn members(alloc: Global, here: &Here) -> Result<Vec<Evaluated>, AllocError>
+pub(crate) fn members(
+    alloc: Global,
+    here: &Here,
+    evaluation: &mut Evaluation<JaniOp>,
+) -> Result<Vec<Evaluated>, AllocError>
+    requires { IsIn (setting_of here.now) evaluation.old }
     ensures { IfOk result (λ ms. map member_of ms.items ≡ members_seen (setting_of here.now)) }
 {
     let elements = here.elements;
     let mut all = Vec::with_capacity(alloc, elements.len())?;
     for (i, element) in elements.iter().enumerate() {
-        all.push(member(alloc, i, element, here)?)?;
+        all.push(member(alloc, i, element, here, evaluation)?)?;
     }
     Ok(all)
 }
 
 /// What the edges of an element come out as.
-fn member(alloc: Global, i: usize, element: &Element, here: &Here) -> Result<Evaluated, AllocError>
-    ensures { IfOk result (λ m. member_of m ≡ member_seen (setting_of here.now) i element.now) }
-{
-    let run = run_of(i, element, here);
-    let located = located_at(element, location_at(here.values, i));
-    evaluated_at(alloc, located, &run)
-}
-
-/// The location of this number.
-fn located_at<'a>(element: &'a Element<'a>, n: usize) -> Option<&'a Located<'a>>
-    ensures { option_map (λ l. l.now) result ≡ slice_get element.entry.now.locations.items n }
-{
-    element.locations.get(n)
-}
-
-/// What the edges of a location come out as, if there is one.
-fn evaluated_at(
+fn member(
     alloc: Global,
-    located: Option<&Located>,
-    run: &Run,
+    i: usize,
+    element: &Element,
+    here: &Here,
+    evaluation: &mut Evaluation<JaniOp>,
 ) -> Result<Evaluated, AllocError>
-    ensures { IfOk result (λ m. member_of m ≡ located_seen (columns_in run.now) (seen_in run.now) run.now.number (option_map (λ l. l.now) located.entry)) }
+    requires { IsIn (setting_of here.now) evaluation.old }
+    ensures { IfOk result (λ m. IsIn (setting_of here.now) evaluation.new × (member_of m ≡ member_seen (setting_of here.now) i element.now)) }
 {
-    match located {
-        Some(located) => evaluated(alloc, located, run),
+    match element.locations.get(location_at(here.values, i)) {
+        Some(located) => evaluated(alloc, located, i, here, evaluation),
         None => Ok(Evaluated {
             silent: List::new(alloc),
             parts: List::new(alloc),
@@ -59,21 +53,37 @@ fn evaluated_at(
 }
 
 /// What the edges of a location come out as.
-fn evaluated(alloc: Global, located: &Located, run: &Run) -> Result<Evaluated, AllocError>
-    ensures { IfOk result (λ m. member_of m ≡ located_seen (columns_in run.now) (seen_in run.now) run.now.number (Some located.now)) }
+fn evaluated(
+    alloc: Global,
+    located: &Located<ExprId>,
+    i: usize,
+    here: &Here,
+    evaluation: &mut Evaluation<JaniOp>,
+) -> Result<Evaluated, AllocError>
+    requires { IsIn (setting_of here.now) evaluation.old }
+    ensures { IfOk result (λ m. IsIn (setting_of here.now) evaluation.new
+        × (member_of m ≡ located_seen (columns_of (setting_of here.now)) (look_at (setting_of here.now)) i (Some located.now))) }
 {
-    let silent = commands(alloc, located.silent.as_slice(), run)?;
-    let parts = parts(alloc, located.parts.as_slice(), run)?;
+    let silent = commands(alloc, located.silent.as_slice(), i, here, evaluation)?;
+    let parts = parts(alloc, located.parts.as_slice(), i, here, evaluation)?;
     Ok(Evaluated { silent, parts })
 }
 
 /// What the edges of each action come out as.
-fn parts(alloc: Global, parts: &[Vec<Edge>], run: &Run) -> Result<List<List<Command>>, AllocError>
-    ensures { IfOk result (λ ls. map (map choices.command_of) ls ≡ map (λ es. map (edge_seen (columns_in run.now) (seen_in run.now) run.now.number) es.items) parts.now) }
+fn parts(
+    alloc: Global,
+    parts: &[Vec<Edge<ExprId>>],
+    i: usize,
+    here: &Here,
+    evaluation: &mut Evaluation<JaniOp>,
+) -> Result<List<List<Command>>, AllocError>
+    requires { IsIn (setting_of here.now) evaluation.old }
+    ensures { IfOk result (λ ls. IsIn (setting_of here.now) evaluation.new
+        × (map (map choices.command_of) ls ≡ map (λ es. map (edge_seen (columns_of (setting_of here.now)) (look_at (setting_of here.now)) i) es.items) parts.now)) }
 {
     let mut all = List::with_capacity(alloc, parts.len())?;
     for edges in parts {
-        all.push(commands(alloc, edges.as_slice(), run)?)?;
+        all.push(commands(alloc, edges.as_slice(), i, here, evaluation)?)?;
     }
     Ok(all)
 }

@@ -11,18 +11,19 @@ ghost use Rattle.jani_meaning.specs.Moment.{moment};
 ghost use Rattle.jani_meaning.specs.Process.{choices, excess, has_wide_mark, marks};
 ghost use Rattle.instance_start.specs.Given.{given_by};
 ghost use Rattle.jani_instance.specs.Sound.{IsRight, IsSound, IsSound-prop, no_rewards};
-ghost use Rattle.jani_instance.specs.Views.{member_of, members_seen, setting_of};
+ghost use Rattle.jani_instance.specs.Views.{IsIn, member_of, members_seen, setting_of};
 
 use crate::data::{Element, Evaluated, Transient, Vector};
 use crate::groups::{groups, members};
 use crate::marks::{add_labels, add_rewards};
 use crate::run::Here;
 use bridge_io::{List, Text};
+use expr_store::{Evaluation, ExprId, ExprStore};
 use frac_core::Frac;
-use instance_start::{Column, Place, first_values, is_initial, is_state};
+use instance_start::{Column, first_values, is_initial, is_state};
 use itoa::Buffer;
 use jani_check::CheckedJani;
-use name_rules::NameMap;
+use jani_table::JaniOp;
 use op_trees::{EvalFail, Value};
 use process_core::{Choice, Given, InitialWide, Mark, State, StepFail, Steps};
 use state_choices::{choices_of, group_laws, trimming_law};
@@ -30,19 +31,19 @@ use std::alloc::{AllocError, Global};
 
 /// A judged file under given constants. What its names stand for, the values of its constants, its columns, which of its edges
 /// start at each location and belong together, and which locations give values to its labels and reward structures, is found
-/// once, at the start.
+/// once, at the start; its expressions stand in one store, each different part once.
 #[derive(Drop)]
 pub struct JaniInstance<'a> {
     pub(crate) checked: &'a CheckedJani,
     pub(crate) given: &'a [Given],
-    pub(crate) places: NameMap<'a, Place>,
+    pub(crate) store: ExprStore<JaniOp>,
     pub(crate) constants: Vec<Option<Value>>,
     pub(crate) columns: Vec<Column<'a>>,
-    pub(crate) elements: Vec<Element<'a>>,
+    pub(crate) elements: Vec<Element>,
     pub(crate) vectors: Vec<Vector<'a>>,
     pub(crate) labels: usize,
-    pub(crate) transients: Vec<Transient<'a>>,
-    ghost sound: { IsSound (file_of checked.now) given.now places constants.items columns.items elements.items vectors.items labels transients.items } by { IsSound-prop (file_of checked.now) given.now places constants.items columns.items elements.items vectors.items labels transients.items },
+    pub(crate) transients: Vec<Transient<'a, ExprId>>,
+    ghost sound: { IsSound (file_of checked.now) given.now store constants.items columns.items elements.items vectors.items labels transients.items } by { IsSound-prop (file_of checked.now) given.now store constants.items columns.items elements.items vectors.items labels transients.items },
 }
 
 impl<'a> Steps for JaniInstance<'a> {
@@ -118,7 +119,7 @@ fn here<'a>(instance: &'a JaniInstance<'a>, s: &'a State) -> Here<'a>
     ensures right { IsRight (file_of instance.now.checked.now) (given_by instance.now.given.now) (setting_of result) instance.now.vectors.items instance.now.labels instance.now.transients.items }
 {
     Here {
-        places: &instance.places,
+        store: &instance.store,
         constants: instance.constants.as_slice(),
         columns: instance.columns.as_slice(),
         elements: instance.elements.as_slice(),
@@ -126,15 +127,22 @@ fn here<'a>(instance: &'a JaniInstance<'a>, s: &'a State) -> Here<'a>
     }
 }
 
+/// An evaluation of its expressions.
+fn evaluation<'a>(alloc: Global, here: &Here<'a>) -> Evaluation<'a, JaniOp>
+    ensures { IsIn (setting_of here.now) result }
+{
+    Evaluation::new(alloc, here.store, here.values, here.constants)
+}
+
 /// The labels.
-fn labels<'a>(instance: &'a JaniInstance<'a>) -> &'a [Transient<'a>]
+fn labels<'a>(instance: &'a JaniInstance<'a>) -> &'a [Transient<'a, ExprId>]
     ensures { result.now ≡ take instance.now.labels instance.now.transients.items }
 {
     &instance.transients.as_slice()[..instance.labels]
 }
 
 /// The reward structures.
-fn structures<'a>(instance: &'a JaniInstance<'a>) -> &'a [Transient<'a>]
+fn structures<'a>(instance: &'a JaniInstance<'a>) -> &'a [Transient<'a, ExprId>]
     ensures { result.now ≡ drop instance.now.labels instance.now.transients.items }
 {
     &instance.transients.as_slice()[instance.labels..]
@@ -147,7 +155,8 @@ fn choices_at(alloc: Global, instance: &JaniInstance, s: &State) -> Result<List<
         (λ cs. map seen_choice cs ≡ choices (moment (file_of instance.now.checked.now) (given_by instance.now.given.now) s.now.values) s.now.values) result }
 {
     let here = here(instance, s);
-    let members = members(alloc, &here)?;
+    let mut evaluation = evaluation(alloc, &here);
+    let members = members(alloc, &here, &mut evaluation)?;
     choices_of_members(alloc, instance, s, &here, members.as_slice())
 }
 
@@ -180,7 +189,7 @@ fn choices_of_members(
 /// What a choice earns by itself in each reward structure: nothing.
 fn no_rewards(
     alloc: Global,
-    structures: &[Transient],
+    structures: &[Transient<ExprId>],
 ) -> Result<List<Result<Frac, EvalFail>>, AllocError>
     ensures { IfOk result (λ rs. map choices_views.sum_of rs ≡ no_rewards structures.now) }
 {
@@ -198,8 +207,9 @@ fn marks_at(alloc: Global, instance: &JaniInstance, s: &State) -> Result<List<Ma
         (λ ms. ms ≡ marks (moment (file_of instance.now.checked.now) (given_by instance.now.given.now) s.now.values)) result }
 {
     let here = here(instance, s);
+    let mut evaluation = evaluation(alloc, &here);
     let mut all = List::new(alloc);
-    add_labels(labels(instance), &here, &mut all)?;
-    add_rewards(structures(instance), &here, &mut all)?;
+    add_labels(labels(instance), &here, &mut evaluation, &mut all)?;
+    add_rewards(structures(instance), &here, &mut evaluation, &mut all)?;
     Ok(all)
 }

@@ -14,6 +14,7 @@ mod instance;
 mod located;
 mod marks;
 mod parts;
+mod prepare;
 mod run;
 mod start;
 mod transients;

@@ -5,18 +5,18 @@ ghost use Rattle.process_core.specs.Instance.{only_if};
 ghost use Rattle.gathering.specs.Lists.{list_for};
 ghost use Rattle.jani_tree.specs.Syntax as syntax;
 ghost use Rattle.jani_tree.specs.Syntax.{file_of};
-ghost use Rattle.jani_instance.specs.Built.{IsElementOf};
-ghost use Rattle.jani_instance.specs.Actions.{AreElementsOf, AreNumbered, IsBasis, IsNumbered, acts_as, actions_of, is_silent, lent_edge, located_among, located_at, located_of, number_in, starts_at};
+ghost use Rattle.jani_instance.specs.Built.{IsNamedElementOf};
+ghost use Rattle.jani_instance.specs.Actions.{AreNamedElementsOf, AreNumbered, IsBasis, IsNumbered, acts_as, actions_of, is_silent, lent_edge, located_among, located_at, number_in, starts_at};
 ghost use Rattle.jani_instance.specs.Parts.{automaton_at};
-ghost use Rattle.jani_instance.specs.Shapes.{edge_by, edge_of};
+ghost use Rattle.jani_instance.specs.Shapes.{edge_by, edge_of, located_of};
 
 use crate::acting::{ActionTable, Basis, Numbers, number_of};
 use crate::build::{Site, edge, location_in};
-use crate::data::{Edge, Element, Located};
+use crate::data::{Edge, Located, NamedElement};
 use crate::parts::{Part, edges, locations, own_places};
 use gathering::NumberLists;
 use instance_start::Place;
-use jani_tree::JaniEdge;
+use jani_tree::{JaniEdge, Je};
 use name_rules::NameMap;
 use std::alloc::{AllocError, Global};
 
@@ -24,9 +24,9 @@ use std::alloc::{AllocError, Global};
 pub(crate) fn elements<'s, 'a>(
     alloc: Global,
     basis: &Basis<'s, 'a>,
-) -> Result<Vec<Element<'a>>, AllocError>
+) -> Result<Vec<NamedElement<'a>>, AllocError>
     requires { IsBasis basis.now }
-    ensures { IfOk result (λ es. AreElementsOf (file_of basis.now.file.now) es.items) }
+    ensures { IfOk result (λ es. AreNamedElementsOf (file_of basis.now.file.now) es.items) }
 {
     let mut all = Vec::with_capacity(alloc, basis.parts.len())?;
     for (i, part) in basis.parts.iter().enumerate() {
@@ -42,15 +42,15 @@ fn element<'s, 'a>(
     i: usize,
     part: Part<'a>,
     numbers: &'s Numbers<'a>,
-) -> Result<Element<'a>, AllocError>
+) -> Result<NamedElement<'a>, AllocError>
     requires basis { IsBasis basis.now }
     requires numbers { IsNumbered (automaton_at part) numbers.now }
-    ensures { IfOk result (λ e. IsElementOf (file_of basis.now.file.now) (actions_of (automaton_at part.entry)) i (automaton_at part.entry) e) }
+    ensures { IfOk result (λ e. IsNamedElementOf (file_of basis.now.file.now) (actions_of (automaton_at part.entry)) i (automaton_at part.entry) e) }
 {
     let own = own_places(alloc, basis.lasting, i, basis.parts.len())?;
     let site = site_of(basis, i, part, &own, numbers);
     let locations = all_located(alloc, edges(part), &numbers.actions, site)?;
-    Ok(Element { own, locations })
+    Ok(NamedElement { own, locations })
 }
 
 /// Where the edges of an element stand.
@@ -84,7 +84,7 @@ fn all_located<'a>(
     these: &'a [JaniEdge],
     actions: &ActionTable,
     site: Site,
-) -> Result<Vec<Located<'a>>, AllocError>
+) -> Result<Vec<Located<&'a Je>>, AllocError>
     requires { AreNumbered (actions_of (automaton_at site.part)) actions.now }
     ensures { IfOk result (λ ls. map located_of ls.items
         ≡ map (located_at site.entry (map syntax.edge_of these.entry.now)) (range_with_len 0 (length (automaton_at site.entry.part).locations - 1 + 1))) }
@@ -98,7 +98,7 @@ fn each_located<'a>(
     starting: &NumberLists<&'a JaniEdge>,
     actions: &ActionTable,
     site: &Site,
-) -> Result<Vec<Located<'a>>, AllocError>
+) -> Result<Vec<Located<&'a Je>>, AllocError>
     requires { AreNumbered (actions_of (automaton_at site.now.part)) actions.now }
     ensures { IfOk result (λ ls. map located_of ls.items
         ≡ map (λ n. located_among site.now (map lent_edge (list_for starting.now n))) (range_with_len 0 (length (automaton_at site.now.part).locations - 1 + 1))) }
@@ -141,7 +141,7 @@ fn located<'a>(
     these: &[&'a JaniEdge],
     actions: &ActionTable,
     site: &Site,
-) -> Result<Located<'a>, AllocError>
+) -> Result<Located<&'a Je>, AllocError>
     requires { AreNumbered (actions_of (automaton_at site.now.part)) actions.now }
     ensures { IfOk result (λ l. located_of l ≡ located_among site.now (map lent_edge these.now)) }
 {
@@ -189,7 +189,7 @@ fn parts<'a>(
     lists: &NumberLists<&'a JaniEdge>,
     count: usize,
     site: &Site,
-) -> Result<Vec<Vec<Edge<'a>>>, AllocError>
+) -> Result<Vec<Vec<Edge<&'a Je>>>, AllocError>
     ensures { IfOk result (λ ps. map (λ es. map edge_of es.items) ps.items ≡ map (λ k. map (edge_by site.now) (map lent_edge (list_for lists.now k))) (range_with_len 0 count)) }
 {
     let mut all = Vec::with_capacity(alloc, count)?;
@@ -200,7 +200,11 @@ fn parts<'a>(
 }
 
 /// What is kept of edges.
-fn kept<'a>(alloc: Global, these: &[&'a JaniEdge], site: &Site) -> Result<Vec<Edge<'a>>, AllocError>
+fn kept<'a>(
+    alloc: Global,
+    these: &[&'a JaniEdge],
+    site: &Site,
+) -> Result<Vec<Edge<&'a Je>>, AllocError>
     ensures { IfOk result (λ es. map edge_of es.items ≡ map (edge_by site.now) (map lent_edge these.now)) }
 {
     let mut all = Vec::with_capacity(alloc, these.len())?;
@@ -215,7 +219,7 @@ fn silent<'a>(
     alloc: Global,
     these: &[&'a JaniEdge],
     site: &Site,
-) -> Result<Vec<Edge<'a>>, AllocError>
+) -> Result<Vec<Edge<&'a Je>>, AllocError>
     ensures { IfOk result (λ es. map edge_of es.items ≡ map (edge_by site.now) (filter is_silent (map lent_edge these.now))) }
 {
     let mut all = Vec::new(alloc);

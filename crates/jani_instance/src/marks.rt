@@ -1,33 +1,39 @@
 //! The marks of a state.
-ghost use Rattle.std.specs.Prelude.{◌≡◌, ◌++◌, map, Some};
+ghost use Rattle.std.specs.Prelude.{◌≡◌, ◌++◌, OnOk, map, Some};
 ghost use Rattle.std.specs.List.{flat_map, list_any};
 ghost use Rattle.state_choices.specs.Views.{seen_of};
 ghost use Rattle.process_core.specs.Answers.{Answers, only_wide};
 ghost use Rattle.process_core.specs.Choices.{number_of, truth_of};
 ghost use Rattle.process_core.specs.Ready.{if_some};
+ghost use Rattle.state_choices.specs.Trimmed.{computed};
 ghost use Rattle.process_core.specs.declared.data.Mark.TheVariants.{Truth, Number};
-ghost use Rattle.jani_instance.specs.Views.{first_else, given_values, giver_values, names_at, setting_of, transient_value, values_of_element};
+ghost use Rattle.jani_instance.specs.Views.{IsIn, first_else, given_values, giver_values, look_at, setting_of, transient_value};
 
-use crate::data::{Element, Giver, Transient};
-use crate::run::{Here, location_at, run_of, value_of};
+use crate::data::{Giver, Transient};
+use crate::run::{Here, location_at, value_here};
 use bridge_io::List;
+use expr_store::{Evaluation, ExprId};
 use frac_core::Frac;
+use jani_table::JaniOp;
 use op_trees::{EvalFail, Value};
 use process_core::{Mark, StepFail};
 
 /// Adds a mark for each label. `Wide` exactly where one is.
 pub(crate) fn add_labels(
-    labels: &[Transient],
+    labels: &[Transient<ExprId>],
     here: &Here,
+    evaluation: &mut Evaluation<JaniOp>,
     marks: &mut List<Mark>,
 ) -> Result<(), StepFail>
-    ensures { Answers (only_wide (list_any (λ t. (seen_of (transient_value (setting_of here.now) t)).wide) labels.now))
+    requires { IsIn (setting_of here.now) evaluation.old }
+    ensures same { OnOk result (IsIn (setting_of here.now) evaluation.new) }
+    ensures marks { Answers (only_wide (list_any (λ t. (seen_of (transient_value (setting_of here.now) t)).wide) labels.now))
         (λ u. marks.new ≡ marks.old ++ map (λ t. Truth (truth_of (seen_of (transient_value (setting_of here.now) t)).value)) labels.now) result }
 {
     // A mark holds a truth value or a number; the checker wants both types named where marks are pushed.
     let _number: Option<Frac> = None;
     for label in labels {
-        let value = transient_value(label, here);
+        let value = transient_value(label, here, evaluation);
         if is_wide(&value) {
             return Err(StepFail::Wide);
         }
@@ -38,15 +44,18 @@ pub(crate) fn add_labels(
 
 /// Adds a mark for each reward structure. `Wide` exactly where one is.
 pub(crate) fn add_rewards(
-    structures: &[Transient],
+    structures: &[Transient<ExprId>],
     here: &Here,
+    evaluation: &mut Evaluation<JaniOp>,
     marks: &mut List<Mark>,
 ) -> Result<(), StepFail>
-    ensures { Answers (only_wide (list_any (λ t. (seen_of (transient_value (setting_of here.now) t)).wide) structures.now))
+    requires { IsIn (setting_of here.now) evaluation.old }
+    ensures same { OnOk result (IsIn (setting_of here.now) evaluation.new) }
+    ensures marks { Answers (only_wide (list_any (λ t. (seen_of (transient_value (setting_of here.now) t)).wide) structures.now))
         (λ u. marks.new ≡ marks.old ++ map (λ t. Number (number_of (seen_of (transient_value (setting_of here.now) t)).value)) structures.now) result }
 {
     for structure in structures {
-        let value = transient_value(structure, here);
+        let value = transient_value(structure, here, evaluation);
         if is_wide(&value) {
             return Err(StepFail::Wide);
         }
@@ -57,34 +66,30 @@ pub(crate) fn add_rewards(
 }
 
 /// The value of a transient variable: the first that a location gives, or else the one that it begins with.
-fn transient_value(transient: &Transient, here: &Here) -> Result<Value, EvalFail>
-    ensures { result ≡ transient_value (setting_of here.now) transient.now }
+fn transient_value(
+    transient: &Transient<ExprId>,
+    here: &Here,
+    evaluation: &mut Evaluation<JaniOp>,
+) -> Result<Value, EvalFail>
+    requires { IsIn (setting_of here.now) evaluation.old }
+    ensures value { result ≡ transient_value (setting_of here.now) transient.now }
+    ensures same { IsIn (setting_of here.now) evaluation.new }
 {
     for giver in &transient.givers {
-        if let Some(value) = giver_value(giver, here) {
-            return value;
+        if let Some(id) = given_here(giver, here) {
+            return value_here(id, here, evaluation);
         }
     }
     transient.start
 }
 
 /// What the current location of an element gives to a transient variable.
-fn giver_value(giver: &Giver, here: &Here) -> Option<Result<Value, EvalFail>>
-    ensures { if_some result ≡ giver_values (setting_of here.now) giver.now }
+fn given_here(giver: &Giver<ExprId>, here: &Here) -> Option<ExprId>
+    ensures { map (λ id. computed (look_at (setting_of here.now) id)) (if_some result) ≡ giver_values (setting_of here.now) giver.now }
 {
-    match here.elements.get(giver.element) {
-        Some(element) => given_value(giver, element, here),
-        None => None,
-    }
-}
-
-fn given_value(giver: &Giver, element: &Element, here: &Here) -> Option<Result<Value, EvalFail>>
-    ensures { if_some result ≡ values_of_element (setting_of here.now) (Some element.now) giver.now }
-{
-    let run = run_of(giver.element, element, here);
     match giver.values.get(location_at(here.values, giver.element)) {
-        Some(Some(value)) => Some(value_of(*value, &run)),
-        _ => None,
+        Some(id) => *id,
+        None => None,
     }
 }
 

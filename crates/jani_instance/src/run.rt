@@ -1,37 +1,24 @@
-//! The values of expressions in a state.
+//! The values of expressions: of those that name constants alone, at the start, and in a state.
 ghost use Rattle.std.specs.Prelude.{◌≡◌, Some};
 ghost use Rattle.op_trees.specs.Tree.{tree};
 ghost use Rattle.jani_meaning.specs.Scene.{see};
-ghost use Rattle.name_rules.specs.Names.{first_some, under};
+ghost use Rattle.name_rules.specs.Names.{under};
 ghost use Rattle.state_choices.specs.Trimmed.{computed};
-ghost use Rattle.jani_instance.specs.Views.{columns_in, columns_of, count_in, location_at, names_at, natural, seen_in, setting_of};
+ghost use Rattle.jani_instance.specs.Views.{IsIn, count_in, location_at, look_at, natural, seen_in, setting_of};
 
 use crate::data::Element;
+use expr_store::{Evaluation, ExprId, ExprStore};
 use instance_start::{Column, Place, type_of, value_at};
+use jani_table::JaniOp;
 use jani_tree::Je;
 use name_rules::NameMap;
 use op_trees::{EvalFail, Names, Ty, Value, eval};
 
-/// An instance in a state: where global names stand, the values of the constants, the columns, the elements, and the values
-/// of the columns.
-#[derive(Clone, Copy)]
-pub(crate) struct Here<'a> {
-    pub(crate) places: &'a NameMap<'a, Place>,
-    pub(crate) constants: &'a [Option<Value>],
-    pub(crate) columns: &'a [Column<'a>],
-    pub(crate) elements: &'a [Element<'a>],
-    pub(crate) values: &'a [Value],
-}
-
-/// An element of it: its number, and where its own names stand besides.
+/// The names of the constants: where each stands, and their values.
 #[derive(Clone, Copy)]
 pub(crate) struct Run<'a> {
-    pub(crate) number: usize,
-    pub(crate) own: &'a NameMap<'a, Place>,
     pub(crate) places: &'a NameMap<'a, Place>,
     pub(crate) constants: &'a [Option<Value>],
-    pub(crate) columns: &'a [Column<'a>],
-    pub(crate) values: &'a [Value],
 }
 
 impl<'a> Names for Run<'a> {
@@ -44,37 +31,11 @@ impl<'a> Names for Run<'a> {
     ghost typed = { types_agree };
 
     fn value(&self, name: &str) -> Option<Value> {
-        value_at(self.values, self.constants, place_of(self, name))
+        value_at(&[], self.constants, self.places.get(name))
     }
 
     fn ty(&self, name: &str) -> Option<Ty> {
         type_of(self.value(name))
-    }
-}
-
-/// Where a name stands: one of the element's own, or else a global one.
-fn place_of(run: &Run, name: &str) -> Option<Place>
-    ensures { result ≡ first_some (under run.now.own.now name.now) (under run.now.places.now name.now) }
-{
-    match run.own.get(name) {
-        Some(place) => Some(place),
-        None => run.places.get(name),
-    }
-}
-
-/// The element of this number.
-pub(crate) fn run_of<'a>(number: usize, element: &'a Element<'a>, here: &Here<'a>) -> Run<'a>
-    ensures number { result.number ≡ number }
-    ensures columns { columns_in result ≡ columns_of (setting_of here.now) }
-    ensures names { seen_in result ≡ names_at (setting_of here.now) element.entry.now }
-{
-    Run {
-        number,
-        own: &element.own,
-        places: here.places,
-        constants: here.constants,
-        columns: here.columns,
-        values: here.values,
     }
 }
 
@@ -83,6 +44,31 @@ pub(crate) fn value_of(e: &Je, run: &Run) -> Result<Value, EvalFail>
     ensures { result ≡ computed (see (tree e.now) (seen_in run.now)) }
 {
     eval(e, run)
+}
+
+// ---- in a state
+
+/// An instance in a state: its expressions, the values of the constants, the columns, the elements, and the values of the columns.
+#[derive(Clone, Copy)]
+pub(crate) struct Here<'a> {
+    pub(crate) store: &'a ExprStore<JaniOp>,
+    pub(crate) constants: &'a [Option<Value>],
+    pub(crate) columns: &'a [Column<'a>],
+    pub(crate) elements: &'a [Element],
+    pub(crate) values: &'a [Value],
+}
+
+/// The value of an expression of the instance, by an evaluation in this state.
+pub(crate) fn value_here(
+    id: ExprId,
+    here: &Here,
+    evaluation: &mut Evaluation<JaniOp>,
+) -> Result<Value, EvalFail>
+    requires { IsIn (setting_of here.now) evaluation.old }
+    ensures value { result ≡ computed (look_at (setting_of here.now) id) }
+    ensures same { IsIn (setting_of here.now) evaluation.new }
+{
+    evaluation.value(id)
 }
 
 /// The number of the location that an element is in.

@@ -4,38 +4,40 @@ ghost use Rattle.op_trees.specs.Seen.{known_names};
 ghost use Rattle.name_rules.specs.Names.{under};
 ghost use Rattle.process_core.specs.Instance.{Valuation};
 ghost use Rattle.jani_check.specs.Faults.{IsChecked};
-ghost use Rattle.jani_meaning.specs.Scene.{columns_of, constant_names, scene};
+ghost use Rattle.jani_meaning.specs.Scene.{columns_of, scene};
 ghost use Rattle.jani_tree.specs.Syntax.{const_of, file_of};
 ghost use Rattle.instance_start.specs.Columns.{AreColumns, column_of, constant_of};
 ghost use Rattle.instance_start.specs.Firsts.{BeginRight};
 ghost use Rattle.instance_start.specs.Given.{given_by, misfit};
 ghost use Rattle.instance_start.specs.Started.{FailsIn, Starts};
-ghost use Rattle.jani_meaning.specs.Elements.{elements, labels as all_labels, structures as all_structures, variables as all_variables};
+ghost use Rattle.jani_meaning.specs.Elements.{elements, variables as all_variables};
 ghost use Rattle.jani_instance.specs.Actions.{IsBasis};
 ghost use Rattle.jani_instance.specs.Built.{global_place};
 ghost use Rattle.jani_instance.specs.Constants.{Tabled, constant_place};
 ghost use Rattle.jani_instance.specs.Described.{described, jani_description};
 ghost use Rattle.jani_instance.specs.Instance.{process_of};
-ghost use Rattle.jani_instance.specs.Knowing.{AreKinds, HasRoom, HasWideConstant, IsBuilt, IsKnown, AreLinked, IsListed, opened};
+ghost use Rattle.jani_instance.specs.Knowing.{AreKinds, AreNamed, HasRoom, HasWideConstant, IsBuilt, IsKnown, AreLinked, IsListed, IsPreparedOf, opened};
 ghost use Rattle.jani_instance.specs.Parts.{automaton_at, owned_at};
-ghost use Rattle.jani_instance.specs.Transients.{transient_at, transient_by};
 ghost use Rattle.jani_instance.specs.Views.{seen_in, values_by};
 
 use crate::acting::{Basis, actions};
 use crate::columns::variables_of;
 use crate::constants::{constant_table, constant_values};
-use crate::data::{Element, Transient, Vector};
+use crate::data::{Element, NamedElement, Transient, Vector};
 use crate::instance::JaniInstance;
 use crate::located::elements;
 use crate::parts::{
     Owned, Part, add_constants, global_places, labels, lasting, parts, structures, variables,
 };
+use crate::prepare;
 use crate::run::Run;
 use crate::transients::transients;
 use crate::vectors::vectors;
+use expr_store::{ExprId, ExprStore};
 use instance_start::{Column, Constant, Place, columns, misfit};
 use jani_check::CheckedJani;
-use jani_tree::{JaniConst, JaniFile};
+use jani_table::JaniOp;
+use jani_tree::{JaniConst, JaniFile, Je};
 use name_rules::NameMap;
 use op_trees::Value;
 use process_core::{Given, StartFail};
@@ -114,16 +116,17 @@ fn instance_of<'a>(
     requires begin { BeginRight (columns_of (file_of checked.now) (given_by given.now)) }
     ensures { process_of result ≡ described (file_of checked.now) (given_by given.now) }
 {
+    let prepared = built.prepared;
     JaniInstance {
         checked,
         given,
-        places: known.places,
+        store: prepared.store,
         constants: known.constants,
         columns: known.columns,
-        elements: built.elements,
+        elements: prepared.elements,
         vectors: built.vectors,
         labels: built.labels,
-        transients: built.transients,
+        transients: prepared.transients,
     }
 }
 
@@ -303,16 +306,9 @@ fn known_columns<'a>(
 
 /// The constants' names alone.
 fn constants_alone<'a>(places: &'a NameMap<'a, Place>, constants: &'a [Option<Value>]) -> Run<'a>
-    ensures { seen_in result ≡ known_names (values_by places.now places.now constants.now []) }
+    ensures { seen_in result ≡ known_names (values_by places.now constants.now) }
 {
-    Run {
-        number: 0,
-        own: places,
-        places,
-        constants,
-        columns: &[],
-        values: &[],
-    }
+    Run { places, constants }
 }
 
 /// Where global names stand: behind the locations of the elements.
@@ -333,13 +329,20 @@ fn places<'a>(
 
 // ---- elements, vectors and transient variables
 
+/// Elements and transient variables, and the store in which their expressions stand.
+#[derive(Drop)]
+pub(crate) struct Prepared<'a> {
+    pub(crate) store: ExprStore<JaniOp>,
+    pub(crate) elements: Vec<Element>,
+    pub(crate) transients: Vec<Transient<'a, ExprId>>,
+}
+
 /// What an instance keeps besides.
 #[derive(Drop)]
 pub(crate) struct Built<'a> {
-    pub(crate) elements: Vec<Element<'a>>,
+    pub(crate) prepared: Prepared<'a>,
     pub(crate) vectors: Vec<Vector<'a>>,
     pub(crate) labels: usize,
-    pub(crate) transients: Vec<Transient<'a>>,
 }
 
 fn what_is_built<'a>(
@@ -348,6 +351,7 @@ fn what_is_built<'a>(
     listed: &Listed<'a>,
     known: &Known<'a>,
 ) -> Result<Built<'a>, AllocError>
+    requires checked { IsChecked (file_of file.now) }
     requires listed { IsListed (file_of file.now) listed.now }
     requires room { HasRoom (file_of file.now) }
     requires places { (x : List ℕ) → under known.now.places x ≡ global_place (file_of file.now) x }
@@ -355,10 +359,34 @@ fn what_is_built<'a>(
 {
     let transients = known_transients(alloc, file, listed, known.constants.as_slice())?;
     let linked = what_is_linked(alloc, file, listed, &known.places)?;
+    let prepared = what_is_prepared(
+        alloc,
+        linked.elements.as_slice(),
+        transients.as_slice(),
+        &known.places,
+    )?;
     Ok(Built {
-        elements: linked.elements,
+        prepared,
         vectors: linked.vectors,
         labels: listed.kinds.labels.as_slice().len(),
+    })
+}
+
+/// Names resolved to places.
+fn what_is_prepared<'a>(
+    alloc: Global,
+    these: &[NamedElement<'a>],
+    variables: &[Transient<'a, &Je>],
+    places: &NameMap<'a, Place>,
+) -> Result<Prepared<'a>, AllocError>
+    ensures { IfOk result (IsPreparedOf places.now these.now variables.now) }
+{
+    let mut store = ExprStore::new(alloc);
+    let elements = prepare::elements(alloc, these, places, &mut store)?;
+    let transients = prepare::transients(alloc, variables, these, places, &mut store)?;
+    Ok(Prepared {
+        store,
+        elements,
         transients,
     })
 }
@@ -369,11 +397,9 @@ fn known_transients<'a>(
     file: &'a JaniFile,
     listed: &Listed<'a>,
     table: &[Option<Value>],
-) -> Result<Vec<Transient<'a>>, AllocError>
+) -> Result<Vec<Transient<'a, &'a Je>>, AllocError>
     requires { IsListed (file_of file.now) listed.now }
-    ensures { (v : Valuation) → Tabled (file_of file.now) v (Some table.now) → IfOk result (λ ts. map transient_at ts.items
-        ≡ map (transient_by (elements (file_of file.now)) (constant_names (file_of file.now) v)) (all_labels (file_of file.now))
-        ++ map (transient_by (elements (file_of file.now)) (constant_names (file_of file.now) v)) (all_structures (file_of file.now))) }
+    ensures { (v : Valuation) → Tabled (file_of file.now) v (Some table.now) → IfOk result (λ ts. AreNamed (file_of file.now) v ts.items) }
 {
     let run = constants_alone(&listed.constants, table);
     transients(
@@ -385,10 +411,10 @@ fn known_transients<'a>(
     )
 }
 
-/// The elements and the vectors.
+/// The elements, before their names are resolved, and the vectors.
 #[derive(Drop)]
 pub(crate) struct Linked<'a> {
-    pub(crate) elements: Vec<Element<'a>>,
+    pub(crate) elements: Vec<NamedElement<'a>>,
     pub(crate) vectors: Vec<Vector<'a>>,
 }
 

@@ -7,7 +7,8 @@ ghost use Rattle.process_core.specs.Instance.{numbered};
 ghost use Rattle.jani_tree.specs.Syntax.{location_of, write_of};
 ghost use Rattle.jani_meaning.specs.Elements.{is_called};
 ghost use Rattle.jani_instance.specs.Parts.{automaton_at, owned_at};
-ghost use Rattle.jani_instance.specs.Transients.{given_by_location, giver_at, giver_by, takes_from, transient_at, transient_by};
+ghost use Rattle.jani_instance.specs.Transients.{given_by_location, giver_by, takes_from, transient_by};
+ghost use Rattle.jani_instance.specs.Shapes.{giver_at, transient_at};
 ghost use Rattle.jani_instance.specs.Views.{seen_in};
 
 use crate::columns::start_of;
@@ -24,7 +25,7 @@ pub(crate) fn transients<'a>(
     labels: &[Owned<'a>],
     structures: &[Owned<'a>],
     run: &Run,
-) -> Result<Vec<Transient<'a>>, AllocError>
+) -> Result<Vec<Transient<'a, &'a Je>>, AllocError>
     ensures { IfOk result (λ ts. map transient_at ts.items
         ≡ map (transient_by (map automaton_at parts.now) (seen_in run.now)) (map owned_at labels.now)
         ++ map (transient_by (map automaton_at parts.now) (seen_in run.now)) (map owned_at structures.now)) }
@@ -37,7 +38,7 @@ pub(crate) fn transients<'a>(
 
 fn add_transients<'a>(
     alloc: Global,
-    all: &mut Vec<Transient<'a>>,
+    all: &mut Vec<Transient<'a, &'a Je>>,
     parts: &[Part<'a>],
     vars: &[Owned<'a>],
     run: &Run,
@@ -57,7 +58,7 @@ fn transient<'a>(
     o: Owned<'a>,
     parts: &[Part<'a>],
     run: &Run,
-) -> Result<Transient<'a>, AllocError>
+) -> Result<Transient<'a, &'a Je>, AllocError>
     ensures { IfOk result (λ t. transient_at t ≡ transient_by (map automaton_at parts.now) (seen_in run.now) (owned_at o.entry)) }
 {
     let givers = givers(alloc, parts, o)?;
@@ -69,7 +70,11 @@ fn transient<'a>(
 }
 
 /// The elements that may give it a value.
-fn givers<'a>(alloc: Global, parts: &[Part<'a>], o: Owned<'a>) -> Result<Vec<Giver<'a>>, AllocError>
+fn givers<'a>(
+    alloc: Global,
+    parts: &[Part<'a>],
+    o: Owned<'a>,
+) -> Result<Vec<Giver<&'a Je>>, AllocError>
     ensures { IfOk result (λ gs. map giver_at gs.items ≡ numbered (giver_by (owned_at o.entry).owner (owned_at o.entry).var.name.name) 0 (map automaton_at parts.now)) }
 {
     let mut all = Vec::new(alloc);
@@ -81,7 +86,7 @@ fn givers<'a>(alloc: Global, parts: &[Part<'a>], o: Owned<'a>) -> Result<Vec<Giv
 
 fn push_giver<'a>(
     alloc: Global,
-    all: &mut Vec<Giver<'a>>,
+    all: &mut Vec<Giver<&'a Je>>,
     owner: Option<usize>,
     name: &str,
     i: usize,

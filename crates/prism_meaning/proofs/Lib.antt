@@ -1,4 +1,6 @@
 pub mod Values
+pub mod Preparing
+pub mod Evaluating
 pub mod Trimming
 pub mod Grouped
 pub mod Found

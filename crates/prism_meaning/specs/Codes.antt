@@ -98,6 +98,9 @@ one_columns = Coded-set (coded_list column_code)
 pub one_sums : IsSet (List Sum)
 one_sums = Coded-set (coded_list sum_code)
 
+pub one_seens : IsSet (List Seen)
+one_seens = Coded-set (coded_list seen_code)
+
 pub one_groups : IsSet (List Group)
 one_groups = Coded-set (coded_list group_code)
 

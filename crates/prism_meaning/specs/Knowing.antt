@@ -1,16 +1,24 @@
--- What the program knows of a file before any state: under given constants, and whatever these are. (This project's own rule.)
-use Rattle.std.specs.Prelude.{◌≡◌, map}
+-- What the program knows of a file before any state: under given constants, and what it prepares. (This project's own rule.)
+use Rattle.std.specs.Prelude.{◌≡◌, List, map, Option}
 use Rattle.name_rules.specs.Names.{first_some, under}
 use Rattle.process_core.specs.Ready.{Name}
-use Rattle.process_core.specs.Instance.{Valuation}
-use Rattle.prism_tree.specs.Syntax.{File}
+use Rattle.process_core.specs.Instance.{Column, Valuation}
+use Rattle.prism_tree.specs.Operators.{prism_meaning}
+use Rattle.prism_tree.specs.Syntax.{File, Item, Label}
+use Rattle.prism_names.specs.Names.{see}
 use Rattle.prism_flat.specs.Scene.{scene}
+use Rattle.state_choices.specs.Trimmed.{trimmed_group}
 use Rattle.instance_start.specs.Columns.{AreColumns, column_of}
+use Rattle.instance_start.specs.declared.data.Place.{Place}
+use Rattle.expr_store.specs.Alike.{Alike}
+use Rattle.expr_store.specs.Views.{nodes}
 use Rattle.prism_meaning.specs.Constants.{AreConstants}
 use Rattle.prism_meaning.specs.Described.{mark_names}
 use Rattle.prism_meaning.specs.Places.{column_place, constant_place}
-use Rattle.prism_meaning.specs.Shapes.{bodies, shapes, earned_in_states}
-use Rattle.prism_meaning.specs.Views.{items_of, shape_of}
+use Rattle.prism_meaning.specs.Prepared.{group_by, sum_by}
+use Rattle.prism_meaning.specs.Shapes as shapes
+use Rattle.prism_meaning.specs.Shapes.{bodies, earned_in_states, group_under, sum_under}
+use Rattle.prism_meaning.specs.declared.data.Prepared.{Prepared}
 use Rattle.prism_meaning.specs.declared.start.Fixed.{Fixed}
 use Rattle.prism_meaning.specs.declared.start.Known.{Known}
 
@@ -19,7 +27,17 @@ pub record IsKnown (file : File) (v : Valuation) (k : Known) : Type 0 where
   pub columns : AreColumns (scene file v) (map column_of k.columns.items)
   pub places : (x : Name) → under k.places x ≡ first_some (column_place 0 (map column_of k.columns.items) x) (constant_place 0 file.constants x)
 
-pub record IsFixed (file : File) (f : Fixed) : Type 0 where
-  pub groups : map shape_of f.groups.items ≡ shapes file.rewards (bodies file.modules)
-  pub states : map (λ l. items_of l.items) f.states.items ≡ earned_in_states file.rewards
+-- groups, items of reward structures and labels are prepared: they come out as they do without, where names stand at these places
+pub record ArePrepared (places : Name → Option Place) (cs : List Column) (groups : List shapes.Shape) (earned : List (List Item)) (labels : List Label) (p : Prepared) : Type 0 where
+  pub grouped : Alike prism_meaning places (nodes p.store) (λ at. map (λ g. trimmed_group (group_by cs at g)) p.groups.items)
+      (λ seen. map (λ g. trimmed_group (group_under cs seen g)) groups)
+  pub summed : Alike prism_meaning places (nodes p.store) (λ at. map (λ is. sum_by at is.items) p.states.items) (λ seen. map (λ is. sum_under seen is) earned)
+  pub labelled : Alike prism_meaning places (nodes p.store) (λ at. map (λ id. at id) p.labels.items) (λ seen. map (λ l. see l.body seen) labels)
+
+abbrev pub IsPrepared : File → Known → Prepared → Type 0
+IsPrepared file k p =
+    ArePrepared (λ x. under k.places x) (map column_of k.columns.items) (shapes.shapes file.rewards (bodies file.modules)) (earned_in_states file.rewards) file.labels p
+
+pub record IsFixed (file : File) (k : Known) (f : Fixed) : Type 0 where
+  pub prepared : IsPrepared file k f.prepared
   pub marks : map (λ n. n.now) f.marks.items ≡ mark_names file

@@ -1,4 +1,4 @@
--- What the code of an instance stands for: groups that are fixed at the start, and names in a state.
+-- What the code of an instance stands for: groups that are fixed at the start, and names.
 -- (This project's own rule.)
 use Rattle.std.specs.Prelude.{◌≡◌, length, List, [], map, Option, option_copied}
 use Rattle.std.specs.Borrow.{Bor}
@@ -13,6 +13,7 @@ use Rattle.prism_tree.specs.Syntax.{command_of, item_of}
 use Rattle.name_rules.specs.Names.{under}
 use Rattle.name_rules.specs.declared.map.NameMap.{NameMap}
 use Rattle.op_trees.specs.declared.tree.Value.{Value}
+use Rattle.instance_start.specs.declared.data.Column as code
 use Rattle.instance_start.specs.declared.data.Place.{Place}
 use Rattle.instance_start.specs.Columns.{column_of, value_at, column_at, type_of, agrees}
 use Rattle.state_choices.specs.Groups.{Group}
@@ -22,7 +23,8 @@ use Rattle.prism_tree.specs.Syntax as syntax
 use Rattle.prism_meaning.specs.Shapes as shapes
 use Rattle.prism_meaning.specs.declared.data.Shape.{Shape}
 use Rattle.prism_meaning.specs.declared.data.Evaluated.{Evaluated}
-use Rattle.prism_meaning.specs.declared.run.Run.{Run}
+use Rattle.prism_meaning.specs.declared.constant_names.ConstantNames.{ConstantNames}
+use Rattle.prism_meaning.specs.declared.state_names.StateNames.{StateNames}
 
 -- ---- groups
 abbrev pub items_of : List (Bor PrismItem) → List syntax.Item
@@ -37,27 +39,33 @@ shape_of g = record { label = option_copied g.label; rewards = map (λ is. items
 abbrev pub evaluated_of : Evaluated → Group
 evaluated_of g = record { label = option_copied g.label; rewards = map choices.sum_of g.rewards; lists = map (map choices.command_of) g.lists }
 
--- ---- names in a state
-abbrev pub values_in : Run → Environment
-values_in r x = value_at r.values.now r.constants.now (under r.places.now x)
+-- ---- names, where there are constants alone
+abbrev pub values_in : ConstantNames → Environment
+values_in r x = value_at [] r.table.now (under r.places.now x)
 
-abbrev pub seen_in : Run → Name → Seen
+abbrev pub seen_in : ConstantNames → Name → Seen
 seen_in r = known_names (values_in r)
 
--- where there are constants alone
 abbrev pub names_by : NameMap Place → List (Option Value) → Name → Seen
 names_by places table = known_names (λ x. value_at [] table (under places x))
 
-abbrev pub columns_in : Run → List core.Column
-columns_in r = map column_of r.columns.now
-
--- the column of a written name is that of the first variable of this name
-abbrev pub FindsColumns : Run → Type 0
-FindsColumns r = (x : Name) → column_at (length r.columns.now) (under r.places.now x) ≡ place_of (columns_in r) x
-
-abbrev pub types_in : Run → Types
+abbrev pub types_in : ConstantNames → Types
 types_in r x = type_of (values_in r x)
 
 -- a value that a name has, has the type that the name has
-pub types_agree : (r : Run) (x : Name) → AgreesWith (types_in r x) (values_in r x)
+pub types_agree : (r : ConstantNames) (x : Name) → AgreesWith (types_in r x) (values_in r x)
 types_agree r x = agrees (values_in r x)
+
+-- ---- names in states
+abbrev pub places_in : StateNames → Name → Option Place
+places_in r x = under r.places.now x
+
+abbrev pub columns_in : StateNames → List core.Column
+columns_in r = map column_of r.columns.now
+
+-- the column of a written name is that of the first variable of this name
+abbrev pub FindsIn : NameMap Place → List code.Column → Type 0
+FindsIn places cols = (x : Name) → column_at (length cols) (under places x) ≡ place_of (map column_of cols) x
+
+abbrev pub FindsColumns : StateNames → Type 0
+FindsColumns r = FindsIn r.places.now r.columns.now

@@ -1,53 +1,56 @@
 //! What commands come out as at a state.
-ghost use Rattle.std.specs.Prelude.{◌≡◌, IfOk, map, not, ◌&&◌};
-ghost use Rattle.std.specs.Option.{option_map};
-ghost use Rattle.op_trees.specs.Tree.{tree};
+ghost use Rattle.std.specs.Prelude.{◌≡◌, IfOk, map};
 ghost use Rattle.process_core.specs.Choices.{is_false};
-ghost use Rattle.prism_tree.specs.Syntax as syntax;
-ghost use Rattle.prism_flat.specs.Moment.{place_of, weight_seen};
 ghost use Rattle.state_choices.specs.Views.{seen_of, command_of, update_of, write_of};
 ghost use Rattle.state_choices.specs.Trimmed.{computed, trimmed, trimmed_update, trimmed_write};
-ghost use Rattle.prism_meaning.specs.Shapes.{command_under, update_under, write_under};
-ghost use Rattle.prism_meaning.specs.Views.{columns_in, seen_in, commands_of, FindsColumns};
+ghost use Rattle.instance_start.specs.Columns.{column_of};
+ghost use Rattle.expr_store.specs.Views.{seen_by, IsSame};
+ghost use Rattle.prism_meaning.specs.Prepared.{command_by, update_by, weight_by, write_by};
 
-use crate::run::{Run, column_of, value_of};
+use crate::data::{PreparedCommand, PreparedUpdate, PreparedWrite};
 use bridge_io::List;
+use expr_store::{Evaluation, ExprId};
 use frac_core::Frac;
-use instance_start::{domain_at, fits_in};
+use instance_start::{Column, domain_at, fits_in};
 use op_trees::{EvalFail, Value};
-use prism_tree::{Pe, PrismBranch, PrismCommand, PrismWrite};
+use prism_tree::PrismOp;
 use state_choices::{Command, Update, Write};
 use std::alloc::{AllocError, Global};
 
 /// What commands come out as.
 pub(crate) fn commands(
     alloc: Global,
-    commands: &[&PrismCommand],
-    run: &Run,
+    commands: &[PreparedCommand],
+    columns: &[Column],
+    state: &mut Evaluation<PrismOp>,
 ) -> Result<List<Command>, AllocError>
-    requires { FindsColumns run.now }
-    ensures { IfOk result (λ cs. map command_of cs ≡ map (λ c. trimmed (command_under (columns_in run.now) (seen_in run.now) c)) (commands_of commands.now)) }
+    ensures { IfOk result (λ cs. (map command_of cs ≡ map (λ c. trimmed (command_by (map column_of columns.now) (seen_by state.old) c)) commands.now) × IsSame state.old state.new) }
 {
     let mut all = List::with_capacity(alloc, commands.len())?;
     for command in commands {
-        all.push(command_under(alloc, command, run)?)?;
+        let one = command_under(alloc, command, columns, state)?;
+        all.push(one)?;
     }
     Ok(all)
 }
 
 /// What a command comes out as. Where its guard is false, its updates aren't asked for.
-fn command_under(alloc: Global, command: &PrismCommand, run: &Run) -> Result<Command, AllocError>
-    requires { FindsColumns run.now }
-    ensures { IfOk result (λ c. command_of c ≡ trimmed (command_under (columns_in run.now) (seen_in run.now) (syntax.command_of command.now))) }
+fn command_under(
+    alloc: Global,
+    command: &PreparedCommand,
+    columns: &[Column],
+    state: &mut Evaluation<PrismOp>,
+) -> Result<Command, AllocError>
+    ensures { IfOk result (λ c. (command_of c ≡ trimmed (command_by (map column_of columns.now) (seen_by state.old) command.now)) × IsSame state.old state.new) }
 {
-    let guard = value_of(&command.guard, run);
+    let guard = state.value(command.guard);
     if is_false(&guard) {
         return Ok(Command {
             guard,
             updates: List::new(alloc),
         });
     }
-    let updates = updates(alloc, command.branches.as_slice(), run)?;
+    let updates = updates(alloc, command.updates.as_slice(), columns, state)?;
     Ok(Command { guard, updates })
 }
 
@@ -62,55 +65,78 @@ fn is_false(answer: &Result<Value, EvalFail>) -> bool
 }
 
 /// What updates come out as.
-fn updates(alloc: Global, branches: &[PrismBranch], run: &Run) -> Result<List<Update>, AllocError>
-    requires { FindsColumns run.now }
-    ensures { IfOk result (λ us. map update_of us ≡ map (λ b. trimmed_update (update_under (columns_in run.now) (seen_in run.now) b)) (map syntax.branch_of branches.now)) }
+fn updates(
+    alloc: Global,
+    updates: &[PreparedUpdate],
+    columns: &[Column],
+    state: &mut Evaluation<PrismOp>,
+) -> Result<List<Update>, AllocError>
+    ensures { IfOk result (λ us. (map update_of us ≡ map (λ u. trimmed_update (update_by (map column_of columns.now) (seen_by state.old) u)) updates.now) × IsSame state.old state.new) }
 {
-    let mut all = List::with_capacity(alloc, branches.len())?;
-    for branch in branches {
-        all.push(update_under(alloc, branch, run)?)?;
+    let mut all = List::with_capacity(alloc, updates.len())?;
+    for update in updates {
+        let one = update_under(alloc, update, columns, state)?;
+        all.push(one)?;
     }
     Ok(all)
 }
 
 /// What an update comes out as.
-fn update_under(alloc: Global, branch: &PrismBranch, run: &Run) -> Result<Update, AllocError>
-    requires { FindsColumns run.now }
-    ensures { IfOk result (λ u. update_of u ≡ trimmed_update (update_under (columns_in run.now) (seen_in run.now) (syntax.branch_of branch.now))) }
+fn update_under(
+    alloc: Global,
+    update: &PreparedUpdate,
+    columns: &[Column],
+    state: &mut Evaluation<PrismOp>,
+) -> Result<Update, AllocError>
+    ensures { IfOk result (λ u. (update_of u ≡ trimmed_update (update_by (map column_of columns.now) (seen_by state.old) update.now)) × IsSame state.old state.new) }
 {
-    let writes = writes(alloc, branch.writes.as_slice(), run)?;
+    let weight = weight(&update.weight, state);
+    let writes = writes(alloc, update.writes.as_slice(), columns, state)?;
     Ok(Update {
-        weight: weight(&branch.weight, run),
+        weight,
         writes,
         rewards: List::new(alloc),
     })
 }
 
 /// The value of a probability; a missing one is 1.
-fn weight(e: &Option<Pe>, run: &Run) -> Result<Value, EvalFail>
-    ensures { result ≡ computed (weight_seen (seen_in run.now) (option_map tree e.now)) }
+fn weight(id: &Option<ExprId>, state: &mut Evaluation<PrismOp>) -> Result<Value, EvalFail>
+    ensures value { result ≡ computed (weight_by (seen_by state.old) id.now) }
+    ensures same { IsSame state.old state.new }
 {
-    match e {
-        Some(e) => value_of(e, run),
+    match id {
+        Some(id) => state.value(*id),
         None => Ok(Value::Number(Frac::one())),
     }
 }
 
 /// What the writes of an update come out as.
-fn writes(alloc: Global, writes: &[PrismWrite], run: &Run) -> Result<List<Write>, AllocError>
-    requires { FindsColumns run.now }
-    ensures { IfOk result (λ ws. map write_of ws ≡ map (λ w. trimmed_write (write_under (columns_in run.now) (seen_in run.now) w)) (map syntax.write_of writes.now)) }
+fn writes(
+    alloc: Global,
+    writes: &[PreparedWrite],
+    columns: &[Column],
+    state: &mut Evaluation<PrismOp>,
+) -> Result<List<Write>, AllocError>
+    ensures { IfOk result (λ ws. (map write_of ws ≡ map (λ w. trimmed_write (write_by (map column_of columns.now) (seen_by state.old) w)) writes.now) × IsSame state.old state.new) }
 {
     let mut all = List::with_capacity(alloc, writes.len())?;
     for write in writes {
-        let column = column_of(write.name.name.as_str(), run);
-        let value = value_of(&write.value, run);
-        let fits = fits_in(domain_at(run.columns, column), &value);
-        all.push(Write {
-            column,
-            value,
-            fits,
-        })?;
+        let one = write_under(write, columns, state);
+        all.push(one)?;
     }
     Ok(all)
+}
+
+/// What a write comes out as.
+fn write_under(write: &PreparedWrite, columns: &[Column], state: &mut Evaluation<PrismOp>) -> Write
+    ensures value { write_of result ≡ trimmed_write (write_by (map column_of columns.now) (seen_by state.old) write.now) }
+    ensures same { IsSame state.old state.new }
+{
+    let value = state.value(write.value);
+    let fits = fits_in(domain_at(columns, write.column), &value);
+    Write {
+        column: write.column,
+        value,
+        fits,
+    }
 }

@@ -15,7 +15,7 @@ ghost use Rattle.prism_meaning.specs.Constants.{AreConstants, declared_const, Ha
 ghost use Rattle.prism_meaning.specs.Places.{constant_place};
 ghost use Rattle.prism_meaning.specs.Views.{names_by, seen_in};
 
-use crate::run::{Run, value_of};
+use crate::constant_names::{ConstantNames, value_of};
 use instance_start::{Place, given_value};
 use name_rules::{Declaration, NameMap, add_names, judge_circles};
 use op_trees::{EvalFail, Value};
@@ -122,15 +122,10 @@ fn value_under(
 pub(crate) fn constants_alone<'a>(
     places: &'a NameMap<'a, Place>,
     table: &'a [Option<Value>],
-) -> Run<'a>
+) -> ConstantNames<'a>
     ensures { seen_in result ≡ names_by places.now table.now }
 {
-    Run {
-        places,
-        values: &[],
-        constants: table,
-        columns: &[],
-    }
+    ConstantNames { places, table }
 }
 
 /// A value that the code holds is never wide.

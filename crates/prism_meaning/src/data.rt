@@ -1,9 +1,10 @@
 //! What an instance keeps, and what its groups come out as at a state.
 
 use bridge_io::{List, Text};
+use expr_store::{ExprId, ExprStore};
 use frac_core::Frac;
 use op_trees::EvalFail;
-use prism_tree::{PrismCommand, PrismItem};
+use prism_tree::{PrismCommand, PrismItem, PrismOp};
 use state_choices::Command;
 
 /// The combinations of one action, or of one module without action: one command of each list, with one label and what that
@@ -15,7 +16,53 @@ pub struct Shape<'a> {
     pub lists: Vec<Vec<&'a PrismCommand>>,
 }
 
-/// The same at a state.
+/// An assignment, prepared: the number of its column, and its value.
+#[derive(Clone, Copy)]
+pub struct PreparedWrite {
+    pub column: usize,
+    pub value: ExprId,
+}
+
+/// An update, prepared.
+#[derive(Drop)]
+pub struct PreparedUpdate {
+    pub weight: Option<ExprId>,
+    pub writes: Vec<PreparedWrite>,
+}
+
+/// A command, prepared.
+#[derive(Drop)]
+pub struct PreparedCommand {
+    pub guard: ExprId,
+    pub updates: Vec<PreparedUpdate>,
+}
+
+/// An item of a reward structure, prepared.
+#[derive(Clone, Copy)]
+pub struct PreparedItem {
+    pub guard: ExprId,
+    pub value: ExprId,
+}
+
+/// The combinations of one action, or of one module without action, prepared: expressions are numbers in a store.
+#[derive(Drop)]
+pub struct PreparedShape<'a> {
+    pub label: Option<&'a Text>,
+    pub rewards: Vec<Vec<PreparedItem>>,
+    pub lists: Vec<Vec<PreparedCommand>>,
+}
+
+/// What an instance keeps for states: its expressions, each different subexpression once, and over them the combinations, the items
+/// that states earn in each reward structure, and the labels.
+#[derive(Drop)]
+pub struct Prepared<'a> {
+    pub store: ExprStore<PrismOp>,
+    pub groups: Vec<PreparedShape<'a>>,
+    pub states: Vec<Vec<PreparedItem>>,
+    pub labels: Vec<ExprId>,
+}
+
+/// Combinations at a state.
 #[derive(Drop)]
 pub struct Evaluated<'a> {
     pub label: Option<&'a Text>,

@@ -1,37 +1,38 @@
 //! What the groups of an instance come out as at a state.
 ghost use Rattle.std.specs.Prelude.{◌≡◌, IfOk, Err, map, if◌then◌else◌};
-ghost use Rattle.op_trees.specs.Tree.{tree};
 ghost use Rattle.op_trees.specs.declared.tree.EvalFail.TheVariants.{Undef};
 ghost use Rattle.process_core.specs.Choices.{is_true};
-ghost use Rattle.prism_names.specs.Names.{see};
-ghost use Rattle.prism_tree.specs.Syntax as syntax;
 ghost use Rattle.state_choices.specs.Views as choices;
-ghost use Rattle.state_choices.specs.Trimmed.{computed, computed_sum, trimmed, trimmed_group, trimmed_item, trimmed_sum};
-ghost use Rattle.prism_meaning.specs.Shapes.{command_under, group_under, item_under, sum_under};
-ghost use Rattle.prism_meaning.specs.Views.{columns_in, seen_in, commands_of, items_of, shape_of, evaluated_of, FindsColumns};
+ghost use Rattle.state_choices.specs.Trimmed.{computed, computed_sum, trimmed, trimmed_group, trimmed_item};
+ghost use Rattle.instance_start.specs.Columns.{column_of};
+ghost use Rattle.expr_store.specs.Views.{seen_by, IsSame};
+ghost use Rattle.prism_meaning.specs.Prepared.{command_by, group_by, item_by, sum_by};
+ghost use Rattle.prism_meaning.specs.Views.{evaluated_of};
 
 use crate::commands::commands;
-use crate::data::{Evaluated, Shape};
-use crate::run::{Run, value_of};
+use crate::data::{Evaluated, PreparedCommand, PreparedItem, PreparedShape};
 use bridge_io::List;
+use expr_store::{Evaluation, ExprId};
 use frac_core::Frac;
+use instance_start::Column;
 use op_trees::{EvalFail, Value};
-use prism_tree::{Pe, PrismCommand, PrismItem};
+use prism_tree::PrismOp;
 use state_choices::{Command, Group, Item, sum_of, trimming_law};
 use std::alloc::{AllocError, Global};
 
 /// What the groups come out as.
 pub(crate) fn evaluated<'a>(
     alloc: Global,
-    shapes: &[Shape<'a>],
-    run: &Run,
+    shapes: &[PreparedShape<'a>],
+    columns: &[Column],
+    state: &mut Evaluation<PrismOp>,
 ) -> Result<Vec<Evaluated<'a>>, AllocError>
-    requires { FindsColumns run.now }
-    ensures { IfOk result (λ gs. map evaluated_of gs.items ≡ map (λ g. trimmed_group (group_under (columns_in run.now) (seen_in run.now) g)) (map shape_of shapes.now)) }
+    ensures { IfOk result (λ gs. (map evaluated_of gs.items ≡ map (λ p. trimmed_group (group_by (map column_of columns.now) (seen_by state.old) p)) shapes.now) × IsSame state.old state.new) }
 {
     let mut all = Vec::with_capacity(alloc, shapes.len())?;
     for shape in shapes {
-        all.push(evaluated_under(alloc, shape, run)?)?;
+        let one = evaluated_under(alloc, shape, columns, state)?;
+        all.push(one)?;
     }
     Ok(all)
 }
@@ -39,14 +40,14 @@ pub(crate) fn evaluated<'a>(
 /// What a group comes out as.
 fn evaluated_under<'a>(
     alloc: Global,
-    shape: &Shape<'a>,
-    run: &Run,
+    shape: &PreparedShape<'a>,
+    columns: &[Column],
+    state: &mut Evaluation<PrismOp>,
 ) -> Result<Evaluated<'a>, AllocError>
-    requires { FindsColumns run.now }
-    ensures { IfOk result (λ g. evaluated_of g ≡ trimmed_group (group_under (columns_in run.now) (seen_in run.now) (shape_of shape.now))) }
+    ensures { IfOk result (λ g. (evaluated_of g ≡ trimmed_group (group_by (map column_of columns.now) (seen_by state.old) shape.now)) × IsSame state.old state.new) }
 {
-    let lists = lists(alloc, shape.lists.as_slice(), run)?;
-    let rewards = sums(alloc, shape.rewards.as_slice(), run)?;
+    let lists = lists(alloc, shape.lists.as_slice(), columns, state)?;
+    let rewards = sums(alloc, shape.rewards.as_slice(), state)?;
     Ok(Evaluated {
         label: shape.label,
         rewards,
@@ -57,30 +58,32 @@ fn evaluated_under<'a>(
 /// What the commands of each list come out as.
 fn lists(
     alloc: Global,
-    lists: &[Vec<&PrismCommand>],
-    run: &Run,
+    lists: &[Vec<PreparedCommand>],
+    columns: &[Column],
+    state: &mut Evaluation<PrismOp>,
 ) -> Result<List<List<Command>>, AllocError>
-    requires { FindsColumns run.now }
-    ensures { IfOk result (λ ls. map (map choices.command_of) ls ≡ map (λ l. map (λ c. trimmed (command_under (columns_in run.now) (seen_in run.now) c)) (commands_of l.items)) lists.now) }
+    ensures { IfOk result (λ ls. (map (map choices.command_of) ls ≡ map (λ l. map (λ c. trimmed (command_by (map column_of columns.now) (seen_by state.old) c)) l.items) lists.now) × IsSame state.old state.new) }
 {
     let mut all = List::with_capacity(alloc, lists.len())?;
     for list in lists {
-        all.push(commands(alloc, list.as_slice(), run)?)?;
+        let one = commands(alloc, list.as_slice(), columns, state)?;
+        all.push(one)?;
     }
     Ok(all)
 }
 
 /// What each reward structure adds by the items that are listed of it.
-pub(crate) fn sums(
+fn sums(
     alloc: Global,
-    rewards: &[Vec<&PrismItem>],
-    run: &Run,
+    rewards: &[Vec<PreparedItem>],
+    state: &mut Evaluation<PrismOp>,
 ) -> Result<List<Result<Frac, EvalFail>>, AllocError>
-    ensures { IfOk result (λ ms. ms ≡ map (λ is. computed_sum (sum_under (seen_in run.now) (items_of is.items))) rewards.now) }
+    ensures { IfOk result (λ ms. (ms ≡ map (λ is. computed_sum (sum_by (seen_by state.old) is.items)) rewards.now) × IsSame state.old state.new) }
 {
     let mut all = List::with_capacity(alloc, rewards.len())?;
     for items in rewards {
-        all.push(sum_under(alloc, items.as_slice(), run)?)?;
+        let one = sum_under(alloc, items.as_slice(), state)?;
+        all.push(one)?;
     }
     Ok(all)
 }
@@ -88,35 +91,53 @@ pub(crate) fn sums(
 /// What the items add.
 pub(crate) fn sum_under(
     alloc: Global,
-    items: &[&PrismItem],
-    run: &Run,
+    items: &[PreparedItem],
+    state: &mut Evaluation<PrismOp>,
 ) -> Result<Result<Frac, EvalFail>, AllocError>
-    ensures { IfOk result (λ m. m ≡ computed_sum (sum_under (seen_in run.now) (items_of items.now))) }
+    ensures { IfOk result (λ m. (m ≡ computed_sum (sum_by (seen_by state.old) items.now)) × IsSame state.old state.new) }
 {
-    let all = items_under(alloc, items, run)?;
+    let all = items_under(alloc, items, state)?;
     trimming_law();
     Ok(sum_of(all.as_slice()))
 }
 
 /// What items come out as.
-fn items_under(alloc: Global, items: &[&PrismItem], run: &Run) -> Result<List<Item>, AllocError>
-    ensures { IfOk result (λ is. map choices.item_of is ≡ map (λ i. trimmed_item (item_under (seen_in run.now) i)) (items_of items.now)) }
+fn items_under(
+    alloc: Global,
+    items: &[PreparedItem],
+    state: &mut Evaluation<PrismOp>,
+) -> Result<List<Item>, AllocError>
+    ensures { IfOk result (λ is. (map choices.item_of is ≡ map (λ i. trimmed_item (item_by (seen_by state.old) i)) items.now) × IsSame state.old state.new) }
 {
     let mut all = List::with_capacity(alloc, items.len())?;
     for item in items {
-        let guard = value_of(&item.guard, run);
-        let value = needed_value(&guard, &item.value, run);
-        all.push(Item { guard, value })?;
+        let one = item_under(item, state);
+        all.push(one)?;
     }
     Ok(all)
 }
 
+/// What an item comes out as.
+fn item_under(item: &PreparedItem, state: &mut Evaluation<PrismOp>) -> Item
+    ensures value { choices.item_of result ≡ trimmed_item (item_by (seen_by state.old) item.now) }
+    ensures same { IsSame state.old state.new }
+{
+    let guard = state.value(item.guard);
+    let value = needed_value(&guard, item.value, state);
+    Item { guard, value }
+}
+
 /// The value of an item; where its guard isn't true, that isn't asked for.
-fn needed_value(guard: &Result<Value, EvalFail>, value: &Pe, run: &Run) -> Result<Value, EvalFail>
-    ensures { result ≡ (if is_true (choices.seen_of guard.now).value then computed (see (tree value.now) (seen_in run.now)) else Err Undef) }
+fn needed_value(
+    guard: &Result<Value, EvalFail>,
+    value: ExprId,
+    state: &mut Evaluation<PrismOp>,
+) -> Result<Value, EvalFail>
+    ensures value { result ≡ (if is_true (choices.seen_of guard.now).value then computed (seen_by state.old value) else Err Undef) }
+    ensures same { IsSame state.old state.new }
 {
     match guard {
-        Ok(Value::Truth(true)) => value_of(value, run),
+        Ok(Value::Truth(true)) => state.value(value),
         _ => Err(EvalFail::Undef),
     }
 }

@@ -8,27 +8,25 @@ ghost use Rattle.process_core.specs.Bounds as core;
 ghost use Rattle.process_core.specs.Choices as core_choices;
 ghost use Rattle.process_core.specs.Instance.{is_state};
 ghost use Rattle.process_core.specs.Seen.{seen_choice};
-ghost use Rattle.prism_flat.specs.Moment.{moment, names_in};
+ghost use Rattle.prism_flat.specs.Moment.{moment};
 ghost use Rattle.prism_flat.specs.Process.{choices, excess, has_wide_mark, marks};
-ghost use Rattle.prism_names.specs.Names.{unchanged};
 ghost use Rattle.prism_flat.specs.Kept.{IsWrittenOut};
 ghost use Rattle.prism_flat.specs.Scene.{columns_of};
 ghost use Rattle.instance_start.specs.Given.{given_by};
-ghost use Rattle.prism_meaning.specs.Sound.{IsSound, IsSound-prop};
-ghost use Rattle.instance_start.specs.Columns.{column_of};
-ghost use Rattle.prism_meaning.specs.Views.{columns_in, evaluated_of, seen_in, FindsColumns};
+ghost use Rattle.prism_meaning.specs.Sound.{at_state, IsSound, IsSound-prop};
+ghost use Rattle.expr_store.specs.Views.{nodes, seen_by};
+ghost use Rattle.prism_meaning.specs.Views.{evaluated_of};
 ghost use Rattle.state_choices.specs.Groups.{of_groups};
 
-use crate::data::{Evaluated, Shape};
+use crate::data::{Evaluated, Prepared};
 use crate::groups::{evaluated, groups};
 use crate::marks::{add_labels, add_rewards};
-use crate::run::Run;
 use bridge_io::{List, Text};
-use instance_start::{Column, Place, first_values, is_initial, is_state};
-use name_rules::NameMap;
+use expr_store::Evaluation;
+use instance_start::{Column, first_values, is_initial, is_state};
 use op_trees::Value;
 use prism_places::FlatPrism;
-use prism_tree::PrismItem;
+use prism_tree::PrismOp;
 use process_core::{Choice, Given, InitialWide, Mark, State, StepFail, Steps};
 use state_choices::choices_of;
 use std::alloc::{AllocError, Global};
@@ -39,13 +37,11 @@ use std::alloc::{AllocError, Global};
 pub struct PrismInstance<'a> {
     pub(crate) flat: &'a FlatPrism,
     pub(crate) given: &'a [Given],
-    pub(crate) places: NameMap<'a, Place>,
     pub(crate) constants: Vec<Option<Value>>,
     pub(crate) columns: Vec<Column<'a>>,
-    pub(crate) groups: Vec<Shape<'a>>,
-    pub(crate) states: Vec<Vec<&'a PrismItem>>,
+    pub(crate) prepared: Prepared<'a>,
     pub(crate) marks: Vec<&'a str>,
-    ghost sound: { IsSound flat.now given.now places constants.items columns.items groups.items (map (λ l. l.items) states.items) (map (λ n. n.now) marks.items) } by { IsSound-prop flat.now given.now places constants.items columns.items groups.items (map (λ l. l.items) states.items) (map (λ n. n.now) marks.items) },
+    ghost sound: { IsSound flat.now given.now (nodes prepared.store) constants.items columns.items prepared.groups.items prepared.states.items prepared.labels.items (map (λ n. n.now) marks.items) } by { IsSound-prop flat.now given.now (nodes prepared.store) constants.items columns.items prepared.groups.items prepared.states.items prepared.labels.items (map (λ n. n.now) marks.items) },
 }
 
 impl<'a> Steps for PrismInstance<'a> {
@@ -98,21 +94,22 @@ impl<'a> Steps for PrismInstance<'a> {
     }
 }
 
-/// The instance in a state.
-fn run_at<'a>(instance: &'a PrismInstance<'a>, s: &'a State) -> Run<'a>
-    requires { IsTrue (is_state (columns_of instance.now.flat.now (given_by instance.now.given.now)) s.now.values) }
-    ensures columns { columns_in result ≡ columns_of instance.now.flat.now (given_by instance.now.given.now) }
-    ensures names { seen_in result ≡ names_in instance.now.flat.now (given_by instance.now.given.now) s.now.values unchanged }
-    ensures writes { FindsColumns result }
+/// The expressions of the instance in a state.
+fn state_of<'a>(
+    alloc: Global,
+    instance: &'a PrismInstance<'a>,
+    s: &'a State,
+) -> Evaluation<'a, PrismOp>
+    ensures sees { seen_by result ≡ at_state (nodes instance.now.prepared.store) instance.now.constants.items s.now.values }
     ensures form { IsWrittenOut instance.now.flat.now }
 {
     let _file = instance.flat.file();
-    Run {
-        places: &instance.places,
-        values: s.values.as_slice(),
-        constants: instance.constants.as_slice(),
-        columns: instance.columns.as_slice(),
-    }
+    Evaluation::new(
+        alloc,
+        &instance.prepared.store,
+        s.values.as_slice(),
+        instance.constants.as_slice(),
+    )
 }
 
 /// The choices of a state, in order.
@@ -121,8 +118,9 @@ fn choices_at(alloc: Global, instance: &PrismInstance, s: &State) -> Result<List
     ensures { Answers (excess (moment instance.now.flat.now (given_by instance.now.given.now) s.now.values))
         (λ cs. map seen_choice cs ≡ choices (moment instance.now.flat.now (given_by instance.now.given.now) s.now.values) s.now.values) result }
 {
-    let run = run_at(instance, s);
-    let all = evaluated(alloc, instance.groups.as_slice(), &run)?;
+    let mut state = state_of(alloc, instance, s);
+    let groups = instance.prepared.groups.as_slice();
+    let all = evaluated(alloc, groups, instance.columns.as_slice(), &mut state)?;
     combined(alloc, s, all.as_slice())
 }
 
@@ -161,8 +159,8 @@ fn add_marks(
     ensures { Answers (only_wide (has_wide_mark (moment instance.now.flat.now (given_by instance.now.given.now) s.now.values)))
         (λ u. all.new ≡ all.old ++ marks (moment instance.now.flat.now (given_by instance.now.given.now) s.now.values)) result }
 {
-    let run = run_at(instance, s);
-    add_labels(instance.flat.file().labels.as_slice(), &run, all)?;
-    add_rewards(alloc, instance.states.as_slice(), &run, all)?;
+    let mut state = state_of(alloc, instance, s);
+    add_labels(instance.prepared.labels.as_slice(), &mut state, all)?;
+    add_rewards(alloc, instance.prepared.states.as_slice(), &mut state, all)?;
     Ok(())
 }

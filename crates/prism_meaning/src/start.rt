@@ -13,24 +13,26 @@ ghost use Rattle.instance_start.specs.Started.{FailsIn, Starts};
 ghost use Rattle.prism_meaning.specs.Constants.{AreConstants, HasWideConstant, narrow_value};
 ghost use Rattle.prism_meaning.specs.Described.{described, mark_names, opened, prism_description, structure_name};
 ghost use Rattle.prism_meaning.specs.Instance.{process_of};
-ghost use Rattle.prism_meaning.specs.Knowing.{IsFixed, IsKnown};
+ghost use Rattle.prism_meaning.specs.Knowing.{IsFixed, IsKnown, IsPrepared};
 ghost use Rattle.prism_meaning.specs.Places.{constant_place};
 ghost use Rattle.prism_meaning.specs.Variables.{all_variables, vars_of};
-ghost use Rattle.prism_meaning.specs.Views.{names_by};
+ghost use Rattle.prism_meaning.specs.Views.{names_by, FindsIn};
 ghost use Rattle.prism_places.specs.Flattened.{IsFlat};
 
 use crate::constants::{constant_order, constant_values, constants_alone};
-use crate::data::Shape;
+use crate::data::Prepared;
 use crate::instance::PrismInstance;
 use crate::places::{constant_places, places};
+use crate::prepare::prepared;
 use crate::shapes::{earned_in_states, shapes};
+use crate::state_names::StateNames;
 use crate::variables::{all_variables, variables_under};
 use bridge_io::Text;
 use instance_start::{Column, Constant, Place, Variable, columns, misfit};
 use name_rules::NameMap;
 use op_trees::{EvalFail, Value};
 use prism_places::FlatPrism;
-use prism_tree::{PrismConst, PrismFile, PrismItem, PrismLabel, PrismRewards, PrismVar};
+use prism_tree::{PrismConst, PrismFile, PrismLabel, PrismRewards, PrismVar};
 use process_core::{Given, StartFail};
 use std::alloc::{AllocError, Global};
 
@@ -68,11 +70,26 @@ fn start_fitting<'a>(
     let file = flat.file();
     match what_is_known(alloc, file, given, opens) {
         Err(e) => Err(e),
-        Ok(known) => match what_is_fixed(alloc, file) {
+        Ok(known) => match start_known(alloc, flat, given, known) {
             Err(e) => Err(StartFail::Memory(e)),
-            Ok(fixed) => Ok(instance_of(flat, given, known, fixed)),
+            Ok(instance) => Ok(instance),
         },
     }
+}
+
+/// The same where all is known that the given constants decide.
+fn start_known<'a>(
+    alloc: Global,
+    flat: &'a FlatPrism,
+    given: &'a [Given],
+    known: Known<'a>,
+) -> Result<PrismInstance<'a>, AllocError>
+    requires known { IsKnown flat.now (given_by given.now) known }
+    requires begin { BeginRight (columns_of flat.now (given_by given.now)) }
+    ensures { IfOk result (λ i. process_of i ≡ described flat.now (given_by given.now)) }
+{
+    let fixed = what_is_fixed(alloc, flat.file(), &known)?;
+    Ok(instance_of(flat, given, known, fixed))
 }
 
 /// The instance of what is known and fixed.
@@ -83,18 +100,17 @@ fn instance_of<'a>(
     fixed: Fixed<'a>,
 ) -> PrismInstance<'a>
     requires known { IsKnown flat.now (given_by given.now) known }
-    requires fixed { IsFixed flat.now fixed }
+    requires fixed { IsFixed flat.now known fixed }
     requires begin { BeginRight (columns_of flat.now (given_by given.now)) }
     ensures { process_of result ≡ described flat.now (given_by given.now) }
 {
+    let _file = flat.file();
     PrismInstance {
         flat,
         given,
-        places: known.places,
         constants: known.constants,
         columns: known.columns,
-        groups: fixed.groups,
-        states: fixed.states,
+        prepared: fixed.prepared,
         marks: fixed.marks,
     }
 }
@@ -242,25 +258,47 @@ fn variables_by<'a>(
     variables_under(alloc, variables, &run)
 }
 
-/// What of a file is the same under all constants: the combinations, the items that states earn, and the names of the marks.
+/// What of a file doesn't change from state to state: what is prepared of it, and the names of the marks.
 #[derive(Drop)]
 pub(crate) struct Fixed<'a> {
-    pub(crate) groups: Vec<Shape<'a>>,
-    pub(crate) states: Vec<Vec<&'a PrismItem>>,
+    pub(crate) prepared: Prepared<'a>,
     pub(crate) marks: Vec<&'a str>,
 }
 
-pub(crate) fn what_is_fixed<'a>(alloc: Global, file: &'a PrismFile) -> Result<Fixed<'a>, AllocError>
-    ensures { IfOk result (IsFixed (file_of file.now)) }
+fn what_is_fixed<'a>(
+    alloc: Global,
+    file: &'a PrismFile,
+    known: &Known,
+) -> Result<Fixed<'a>, AllocError>
+    requires { FindsIn known.now.places known.now.columns.items }
+    ensures { IfOk result (IsFixed (file_of file.now) known.now) }
+{
+    let prepared = what_is_prepared(alloc, file, known)?;
+    let marks = marks(alloc, file)?;
+    Ok(Fixed { prepared, marks })
+}
+
+fn what_is_prepared<'a>(
+    alloc: Global,
+    file: &'a PrismFile,
+    known: &Known,
+) -> Result<Prepared<'a>, AllocError>
+    requires { FindsIn known.now.places known.now.columns.items }
+    ensures { IfOk result (IsPrepared (file_of file.now) known.now) }
 {
     let groups = shapes(alloc, file)?;
     let states = earned_in_states(alloc, file.rewards.as_slice())?;
-    let marks = marks(alloc, file)?;
-    Ok(Fixed {
-        groups,
-        states,
-        marks,
-    })
+    let names = StateNames {
+        places: &known.places,
+        columns: known.columns.as_slice(),
+    };
+    prepared(
+        alloc,
+        groups.as_slice(),
+        states.as_slice(),
+        file.labels.as_slice(),
+        &names,
+    )
 }
 
 /// The names of the marks: those of the labels, then those of the reward structures.

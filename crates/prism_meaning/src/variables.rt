@@ -14,7 +14,7 @@ ghost use Rattle.prism_meaning.specs.Variables.{all_variables, own_variables, va
 ghost use Rattle.prism_meaning.specs.Found.{column_with, found_column, named_variable};
 ghost use Rattle.prism_meaning.specs.Views.{seen_in};
 
-use crate::run::{Run, value_of};
+use crate::constant_names::{ConstantNames, value_of};
 use bridge_io::Text;
 use frac_core::Frac;
 use instance_start::{Bounds, Variable};
@@ -59,11 +59,11 @@ fn add_variables<'a>(
 pub(crate) fn variables_under<'a>(
     alloc: Global,
     variables: &[&'a PrismVar],
-    run: &Run,
+    names: &ConstantNames,
 ) -> Result<Vec<Variable<'a>>, AllocError>
-    ensures { IfOk result (λ xs. map variable_of xs.items ≡ map (λ x. trimmed_column (column unchanged (seen_in run.now) x)) (vars_of variables.now)) }
+    ensures { IfOk result (λ xs. map variable_of xs.items ≡ map (λ x. trimmed_column (column unchanged (seen_in names.now) x)) (vars_of variables.now)) }
 {
-    let found = each_found(alloc, variables, run)?;
+    let found = each_found(alloc, variables, names)?;
     let all = named(alloc, found.as_slice())?;
     Ok(all)
 }
@@ -101,13 +101,13 @@ fn named_variable<'a>(found: &Found<'a>) -> Variable<'a>
 fn each_found<'a>(
     alloc: Global,
     variables: &[&'a PrismVar],
-    run: &Run,
+    names: &ConstantNames,
 ) -> Result<Vec<Found<'a>>, AllocError>
-    ensures { IfOk result (λ xs. map found_column xs.items ≡ map (λ x. trimmed_column (column unchanged (seen_in run.now) x)) (vars_of variables.now)) }
+    ensures { IfOk result (λ xs. map found_column xs.items ≡ map (λ x. trimmed_column (column unchanged (seen_in names.now) x)) (vars_of variables.now)) }
 {
     let mut all = Vec::with_capacity(alloc, variables.len())?;
     for variable in variables {
-        let values = Box::new(alloc, values_under(variable, run))?;
+        let values = Box::new(alloc, values_under(variable, names))?;
         all.push(Found {
             name: &variable.name.name,
             values,
@@ -116,42 +116,42 @@ fn each_found<'a>(
     Ok(all)
 }
 
-fn values_under(variable: &PrismVar, run: &Run) -> Values
-    ensures { column_with variable.now.name.name result ≡ trimmed_column (column unchanged (seen_in run.now) (var_of variable.now)) }
+fn values_under(variable: &PrismVar, names: &ConstantNames) -> Values
+    ensures { column_with variable.now.name.name result ≡ trimmed_column (column unchanged (seen_in names.now) (var_of variable.now)) }
 {
     Values {
-        bounds: bounds_under(&variable.range, run),
-        first: first_under(variable, run),
+        bounds: bounds_under(&variable.range, names),
+        first: first_under(variable, names),
     }
 }
 
-fn bounds_under(range: &Option<PrismRange>, run: &Run) -> Option<Bounds>
-    ensures { bounds_of result ≡ trimmed_domain (domain_of (seen_in run.now) (option_map syntax.range_of range.now)) }
+fn bounds_under(range: &Option<PrismRange>, names: &ConstantNames) -> Option<Bounds>
+    ensures { bounds_of result ≡ trimmed_domain (domain_of (seen_in names.now) (option_map syntax.range_of range.now)) }
 {
     match range {
         None => None,
         Some(range) => Some(Bounds {
-            low: value_of(&range.low, run),
-            high: value_of(&range.high, run),
+            low: value_of(&range.low, names),
+            high: value_of(&range.high, names),
         }),
     }
 }
 
 /// The value that a variable begins with: its own, else the low bound, else false.
-fn first_under(variable: &PrismVar, run: &Run) -> Result<Value, EvalFail>
-    ensures { seen_of result ≡ trimmed_seen (first_of (seen_in run.now) (option_map tree variable.now.start) (option_map syntax.range_of variable.now.range)) }
+fn first_under(variable: &PrismVar, names: &ConstantNames) -> Result<Value, EvalFail>
+    ensures { seen_of result ≡ trimmed_seen (first_of (seen_in names.now) (option_map tree variable.now.start) (option_map syntax.range_of variable.now.range)) }
 {
     match &variable.start {
-        Some(e) => value_of(e, run),
-        None => low_under(&variable.range, run),
+        Some(e) => value_of(e, names),
+        None => low_under(&variable.range, names),
     }
 }
 
-fn low_under(range: &Option<PrismRange>, run: &Run) -> Result<Value, EvalFail>
-    ensures { seen_of result ≡ trimmed_seen (first_of (seen_in run.now) None (option_map syntax.range_of range.now)) }
+fn low_under(range: &Option<PrismRange>, names: &ConstantNames) -> Result<Value, EvalFail>
+    ensures { seen_of result ≡ trimmed_seen (first_of (seen_in names.now) None (option_map syntax.range_of range.now)) }
 {
     match range {
-        Some(range) => value_of(&range.low, run),
+        Some(range) => value_of(&range.low, names),
         None => Ok(Value::Truth(false)),
     }
 }

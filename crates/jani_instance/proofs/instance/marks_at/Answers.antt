@@ -25,7 +25,7 @@ returns-in_err-add_labels c =
     handed_on (λ (ms : List Mark). ms ≡ marks (m s)) _ (has_wide_mark (m s)) c.in_err-add_labels.field-0.0 c.from_residual.result
     c.from_residual.ensures.1
     (λ w. ap (λ b. b || list_any (λ r. r.wide) (m s).rewards) (sym (marks_wide (transient_value k) c.labels.result.now (m s).labels labels) ∙ w))
-    c.in_err-add_labels.ensures
+    c.in_err-add_labels.ensures.marks
 
 pub returns-in_err-add_rewards : goal.returns-in_err-add_rewards
 returns-in_err-add_rewards c =
@@ -37,9 +37,9 @@ returns-in_err-add_rewards c =
     let rewards = ap (map (transient_value k)) c.structures.ensures ∙ c.here-here.ensures.right.rewards ∙ ap (λ z. map computed (m z).rewards) c.here-here.ensures.values in
     handed_on (λ (ms : List Mark). ms ≡ marks (m s)) _ (has_wide_mark (m s)) c.in_err-add_rewards.field-0.0 c.from_residual-in_err-add_rewards.result
     c.from_residual-in_err-add_rewards.ensures.1
-    (λ w. ap₂ (λ a b. a || b) (sym (marks_wide (transient_value k) c.labels.result.now (m s).labels labels) ∙ narrow_then _ c.in_ok-add_labels.ensures.0)
+    (λ w. ap₂ (λ a b. a || b) (sym (marks_wide (transient_value k) c.labels.result.now (m s).labels labels) ∙ narrow_then _ c.in_ok-add_labels.ensures.marks.0)
     (sym (marks_wide (transient_value k) c.structures.result.now (m s).rewards rewards) ∙ w))
-    c.in_err-add_rewards.ensures
+    c.in_err-add_rewards.ensures.marks
 
 pub returns : goal.returns
 returns c =
@@ -49,11 +49,11 @@ returns c =
     let s = c.args.s.now.values in
     let labels = ap (map (transient_value k)) c.labels.ensures ∙ c.here-here.ensures.right.labels ∙ ap (λ z. map computed (m z).labels) c.here-here.ensures.values in
     let rewards = ap (map (transient_value k)) c.structures.ensures ∙ c.here-here.ensures.right.rewards ∙ ap (λ z. map computed (m z).rewards) c.here-here.ensures.values in
-    let no_label = sym (marks_wide (transient_value k) c.labels.result.now (m s).labels labels) ∙ narrow_then _ c.in_ok-add_labels.ensures.0 in
-    let no_reward = sym (marks_wide (transient_value k) c.structures.result.now (m s).rewards rewards) ∙ narrow_then _ c.in_ok-add_rewards.ensures.0 in (
+    let no_label = sym (marks_wide (transient_value k) c.labels.result.now (m s).labels labels) ∙ narrow_then _ c.in_ok-add_labels.ensures.marks.0 in
+    let no_reward = sym (marks_wide (transient_value k) c.structures.result.now (m s).rewards rewards) ∙ narrow_then _ c.in_ok-add_rewards.ensures.marks.0 in (
       ap only_wide (ap₂ (λ a b. a || b) no_label no_reward),
-      c.in_ok-add_rewards.ensures.1
+      c.in_ok-add_rewards.ensures.marks.1
           ∙ ap₂ (λ a b. a ++ b)
-          (c.in_ok-add_labels.ensures.1 ∙ ap₂ (λ a b. a ++ b) c.new-all.ensures (marks_are (transient_value k) (λ o. Truth (truth_of o)) c.labels.result.now (m s).labels labels no_label))
+          (c.in_ok-add_labels.ensures.marks.1 ∙ ap₂ (λ a b. a ++ b) c.new-all.ensures (marks_are (transient_value k) (λ o. Truth (truth_of o)) c.labels.result.now (m s).labels labels no_label))
           (marks_are (transient_value k) (λ o. Number (number_of o)) c.structures.result.now (m s).rewards rewards no_reward),
     )

@@ -4,7 +4,8 @@ use Rattle.std.specs.Result.{IfOk}
 use Rattle.basics.specs.Lists.{map_agree}
 use Rattle.gathering.specs.Lists.{list_for}
 use Rattle.jani_tree.specs.Syntax as syntax
-use Rattle.jani_instance.specs.Actions.{lent_edge, located_among, located_at, located_of}
+use Rattle.jani_instance.specs.Actions.{lent_edge, located_among, located_at}
+use Rattle.jani_instance.specs.Shapes.{located_of}
 use Rattle.jani_instance.specs.Parts.{automaton_at}
 use Rattle.jani_instance.proofs.located.all_located.Goals as goal
 

@@ -1,6 +1,7 @@
 use Rattle.std.proofs.Common.{◌∙◌, map, ap}
 use Rattle.gathering.specs.Lists.{list_for}
-use Rattle.jani_instance.specs.Actions.{lent_edge, located_among, located_of}
+use Rattle.jani_instance.specs.Actions.{lent_edge, located_among}
+use Rattle.jani_instance.specs.Shapes.{located_of}
 use Rattle.jani_instance.proofs.Numbering.{counted_more}
 use Rattle.jani_instance.proofs.located.each_located.Goals as goal
 

@@ -1,7 +1,8 @@
 use Rattle.std.proofs.Common.{◌≡◌, map}
 use Rattle.std.specs.List.{range_with_len}
 use Rattle.gathering.specs.Lists.{list_for}
-use Rattle.jani_instance.specs.Actions.{lent_edge, located_among, located_of}
+use Rattle.jani_instance.specs.Actions.{lent_edge, located_among}
+use Rattle.jani_instance.specs.Shapes.{located_of}
 use Rattle.jani_instance.proofs.located.each_located.Given as goal
 
 abbrev pub invariant-loop-n : goal.invariant-loop-n

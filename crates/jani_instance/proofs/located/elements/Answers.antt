@@ -6,7 +6,7 @@ use Rattle.std.proofs.lemmas.Option.{slice_get-get_or, slice_get-map}
 use Rattle.jani_tree.specs.Syntax.{file_of}
 use Rattle.jani_meaning.specs.Elements.{elements}
 use Rattle.jani_instance.specs.Actions.{IsBasis, IsNumbered, actions_of}
-use Rattle.jani_instance.specs.Built.{IsElementOf}
+use Rattle.jani_instance.specs.Built.{IsNamedElementOf}
 use Rattle.jani_instance.specs.Parts.{automaton_at}
 use Rattle.jani_instance.specs.declared.acting.Basis.{Basis}
 use Rattle.jani_instance.specs.declared.parts.Part.{Part}
@@ -39,6 +39,6 @@ loop-i-preserved c =
     let p = c.part-item.result in
     let e = c.in_ok-element.field-0 in (
       ap length c.in_ok-push.ensures.items ∙ length-append c.loop-i.all.items (e ∷ []) ∙ ap (λ n. n + 1) c.loop-i.invariant.0,
-      built_more (λ k a d. IsElementOf file (actions_of a) k a d) (elements file) c.loop-i.all.items c.push.new.self.items i (automaton_at p) e c.loop-i.invariant.0
+      built_more (λ k a d. IsNamedElementOf file (actions_of a) k a d) (elements file) c.loop-i.all.items c.push.new.self.items i (automaton_at p) e c.loop-i.invariant.0
           (is_there b c.requires i p c.loop-i-test.true c.part-item.is) c.loop-i.invariant.1 c.in_ok-element.ensures c.in_ok-push.ensures.items,
     )

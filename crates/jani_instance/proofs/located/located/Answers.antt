@@ -3,13 +3,14 @@ use Rattle.std.specs.List.{filter, range_with_len}
 use Rattle.gathering.specs.Lists.{list_for}
 use Rattle.basics.specs.Lists.{map_agree}
 use Rattle.jani_tree.specs.Syntax as syntax
-use Rattle.jani_instance.specs.Actions.{Located, acts_as, lent_edge, number_in}
+use Rattle.jani_tree.specs.Syntax.{Expression}
+use Rattle.jani_instance.specs.Actions.{acts_as, lent_edge, number_in}
 use Rattle.jani_instance.specs.Parts.{automaton_at}
-use Rattle.jani_instance.specs.Shapes.{Edge, edge_by}
+use Rattle.jani_instance.specs.Shapes.{Edge, Located, edge_by}
 use Rattle.jani_instance.proofs.Numbering.{parts_are}
 use Rattle.jani_instance.proofs.located.located.Goals as goal
 
-same_located : (s t : List Edge) (p q : List (List Edge)) → s ≡ t → p ≡ q → ◌≡◌ {A = Located} (record { silent = s; parts = p }) (record { silent = t; parts = q })
+same_located : (s t : List (Edge Expression)) (p q : List (List (Edge Expression))) → s ≡ t → p ≡ q → ◌≡◌ {A = Located Expression} (record { silent = s; parts = p }) (record { silent = t; parts = q })
 same_located s t p q e f = cc
 
 pub returns : goal.returns

@@ -1,10 +1,9 @@
-use Rattle.std.proofs.Common.{◌∙◌, take, drop}
+use Rattle.std.proofs.Common.{◌∙◌}
 use Rattle.std.proofs.lemmas.List.{length-map}
 use Rattle.instance_start.specs.Given.{given_by}
 use Rattle.jani_tree.specs.Syntax.{file_of}
-use Rattle.jani_meaning.specs.Elements.{automaton_called, labels, structures}
+use Rattle.jani_meaning.specs.Elements.{automaton_called}
 use Rattle.jani_instance.specs.Actions.{actions_of}
-use Rattle.jani_instance.proofs.Givers.{first_are, rest_are, names_are, transients_are}
 use Rattle.jani_instance.proofs.Whole.{right}
 use Rattle.jani_instance.proofs.start.instance_of.Goals as goal
 
@@ -14,8 +13,7 @@ invariant_of-result c =
     let v = given_by c.args.given.now in
     let known = c.requires.known in
     let built = c.requires.built in
-    let ts = c.args.built.transients.items in
-    let n = c.args.built.labels in
+    let made = c.args.built.prepared in
     record {
       sound = record {
         faultless = known.columns_are.sound;
@@ -23,12 +21,10 @@ invariant_of-result c =
         columns_are = known.columns_are.columns;
         elements_are = built.elements_are.count ∙ length-map file.elements (automaton_called file);
         labels_are = built.labels_are;
-        names_are = names_are file v ts built.transients_are;
+        names_are = built.names_are;
         right = λ s state.
-            right file v actions_of c.args.known.places c.args.known.constants.items c.args.known.columns.items c.args.built.elements.items
-            known.columns_are.columns known.places_are known.constants_are built.elements_are.count built.elements_are.built s state
-            c.args.built.vectors.items n ts built.vectors_are
-            (transients_are file v c.requires.checked (labels file) (take n ts) (first_are file v ts n built.labels_are built.transients_are))
-            (transients_are file v c.requires.checked (structures file) (drop n ts) (rest_are file v ts n built.labels_are built.transients_are));
+            right file v actions_of made.store c.args.known.constants.items c.args.known.columns.items made.elements.items
+            known.columns_are.columns known.constants_are built.elements_are.count built.elements_are.built s state
+            c.args.built.vectors.items c.args.built.labels made.transients.items built.vectors_are built.labelling built.rewarding;
       };
     }

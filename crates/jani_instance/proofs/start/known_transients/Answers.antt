@@ -2,7 +2,7 @@ use Rattle.std.proofs.Common.{◌≡◌, ◌∙◌, ap, subst, map}
 use Rattle.std.specs.Prelude.{IfOk}
 use Rattle.jani_tree.specs.Syntax.{file_of}
 use Rattle.jani_instance.specs.Parts.{automaton_at, owned_at}
-use Rattle.jani_instance.specs.Transients.{transient_at}
+use Rattle.jani_instance.specs.Shapes.{transient_at}
 use Rattle.jani_instance.proofs.StartLaws.{alone_names, same_transients}
 use Rattle.jani_instance.proofs.start.known_transients.Goals as goal
 

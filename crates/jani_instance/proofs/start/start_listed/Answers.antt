@@ -1,4 +1,5 @@
-use Rattle.std.proofs.Common.{subst}
+use Rattle.std.proofs.Common.{subst, sym}
+use Rattle.jani_check.specs.Faults.{IsChecked}
 use Rattle.instance_start.specs.Given.{given_by}
 use Rattle.jani_tree.specs.Syntax.{file_of}
 use Rattle.jani_instance.specs.Knowing.{IsBuilt, IsKnown}
@@ -23,3 +24,6 @@ pub instance_of-requires-clause-built : goal.instance_of-requires-clause-built
 instance_of-requires-clause-built c =
     let v = given_by c.args.given.now in
     subst (λ f. IsBuilt (file_of f) v c.in-Ok-what_is_built.built) c.file-file.ensures.same (c.in-Ok-what_is_built.ensures v c.in-Ok.ensures.constants_are)
+
+pub what_is_built-requires-clause-checked : goal.what_is_built-requires-clause-checked
+what_is_built-requires-clause-checked c = subst (λ f. IsChecked (file_of f)) (sym c.file-file.ensures.same) c.file-file.ensures.checked

@@ -1,6 +1,7 @@
 use Rattle.std.proofs.Common.{◌≡◌, ◌++◌, map, take}
 use Rattle.jani_instance.specs.Parts.{automaton_at, owned_at}
-use Rattle.jani_instance.specs.Transients.{transient_at, transient_by}
+use Rattle.jani_instance.specs.Transients.{transient_by}
+use Rattle.jani_instance.specs.Shapes.{transient_at}
 use Rattle.jani_instance.specs.Views.{seen_in}
 use Rattle.jani_instance.proofs.transients.add_transients.Given as goal
 

@@ -1,6 +1,7 @@
 use Rattle.std.proofs.Common.{◌≡◌, ◌++◌, map, drop}
 use Rattle.jani_instance.specs.Parts.{automaton_at, owned_at}
-use Rattle.jani_instance.specs.Transients.{giver_at, giver_by}
+use Rattle.jani_instance.specs.Transients.{giver_by}
+use Rattle.jani_instance.specs.Shapes.{giver_at}
 use Rattle.process_core.specs.Instance.{numbered}
 use Rattle.jani_instance.proofs.transients.givers.Given as goal
 

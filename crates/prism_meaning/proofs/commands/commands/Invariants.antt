@@ -1,9 +1,10 @@
 use Rattle.std.proofs.Common.{◌≡◌, map, take}
+use Rattle.expr_store.specs.Views.{seen_by, IsSame}
+use Rattle.instance_start.specs.Columns.{column_of}
+use Rattle.prism_meaning.specs.Prepared.{command_by}
 use Rattle.state_choices.specs.Trimmed.{trimmed}
-use Rattle.state_choices.specs.Views as choices
-use Rattle.prism_meaning.specs.Shapes.{command_under}
-use Rattle.prism_meaning.specs.Views.{columns_in, seen_in, commands_of}
+use Rattle.state_choices.specs.Views.{command_of}
 use Rattle.prism_meaning.proofs.commands.commands.Given as goal
 
 abbrev pub invariant-loop-command : goal.invariant-loop-command
-invariant-loop-command l = map choices.command_of l.all ≡ map (λ c. trimmed (command_under (columns_in l.run) (seen_in l.run) c)) (commands_of (take l.command-index l.commands))
+invariant-loop-command l = (map command_of l.all ≡ map (λ x. trimmed (command_by (map column_of l.columns) (seen_by l.fn.state) x)) (take l.command-index l.commands)) × IsSame l.fn.state l.state

@@ -1,24 +1,27 @@
-use Rattle.std.proofs.Common.{◌∙◌, ap}
-use Rattle.prism_tree.specs.Syntax as syntax
-use Rattle.op_trees.specs.Tree.{tree}
-use Rattle.prism_names.specs.Names.{see}
-use Rattle.prism_flat.specs.Moment.{place_of}
-use Rattle.process_core.specs.Instance.{fits_in}
-use Rattle.gathering.proofs.Loops.{mapped_more}
-use Rattle.state_choices.specs.Views.{seen_of, write_of}
+use Rattle.std.proofs.Common.{◌∙◌, ap, map, get_or}
+use Rattle.basics.specs.Lists.{at_take_all}
+use Rattle.expr_store.specs.Views.{seen_by, same_by, same_none, same_then}
+use Rattle.std.proofs.lemmas.List.{get_or_default}
+use Rattle.prism_meaning.specs.declared.data.PreparedWrite.{PreparedWrite}
+use Rattle.instance_start.specs.Columns.{column_of}
+use Rattle.prism_meaning.specs.Prepared.{write_by}
 use Rattle.state_choices.specs.Trimmed.{trimmed_write}
-use Rattle.prism_meaning.specs.Shapes.{write_under}
-use Rattle.prism_meaning.specs.Views.{columns_in, seen_in}
-use Rattle.prism_meaning.proofs.Trimming.{write_seen}
+use Rattle.state_choices.specs.Views.{write_of}
+use Rattle.prism_meaning.proofs.Evaluating.{seen_more}
 use Rattle.prism_meaning.proofs.commands.writes.Goals as goal
+
+pub loop-write-init : goal.loop-write-init
+loop-write-init c = (ap (map write_of) c.in_ok-all.ensures, same_none c.args.state.now)
 
 pub loop-write-preserved : goal.loop-write-preserved
 loop-write-preserved c =
-    let cs = columns_in c.args.run.now in
-    let names = seen_in c.args.run.now in
-    mapped_more write_of (λ w. trimmed_write (write_under cs names w)) syntax.write_of c.args.writes.now c.loop-write.all c.push.new.self
-    c.loop-write.write-index c.write-item.result _ c.loop-write-test.true c.write-item.is c.loop-write.invariant
-    (write_seen cs c.column_of-column.result (place_of cs c.write-item.result.name.name) (see (tree c.write-item.result.value) names) c.value_of-value.result c.fits_in-fits.result
-    (c.column_of-column.ensures ∙ ap (place_of cs) c.as_str.ensures) c.value_of-value.ensures
-    (c.fits_in-fits.ensures ∙ ap (λ d. fits_in d (seen_of c.value_of-value.result).value) c.domain_at.ensures))
-    c.in_ok-push.ensures.ok
+    let x : PreparedWrite = get_or c.args.writes.now c.loop-write.write-index (record { column = 0; value = record { number = 0 } }) in (
+      seen_more write_of (λ at x. trimmed_write (write_by (map column_of c.args.columns.now) at x)) c.args.writes.now c.loop-write.write-index x c.loop-write.all c.push.new.self c.write_under-one.result (seen_by c.args.state.now) (seen_by c.loop-write.state)
+          c.loop-write-test.true (get_or_default c.args.writes.now c.loop-write.write-index _ _ c.loop-write-test.true) (same_by c.loop-write.invariant.1) c.loop-write.invariant.0 c.in_ok-push.ensures.ok
+          c.write_under-one.ensures.value,
+      same_then c.loop-write.invariant.1 c.write_under-one.ensures.same,
+    )
+
+pub returns : goal.returns
+returns c =
+    (c.loop-write.invariant.0 ∙ at_take_all (map (λ x. trimmed_write (write_by (map column_of c.args.columns.now) (seen_by c.args.state.now) x))) c.args.writes.now c.loop-write.write-index c.loop-write-test.false, c.loop-write.invariant.1)

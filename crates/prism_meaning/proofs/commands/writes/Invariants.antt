@@ -1,10 +1,10 @@
 use Rattle.std.proofs.Common.{◌≡◌, map, take}
+use Rattle.expr_store.specs.Views.{seen_by, IsSame}
+use Rattle.instance_start.specs.Columns.{column_of}
+use Rattle.prism_meaning.specs.Prepared.{write_by}
 use Rattle.state_choices.specs.Trimmed.{trimmed_write}
-use Rattle.state_choices.specs.Views as choices
-use Rattle.prism_tree.specs.Syntax as syntax
-use Rattle.prism_meaning.specs.Shapes.{write_under}
-use Rattle.prism_meaning.specs.Views.{columns_in, seen_in}
+use Rattle.state_choices.specs.Views.{write_of}
 use Rattle.prism_meaning.proofs.commands.writes.Given as goal
 
 abbrev pub invariant-loop-write : goal.invariant-loop-write
-invariant-loop-write l = map choices.write_of l.all ≡ map (λ w. trimmed_write (write_under (columns_in l.run) (seen_in l.run) w)) (map syntax.write_of (take l.write-index l.writes))
+invariant-loop-write l = (map write_of l.all ≡ map (λ x. trimmed_write (write_by (map column_of l.columns) (seen_by l.fn.state) x)) (take l.write-index l.writes)) × IsSame l.fn.state l.state

@@ -1,19 +1,24 @@
 use Rattle.std.proofs.Common.{◌∙◌, ap, map}
 use Rattle.state_choices.specs.Views.{sum_of}
 use Rattle.state_choices.specs.Trimmed.{computed_sum, trimmed}
-use Rattle.prism_meaning.specs.Shapes.{command_under, sum_under}
-use Rattle.prism_meaning.specs.Views.{columns_in, seen_in, commands_of, items_of}
+use Rattle.instance_start.specs.Columns.{column_of}
+use Rattle.expr_store.specs.Views.{seen_by, same_by, same_then}
+use Rattle.prism_meaning.specs.Prepared.{command_by, sum_by}
 use Rattle.prism_meaning.proofs.Trimming.{same_group, sums_seen, lists_seen}
 use Rattle.prism_meaning.proofs.groups.evaluated_under.Goals as goal
 
 pub returns : goal.returns
 returns c =
-    let cs = columns_in c.args.run.now in
-    let names = seen_in c.args.run.now in
-    let g = c.args.shape.now in
-    same_group _ _ _ _ _
-    (ap (map sum_of) (c.in_ok-rewards.ensures ∙ ap (map (λ is. computed_sum (sum_under names (items_of is.items)))) c.as_slice-2.ensures.value)
-    ∙ sums_seen (λ is. items_of is.items) (sum_under names) g.rewards.items)
-    (c.in_ok-lists.ensures
-    ∙ ap (map (λ l. map (λ c. trimmed (command_under cs names c)) (commands_of l.items))) c.as_slice.ensures.value
-    ∙ lists_seen (λ l. commands_of l.items) (command_under cs names) trimmed g.lists.items)
+    let cs = map column_of c.args.columns.now in
+    let at = seen_by c.args.state.now in
+    let g = c.args.shape.now in (
+      same_group _ _ _ _ _
+          (ap (map sum_of)
+          (c.in_ok-rewards.ensures.0 ∙ ap (map (λ is. computed_sum (sum_by (seen_by c.lists.new.state) is.items))) c.as_slice-2.ensures.value
+          ∙ ap (λ a. map (λ is. computed_sum (sum_by a is.items)) g.rewards.items) (same_by c.in_ok-lists.ensures.1))
+          ∙ sums_seen (λ is. is.items) (sum_by at) g.rewards.items)
+          (c.in_ok-lists.ensures.0
+          ∙ ap (map (λ l. map (λ k. trimmed (command_by cs at k)) l.items)) c.as_slice.ensures.value
+          ∙ lists_seen (λ l. l.items) (command_by cs at) trimmed g.lists.items),
+      same_then c.in_ok-lists.ensures.1 c.in_ok-rewards.ensures.1,
+    )

@@ -1,25 +1,34 @@
-use Rattle.std.proofs.Common.{◌∙◌, ◌∷◌, [], ◌++◌, refl, sym, ap}
-use Rattle.op_trees.specs.Tree.{tree}
+use Rattle.std.proofs.Common.{◌∙◌, ◌∷◌, [], ◌++◌, refl, sym, ap, get_or}
+use Rattle.std.proofs.lemmas.List.{get_or_default}
+use Rattle.process_core.specs.Answers.{only_wide}
 use Rattle.process_core.specs.Choices.{truth_of}
 use Rattle.process_core.specs.declared.data.Mark.TheVariants.{Truth}
-use Rattle.prism_names.specs.Names.{see}
-use Rattle.prism_tree.specs.declared.syntax.PrismLabel.{PrismLabel}
+use Rattle.state_choices.specs.Trimmed.{computed}
 use Rattle.state_choices.proofs.Gathering.{gathered_none, gathered_more, gathered_all}
-use Rattle.process_core.specs.Answers.{only_wide}
-use Rattle.prism_meaning.specs.Views.{seen_in}
+use Rattle.expr_store.specs.Views.{seen_by, same_by, same_none, same_then}
+use Rattle.expr_store.specs.declared.node.ExprId.{ExprId}
 use Rattle.prism_meaning.proofs.Found.{each_one, narrow_seen, value_seen}
 use Rattle.prism_meaning.proofs.marks.add_labels.Goals as goal
 
 pub loop-label-init : goal.loop-label-init
-loop-label-init c = gathered_none (λ (x : PrismLabel). (see (tree x.body) (seen_in c.args.run.now)).wide) (λ (x : PrismLabel). Truth (truth_of (see (tree x.body) (seen_in c.args.run.now)).value) ∷ []) c.args.labels.now c.args.marks.now _ refl
+loop-label-init c =
+    let at = seen_by c.args.state.now in
+    (gathered_none (λ (id : ExprId). (at id).wide) (λ (id : ExprId). Truth (truth_of (at id).value) ∷ []) c.args.labels.now c.args.marks.now _ refl, same_none c.args.state.now)
 
 pub loop-label-preserved : goal.loop-label-preserved
 loop-label-preserved c =
-    gathered_more (λ (x : PrismLabel). (see (tree x.body) (seen_in c.args.run.now)).wide) (λ (x : PrismLabel). Truth (truth_of (see (tree x.body) (seen_in c.args.run.now)).value) ∷ []) c.args.labels.now c.args.marks.now c.loop-label.label-index
-    c.label-item.result c.loop-label.marks c.push.new.self c.loop-label-test.true c.label-item.is (narrow_seen (see (tree c.label-item.result.body) (seen_in c.args.run.now)) _ c.value_of-value.ensures (sym c.is_wide.ensures ∙ c.if-is_wide.false))
-    (c.in_ok-push.ensures.ok ∙ ap (λ m. c.loop-label.marks ++ Truth m ∷ []) (c.truth_in.ensures ∙ ap truth_of (value_seen (see (tree c.label-item.result.body) (seen_in c.args.run.now)) _ c.value_of-value.ensures (sym c.is_wide.ensures ∙ c.if-is_wide.false)))) c.loop-label.invariant
+    let at = seen_by c.args.state.now in
+    let id : ExprId = get_or c.args.labels.now c.loop-label.label-index (record { number = 0 }) in
+    let value = c.value-value.ensures.value ∙ ap (λ see. computed (see id)) (same_by c.loop-label.invariant.1) in
+    let narrow = sym c.is_wide.ensures ∙ c.if-is_wide.false in (
+      gathered_more (λ (id : ExprId). (at id).wide) (λ (id : ExprId). Truth (truth_of (at id).value) ∷ []) c.args.labels.now c.args.marks.now c.loop-label.label-index
+          id c.loop-label.marks c.push.new.self c.loop-label-test.true (get_or_default c.args.labels.now c.loop-label.label-index _ _ c.loop-label-test.true) (narrow_seen (at id) _ value narrow)
+          (c.in_ok-push.ensures.ok ∙ ap (λ m. c.loop-label.marks ++ Truth m ∷ []) (c.truth_in.ensures ∙ ap truth_of (value_seen (at id) _ value narrow))) c.loop-label.invariant.0,
+      same_then c.loop-label.invariant.1 c.value-value.ensures.same,
+    )
 
-pub returns : goal.returns
-returns c =
-    let all = gathered_all (λ (x : PrismLabel). (see (tree x.body) (seen_in c.args.run.now)).wide) (λ (x : PrismLabel). Truth (truth_of (see (tree x.body) (seen_in c.args.run.now)).value) ∷ []) c.args.labels.now c.args.marks.now c.loop-label.label-index c.loop-label.marks c.loop-label-test.false c.loop-label.invariant in
-    (ap only_wide all.0, all.1 ∙ ap (λ l. c.args.marks.now ++ l) (each_one (λ (x : PrismLabel). Truth (truth_of (see (tree x.body) (seen_in c.args.run.now)).value)) c.args.labels.now))
+pub returns-clause-marks : goal.returns-clause-marks
+returns-clause-marks c =
+    let at = seen_by c.args.state.now in
+    let all = gathered_all (λ (id : ExprId). (at id).wide) (λ (id : ExprId). Truth (truth_of (at id).value) ∷ []) c.args.labels.now c.args.marks.now c.loop-label.label-index c.loop-label.marks c.loop-label-test.false c.loop-label.invariant.0 in
+    (ap only_wide all.0, all.1 ∙ ap (λ l. c.args.marks.now ++ l) (each_one (λ (id : ExprId). Truth (truth_of (at id).value)) c.args.labels.now))

@@ -1,0 +1,66 @@
+use Rattle.std.proofs.Common.{sym, ap, subst, ◌∙◌}
+use Rattle.std.proofs.lemmas.Result.{IfOk-weaker}
+use Rattle.std.specs.Prelude.{IfOk}
+use Rattle.op_trees.specs.Tree.{tree}
+use Rattle.expr_store.specs.NodeLaws.{grown_then, stands_later}
+use Rattle.expr_store.specs.Nodes.{Holds, Stands}
+use Rattle.expr_store.specs.Views.{nodes}
+use Rattle.expr_store.specs.declared.node.Node.TheVariants.{Truth, Number, Name}
+use Rattle.expr_store.proofs.Standing.{truth_stands, number_stands, name_stands}
+use Rattle.expr_store.proofs.store.ExprStore.+put.Goals as goal
+
+pub returns-in-Truth-clause-stands : goal.returns-in-Truth-clause-stands
+returns-in-Truth-clause-stands g t c =
+    let m = g.O.Operator.meaning in
+    let places = g.S.Scope.places c.args.scope.now in
+    let new = nodes c.put_node.new.self in
+    IfOk-weaker c.put_node.result (λ id. Holds new id.number (Truth c.in-Truth.b)) (λ id. Stands m places new id.number (tree c.args.e.now))
+    (λ id k. subst (Stands m places new id.number) (sym (ap tree c.in-Truth.is)) (truth_stands m places new new id.number c.in-Truth.field-0 c.in-Truth.b k))
+    c.put_node.ensures.holds
+
+pub returns-in-Number-clause-stands : goal.returns-in-Number-clause-stands
+returns-in-Number-clause-stands g t c =
+    let m = g.O.Operator.meaning in
+    let places = g.S.Scope.places c.args.scope.now in
+    let new = nodes c.put_node-in-Number.new.self in
+    IfOk-weaker c.put_node-in-Number.result (λ id. Holds new id.number (Number c.in-Number.d)) (λ id. Stands m places new id.number (tree c.args.e.now))
+    (λ id k. subst (Stands m places new id.number) (sym (ap tree c.in-Number.is)) (number_stands m places new new id.number c.in-Number.field-0 c.in-Number.d k))
+    c.put_node-in-Number.ensures.holds
+
+pub returns-in-Name-clause-stands : goal.returns-in-Name-clause-stands
+returns-in-Name-clause-stands g t c =
+    let m = g.O.Operator.meaning in
+    let places = g.S.Scope.places c.args.scope.now in
+    let new = nodes c.put_node-in-Name.new.self in
+    let there = c.place.ensures ∙ ap places c.as_str.ensures in
+    IfOk-weaker c.put_node-in-Name.result (λ id. Holds new id.number (Name c.place.result)) (λ id. Stands m places new id.number (tree c.args.e.now))
+    (λ id k. subst (Stands m places new id.number) (sym (ap tree c.in-Name.is)) (name_stands m places new new id.number c.in-Name.field-0 c.in-Name.x (subst (λ p. Holds new id.number (Name p)) there k)))
+    c.put_node-in-Name.ensures.holds
+
+pub returns-in-Two-clause-stands : goal.returns-in-Two-clause-stands
+returns-in-Two-clause-stands g t c =
+    let m = g.O.Operator.meaning in
+    let places = g.S.Scope.places c.args.scope.now in
+    let before = nodes c.put-second.new.self in
+    let new = nodes c.put_two.new.self in
+    let first = IfOk-weaker c.put-first-in-Two.result (λ id. Stands m places (nodes c.put-first-in-Two.new.self) id.number (tree c.deref-in-Two.result.now)) (λ id. Stands m places before id.number (tree c.in-Two.a.value))
+    (λ id s. subst (λ e. Stands m places before id.number (tree e)) c.deref-in-Two.ensures (stands_later c.put-second.ensures.grows s)) c.put-first-in-Two.ensures.stands in
+    let second = subst (λ e. IfOk c.put-second.result (λ id. Stands m places before id.number (tree e))) c.deref-in-Two-2.ensures c.put-second.ensures.stands in
+    subst (λ e. IfOk c.put_two.result (λ id. Stands m places new id.number e)) (sym (ap tree c.in-Two.is))
+    (c.put_two.ensures.stands places c.in-Two.field-0 (tree c.in-Two.a.value) (tree c.in-Two.b.value) first second)
+
+pub returns-in-Three-clause-stands : goal.returns-in-Three-clause-stands
+returns-in-Three-clause-stands g t c =
+    let m = g.O.Operator.meaning in
+    let places = g.S.Scope.places c.args.scope.now in
+    let one = nodes c.put-first-in-Three.new.self in
+    let two = nodes c.put-second-in-Three.new.self in
+    let before = nodes c.put-third.new.self in
+    let new = nodes c.put_three.new.self in
+    let first = IfOk-weaker c.put-first-in-Three.result (λ id. Stands m places one id.number (tree c.deref-in-Three.result.now)) (λ id. Stands m places before id.number (tree c.in-Three.a.value))
+    (λ id s. subst (λ e. Stands m places before id.number (tree e)) c.deref-in-Three.ensures (stands_later (grown_then c.put-second-in-Three.ensures.grows c.put-third.ensures.grows) s)) c.put-first-in-Three.ensures.stands in
+    let second = IfOk-weaker c.put-second-in-Three.result (λ id. Stands m places two id.number (tree c.deref-in-Three-2.result.now)) (λ id. Stands m places before id.number (tree c.in-Three.b.value))
+    (λ id s. subst (λ e. Stands m places before id.number (tree e)) c.deref-in-Three-2.ensures (stands_later c.put-third.ensures.grows s)) c.put-second-in-Three.ensures.stands in
+    let third = subst (λ e. IfOk c.put-third.result (λ id. Stands m places before id.number (tree e))) c.deref-in-Three-3.ensures c.put-third.ensures.stands in
+    subst (λ e. IfOk c.put_three.result (λ id. Stands m places new id.number e)) (sym (ap tree c.in-Three.is))
+    (c.put_three.ensures.stands places c.in-Three.field-0 (tree c.in-Three.a.value) (tree c.in-Three.b.value) (tree c.in-Three.c.value) first second third)

@@ -1,0 +1,15 @@
+//! The expressions of an instance, each different subexpression once, with names resolved to places; and their values in a state,
+//! where what is shared is evaluated once.
+#![tactic(auto)]
+
+mod answers;
+mod evaluation;
+mod finding;
+mod node;
+mod put;
+mod store;
+
+pub use evaluation::Evaluation;
+pub use node::{ExprId, Node};
+pub use put::Scope;
+pub use store::ExprStore;

@@ -1,0 +1,66 @@
+//! The nodes of expressions.
+ghost use Rattle.std.specs.Prelude.{◌≡◌, IsTrue};
+ghost use Rattle.expr_store.specs.Nodes.{is_behind};
+
+use frac_core::Decimal;
+use instance_start::Place;
+use op_trees::Operator;
+
+/// A node: a literal, the place of a name, or an operator over nodes, each by its number.
+#[derive(Clone, Copy)]
+pub enum Node<O> {
+    Truth(bool),
+    Number(Decimal),
+    Name(Option<Place>),
+    One(O, usize),
+    Two(O, usize, usize),
+    Three(O, usize, usize, usize),
+}
+
+/// The number of a node.
+#[derive(Clone, Copy)]
+pub struct ExprId {
+    pub number: usize,
+}
+
+/// Whether the operands of a node all stand before this number.
+pub(crate) fn is_behind<O: Operator>(i: usize, node: &Node<O>) -> bool
+    ensures { result ≡ is_behind i node.now }
+{
+    match node {
+        Node::Truth(_) => true,
+        Node::Number(_) => true,
+        Node::Name(_) => true,
+        Node::One(_, a) => *a < i,
+        Node::Two(_, a, b) => *a < i && *b < i,
+        Node::Three(_, a, b, c) => *a < i && *b < i && *c < i,
+    }
+}
+
+/// Whether two nodes are the same.
+pub(crate) fn are_same<O: Operator>(x: &Node<O>, y: &Node<O>) -> bool
+    ensures { IsTrue result → x.now ≡ y.now }
+{
+    match (x, y) {
+        (Node::Truth(b), Node::Truth(c)) => *b == *c,
+        (Node::Number(d), Node::Number(e)) => *d == *e,
+        (Node::Name(p), Node::Name(q)) => are_same_places(*p, *q),
+        (Node::One(o, a), Node::One(p, b)) => *o == *p && *a == *b,
+        (Node::Two(o, a, b), Node::Two(p, c, d)) => *o == *p && *a == *c && *b == *d,
+        (Node::Three(o, a, b, c), Node::Three(p, d, e, f)) => {
+            *o == *p && *a == *d && *b == *e && *c == *f
+        }
+        _ => false,
+    }
+}
+
+fn are_same_places(p: Option<Place>, q: Option<Place>) -> bool
+    ensures { IsTrue result → p ≡ q }
+{
+    match (p, q) {
+        (None, None) => true,
+        (Some(Place::Constant(i)), Some(Place::Constant(j))) => i == j,
+        (Some(Place::Variable(i)), Some(Place::Variable(j))) => i == j,
+        _ => false,
+    }
+}

@@ -1,0 +1,19 @@
+use Rattle.expr_store.specs.Views.{nodes}
+use Rattle.jani_instance.specs.Prepared.{places_at, see_from}
+use Rattle.jani_instance.specs.Shapes.{transient_as}
+use Rattle.jani_instance.proofs.Prepared.{prepared_begin, prepared_more, prepared_all}
+use Rattle.jani_instance.proofs.prepare.transients.Goals as goal
+
+pub loop-one-init : goal.loop-one-init
+loop-one-init c = prepared_begin (λ look. transient_as (λ i. look)) (λ at. transient_as (λ i. see_from (places_at c.args.elements.now c.args.places.now i) at)) c.args.these.now (nodes c.args.store.now) _ c.in_ok-all.ensures.items
+
+pub loop-one-preserved : goal.loop-one-preserved
+loop-one-preserved c =
+    prepared_more (λ look. transient_as (λ i. look)) (λ at. transient_as (λ i. see_from (places_at c.args.elements.now c.args.places.now i) at)) c.args.these.now (nodes c.args.store.now) (nodes c.loop-one.store) _
+    c.loop-one.one-index c.one-item.result c.loop-one.all.items c.push.new.self.items _ c.loop-one-test.true c.one-item.is c.loop-one.invariant c.in_ok-push.ensures.items
+    c.in_ok-transient.ensures
+
+pub returns : goal.returns
+returns c =
+    prepared_all (λ look. transient_as (λ i. look)) (λ at. transient_as (λ i. see_from (places_at c.args.elements.now c.args.places.now i) at)) c.args.these.now (nodes c.args.store.now) (nodes c.loop-one.store)
+    c.loop-one.one-index c.loop-one.all.items c.loop-one-test.false c.loop-one.invariant

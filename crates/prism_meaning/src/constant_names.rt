@@ -1,0 +1,43 @@
+//! The values of expressions by those of the constants, before there is a state.
+ghost use Rattle.std.specs.Prelude.{◌≡◌};
+ghost use Rattle.op_trees.specs.Tree.{tree};
+ghost use Rattle.prism_names.specs.Names.{see};
+ghost use Rattle.state_choices.specs.Trimmed.{computed};
+ghost use Rattle.prism_meaning.specs.Views.{seen_in};
+
+use instance_start::{Place, type_of, value_at};
+use name_rules::NameMap;
+use op_trees::{EvalFail, Names, Ty, Value, eval};
+use prism_tree::Pe;
+
+/// The constants, without a state: where names stand, and the values of the constants.
+#[derive(Clone, Copy)]
+pub(crate) struct ConstantNames<'a> {
+    pub(crate) places: &'a NameMap<'a, Place>,
+    pub(crate) table: &'a [Option<Value>],
+}
+
+impl<'a> Names for ConstantNames<'a> {
+    ghost use Rattle.prism_meaning.specs.Views.{types_agree, types_in, values_in};
+
+    ghost values = { values_in };
+
+    ghost types = { types_in };
+
+    ghost typed = { types_agree };
+
+    fn value(&self, name: &str) -> Option<Value> {
+        value_at(&[], self.table, self.places.get(name))
+    }
+
+    fn ty(&self, name: &str) -> Option<Ty> {
+        type_of(self.value(name))
+    }
+}
+
+/// The value of an expression: `Wide` exactly where something is that it needs, else `Undef` exactly where it is undefined.
+pub(crate) fn value_of(e: &Pe, names: &ConstantNames) -> Result<Value, EvalFail>
+    ensures { result ≡ computed (see (tree e.now) (seen_in names.now)) }
+{
+    eval(e, names)
+}
