@@ -1,0 +1,13 @@
+use Rattle.row_check.proofs.RowLines.{other_number, state_line_read}
+use Rattle.row_check.proofs.row_files.StateFormLineFormState.read.Goals as goal
+
+pub returns-then-not-is_number-clause-line : goal.returns-then-not-is_number-clause-line
+returns-then-not-is_number-clause-line c =
+    let p = c.in-Some.parts in
+    other_number c.args.before.now c.args.line.now p.0.now p.1.now c.in-Some.ensures.0 c.in-Some.ensures.1
+    (λ i. let yes = c.is_number.ensures.1 i in let no = c.if-not-is_number.true in absurd cc)
+
+pub returns-clause-line : goal.returns-clause-line
+returns-clause-line c =
+    let p = c.in-Some.parts in
+    state_line_read c.args.before.now c.args.line.now p.0.now p.1.now c.in-Some.ensures.0 c.in-Some.ensures.1 (c.is_number.ensures.0 c.if-not-is_number.false) c.state_of.result c.state_of.ensures

@@ -1,0 +1,13 @@
+pub mod Judging
+pub mod Paths
+pub mod Index
+pub mod Merging
+pub mod Keys
+pub mod Rows
+pub mod Walked
+pub mod Lines
+pub mod Texts
+pub mod Forms
+pub mod Targets
+pub mod Checks
+pub mod Laws

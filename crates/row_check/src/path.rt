@@ -1,0 +1,97 @@
+// The verdict on a path.
+
+ghost use Rattle.std.specs.Prelude.{◌≡◌, ◌<◌, ◌^◌, ◌&&◌, suc, IfOk, IsTrue, length, map};
+ghost use Rattle.process_core.specs.Equal.{equal_states};
+ghost use Rattle.process_core.specs.Seen.{seen_branch, seen_choice, seen_outcome};
+ghost use Rattle.row_check.specs.Judging.{Judges};
+ghost use Rattle.row_check.specs.Paths.{JudgesPath, JudgesStep, any_leads_to, is_positive, is_step, leads_to};
+
+use crate::data::{ReadPath, Verdict, Why};
+use bridge_io::{List, Text};
+use process_core::{Branch, Choice, Outcome, State, StepFail, Steps, same_label, same_state};
+use std::alloc::{AllocError, Global};
+
+/// The first failure of a path, or `Yes`.
+pub fn judge_path<S: Steps>(alloc: Global, s: &S, path: &ReadPath) -> Result<Verdict, AllocError>
+    requires { length path.now.states ≡ suc (length path.now.labels) }
+    ensures { IfOk result (Judges (JudgesPath (S.process s.now) path.now)) }
+{
+    let states = path.states.as_slice();
+    match s.initial(&states[0]) {
+        Err(_) => return Ok(Verdict::Wide(0)),
+        Ok(false) => return Ok(Verdict::No(Why::Step(0))),
+        Ok(true) => {}
+    }
+    for (k, label) in path.labels.as_slice().iter().enumerate() {
+        match judge_step(alloc, s, k, &states[k], label, &states[k + 1])? {
+            Some(verdict) => return Ok(verdict),
+            None => {}
+        }
+    }
+    Ok(Verdict::Yes)
+}
+
+/// What fails of the step from the state after `k` steps.
+fn judge_step<S: Steps>(
+    alloc: Global,
+    s: &S,
+    k: usize,
+    from: &State,
+    label: &Option<Text>,
+    to: &State,
+) -> Result<Option<Verdict>, AllocError>
+    requires state { IsTrue ((S.process s.now).is_state from.now.values) }
+    requires small { k < 2 ^ 63 }
+    ensures { IfOk result (JudgesStep (S.process s.now) k from.now.values label.now to.now.values) }
+{
+    match s.choices(alloc, from) {
+        Ok(choices) => {
+            if has_step(&choices, label, to) {
+                Ok(None)
+            } else {
+                Ok(Some(Verdict::No(Why::Step(k + 1))))
+            }
+        }
+        Err(StepFail::Wide) => Ok(Some(Verdict::Wide(k))),
+        Err(StepFail::TooMany) => Ok(Some(Verdict::TooMany(k))),
+        Err(StepFail::Memory(e)) => Err(e),
+    }
+}
+
+/// Whether a good choice with this label has a branch of positive probability to this state.
+fn has_step(choices: &List<Choice>, label: &Option<Text>, to: &State) -> bool
+    ensures { result ≡ is_step (map seen_choice choices.now) label.now to.now.values }
+{
+    for choice in choices.as_slice() {
+        if same_label(label, &choice.label) && leads_to(&choice.outcome, to) {
+            return true;
+        }
+    }
+    false
+}
+
+fn leads_to(outcome: &Outcome, to: &State) -> bool
+    ensures { result ≡ leads_to to.now.values (seen_outcome outcome.now) }
+{
+    match outcome {
+        Outcome::Good(branches) => any_leads_to(branches, to),
+        Outcome::Faulty(_) => false,
+    }
+}
+
+fn any_leads_to(branches: &List<Branch>, to: &State) -> bool
+    ensures { result ≡ any_leads_to to.now.values (map seen_branch branches.now) }
+{
+    for branch in branches.as_slice() {
+        if leads(branch, to) {
+            return true;
+        }
+    }
+    false
+}
+
+fn leads(branch: &Branch, to: &State) -> bool
+    ensures { result ≡ (is_positive branch.now.weight && equal_states to.now.values branch.now.target.values) }
+{
+    branch.weight.num() > 0 && same_state(to, &branch.target)
+}
