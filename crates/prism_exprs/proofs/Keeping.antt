@@ -17,7 +17,8 @@ pub of_name : {A : Type 0} (b : Bool) (k : TokenKind) (w : List ℕ) (at : ℕ) 
 of_name true k w at f x g h = g
 of_name false k w at f x g h = h
 
-of_literal : {A : Type 0} (bytes : List ℕ) (n : Option Literal) (at : ℕ) (f : TokenKind → A) (x : A) → ((l : Literal) → f (K.Number l.value) ≡ x) → f K.End ≡ x → f (literal_at bytes n at).kind ≡ x
+-- what is seen of a number that may be no literal
+pub of_literal : {A : Type 0} (bytes : List ℕ) (n : Option Literal) (at : ℕ) (f : TokenKind → A) (x : A) → ((l : Literal) → f (K.Number l.value) ≡ x) → f K.End ≡ x → f (literal_at bytes n at).kind ≡ x
 of_literal bytes None at f x g h = h
 of_literal bytes (Some l) at f x g h = g l
 

@@ -4,8 +4,8 @@ use Rattle.prism_lex.specs.declared.token.TokenKind.{TokenKind}
 use Rattle.prism_lex.specs.Tokens.{Lexeme}
 use Rattle.prism_tree.specs.Syntax.{Expression, Range}
 use Rattle.prism_tree.specs.Lang.{Lang, Begins}
-use Rattle.prism_tree.specs.Grammar.{expr, int_too}
-use Rattle.prism_tree.specs.Faults.{outer}
+use Rattle.prism_tree.specs.Grammar.{prim, expr, int_too}
+use Rattle.prism_tree.specs.Faults.{IsEarly, outer}
 use Rattle.prism_exprs.specs.declared.tokens.Tokens.{Tokens}
 use Rattle.prism_exprs.specs.declared.tokens.Cause.{Cause}
 use Rattle.prism_exprs.specs.declared.tokens.Cause.TheVariants as C
@@ -27,6 +27,18 @@ expressions_of (Some us) = outer us
 -- the expressions that stand inside no other
 abbrev pub expressions : Scope → Lang Expression
 expressions s = expressions_of s.counted
+
+-- the words of a language in which none of these tokens is number 1,025 or a later one
+unfoldable pub early : List Lexeme → Lang Expression → Lang Expression
+early us L w x = L w x × IsEarly us w
+
+abbrev pub in_limit : Lang Expression → Option (List Lexeme) → Lang Expression
+in_limit L None = L
+in_limit L (Some us) = early us L
+
+-- the operands that stand inside no other expression
+abbrev pub prims : Scope → Lang Expression
+prims s = in_limit (prim expr) s.counted
 
 -- what else may stand behind the colon of a variable
 abbrev pub also : Scope → Lang (Option Range)

@@ -177,7 +177,10 @@ fn parse_chain<'a>(
 
 /// `true | false | Number | Ident | ( E ) | min ( .. ) | max ( .. ) | floor ( E ) | ceil ( E ) | mod ( E , E )`
 #[cycle(expressions)]
-fn parse_prim<'a>(alloc: Global, tokens: Tokens<'a>) -> Result<(Pe, Tokens<'a>), Stop<'a>>
+pub(crate) fn parse_prim<'a>(
+    alloc: Global,
+    tokens: Tokens<'a>,
+) -> Result<(Pe, Tokens<'a>), Stop<'a>>
     ensures { Parses tree (prim expr) (more 0) (seen tokens.entry) result }
 {
     let Some((first, behind)) = tokens.found.split_first() else {

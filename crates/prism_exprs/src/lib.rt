@@ -7,6 +7,6 @@ mod limit;
 mod parts;
 mod tokens;
 
-pub use limit::parse_outer;
-pub use parts::{next_is, read_symbol};
+pub use limit::{parse_outer, parse_outer_prim};
+pub use parts::{function_of, next_is, read_symbol};
 pub use tokens::{Cause, Found, Kept, Literal, Source, Stop, Tokens};

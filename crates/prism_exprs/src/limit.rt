@@ -2,10 +2,10 @@
 ghost use Rattle.std.specs.Prelude.{◌≤◌, length, IfOk, IfErr};
 ghost use Rattle.op_trees.specs.Tree.{tree};
 ghost use Rattle.prism_exprs.specs.Kept.{seen};
-ghost use Rattle.prism_exprs.specs.Levels.{goes_on};
-ghost use Rattle.prism_exprs.specs.Scope.{ParsesIn, expressions, IsWithin, IsPast};
+ghost use Rattle.prism_exprs.specs.Levels.{more, goes_on};
+ghost use Rattle.prism_exprs.specs.Scope.{ParsesIn, expressions, prims, IsWithin, IsPast};
 
-use crate::expressions::parse_expr;
+use crate::expressions::{parse_expr, parse_prim};
 use crate::tokens::{Cause, Stop, Tokens};
 use prism_tree::Pe;
 use std::alloc::Global;
@@ -22,6 +22,26 @@ pub fn parse_outer<'a>(alloc: Global, tokens: Tokens<'a>) -> Result<(Pe, Tokens<
     let ahead = tokens.found.len().min(MOST + 1);
     let (front, _) = tokens.found.split_at(ahead);
     match parse_expr(alloc, tokens.with(front)) {
+        Ok((whole, rest)) => {
+            let behind = behind(tokens, ahead - rest.found.len())?;
+            Ok((whole, behind))
+        }
+        Err(Stop::At(rest, _)) => {
+            let stopped = behind(tokens, ahead - rest.found.len())?;
+            Err(Stop::At(stopped, Cause::Form))
+        }
+        Err(Stop::Memory) => Err(Stop::Memory),
+    }
+}
+
+/// An operand that stands inside no other expression, of at most 1,024 tokens, as `parse_outer` reads an expression. Behind it no
+/// `(` stands.
+pub fn parse_outer_prim<'a>(alloc: Global, tokens: Tokens<'a>) -> Result<(Pe, Tokens<'a>), Stop<'a>>
+    ensures { ParsesIn tree prims (more 0) (seen tokens.entry) result }
+{
+    let ahead = tokens.found.len().min(MOST + 1);
+    let (front, _) = tokens.found.split_at(ahead);
+    match parse_prim(alloc, tokens.with(front)) {
         Ok((whole, rest)) => {
             let behind = behind(tokens, ahead - rest.found.len())?;
             Ok((whole, behind))

@@ -143,7 +143,7 @@ pub(crate) fn closed<'a>(e: Pe, tokens: Tokens<'a>) -> Result<(Pe, Tokens<'a>), 
 }
 
 /// The function that an identifier names where `(` follows.
-pub(crate) fn function_of(name: &str) -> Option<PrismOp>
+pub fn function_of(name: &str) -> Option<PrismOp>
     ensures { result ≡ function_of name.now }
 {
     match name.as_bytes() {

@@ -1,5 +1,5 @@
 -- Languages that are the same, kinds that differ, and what a token closes.
-use Rattle.std.proofs.Common.{◌≡◌, Bool, true, false, List, [], ◌++◌, Some, None, refl, sym, ap, subst, ◌∙◌, append_assoc, inl, inr}
+use Rattle.std.proofs.Common.{◌≡◌, Bool, true, false, List, Some, None, refl, sym, subst, ◌∙◌, inl, inr}
 use Rattle.std.specs.Prelude.{◌⊎◌}
 use Rattle.std.proofs.lemmas.Bool.{or_left}
 use Rattle.basics.specs.Booleans.{second_false}
@@ -7,7 +7,7 @@ use Rattle.prism_lex.specs.declared.token.TokenKind.{TokenKind}
 use Rattle.prism_lex.specs.declared.token.TokenKind.TheVariants as K
 use Rattle.prism_lex.specs.declared.symbols.Symbol.TheVariants as S
 use Rattle.prism_lex.specs.Tokens.{Lexeme}
-use Rattle.prism_tree.specs.Lang.{Lang, token, gives, ◌>>=◌, ◌>>◌, optional}
+use Rattle.prism_tree.specs.Lang.{Lang, token, ◌>>=◌, ◌>>◌, optional}
 use Rattle.prism_exprs.specs.Reading.{none, is_kind, same_kind}
 use Rattle.prism_exprs.specs.Levels.{goes_on}
 use Rattle.prism_exprs.specs.Scope.{Scope, expressions}

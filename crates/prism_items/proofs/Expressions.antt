@@ -1,5 +1,5 @@
 -- The expressions that stand inside no other, in each scope.
-use Rattle.std.proofs.Common.{◌≡◌, ℕ, zero, suc, ◌≤◌, true, List, [], ◌∷◌, ◌++◌, Option, Some, None, refl, sym, ap, append-nil, arith, length, inl, inr}
+use Rattle.std.proofs.Common.{◌≡◌, ℕ, zero, suc, ◌≤◌, true, List, [], ◌∷◌, ◌++◌, Option, Some, None, refl, sym, append-nil, length, inl, inr}
 use Rattle.op_trees.specs.Tree.{Truth, Name}
 use Rattle.prism_lex.specs.declared.token.TokenKind.TheVariants as K
 use Rattle.prism_lex.specs.declared.words.Reserved.TheVariants as W
@@ -10,7 +10,7 @@ use Rattle.prism_tree.specs.declared.operator.PrismOp.{PrismOp}
 use Rattle.prism_tree.specs.Syntax.{Expression, moved}
 use Rattle.prism_tree.specs.Lang.{token, gives, folding, ◌>>=◌, ◌or◌, many}
 use Rattle.prism_tree.specs.Grammar.{truth, parenthesised, name_or_call, prefix_at, prefixed, chain, over_prefix, prim, level, conditional, expr}
-use Rattle.prism_tree.specs.Faults.{IsEarly, outer}
+use Rattle.prism_tree.specs.Faults.{outer}
 use Rattle.prism_exprs.specs.Scope.{expressions_of}
 use Rattle.prism_exprs.proofs.Exprs.{expr-conditional}
 use Rattle.prism_exprs.proofs.Outer.{early_short}

@@ -15,11 +15,12 @@ use Rattle.prism_exprs.specs.declared.tokens.Literal.{Literal}
 use Rattle.prism_exprs.specs.declared.tokens.Kept.{Kept}
 use Rattle.prism_exprs.specs.declared.tokens.Kept.TheVariants as H
 use Rattle.std.specs.Str.{is_utf8}
-use Rattle.prism_exprs.specs.Kept.{lexeme_at, lexeme_by, literal_at, in_row, made, text_at}
+use Rattle.prism_exprs.specs.Kept.{lexeme_at, lexeme_by, in_row, made, text_at}
 use Rattle.prism_exprs.specs.Reading.{none, Reads, starts, is_kind, same_kind}
 use Rattle.prism_exprs.specs.Scope.{Scope, Halts}
 use Rattle.prism_exprs.proofs.Laws.{none_follows, token_word, gives_word, then_word, then_reads, token_reads, gives_reads}
 use Rattle.prism_exprs.proofs.Choice.{then_barred, token_barred}
+use Rattle.prism_exprs.proofs.Keeping.{of_name, of_literal}
 use Rattle.prism_exprs.proofs.Loops.{same_is, starts_not}
 use Rattle.prism_exprs.proofs.Symbols.{starts_empty}
 use Rattle.std.proofs.Common.{arith, Option}
@@ -85,14 +86,6 @@ text_other f k found xs x e h =
 
 -- ---- types
 
-kind_of_name : (b : Bool) (k : TokenKind) (w : List ℕ) (at : ℕ) → type_of k ≡ None → type_of (if b then made k w at else made K.End w at).kind ≡ None
-kind_of_name true k w at e = e
-kind_of_name false k w at e = refl
-
-kind_of_literal : (bytes : List ℕ) (n : Option Literal) (at : ℕ) → type_of (literal_at bytes n at).kind ≡ None
-kind_of_literal bytes None at = refl
-kind_of_literal bytes (Some l) at = refl
-
 word_type : (r : Reserved) → type_of (K.Word r) ≡ kept_type (H.Word r)
 word_type W.Int = refl
 word_type W.Double = refl
@@ -102,9 +95,9 @@ word_type r = refl
 pub type_kept : (bytes : List ℕ) (literals : List Literal) (k : Kept) (at size : ℕ) → type_of (lexeme_by bytes literals k at size).kind ≡ kept_type k
 type_kept bytes literals (H.Word r) at size = word_type r
 type_kept bytes literals (H.Symbol a) at size = refl
-type_kept bytes literals H.Ident at size = kind_of_name (is_utf8 (text_at bytes at size)) K.Ident (text_at bytes at size) at refl
-type_kept bytes literals H.Quoted at size = kind_of_name (is_utf8 (text_at bytes at size)) K.Quoted (text_at bytes at size) at refl
-type_kept bytes literals (H.Number row) at size = kind_of_literal bytes (in_row literals row size) at
+type_kept bytes literals H.Ident at size = of_name (is_utf8 (text_at bytes at size)) K.Ident (text_at bytes at size) at type_of None refl refl
+type_kept bytes literals H.Quoted at size = of_name (is_utf8 (text_at bytes at size)) K.Quoted (text_at bytes at size) at type_of None refl refl
+type_kept bytes literals (H.Number row) at size = of_literal bytes (in_row literals row size) at type_of None (λ l. refl) refl
 
 pub type_seen : (bytes : List ℕ) (literals : List Literal) (found xs : List Found) (x : Found) (ty : Option Ty) → found ≡ x ∷ xs → ty ≡ kept_type x.kind →
     type_front (map (lexeme_at bytes literals) found) ≡ behind_type ty (lexeme_at bytes literals x) (map (lexeme_at bytes literals) xs)

@@ -152,7 +152,7 @@ pub(crate) fn read_name<'a>(
 }
 
 /// What stands between the first byte of a text and its last; none where this is no text.
-fn between(text: &str) -> Option<&str>
+pub fn between(text: &str) -> Option<&str>
     ensures { IfSome result (λ inner. inner.now ≡ unquoted text.now) }
 {
     let (_, behind) = text.as_bytes().split_first()?;

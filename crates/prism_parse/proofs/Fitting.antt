@@ -23,7 +23,7 @@ pub fault_fits : (bytes : List ℕ) (from : ℕ) (f : Fault) → from ≤ length
 fault_fits bytes from f h (refused l n a e) = let w = next_fits bytes from l h n in omega (arith, w.0, e)
 fault_fits bytes from f h (no_token s e) = stuck_fits bytes from f.at h s
 
-token_fits : (bytes : List ℕ) (from : ℕ) (us : List Lexeme) (t : Lexeme) (rest : List Lexeme) (e : Ending) → from ≤ length bytes → Reads bytes from (us ++ t ∷ rest) e → t.at ≤ length bytes
+pub token_fits : (bytes : List ℕ) (from : ℕ) (us : List Lexeme) (t : Lexeme) (rest : List Lexeme) (e : Ending) → from ≤ length bytes → Reads bytes from (us ++ t ∷ rest) e → t.at ≤ length bytes
 token_fits bytes from [] t rest e h r = (next_fits bytes from t h r.0).0
 token_fits bytes from (u ∷ us) t rest e h r = token_fits bytes (end_of u) us t rest e (next_fits bytes from u h r.0).1 r.1
 

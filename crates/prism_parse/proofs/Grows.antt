@@ -12,14 +12,14 @@ use Rattle.prism_tree.specs.Grammar as grammar
 pub record Grows {A : Type 0} (L M : Lang A) : Type 0 where
   pub grows : (w : List Lexeme) (x : A) → L w x → M w x
 
-self_grows : {A : Type 0} (L : Lang A) → Grows L L
+pub self_grows : {A : Type 0} (L : Lang A) → Grows L L
 self_grows L = record { grows = λ w x h. h }
 
-then_grows : {A B : Type 0} {L M : Lang A} {P Q : A → Lang B} → Grows L M → ((x : A) → Grows (P x) (Q x)) → Grows (L >>= P) (M >>= Q)
+pub then_grows : {A B : Type 0} {L M : Lang A} {P Q : A → Lang B} → Grows L M → ((x : A) → Grows (P x) (Q x)) → Grows (L >>= P) (M >>= Q)
 unfolding ◌>>=◌
 then_grows g h = record { grows = λ w y p. (p.0, p.1, p.2, p.3, g.grows p.1 p.0 p.4, (h p.0).grows p.2 y p.5) }
 
-or_grows : {A : Type 0} {L M P Q : Lang A} → Grows L M → Grows P Q → Grows (L or P) (M or Q)
+pub or_grows : {A : Type 0} {L M P Q : Lang A} → Grows L M → Grows P Q → Grows (L or P) (M or Q)
 unfolding ◌or◌
 or_grows {A} {L} {M} {P} {Q} g h = record { grows = λ w x p. go w x p }
   where
@@ -27,7 +27,7 @@ or_grows {A} {L} {M} {P} {Q} g h = record { grows = λ w x p. go w x p }
     go w x (inl a) = inl (g.grows w x a)
     go w x (inr b) = inr (h.grows w x b)
 
-many_grows : {A : Type 0} {L M : Lang A} → Grows L M → Grows (many L) (many M)
+pub many_grows : {A : Type 0} {L M : Lang A} → Grows L M → Grows (many L) (many M)
 unfolding many
 many_grows {A} {L} {M} g = record { grows = λ w xs p. go xs w p }
   where
@@ -39,11 +39,11 @@ folding_grows : {S A : Type 0} {L M : Lang A} (f : S → A → S) (s : S) → Gr
 unfolding folding
 folding_grows f s g = then_grows (many_grows g) (λ xs. self_grows _)
 
-optional_grows : {A : Type 0} {L M : Lang A} → Grows L M → Grows (optional L) (optional M)
+pub optional_grows : {A : Type 0} {L M : Lang A} → Grows L M → Grows (optional L) (optional M)
 optional_grows g = or_grows (self_grows _) (then_grows g (λ x. self_grows _))
 
 -- the first part stays as it is
-skip : {A B : Type 0} {P Q : A → Lang B} (L : Lang A) → ((x : A) → Grows (P x) (Q x)) → Grows (L >>= P) (L >>= Q)
+pub skip : {A B : Type 0} {P Q : A → Lang B} (L : Lang A) → ((x : A) → Grows (P x) (Q x)) → Grows (L >>= P) (L >>= Q)
 skip L h = then_grows (self_grows _) h
 
 module _ (E F : Lang Expression) (V : Lang (Option Range)) (g : Grows E F) where

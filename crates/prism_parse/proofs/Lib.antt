@@ -1,10 +1,10 @@
 mod Reached
-mod Told
-mod Stopped
+pub mod Told
+pub mod Stopped
 mod Seen
-mod Places
-mod Whole
-mod Fitting
-mod Grows
-mod Single
+pub mod Places
+pub mod Whole
+pub mod Fitting
+pub mod Grows
+pub mod Single
 mod Trees

@@ -20,13 +20,22 @@ use Rattle.prism_exprs.proofs.Keeping.{place_kept}
 pub ends_seen : (view : Found → Lexeme) (p : Lexeme → Bool) (found front : List Found) (last : Found) → found ≡ front ++ last ∷ [] → ends_with p (map view found) ≡ p (view last)
 ends_seen view p found front last e = ap (λ (fs : List Found). ends_with p (map view fs)) e ∙ ap (ends_with p) (map-append view front (last ∷ [])) ∙ ends_last p (map view front) (view last)
 
-none_left : {X : Type 0} (xs : List X) → None ≡ slice_get xs 0 → xs ≡ []
+pub none_left : {X : Type 0} (xs : List X) → None ≡ slice_get xs 0 → xs ≡ []
 none_left [] e = refl
 none_left (x ∷ xs) e = absurd cc
 
-some_left : {X : Type 0} (xs : List X) (x : X) → Some x ≡ slice_get xs 0 → (ys : List X) × (xs ≡ x ∷ ys)
+pub some_left : {X : Type 0} (xs : List X) (x : X) → Some x ≡ slice_get xs 0 → (ys : List X) × (xs ≡ x ∷ ys)
 some_left [] x e = absurd cc
 some_left (y ∷ ys) x e = (ys, cc)
+
+-- the tokens before those that are left, and these
+pub cut_where_left : (view : Found → Lexeme) (found : List Found) (left place : ℕ) (before rest : List Lexeme) → place ≡ length found - left → length rest ≡ left → map view found ≡ before ++ rest → (map view (take place found) ≡ before) × (map view (drop place found) ≡ rest)
+cut_where_left view found left place before rest is size parts =
+    let whole : map view (take place found) ++ map view (drop place found) ≡ map view found = sym (map-append view (take place found) (drop place found)) ∙ ap (map view) (take-append-drop place found) in
+    let a = ap length parts in
+    let b = length-append before rest in
+    let d = length-map found view in
+    parts_same (map view (take place found)) (map view (drop place found)) before rest (whole ∙ parts) (length-map (drop place found) view ∙ length-drop place found ∙ omega arith)
 
 module _ (end : ℕ) (bytes : List ℕ) (literals : List Literal) (found : List Found) (left place : ℕ) (rest : List Lexeme) (c : Cause) (is : place ≡ length found - left) (size : length rest ≡ left) where
   abbrev view : Found → Lexeme
@@ -34,14 +43,7 @@ module _ (end : ℕ) (bytes : List ℕ) (literals : List Literal) (found : List 
 
   module _ (stop : Refuses end (map view found) rest c) where
     split : (map view (take place found) ≡ stop.before) × (map view (drop place found) ≡ rest)
-    split =
-        let whole : map view (take place found) ++ map view (drop place found) ≡ map view found =
-        sym (map-append view (take place found) (drop place found)) ∙ ap (map view) (take-append-drop place found) in
-        let a = ap length stop.parts in
-        let b = length-append stop.before rest in
-        let d = length-map found view in
-        parts_same (map view (take place found)) (map view (drop place found)) stop.before rest (whole ∙ stop.parts)
-        (length-map (drop place found) view ∙ length-drop place found ∙ omega arith)
+    split = cut_where_left view found left place stop.before rest is size stop.parts
 
     pub fault_at_end : None ≡ slice_get (drop place found) 0 → IsGrammarFault end (map view found) (record { reason = Syntax; at = end })
     fault_at_end e = end_fault end (map view found) rest c stop (sym split.1 ∙ ap (map view) (none_left (drop place found) e))

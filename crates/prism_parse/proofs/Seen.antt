@@ -9,22 +9,17 @@ use Rattle.prism_exprs.specs.declared.tokens.Kept.{Kept}
 use Rattle.prism_exprs.specs.declared.tokens.Kept.TheVariants.{Word, Symbol, Ident, Quoted, Number}
 use Rattle.prism_exprs.specs.declared.tokens.Literal.{Literal}
 use Rattle.prism_exprs.specs.Kept.{lexeme_by, literal_at, in_row, text_at, made}
-use Rattle.prism_exprs.proofs.Keeping.{of_name}
+use Rattle.prism_exprs.proofs.Keeping.{of_name, of_literal}
 use Rattle.bridge_io.specs.declared.reason.Reason.TheVariants.{Syntax}
 use Rattle.prism_parse.specs.Reasons.{form_reason, kept_reason, is_left_out_text, is_left_out_name}
 use Rattle.prism_parse.proofs.Told.{all_contained, text_is}
-
--- what is seen of a number that may be no literal
-reason_literal : (bytes : List ℕ) (n : Option Literal) (at : ℕ) (c : Cause) (called : Bool) → form_reason c (literal_at bytes n at).kind called ≡ Syntax
-reason_literal bytes None at c called = refl
-reason_literal bytes (Some l) at c called = refl
 
 pub reason_kept : (bytes : List ℕ) (literals : List Literal) (at size : ℕ) (c : Cause) (k : Kept) (called : Bool) → form_reason c (lexeme_by bytes literals k at size).kind called ≡ kept_reason c k called
 reason_kept bytes literals at size c (Word r) called = refl
 reason_kept bytes literals at size c (Symbol s) called = refl
 reason_kept bytes literals at size c Ident called = of_name (is_utf8 (text_at bytes at size)) K.Ident (text_at bytes at size) at (λ k. form_reason c k called) Syntax refl refl
 reason_kept bytes literals at size c Quoted called = of_name (is_utf8 (text_at bytes at size)) K.Quoted (text_at bytes at size) at (λ k. form_reason c k called) Syntax refl refl
-reason_kept bytes literals at size c (Number row) called = reason_literal bytes (in_row literals row size) at c called
+reason_kept bytes literals at size c (Number row) called = of_literal bytes (in_row literals row size) at (λ k. form_reason c k called) Syntax (λ l. refl) refl
 
 -- The names of the functions are texts.
 left_out_text : (w : List ℕ) → is_left_out_text w ≡ true → is_utf8 w ≡ true

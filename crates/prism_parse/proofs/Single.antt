@@ -45,11 +45,11 @@ one_reason end us t r s (no_form n w) (no_form m v) = refl
 
 -- ---- what begins sound tokens is sound
 
-less_early : (us vs : List Lexeme) → Grows (outer (us ++ vs)) (outer us)
+pub less_early : (us vs : List Lexeme) → Grows (outer (us ++ vs)) (outer us)
 unfolding outer
 less_early us vs = record { grows = λ w e p. (p.0, λ a b t q c. p.1 a b t q (Contains-append_left us vs t c)) }
 
-only_read : (us : List Lexeme) → Grows (outer us) expr
+pub only_read : (us : List Lexeme) → Grows (outer us) expr
 unfolding outer
 only_read us = record { grows = λ w e p. p.0 }
 
@@ -72,12 +72,12 @@ not_sound end us more vs t e n s =
 
 -- ---- places in one list
 
-data Order (us vs : List Lexeme) (t s : Lexeme) : Type 0 where
+pub data Order (us vs : List Lexeme) (t s : Lexeme) : Type 0 where
   same : us ≡ vs → t ≡ s → Order us vs t s
   sooner : (more : List Lexeme) → vs ≡ us ++ t ∷ more → Order us vs t s
   later : (more : List Lexeme) → us ≡ vs ++ s ∷ more → Order us vs t s
 
-order : (us vs : List Lexeme) (t s : Lexeme) (rest others : List Lexeme) → us ++ t ∷ rest ≡ vs ++ s ∷ others → Order us vs t s
+pub order : (us vs : List Lexeme) (t s : Lexeme) (rest others : List Lexeme) → us ++ t ∷ rest ≡ vs ++ s ∷ others → Order us vs t s
 order [] [] t s rest others e = same refl cc
 order [] (v ∷ vs) t s rest others e = let h : t ≡ v = cc in sooner vs (ap (λ (x : Lexeme). x ∷ vs) (sym h))
 order (u ∷ us) [] t s rest others e = let h : u ≡ s = cc in later us (ap (λ (x : Lexeme). x ∷ us) h)

@@ -22,7 +22,7 @@ limited us = record { counted = Some us; int_too = false }
 abbrev unbounded : Scope
 unbounded = record { counted = None; int_too = true }
 
-stopped : (c : Cause) (s : Scope) (r : List Lexeme) → (c ≡ C.Deep → ⊥) → (c ≡ C.Type → s.int_too ≡ false) → IsStopped c s r
+pub stopped : (c : Cause) (s : Scope) (r : List Lexeme) → (c ≡ C.Deep → ⊥) → (c ≡ C.Type → s.int_too ≡ false) → IsStopped c s r
 stopped C.Deep s r n e = absurd (n refl)
 stopped C.Form s r n e = tt
 stopped C.Item s r n e = tt

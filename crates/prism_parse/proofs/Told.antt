@@ -81,7 +81,7 @@ ends_last p [] s = refl
 ends_last p (t ∷ []) s = refl
 ends_last p (t ∷ u ∷ ts) s = ends_last p (u ∷ ts) s
 
-ends_some : (p : Lexeme → Bool) (us : List Lexeme) → ends_with p us ≡ true → (a : List Lexeme) × (s : Lexeme) × (us ≡ a ++ s ∷ []) × (p s ≡ true)
+pub ends_some : (p : Lexeme → Bool) (us : List Lexeme) → ends_with p us ≡ true → (a : List Lexeme) × (s : Lexeme) × (us ≡ a ++ s ∷ []) × (p s ≡ true)
 ends_some p [] e = absurd cc
 ends_some p (t ∷ []) e = ([], t, refl, e)
 ends_some p (t ∷ u ∷ ts) e = let r = ends_some p (u ∷ ts) e in (t ∷ r.0, r.1, ap (λ (l : List Lexeme). t ∷ l) r.2, r.3)

@@ -32,7 +32,7 @@ no_token_fault one bytes f fs faults (none us x clean tokens spelled) = let e = 
 
 -- ---- token faults
 
-up_to_all : (f : Fault) (fs : List Fault) → AllBehind f.at fs → UpToAll f fs
+pub up_to_all : (f : Fault) (fs : List Fault) → AllBehind f.at fs → UpToAll f fs
 up_to_all f [] h = tt
 up_to_all f (g ∷ gs) h = (inl h.0, up_to_all f gs h.1)
 

@@ -9,7 +9,7 @@ use std::alloc::{AllocError, Global};
 
 /// The tokens of a text, and its numbers.
 #[derive(Drop)]
-pub(crate) struct Lexed {
+pub struct Lexed {
     pub found: List<Found>,
     pub literals: List<Literal>,
 }
@@ -120,7 +120,7 @@ fn keep(
 
 /// The tokens of a text, or the first of their faults. A text of more than 4,294,967,295 bytes is refused for want of memory, and
 /// so is one with more than 16,777,216 numbers to be kept.
-pub(crate) fn read_tokens(alloc: Global, bytes: &[u8]) -> Result<Lexed, Refused>
+pub fn read_tokens(alloc: Global, bytes: &[u8]) -> Result<Lexed, Refused>
     ensures ok { IfOk result (λ l. IsLexed bytes.now l.literals l.found) }
     ensures err { IfErr result (IsTokenRefusal bytes.now) }
 {

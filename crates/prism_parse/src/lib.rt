@@ -8,3 +8,5 @@ mod reasons;
 
 pub use files::parse;
 pub use laws::{one_syntax, one_tree};
+pub use lexing::{Lexed, read_tokens};
+pub use reasons::unless_deep;

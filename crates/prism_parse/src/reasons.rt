@@ -66,8 +66,8 @@ fn kept_reason(cause: Cause, kind: Kept, called: bool) -> Reason
     }
 }
 
-// The reason of the cause alone, or else the other.
-fn unless_deep(cause: Cause, reason: Reason) -> Reason
+/// The reason of the cause alone, or else the other.
+pub fn unless_deep(cause: Cause, reason: Reason) -> Reason
     ensures { result ≡ unless_deep cause reason }
 {
     match cause {

@@ -1,0 +1,4 @@
+pub mod Trees
+pub mod Names
+pub mod PrismFaults
+pub mod Syntax

@@ -1,0 +1,46 @@
+// The properties of a JANI file, as trees.
+
+use bridge_io::Text;
+use jani_tree::Je;
+use prop_grammar::Compare;
+
+/// What is asked. A reward structure is its number among the global numeric transients of the file.
+#[derive(Drop)]
+pub enum JaniAsk {
+    /// The greatest probability.
+    PMax,
+    /// The least probability.
+    PMin,
+    /// Whether the probability is within a bound.
+    PBound(Compare, Je),
+    /// The greatest reward until the paths reach their end.
+    RMax(usize),
+    /// The least reward until the paths reach their end.
+    RMin(usize),
+}
+
+/// The form of the paths, a bound of steps first.
+#[derive(Drop)]
+pub enum JaniPath {
+    /// `F e`
+    Finally(Je),
+    /// `G e`
+    Globally(Je),
+    /// `a U b`
+    Until(Je, Je),
+    /// `a W b`
+    WeakUntil(Je, Je),
+    /// `F<=k e`
+    FinallyWithin(Je, Je),
+    /// `a U<=k b`
+    UntilWithin(Je, Je, Je),
+}
+
+/// A property with its name, if it has one. In its expressions a name of the model, labels included, stands with a `.` before it; `init`
+/// and `deadlock` without it are the labels that every model has.
+#[derive(Drop)]
+pub struct JaniProperty {
+    pub name: Option<Text>,
+    pub ask: JaniAsk,
+    pub path: JaniPath,
+}

@@ -1,0 +1,9 @@
+//! Properties of PRISM files and of JANI files as trees, and the faults of a properties file of PRISM against a model.
+#![tactic(auto)]
+
+mod jani;
+mod prism;
+
+pub use jani::{JaniAsk, JaniPath, JaniProperty};
+pub use prism::{Ask, Path, Property};
+pub use prop_grammar::Compare;
