@@ -1,17 +1,17 @@
 -- The forms, and where words leave them.
-use Rattle.std.proofs.Common.{arith, ◌≡◌, ◌≢◌, ◌∙◌, sym, ap, subst, ℕ, ◌+◌, List, [], ◌∷◌, inl, inr, refl, zero, suc, Result, Ok, Err, true, false, codes, lit<}
+use Rattle.std.proofs.Common.{arith, ◌≡◌, ◌≢◌, ◌∙◌, sym, ap, subst, ℕ, ◌+◌, ◌<◌, List, [], ◌∷◌, ◌++◌, length, length-append, inl, inr, refl, zero, suc, Result, Ok, Err, true, false, codes, lit<}
 use Rattle.basics.specs.Texts.{bytes_eq-self}
 use Rattle.std.specs.Fmt.{decimal}
 use Rattle.std.specs.Prelude.{bytes_eq}
 use Rattle.std.specs.List.{IsDistinct}
 use Rattle.command_words.specs.Numbers.{pairs_text}
 use Rattle.command_words.specs.Given.{HasGiven, AreGiven, AreApart}
-use Rattle.command_words.specs.Words.{Begins, IsWrong, IsStateWord, AnswersWords}
+use Rattle.command_words.specs.Words.{Begins, IsWrong, IsNameBehind, IsStateWord, AnswersWords}
 use Rattle.command_words.specs.declared.request.WordsFail.{WordsFail}
 use Rattle.command_words.specs.declared.request.WordsFail.TheVariants.{Memory, At}
-use Rattle.command_words.specs.Fronts.{One, IsLangWord, IsFileName, IsPairsWord, IsSeedWord, IsStepsWord, GivenForm, SeedForm, WayForm, FromForm, WalkForm, StateForm, HeadForm, IsHeadWrong, IsStateWrong}
+use Rattle.command_words.specs.Fronts.{Then, One, IsLangWord, IsFileName, IsPairsWord, IsSeedWord, IsStepsWord, GivenForm, SeedForm, WayForm, FromForm, WalkForm, StateForm, PathForm, RowsForm, HeadForm, IsHeadWrong, IsStateWrong, IsNameWrong}
 use Rattle.command_words.specs.declared.request.Lang.TheVariants.{Jani}
-use Rattle.command_words.proofs.Wrong.{wrong_end, wrong_first, wrong_behind, one_begins, one_next, one_end, one_first}
+use Rattle.command_words.proofs.Wrong.{wrong_end, wrong_first, wrong_behind, then_begins, then_next, then_end, then_first, one_begins, one_next, one_end, one_first}
 
 pub differ : (u v : List ℕ) → bytes_eq u v ≡ false → u ≡ v → ⊥
 differ u v f e = let z : false ≡ true = sym f ∙ ap (bytes_eq u) (sym e) ∙ bytes_eq-self u in cc
@@ -54,25 +54,25 @@ walk_begins = (way_begins.0, inl way_begins.1)
 pub state_begins : Begins StateForm []
 state_begins = one_begins IsStateWord HasGiven (codes "()") some_state given_begins
 
-module _ (Rest : List (List ℕ) → Type 0) (begins : Begins Rest []) where
-  file_begins : Begins (One IsFileName Rest) []
-  file_begins = one_begins IsFileName Rest (102 ∷ []) (λ e. cc) begins
+module _ (Rest : List ℕ → List (List ℕ) → Type 0) (begins : Begins (Rest (codes "f")) []) where
+  file_begins : Begins (Then IsFileName Rest) []
+  file_begins = then_begins IsFileName Rest (codes "f") (λ e. cc) begins
 
   pub head_begins : Begins (HeadForm Rest) []
-  head_begins = one_begins IsLangWord (One IsFileName Rest) (codes "jani") (Jani, refl) file_begins
+  head_begins = one_begins IsLangWord (Then IsFileName Rest) (codes "jani") (Jani, refl) file_begins
 
   pub wrong_head : (ws : List (List ℕ)) (k : ℕ) → IsHeadWrong ws k → IsWrong (HeadForm Rest) ws k
-  wrong_head [] k e = subst (IsWrong (HeadForm Rest) []) (sym e) (one_end IsLangWord (One IsFileName Rest) head_begins)
-  wrong_head (l ∷ []) k (inl e) = subst (IsWrong (HeadForm Rest) (l ∷ [])) (sym e.0) (one_first IsLangWord (One IsFileName Rest) head_begins l [] e.1)
-  wrong_head (l ∷ []) k (inr e) = subst (IsWrong (HeadForm Rest) (l ∷ [])) (sym e.0) (one_next IsLangWord (One IsFileName Rest) l [] 1 e.1 (one_end IsFileName Rest file_begins))
-  wrong_head (l ∷ f ∷ ws) k (inl e) = subst (IsWrong (HeadForm Rest) (l ∷ f ∷ ws)) (sym e.0) (one_first IsLangWord (One IsFileName Rest) head_begins l (f ∷ ws) e.1)
+  wrong_head [] k e = subst (IsWrong (HeadForm Rest) []) (sym e) (one_end IsLangWord (Then IsFileName Rest) head_begins)
+  wrong_head (l ∷ []) k (inl e) = subst (IsWrong (HeadForm Rest) (l ∷ [])) (sym e.0) (one_first IsLangWord (Then IsFileName Rest) head_begins l [] e.1)
+  wrong_head (l ∷ []) k (inr e) = subst (IsWrong (HeadForm Rest) (l ∷ [])) (sym e.0) (one_next IsLangWord (Then IsFileName Rest) l [] 1 e.1 (then_end IsFileName Rest file_begins))
+  wrong_head (l ∷ f ∷ ws) k (inl e) = subst (IsWrong (HeadForm Rest) (l ∷ f ∷ ws)) (sym e.0) (one_first IsLangWord (Then IsFileName Rest) head_begins l (f ∷ ws) e.1)
   wrong_head (l ∷ f ∷ ws) k (inr e) =
-      subst (IsWrong (HeadForm Rest) (l ∷ f ∷ ws)) (sym e.0) (one_next IsLangWord (One IsFileName Rest) l (f ∷ ws) 1 e.1 (one_first IsFileName Rest file_begins f ws (λ n. n e.2)))
+      subst (IsWrong (HeadForm Rest) (l ∷ f ∷ ws)) (sym e.0) (one_next IsLangWord (Then IsFileName Rest) l (f ∷ ws) 1 e.1 (then_first IsFileName Rest file_begins f ws (λ n. n e.2)))
 
-  pub behind_head : (l f : List ℕ) (ws : List (List ℕ)) (k : ℕ) → IsLangWord l → IsFileName f → IsWrong Rest ws k → IsWrong (HeadForm Rest) (l ∷ f ∷ ws) (k + 2)
+  pub behind_head : (l f : List ℕ) (ws : List (List ℕ)) (k : ℕ) → IsLangWord l → IsFileName f → IsWrong (Rest f) ws k → IsWrong (HeadForm Rest) (l ∷ f ∷ ws) (k + 2)
   behind_head l f ws k a b e =
       subst (IsWrong (HeadForm Rest) (l ∷ f ∷ ws)) (let g : k + 1 + 1 ≡ k + 2 = omega arith in g)
-      (one_next IsLangWord (One IsFileName Rest) l (f ∷ ws) (k + 1) a (one_next IsFileName Rest f ws k b e))
+      (one_next IsLangWord (Then IsFileName Rest) l (f ∷ ws) (k + 1) a (then_next IsFileName Rest f ws k b e))
 
 -- ---- behind the words of a walk
 pub way_given : (ws : List (List ℕ)) (k : ℕ) → IsWrong GivenForm ws k → IsWrong WayForm (codes "given" ∷ ws) (k + 1)
@@ -140,3 +140,31 @@ module _ (Rest : List (List ℕ) → Type 0) (begins : Begins Rest []) where
   pub wrong_state : (ws : List (List ℕ)) → IsStateWrong ws → IsWrong (One IsStateWord Rest) ws 1
   wrong_state [] h = one_end IsStateWord Rest (one_begins IsStateWord Rest (codes "()") some_state begins)
   wrong_state (w ∷ ws) h = one_first IsStateWord Rest (one_begins IsStateWord Rest (codes "()") some_state begins) w ws h
+
+-- ---- the words of further files
+longer : (v w : List ℕ) → length w < length v → v ≢ w
+longer v w h e = let f = ap length e in omega (arith, h, f)
+
+-- there is one behind any one or two
+second_name : (file : List ℕ) → IsNameBehind (file ∷ []) (102 ∷ file)
+second_name file = ((λ e. cc), (longer (102 ∷ file) file (omega arith), tt))
+
+third_name : (file states : List ℕ) → IsNameBehind (file ∷ states ∷ []) (102 ∷ (file ++ states))
+third_name file states =
+    let n = length-append file states in
+    ((λ e. cc), (longer (102 ∷ (file ++ states)) file (omega (arith, n)), (longer (102 ∷ (file ++ states)) states (omega (arith, n)), tt)))
+
+pub path_begins : (file : List ℕ) → Begins (PathForm file) []
+path_begins file = one_begins (IsNameBehind (file ∷ [])) HasGiven (102 ∷ file) (second_name file) given_begins
+
+pub last_begins : (file states : List ℕ) → Begins (One (IsNameBehind (file ∷ states ∷ [])) HasGiven) []
+last_begins file states = one_begins (IsNameBehind (file ∷ states ∷ [])) HasGiven (102 ∷ (file ++ states)) (third_name file states) given_begins
+
+pub rows_begins : (file : List ℕ) → Begins (RowsForm file) []
+rows_begins file =
+    then_begins (IsNameBehind (file ∷ [])) (λ states. One (IsNameBehind (file ∷ states ∷ [])) HasGiven) (102 ∷ file) (second_name file) (last_begins file (102 ∷ file))
+
+module _ (before : List (List ℕ)) (Rest : List ℕ → List (List ℕ) → Type 0) (begins : Begins (Then (IsNameBehind before) Rest) []) where
+  pub wrong_name : (ws : List (List ℕ)) → IsNameWrong before ws → IsWrong (Then (IsNameBehind before) Rest) ws 1
+  wrong_name [] h = then_end (IsNameBehind before) Rest begins
+  wrong_name (w ∷ ws) h = then_first (IsNameBehind before) Rest begins w ws h

@@ -5,3 +5,4 @@ pub mod Forms
 pub mod Assignments
 pub mod Requests
 pub mod Once
+pub mod Names

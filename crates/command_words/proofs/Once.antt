@@ -1,5 +1,5 @@
 -- Words ask for one thing at most.
-use Rattle.std.proofs.Common.{arith, ◌≡◌, ◌≢◌, ◌∙◌, sym, ap, ap₂, subst, ℕ, ◌^◌, ◌<◌, true, false, List, [], ◌∷◌, ◌++◌, map, length, Option, Some, None, refl, codes, append-nil}
+use Rattle.std.proofs.Common.{arith, ◌≡◌, ◌≢◌, ◌∙◌, sym, ap, ap₂, subst, ℕ, ◌+◌, ◌^◌, ◌<◌, true, false, List, [], ◌∷◌, ◌++◌, map, length, Option, Some, None, refl, codes, append-nil}
 use Rattle.std.specs.Fmt.{decimal}
 use Rattle.std.specs.Prelude.{◌||◌}
 use Rattle.std.specs.List.{AllZip, AllByRecursion}
@@ -11,7 +11,7 @@ use Rattle.process_texts.specs.declared.given.GivenText.{GivenText}
 use Rattle.process_texts.specs.declared.given.GivenText.TheVariants.{Good, Past, NoForm}
 use Rattle.command_words.specs.Numbers.{IsSmall, numbers_of, pairs_text}
 use Rattle.command_words.specs.Given.{Assignment, IsAssignment, IsGivenText}
-use Rattle.command_words.specs.Words.{Job, showing, along, seeded, Walking, on_file, walk, verb_of, lang_word, from_words, job_verb, job_words, IsJob, IsWalk, OneRequest, WordsCount}
+use Rattle.command_words.specs.Words.{Job, showing, along, seeded, Walking, Claim, of_path, of_rows, Checking, on_file, walk, check, claim_files, claim_verb, IsCheck, verb_of, lang_word, from_words, job_verb, job_words, IsJob, IsWalk, OneRequest, WordsCount}
 use Rattle.command_words.specs.declared.request.Lang.{Lang}
 use Rattle.command_words.specs.declared.request.Lang.TheVariants.{Prism, Jani}
 use Rattle.command_words.specs.declared.request.Task.{Task}
@@ -19,7 +19,7 @@ use Rattle.command_words.specs.declared.request.Task.TheVariants.{ToJani, ToPris
 use Rattle.command_words.proofs.Pairs.{partition_of, no_comma_in}
 use Rattle.command_words.proofs.Assignments.{one_split}
 use Rattle.command_words.proofs.Forms.{differ}
-use Rattle.command_words.proofs.Requests.{heads, tails, length-front}
+use Rattle.command_words.proofs.Requests.{heads, tails, not_walk, not_check, length-front, length-claim}
 
 -- ---- numbers
 same_number : (m n : ℕ) → m < 2 ^ 32 → n < 2 ^ 32 → decimal m ≡ decimal n → m ≡ n
@@ -140,28 +140,62 @@ same_task CheckJani ToPrism f g e = absurd (differ _ _ refl (heads _ _ _ _ e))
 same_task CheckJani CheckPrism f g e = absurd (differ _ _ refl (heads _ _ _ _ (tails _ _ _ _ e)))
 same_task CheckJani CheckJani f g e = (refl, heads _ _ _ _ (tails _ _ _ _ (tails _ _ _ _ e)))
 
-not_both : (words : List (List ℕ)) (t : Task) (f : List ℕ) (w : Walking) → words ≡ verb_of t ++ f ∷ [] → IsWalk words w → ⊥
-not_both words t f w e h = by_task t (sym e ∙ h.words_are)
-  where
-    by_verb : (v : List ℕ) (vs us : List (List ℕ)) (j : Job) → v ≢ codes "show" → v ≢ codes "simulate" → v ∷ vs ≡ job_verb j ∷ us → ⊥
-    by_verb v vs us (showing s) a b z = a (heads _ _ _ _ z)
-    by_verb v vs us (along g ps) a b z = b (heads _ _ _ _ z)
-    by_verb v vs us (seeded g n k) a b z = b (heads _ _ _ _ z)
+-- a task, a walk and a claim begin with different words
+task_walk : (words : List (List ℕ)) (t : Task) (f : List ℕ) (w : Walking) → words ≡ verb_of t ++ f ∷ [] → IsWalk words w → ⊥
+task_walk words ToJani f w e h = not_walk _ _ w (differ _ _ refl) (differ _ _ refl) (subst (λ ws. IsWalk ws w) e h)
+task_walk words ToPrism f w e h = not_walk _ _ w (differ _ _ refl) (differ _ _ refl) (subst (λ ws. IsWalk ws w) e h)
+task_walk words CheckPrism f w e h = not_walk _ _ w (differ _ _ refl) (differ _ _ refl) (subst (λ ws. IsWalk ws w) e h)
+task_walk words CheckJani f w e h = not_walk _ _ w (differ _ _ refl) (differ _ _ refl) (subst (λ ws. IsWalk ws w) e h)
 
-    by_task : (t : Task) → verb_of t ++ f ∷ [] ≡ job_verb w.job ∷ lang_word w.lang ∷ w.file ∷ (job_words w.job ++ h.rest) → ⊥
-    by_task ToJani z = by_verb _ _ _ w.job (differ _ _ refl) (differ _ _ refl) z
-    by_task ToPrism z = by_verb _ _ _ w.job (differ _ _ refl) (differ _ _ refl) z
-    by_task CheckPrism z = by_verb _ _ _ w.job (differ _ _ refl) (differ _ _ refl) z
-    by_task CheckJani z = by_verb _ _ _ w.job (differ _ _ refl) (differ _ _ refl) z
+task_check : (words : List (List ℕ)) (t : Task) (f : List ℕ) (c : Checking) → words ≡ verb_of t ++ f ∷ [] → IsCheck words c → ⊥
+task_check words ToJani f c e h = not_check _ _ c (differ _ _ refl) (differ _ _ refl) (subst (λ ws. IsCheck ws c) e h)
+task_check words ToPrism f c e h = not_check _ _ c (differ _ _ refl) (differ _ _ refl) (subst (λ ws. IsCheck ws c) e h)
+task_check words CheckPrism f c e h = not_check _ _ c (differ _ _ refl) (differ _ _ refl) (subst (λ ws. IsCheck ws c) e h)
+task_check words CheckJani f c e h = not_check _ _ c (differ _ _ refl) (differ _ _ refl) (subst (λ ws. IsCheck ws c) e h)
+
+walk_check : (words : List (List ℕ)) (w : Walking) (c : Checking) → IsWalk words w → IsCheck words c → ⊥
+walk_check words w c h k = by_claim c.claim (heads _ _ _ _ (sym h.words_are ∙ k.words_are))
+  where
+    by_job : (v : List ℕ) (j : Job) → v ≢ codes "show" → v ≢ codes "simulate" → job_verb j ≡ v → ⊥
+    by_job v (showing s) a b e = a (sym e)
+    by_job v (along g ps) a b e = b (sym e)
+    by_job v (seeded g n m) a b e = b (sym e)
+
+    by_claim : (m : Claim) → job_verb w.job ≡ claim_verb m → ⊥
+    by_claim (of_path p) e = by_job _ w.job (differ _ _ refl) (differ _ _ refl) e
+    by_claim (of_rows s r) e = by_job _ w.job (differ _ _ refl) (differ _ _ refl) e
+
+same_claim : (m n : Claim) (xs ys : List (List ℕ)) → claim_verb m ≡ claim_verb n → claim_files m ++ xs ≡ claim_files n ++ ys → (m ≡ n) × (xs ≡ ys)
+same_claim (of_path p) (of_path q) xs ys v e = (ap of_path (heads _ _ _ _ e), tails _ _ _ _ e)
+same_claim (of_path p) (of_rows s r) xs ys v e = absurd (differ _ _ refl v)
+same_claim (of_rows s r) (of_path p) xs ys v e = absurd (differ _ _ refl v)
+same_claim (of_rows s r) (of_rows t u) xs ys v e =
+    let f = tails _ _ _ _ e in (ap₂ of_rows (heads _ _ _ _ e) (heads _ _ _ _ f), tails _ _ _ _ f)
 
 same_walking : (l m : Lang) (f g : List ℕ) (i j : Job) (xs ys : List Assignment) → l ≡ m → f ≡ g → i ≡ j → xs ≡ ys
     → ◌≡◌ {A = Walking} (record { lang = l; file = f; job = i; given = xs }) (record { lang = m; file = g; job = j; given = ys })
 same_walking l m f g i j xs ys a b c d = cc
 
+same_checking : (l m : Lang) (f g : List ℕ) (i j : Claim) (xs ys : List Assignment) → l ≡ m → f ≡ g → i ≡ j → xs ≡ ys
+    → ◌≡◌ {A = Checking} (record { lang = l; file = f; claim = i; given = xs }) (record { lang = m; file = g; claim = j; given = ys })
+same_checking l m f g i j xs ys a b c d = cc
+
 pub one_request : OneValueText → OneRequest
 one_request one words (on_file s f) (on_file t g) h k = let e = same_task s t f g (sym h.1 ∙ k.1) in ap₂ on_file e.0 e.1
-one_request one words (on_file s f) (walk w) h k = absurd (not_both words s f w h.1 k)
-one_request one words (walk w) (on_file t g) h k = absurd (not_both words t g w k.1 h)
+one_request one words (on_file s f) (walk w) h k = absurd (task_walk words s f w h.1 k)
+one_request one words (on_file s f) (check c) h k = absurd (task_check words s f c h.1 k)
+one_request one words (walk w) (on_file t g) h k = absurd (task_walk words t g w k.1 h)
+one_request one words (walk w) (check c) h k = absurd (walk_check words w c h k)
+one_request one words (check c) (on_file t g) h k = absurd (task_check words t g c k.1 h)
+one_request one words (check c) (walk w) h k = absurd (walk_check words w c k h)
+one_request one words (check c) (check b) h k =
+    let e = sym h.words_are ∙ k.words_are in
+    let e1 = tails _ _ _ _ e in
+    let e2 = tails _ _ _ _ e1 in
+    let e3 = tails _ _ _ _ e2 in
+    let j = same_claim c.claim b.claim h.rest k.rest (heads _ _ _ _ e) e3 in
+    ap check (same_checking c.lang b.lang c.file b.file c.claim b.claim c.given b.given (same_lang c.lang b.lang (heads _ _ _ _ e1)) (heads _ _ _ _ e2) j.0
+    (same_given one h.rest c.given b.given h.given.are (subst (λ ws. AllZip IsAssignment ws b.given) (sym j.1) k.given.are)))
 one_request one words (walk w) (walk v) h k =
     let e = sym h.words_are ∙ k.words_are in
     let e1 = tails _ _ _ _ e in
@@ -178,8 +212,20 @@ length-zip [] (g ∷ gs) h = absurd h
 length-zip (w ∷ ws) [] h = absurd h
 length-zip (w ∷ ws) (g ∷ gs) h = let e = length-zip ws gs h.1 in omega arith
 
+-- a task's words
+length-task : (t : Task) (f : List ℕ) → length (verb_of t ++ f ∷ []) ≡ length (verb_of t) + 1
+length-task ToJani f = refl
+length-task ToPrism f = refl
+length-task CheckPrism f = refl
+length-task CheckJani f = refl
+
 pub words_count : WordsCount
-words_count words w h =
+words_count words (on_file t f) h = ap length h.1 ∙ length-task t f
+words_count words (walk w) h =
     let a = length-front words (job_verb w.job) (lang_word w.lang) w.file w.job h.rest h.words_are in
     let b = length-zip h.rest w.given h.given.are in
+    omega (arith, a, b)
+words_count words (check c) h =
+    let a = length-claim words (claim_verb c.claim) (lang_word c.lang) c.file c.claim h.rest h.words_are in
+    let b = length-zip h.rest c.given h.given.are in
     omega (arith, a, b)

@@ -4,13 +4,13 @@ use Rattle.std.specs.Fmt.{decimal}
 use Rattle.std.specs.List.{AllByRecursion}
 use Rattle.command_words.specs.Numbers.{IsSmall, pairs_text}
 use Rattle.command_words.specs.Given.{Assignment, HasGiven, AreGiven}
-use Rattle.command_words.specs.Words.{Begins, IsWrong, Job, showing, along, seeded, Walking, on_file, walk, HasFileWord, verb_of, lang_word, IsStateWord, IsFrom, from_words, job_verb, job_words, IsJob, IsWalk, HasForm, job_count}
-use Rattle.command_words.specs.Fronts.{One, IsFileName, IsPairsWord, IsSeedWord, IsStepsWord, GivenForm, SeedForm, WayForm, WalkForm, StateForm, HeadForm}
+use Rattle.command_words.specs.Words.{Begins, IsWrong, Job, showing, along, seeded, Walking, Claim, of_path, of_rows, Checking, on_file, walk, check, IsNameBehind, AreNamesBehind, claim_files, claim_verb, HasFileWord, verb_of, lang_word, IsStateWord, IsFrom, from_words, job_verb, job_words, IsJob, IsWalk, IsCheck, HasForm, job_count}
+use Rattle.command_words.specs.Fronts.{One, IsFileName, IsPairsWord, IsSeedWord, IsStepsWord, GivenForm, SeedForm, WayForm, WalkForm, StateForm, PathForm, RowsForm, HeadForm, ShowForm, SimulateForm}
 use Rattle.command_words.specs.declared.request.Lang.{Lang}
 use Rattle.command_words.specs.declared.request.Task.{Task}
 use Rattle.command_words.specs.declared.request.Task.TheVariants.{ToJani, ToPrism, CheckPrism, CheckJani}
-use Rattle.command_words.proofs.Wrong.{wrong_end, wrong_first, wrong_behind, wrong_next, one_next}
-use Rattle.command_words.proofs.Forms.{differ, way_given, way_seed, walk_from, walk_way, behind_head, state_begins, walk_begins}
+use Rattle.command_words.proofs.Wrong.{wrong_end, wrong_first, wrong_behind, wrong_next, then_next, one_next}
+use Rattle.command_words.proofs.Forms.{differ, way_given, way_seed, walk_from, walk_way, behind_head, state_begins, walk_begins, path_begins, rows_begins}
 
 pub heads : (x y : List ℕ) (xs ys : List (List ℕ)) → x ∷ xs ≡ y ∷ ys → x ≡ y
 heads x y xs ys e = cc
@@ -26,6 +26,13 @@ not_walk v vs w a b h = by_job w.job (heads _ _ _ _ h.words_are)
     by_job (showing s) e = a e
     by_job (along f ps) e = b e
     by_job (seeded f n k) e = b e
+
+pub not_check : (v : List ℕ) (vs : List (List ℕ)) (c : Checking) → v ≢ codes "check-path" → v ≢ codes "check-rows" → IsCheck (v ∷ vs) c → ⊥
+not_check v vs c a b h = by_claim c.claim (heads _ _ _ _ h.words_are)
+  where
+    by_claim : (m : Claim) → v ≡ claim_verb m → ⊥
+    by_claim (of_path path) e = a e
+    by_claim (of_rows states rows) e = b e
 
 pub not_task : (v : List ℕ) (vs : List (List ℕ)) (task : Task) (name : List ℕ) → v ≢ codes "to-jani" → v ≢ codes "to-prism" → v ≢ codes "check" → v ∷ vs ≡ verb_of task ++ name ∷ [] → ⊥
 not_task v vs ToJani name a b c e = a (heads _ _ _ _ e)
@@ -56,6 +63,7 @@ to_jani_file ws (on_file ToPrism name, f) = absurd (differ _ _ refl (heads _ _ _
 to_jani_file ws (on_file CheckPrism name, f) = absurd (differ _ _ refl (heads _ _ _ _ f.1))
 to_jani_file ws (on_file CheckJani name, f) = absurd (differ _ _ refl (heads _ _ _ _ f.1))
 to_jani_file ws (walk w, h) = absurd (not_walk _ ws w (differ _ _ refl) (differ _ _ refl) h)
+to_jani_file ws (check c, h) = absurd (not_check _ ws c (differ _ _ refl) (differ _ _ refl) h)
 
 pub behind_to_jani : (ws : List (List ℕ)) (k : ℕ) → IsWrong HasFileWord ws k → IsWrong HasForm (codes "to-jani" ∷ ws) (k + 1)
 behind_to_jani ws k e = wrong_behind HasFileWord HasForm (codes "to-jani") ws k to_jani_form to_jani_file e
@@ -69,6 +77,7 @@ to_prism_file ws (on_file ToPrism name, f) = (name, (f.0, tails _ _ _ _ f.1))
 to_prism_file ws (on_file CheckPrism name, f) = absurd (differ _ _ refl (heads _ _ _ _ f.1))
 to_prism_file ws (on_file CheckJani name, f) = absurd (differ _ _ refl (heads _ _ _ _ f.1))
 to_prism_file ws (walk w, h) = absurd (not_walk _ ws w (differ _ _ refl) (differ _ _ refl) h)
+to_prism_file ws (check c, h) = absurd (not_check _ ws c (differ _ _ refl) (differ _ _ refl) h)
 
 pub behind_to_prism : (ws : List (List ℕ)) (k : ℕ) → IsWrong HasFileWord ws k → IsWrong HasForm (codes "to-prism" ∷ ws) (k + 1)
 behind_to_prism ws k e = wrong_behind HasFileWord HasForm (codes "to-prism") ws k to_prism_form to_prism_file e
@@ -86,6 +95,7 @@ prism_file ws (on_file ToPrism name, f) = absurd (differ _ _ refl (heads _ _ _ _
 prism_file ws (on_file CheckPrism name, f) = (name, (f.0, tails _ _ _ _ (tails _ _ _ _ f.1)))
 prism_file ws (on_file CheckJani name, f) = absurd (differ _ _ refl (heads _ _ _ _ (tails _ _ _ _ f.1)))
 prism_file ws (walk w, h) = absurd (not_walk _ _ w (differ _ _ refl) (differ _ _ refl) h)
+prism_file ws (check c, h) = absurd (not_check _ _ c (differ _ _ refl) (differ _ _ refl) h)
 
 jani_form : (ws : List (List ℕ)) → HasFileWord ws → CheckForm (codes "jani" ∷ ws)
 jani_form ws f = (on_file CheckJani f.0, (f.1.0, ap (λ v. codes "check" ∷ codes "jani" ∷ v) f.1.1))
@@ -96,6 +106,7 @@ jani_file ws (on_file ToPrism name, f) = absurd (differ _ _ refl (heads _ _ _ _ 
 jani_file ws (on_file CheckPrism name, f) = absurd (differ _ _ refl (heads _ _ _ _ (tails _ _ _ _ f.1)))
 jani_file ws (on_file CheckJani name, f) = (name, (f.0, tails _ _ _ _ (tails _ _ _ _ f.1)))
 jani_file ws (walk w, h) = absurd (not_walk _ _ w (differ _ _ refl) (differ _ _ refl) h)
+jani_file ws (check c, h) = absurd (not_check _ _ c (differ _ _ refl) (differ _ _ refl) h)
 
 pub behind_jani : (ws : List (List ℕ)) (k : ℕ) → IsWrong HasFileWord ws k → IsWrong CheckForm (codes "jani" ∷ ws) (k + 1)
 behind_jani ws k e = wrong_behind HasFileWord CheckForm (codes "jani") ws k jani_form jani_file e
@@ -115,6 +126,7 @@ not_check_end (on_file ToPrism name, f) = differ _ _ refl (heads _ _ _ _ f.1)
 not_check_end (on_file CheckPrism name, f) = let e = tails _ _ _ _ f.1 in cc
 not_check_end (on_file CheckJani name, f) = let e = tails _ _ _ _ f.1 in cc
 not_check_end (walk w, h) = not_walk _ _ w (differ _ _ refl) (differ _ _ refl) h
+not_check_end (check c, h) = not_check _ _ c (differ _ _ refl) (differ _ _ refl) h
 
 pub no_language : IsWrong CheckForm [] 1
 no_language = wrong_end CheckForm check_begins not_check_end
@@ -125,6 +137,7 @@ language lang (more, (on_file ToPrism name, f)) = absurd (differ _ _ refl (heads
 language lang (more, (on_file CheckPrism name, f)) = inl (heads _ _ _ _ (tails _ _ _ _ f.1))
 language lang (more, (on_file CheckJani name, f)) = inr (heads _ _ _ _ (tails _ _ _ _ f.1))
 language lang (more, (walk w, h)) = absurd (not_walk _ _ w (differ _ _ refl) (differ _ _ refl) h)
+language lang (more, (check c, h)) = absurd (not_check _ _ c (differ _ _ refl) (differ _ _ refl) h)
 
 pub other_language : (lang : List ℕ) (ws : List (List ℕ)) → lang ≢ codes "prism" → lang ≢ codes "jani" → IsWrong CheckForm (lang ∷ ws) 1
 other_language lang ws a b = wrong_first CheckForm lang ws check_begins (λ begins. neither (language lang begins))
@@ -134,7 +147,7 @@ other_language lang ws a b = wrong_first CheckForm lang ws check_begins (λ begi
     neither (inr e) = b e
 
 -- ---- behind `show`
-show_form : (ws : List (List ℕ)) → HeadForm StateForm ws → HasForm (codes "show" ∷ ws)
+show_form : (ws : List (List ℕ)) → ShowForm ws → HasForm (codes "show" ∷ ws)
 show_form [] h = absurd h
 show_form (l ∷ []) h = absurd h.1
 show_form (l ∷ f ∷ []) h = absurd h.1.1
@@ -144,17 +157,18 @@ show_form (l ∷ f ∷ s ∷ ws) h = (
 )
 
 show_parts : (ws rest : List (List ℕ)) (l : Lang) (f : List ℕ) (j : Job) (given : List Assignment) → IsFileName f → IsJob j → AreGiven rest given
-    → codes "show" ∷ ws ≡ job_verb j ∷ lang_word l ∷ f ∷ (job_words j ++ rest) → HeadForm StateForm ws
-show_parts ws rest l f (showing s) given a b g e = subst (HeadForm StateForm) (sym (tails _ _ _ _ e)) ((l, refl), (a, (b, (given, g))))
+    → codes "show" ∷ ws ≡ job_verb j ∷ lang_word l ∷ f ∷ (job_words j ++ rest) → ShowForm ws
+show_parts ws rest l f (showing s) given a b g e = subst ShowForm (sym (tails _ _ _ _ e)) ((l, refl), (a, (b, (given, g))))
 show_parts ws rest l f (along from ps) given a b g e = absurd (differ _ _ refl (heads _ _ _ _ e))
 show_parts ws rest l f (seeded from n k) given a b g e = absurd (differ _ _ refl (heads _ _ _ _ e))
 
-show_rest : (ws : List (List ℕ)) → HasForm (codes "show" ∷ ws) → HeadForm StateForm ws
+show_rest : (ws : List (List ℕ)) → HasForm (codes "show" ∷ ws) → ShowForm ws
 show_rest ws (on_file task name, f) = absurd (not_task _ ws task name (differ _ _ refl) (differ _ _ refl) (differ _ _ refl) f.1)
 show_rest ws (walk w, h) = show_parts ws h.rest w.lang w.file w.job w.given h.file h.job h.given h.words_are
+show_rest ws (check c, h) = absurd (not_check _ ws c (differ _ _ refl) (differ _ _ refl) h)
 
-pub behind_show : (ws : List (List ℕ)) (k : ℕ) → IsWrong (HeadForm StateForm) ws k → IsWrong HasForm (codes "show" ∷ ws) (k + 1)
-behind_show ws k e = wrong_behind (HeadForm StateForm) HasForm (codes "show") ws k show_form show_rest e
+pub behind_show : (ws : List (List ℕ)) (k : ℕ) → IsWrong ShowForm ws k → IsWrong HasForm (codes "show" ∷ ws) (k + 1)
+behind_show ws k e = wrong_behind ShowForm HasForm (codes "show") ws k show_form show_rest e
 
 -- ---- behind `simulate`
 -- a walk, and the words behind its own
@@ -198,7 +212,7 @@ walk_form (w ∷ s ∷ ws) (inr h) =
     let k = way_form (Some s) ws h.1.1 in
     record { walk_job = k.walk_job; is_job = λ f. k.is_job h.1.0; verb_is = k.verb_is; behind = k.behind; words_are = ap (λ v. v ∷ s ∷ ws) h.0 ∙ k.words_are; given = k.given }
 
-simulate_form : (ws : List (List ℕ)) → HeadForm WalkForm ws → HasForm (codes "simulate" ∷ ws)
+simulate_form : (ws : List (List ℕ)) → SimulateForm ws → HasForm (codes "simulate" ∷ ws)
 simulate_form [] h = absurd h
 simulate_form (l ∷ []) h = absurd h.1
 simulate_form (l ∷ f ∷ ws) h =
@@ -226,13 +240,59 @@ walk_rest rest (along (Some s) ps) e h g = inr (refl, (h.0, inl (refl, given_res
 walk_rest rest (seeded None n k) e h g = inl (inr (refl, seed_rest rest n k h.1 h.2 g))
 walk_rest rest (seeded (Some s) n k) e h g = inr (refl, (h.0, inr (refl, seed_rest rest n k h.1 h.2 g)))
 
-simulate_rest : (ws : List (List ℕ)) → HasForm (codes "simulate" ∷ ws) → HeadForm WalkForm ws
+simulate_rest : (ws : List (List ℕ)) → HasForm (codes "simulate" ∷ ws) → SimulateForm ws
 simulate_rest ws (on_file task name, f) = absurd (not_task _ ws task name (differ _ _ refl) (differ _ _ refl) (differ _ _ refl) f.1)
 simulate_rest ws (walk w, h) =
-    subst (HeadForm WalkForm) (sym (tails _ _ _ _ h.words_are)) ((w.lang, refl), (h.file, walk_rest h.rest w.job (sym (heads _ _ _ _ h.words_are)) h.job (w.given, h.given)))
+    subst SimulateForm (sym (tails _ _ _ _ h.words_are)) ((w.lang, refl), (h.file, walk_rest h.rest w.job (sym (heads _ _ _ _ h.words_are)) h.job (w.given, h.given)))
+simulate_rest ws (check c, h) = absurd (not_check _ ws c (differ _ _ refl) (differ _ _ refl) h)
 
-pub behind_simulate : (ws : List (List ℕ)) (k : ℕ) → IsWrong (HeadForm WalkForm) ws k → IsWrong HasForm (codes "simulate" ∷ ws) (k + 1)
-behind_simulate ws k e = wrong_behind (HeadForm WalkForm) HasForm (codes "simulate") ws k simulate_form simulate_rest e
+pub behind_simulate : (ws : List (List ℕ)) (k : ℕ) → IsWrong SimulateForm ws k → IsWrong HasForm (codes "simulate" ∷ ws) (k + 1)
+behind_simulate ws k e = wrong_behind SimulateForm HasForm (codes "simulate") ws k simulate_form simulate_rest e
+
+-- ---- behind `check-path` and `check-rows`
+path_form : (ws : List (List ℕ)) → HeadForm PathForm ws → HasForm (codes "check-path" ∷ ws)
+path_form [] h = absurd h
+path_form (l ∷ []) h = absurd h.1
+path_form (l ∷ f ∷ []) h = absurd h.1.1
+path_form (l ∷ f ∷ p ∷ ws) h = (
+  check (record { lang = h.0.0; file = f; claim = of_path p; given = h.1.1.1.0 }),
+  record { names = ((h.1.0, tt), (h.1.1.0, tt)); rest = ws; words_are = ap (λ v. codes "check-path" ∷ v ∷ f ∷ p ∷ ws) h.0.1; given = h.1.1.1.1 },
+)
+
+rows_form : (ws : List (List ℕ)) → HeadForm RowsForm ws → HasForm (codes "check-rows" ∷ ws)
+rows_form [] h = absurd h
+rows_form (l ∷ []) h = absurd h.1
+rows_form (l ∷ f ∷ []) h = absurd h.1.1
+rows_form (l ∷ f ∷ s ∷ []) h = absurd h.1.1.1
+rows_form (l ∷ f ∷ s ∷ r ∷ ws) h = (
+  check (record { lang = h.0.0; file = f; claim = of_rows s r; given = h.1.1.1.1.0 }),
+  record { names = ((h.1.0, tt), (h.1.1.0, (h.1.1.1.0, tt))); rest = ws; words_are = ap (λ v. codes "check-rows" ∷ v ∷ f ∷ s ∷ r ∷ ws) h.0.1; given = h.1.1.1.1.1 },
+)
+
+module _ (ws rest : List (List ℕ)) (l : Lang) (f : List ℕ) (given : List Assignment) (g : AreGiven rest given) where
+  path_parts : (m : Claim) → AreNamesBehind [] (f ∷ claim_files m) → codes "check-path" ∷ ws ≡ claim_verb m ∷ lang_word l ∷ f ∷ (claim_files m ++ rest) → HeadForm PathForm ws
+  path_parts (of_path p) a e = subst (HeadForm PathForm) (sym (tails _ _ _ _ e)) ((l, refl), (a.0.0, (a.1.0, (given, g))))
+  path_parts (of_rows s r) a e = absurd (differ _ _ refl (heads _ _ _ _ e))
+
+  rows_parts : (m : Claim) → AreNamesBehind [] (f ∷ claim_files m) → codes "check-rows" ∷ ws ≡ claim_verb m ∷ lang_word l ∷ f ∷ (claim_files m ++ rest) → HeadForm RowsForm ws
+  rows_parts (of_path p) a e = absurd (differ _ _ refl (heads _ _ _ _ e))
+  rows_parts (of_rows s r) a e = subst (HeadForm RowsForm) (sym (tails _ _ _ _ e)) ((l, refl), (a.0.0, (a.1.0, (a.1.1.0, (given, g)))))
+
+path_rest : (ws : List (List ℕ)) → HasForm (codes "check-path" ∷ ws) → HeadForm PathForm ws
+path_rest ws (on_file task name, f) = absurd (not_task _ ws task name (differ _ _ refl) (differ _ _ refl) (differ _ _ refl) f.1)
+path_rest ws (walk w, h) = absurd (not_walk _ ws w (differ _ _ refl) (differ _ _ refl) h)
+path_rest ws (check c, h) = path_parts ws h.rest c.lang c.file c.given h.given c.claim h.names h.words_are
+
+rows_rest : (ws : List (List ℕ)) → HasForm (codes "check-rows" ∷ ws) → HeadForm RowsForm ws
+rows_rest ws (on_file task name, f) = absurd (not_task _ ws task name (differ _ _ refl) (differ _ _ refl) (differ _ _ refl) f.1)
+rows_rest ws (walk w, h) = absurd (not_walk _ ws w (differ _ _ refl) (differ _ _ refl) h)
+rows_rest ws (check c, h) = rows_parts ws h.rest c.lang c.file c.given h.given c.claim h.names h.words_are
+
+pub behind_path : (ws : List (List ℕ)) (k : ℕ) → IsWrong (HeadForm PathForm) ws k → IsWrong HasForm (codes "check-path" ∷ ws) (k + 1)
+behind_path ws k e = wrong_behind (HeadForm PathForm) HasForm (codes "check-path") ws k path_form path_rest e
+
+pub behind_rows : (ws : List (List ℕ)) (k : ℕ) → IsWrong (HeadForm RowsForm) ws k → IsWrong HasForm (codes "check-rows" ∷ ws) (k + 1)
+behind_rows ws k e = wrong_behind (HeadForm RowsForm) HasForm (codes "check-rows") ws k rows_form rows_rest e
 
 -- ---- the first word
 form_begins : Begins HasForm []
@@ -244,14 +304,17 @@ not_form_end (on_file ToPrism name, f) = let e = f.1 in cc
 not_form_end (on_file CheckPrism name, f) = let e = f.1 in cc
 not_form_end (on_file CheckJani name, f) = let e = f.1 in cc
 not_form_end (walk w, h) = let e = h.words_are in cc
+not_form_end (check c, h) = let e = h.words_are in cc
 
 pub no_verb : IsWrong HasForm [] 1
 no_verb = wrong_end HasForm form_begins not_form_end
 
-module _ (v : List ℕ) (ws : List (List ℕ)) (a : v ≢ codes "to-jani") (b : v ≢ codes "to-prism") (c : v ≢ codes "check") (d : v ≢ codes "show") (e : v ≢ codes "simulate") where
+module _ (v : List ℕ) (ws : List (List ℕ)) (a : v ≢ codes "to-jani") (b : v ≢ codes "to-prism") (c : v ≢ codes "check") (d : v ≢ codes "show") (e : v ≢ codes "simulate")
+    (f : v ≢ codes "check-path") (g : v ≢ codes "check-rows") where
   not_begun : Begins HasForm (v ∷ []) → ⊥
-  not_begun (more, (on_file task name, f)) = not_task v more task name a b c f.1
+  not_begun (more, (on_file task name, h)) = not_task v more task name a b c h.1
   not_begun (more, (walk w, h)) = not_walk v more w d e h
+  not_begun (more, (check m, h)) = not_check v more m f g h
 
   pub other_verb : IsWrong HasForm (v ∷ ws) 1
   other_verb = wrong_first HasForm v ws form_begins not_begun
@@ -271,19 +334,19 @@ module _ (ws : List (List ℕ)) (k : ℕ) (h : IsWrong HasGiven ws k) where
   pub job_wrong : (j : Job) → IsJob j → (l : Lang) (f : List ℕ) → IsFileName f → IsWrong HasForm (job_verb j ∷ lang_word l ∷ f ∷ (job_words j ++ ws)) ((3 + job_count j) + k)
   job_wrong (showing s) b l f a =
       more HasForm _ _ _ (let e : k + 1 + 2 + 1 ≡ (3 + 1) + k = omega arith in e)
-      (behind_show _ _ (behind_head StateForm state_begins (lang_word l) f _ _ (l, refl) a (one_next IsStateWord HasGiven s ws k b h)))
+      (behind_show _ _ (behind_head (λ file. StateForm) state_begins (lang_word l) f _ _ (l, refl) a (one_next IsStateWord HasGiven s ws k b h)))
   job_wrong (along None ps) b l f a =
       more HasForm _ _ _ (let e : k + 1 + 1 + 2 + 1 ≡ (3 + 2) + k = omega arith in e)
-      (behind_simulate _ _ (behind_head WalkForm walk_begins (lang_word l) f _ _ (l, refl) a (walk_way _ _ (differ _ _ refl) _ (given_wrong ps b.1 b.2))))
+      (behind_simulate _ _ (behind_head (λ file. WalkForm) walk_begins (lang_word l) f _ _ (l, refl) a (walk_way _ _ (differ _ _ refl) _ (given_wrong ps b.1 b.2))))
   job_wrong (along (Some s) ps) b l f a =
       more HasForm _ _ _ (let e : k + 1 + 1 + 1 + 1 + 2 + 1 ≡ (3 + 4) + k = omega arith in e)
-      (behind_simulate _ _ (behind_head WalkForm walk_begins (lang_word l) f _ _ (l, refl) a (walk_from _ _ (one_next IsStateWord WayForm s _ _ b.0 (given_wrong ps b.1 b.2)))))
+      (behind_simulate _ _ (behind_head (λ file. WalkForm) walk_begins (lang_word l) f _ _ (l, refl) a (walk_from _ _ (one_next IsStateWord WayForm s _ _ b.0 (given_wrong ps b.1 b.2)))))
   job_wrong (seeded None n m) b l f a =
       more HasForm _ _ _ (let e : k + 1 + 1 + 1 + 2 + 1 ≡ (3 + 3) + k = omega arith in e)
-      (behind_simulate _ _ (behind_head WalkForm walk_begins (lang_word l) f _ _ (l, refl) a (walk_way _ _ (differ _ _ refl) _ (seed_wrong n m b.1 b.2))))
+      (behind_simulate _ _ (behind_head (λ file. WalkForm) walk_begins (lang_word l) f _ _ (l, refl) a (walk_way _ _ (differ _ _ refl) _ (seed_wrong n m b.1 b.2))))
   job_wrong (seeded (Some s) n m) b l f a =
       more HasForm _ _ _ (let e : k + 1 + 1 + 1 + 1 + 1 + 2 + 1 ≡ (3 + 5) + k = omega arith in e)
-      (behind_simulate _ _ (behind_head WalkForm walk_begins (lang_word l) f _ _ (l, refl) a (walk_from _ _ (one_next IsStateWord WayForm s _ _ b.0 (seed_wrong n m b.1 b.2)))))
+      (behind_simulate _ _ (behind_head (λ file. WalkForm) walk_begins (lang_word l) f _ _ (l, refl) a (walk_from _ _ (one_next IsStateWord WayForm s _ _ b.0 (seed_wrong n m b.1 b.2)))))
 
 -- how many words stand before those of the constants
 length-job : (j : Job) (rest : List (List ℕ)) → length (job_words j ++ rest) ≡ job_count j + length rest
@@ -302,3 +365,28 @@ pub wrong_given : (ws rest : List (List ℕ)) (l : Lang) (f : List ℕ) (j : Job
 wrong_given ws rest l f j k n a b e c h =
     let d = length-front ws (job_verb j) (lang_word l) f j rest e in
     more HasForm ws ((3 + job_count j) + k) (n + k) (omega (arith, c, d)) (subst (λ vs. IsWrong HasForm vs ((3 + job_count j) + k)) (sym e) (job_wrong rest k h j b l f a))
+
+-- ---- behind a claim
+module _ (rest : List (List ℕ)) (k : ℕ) (h : IsWrong HasGiven rest k) (l : Lang) (f : List ℕ) where
+  claim_wrong : (m : Claim) → AreNamesBehind [] (f ∷ claim_files m) → IsWrong HasForm (claim_verb m ∷ lang_word l ∷ f ∷ (claim_files m ++ rest)) ((3 + length (claim_files m)) + k)
+  claim_wrong (of_path p) a =
+      more HasForm _ _ _ (let e : k + 1 + 2 + 1 ≡ (3 + 1) + k = omega arith in e)
+      (behind_path _ _ (behind_head PathForm (path_begins (codes "f")) (lang_word l) f _ _ (l, refl) a.0.0 (one_next (IsNameBehind (f ∷ [])) HasGiven p rest k a.1.0 h)))
+  claim_wrong (of_rows s r) a =
+      more HasForm _ _ _ (let e : k + 1 + 1 + 2 + 1 ≡ (3 + 2) + k = omega arith in e)
+      (behind_rows _ _ (behind_head RowsForm (rows_begins (codes "f")) (lang_word l) f _ _ (l, refl) a.0.0
+      (then_next (IsNameBehind (f ∷ [])) (λ states. One (IsNameBehind (f ∷ states ∷ [])) HasGiven) s _ (k + 1) a.1.0 (one_next (IsNameBehind (f ∷ s ∷ [])) HasGiven r rest k a.1.1.0 h))))
+
+length-files : (m : Claim) (rest : List (List ℕ)) → length (claim_files m ++ rest) ≡ length (claim_files m) + length rest
+length-files (of_path p) rest = omega arith
+length-files (of_rows s r) rest = omega arith
+
+pub length-claim : (ws : List (List ℕ)) (v l f : List ℕ) (m : Claim) (rest : List (List ℕ)) → ws ≡ v ∷ l ∷ f ∷ (claim_files m ++ rest) → length ws ≡ (3 + length (claim_files m)) + length rest
+length-claim ws v l f m rest e = let a = ap length e in let b = length-files m rest in omega (arith, a, b)
+
+-- behind the front of words, at so many
+pub wrong_given_claim : (ws rest : List (List ℕ)) (l : Lang) (f : List ℕ) (m : Claim) (k n : ℕ) → AreNamesBehind [] (f ∷ claim_files m) → ws ≡ claim_verb m ∷ lang_word l ∷ f ∷ (claim_files m ++ rest)
+    → n + length rest ≡ length ws → IsWrong HasGiven rest k → IsWrong HasForm ws (n + k)
+wrong_given_claim ws rest l f m k n a e c h =
+    let d = length-claim ws (claim_verb m) (lang_word l) f m rest e in
+    more HasForm ws ((3 + length (claim_files m)) + k) (n + k) (omega (arith, c, d)) (subst (λ vs. IsWrong HasForm vs ((3 + length (claim_files m)) + k)) (sym e) (claim_wrong rest k h l f m a))

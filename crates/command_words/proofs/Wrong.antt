@@ -4,7 +4,7 @@ use Rattle.std.specs.Global.{Global}
 use Rattle.std.specs.Prelude.{string_bytes}
 use Rattle.std.proofs.lemmas.List.{take_rest}
 use Rattle.command_words.specs.Words.{texts, Begins, IsWrong}
-use Rattle.command_words.specs.Fronts.{One}
+use Rattle.command_words.specs.Fronts.{Then, One}
 
 -- ---- words of any forms
 module _ (Form : List (List ℕ) → Type 0) where
@@ -41,19 +41,33 @@ pub wrong_behind : (P Q : List (List ℕ) → Type 0) (w : List ℕ) (ws : List 
     → IsWrong P ws k → IsWrong Q (w ∷ ws) (k + 1)
 wrong_behind P Q w ws k f g e = wrong_next Q w ws k (wrong_same P (λ vs. Q (w ∷ vs)) ws k f g e)
 
+-- ---- a word of one kind, and then others that it has a say in
+module _ (Word : List ℕ → Type 0) (Rest : List ℕ → List (List ℕ) → Type 0) where
+  pub then_begins : (w : List ℕ) → Word w → Begins (Rest w) [] → Begins (Then Word Rest) []
+  then_begins w h b = (w ∷ b.0, (h, b.1))
+
+  pub then_next : (w : List ℕ) (ws : List (List ℕ)) (k : ℕ) → Word w → IsWrong (Rest w) ws k → IsWrong (Then Word Rest) (w ∷ ws) (k + 1)
+  then_next w ws k h e = wrong_behind (Rest w) (Then Word Rest) w ws k (λ vs r. (h, r)) (λ vs q. q.1) e
+
+  pub then_end : Begins (Then Word Rest) [] → IsWrong (Then Word Rest) [] 1
+  then_end b = wrong_end (Then Word Rest) b (λ e. e)
+
+  pub then_first : Begins (Then Word Rest) [] → (w : List ℕ) (ws : List (List ℕ)) → (Word w → ⊥) → IsWrong (Then Word Rest) (w ∷ ws) 1
+  then_first b w ws none = wrong_first (Then Word Rest) w ws b (λ begins. none begins.1.0)
+
 -- ---- a word of one kind, and then the others
 module _ (Word : List ℕ → Type 0) (Rest : List (List ℕ) → Type 0) where
   pub one_begins : (w : List ℕ) → Word w → Begins Rest [] → Begins (One Word Rest) []
-  one_begins w h b = (w ∷ b.0, (h, b.1))
+  one_begins = then_begins Word (λ w. Rest)
 
   pub one_next : (w : List ℕ) (ws : List (List ℕ)) (k : ℕ) → Word w → IsWrong Rest ws k → IsWrong (One Word Rest) (w ∷ ws) (k + 1)
-  one_next w ws k h e = wrong_behind Rest (One Word Rest) w ws k (λ vs r. (h, r)) (λ vs q. q.1) e
+  one_next = then_next Word (λ w. Rest)
 
   pub one_end : Begins (One Word Rest) [] → IsWrong (One Word Rest) [] 1
-  one_end b = wrong_end (One Word Rest) b (λ e. e)
+  one_end = then_end Word (λ w. Rest)
 
   pub one_first : Begins (One Word Rest) [] → (w : List ℕ) (ws : List (List ℕ)) → (Word w → ⊥) → IsWrong (One Word Rest) (w ∷ ws) 1
-  one_first b w ws none = wrong_first (One Word Rest) w ws b (λ begins. none begins.1.0)
+  one_first = then_first Word (λ w. Rest)
 
 -- ---- the words as they are read
 -- the first of a list, and the others

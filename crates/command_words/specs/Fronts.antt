@@ -2,17 +2,23 @@
 use Rattle.std.specs.Prelude.{◌≡◌, ◌≢◌, ◌⊎◌, ℕ, ◌^◌, ◌-◌, List, [], ◌∷◌, ◌++◌, codes, Option, Some, None}
 use Rattle.command_words.specs.Numbers.{IsNumber, IsPairs}
 use Rattle.command_words.specs.Given.{HasGiven}
-use Rattle.command_words.specs.Words.{texts, IsStateWord, IsFrom, IsJob, job_of, job_verb, job_words, lang_word, from_words}
+use Rattle.command_words.specs.Words.{texts, IsStateWord, IsFrom, IsJob, job_of, job_verb, job_words, lang_word, from_words, IsNameBehind, AreNamesBehind, claim_of, claim_verb, claim_files}
 use Rattle.command_words.specs.declared.request.Lang.{Lang}
 use Rattle.command_words.specs.declared.fronts.Head.{Head}
 use Rattle.command_words.specs.declared.fronts.StateFront.{StateFront}
 use Rattle.command_words.specs.declared.fronts.Front.{Front}
 use Rattle.command_words.specs.declared.words.Start.{Start}
+use Rattle.command_words.specs.declared.claims.ClaimFront.{ClaimFront}
+use Rattle.command_words.specs.declared.claims.NameFront.{NameFront}
+
+-- a word of one kind, and then others that it has a say in
+abbrev pub Then : (List ℕ → Type 0) → (List ℕ → List (List ℕ) → Type 0) → List (List ℕ) → Type 0
+Then Word Rest [] = ⊥
+Then Word Rest (w ∷ ws) = Word w × Rest w ws
 
 -- a word of one kind, and then the others
 abbrev pub One : (List ℕ → Type 0) → (List (List ℕ) → Type 0) → List (List ℕ) → Type 0
-One Word Rest [] = ⊥
-One Word Rest (w ∷ ws) = Word w × Rest ws
+One Word Rest ws = Then Word (λ w. Rest) ws
 
 abbrev pub Fixed : List ℕ → (List (List ℕ) → Type 0) → List (List ℕ) → Type 0
 Fixed v Rest ws = One (λ w. w ≡ v) Rest ws
@@ -56,9 +62,23 @@ WalkForm ws = WayForm ws ⊎ Fixed (codes "from") FromForm ws
 abbrev pub StateForm : List (List ℕ) → Type 0
 StateForm ws = One IsStateWord HasGiven ws
 
+-- behind `check-path LANG FILE`, and behind `check-rows LANG FILE`
+abbrev pub PathForm : List ℕ → List (List ℕ) → Type 0
+PathForm file ws = One (IsNameBehind (file ∷ [])) HasGiven ws
+
+abbrev pub RowsForm : List ℕ → List (List ℕ) → Type 0
+RowsForm file ws = Then (IsNameBehind (file ∷ [])) (λ states. One (IsNameBehind (file ∷ states ∷ [])) HasGiven) ws
+
+-- behind the first word: a language, the word of a file, and then others that it has a say in
+abbrev pub HeadForm : (List ℕ → List (List ℕ) → Type 0) → List (List ℕ) → Type 0
+HeadForm Rest ws = One IsLangWord (Then IsFileName Rest) ws
+
 -- behind `show`, and behind `simulate`
-abbrev pub HeadForm : (List (List ℕ) → Type 0) → List (List ℕ) → Type 0
-HeadForm Rest ws = One IsLangWord (One IsFileName Rest) ws
+abbrev pub ShowForm : List (List ℕ) → Type 0
+ShowForm ws = HeadForm (λ file. StateForm) ws
+
+abbrev pub SimulateForm : List (List ℕ) → Type 0
+SimulateForm ws = HeadForm (λ file. WalkForm) ws
 
 -- ---- what is read of words
 -- the language that a word names
@@ -95,6 +115,24 @@ pub record IsFront (verb : List ℕ) (from : Option (List ℕ)) (ws : List (List
   pub job : IsFrom from → IsJob (job_of f.job)
   pub verb_is : job_verb (job_of f.job) ≡ verb
   pub words_are : from_words from ++ ws ≡ job_words (job_of f.job) ++ texts f.rest.now
+
+-- the word of a file other than these, and what stands behind; or the first word is none, or is missing
+pub record IsNameFront (before ws : List (List ℕ)) (n : NameFront) : Type 0 where
+  pub name : IsNameBehind before n.name.now
+  pub words_are : ws ≡ n.name.now ∷ texts n.rest.now
+
+abbrev pub IsNameWrong : List (List ℕ) → List (List ℕ) → Type 0
+IsNameWrong before [] = Unit {0}
+IsNameWrong before (w ∷ ws) = IsNameBehind before w → ⊥
+
+abbrev pub ReadsName : List (List ℕ) → List (List ℕ) → Option NameFront → Type 0
+ReadsName before ws (Some n) = IsNameFront before ws n
+ReadsName before ws None = IsNameWrong before ws
+
+-- A claim about the process of a file, and what stands behind it.
+pub record IsClaimFront (ws : List (List ℕ)) (c : ClaimFront) : Type 0 where
+  pub names : AreNamesBehind [] (c.file.now ∷ claim_files (claim_of c.claim))
+  pub words_are : ws ≡ claim_verb (claim_of c.claim) ∷ lang_word c.lang ∷ c.file.now ∷ (claim_files (claim_of c.claim) ++ texts c.rest.now)
 
 -- all words before those of the constants, and what stands behind them
 pub record IsStart (ws : List (List ℕ)) (s : Start) : Type 0 where

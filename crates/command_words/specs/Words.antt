@@ -13,6 +13,9 @@ use Rattle.command_words.specs.declared.request.Lang.TheVariants.{Prism, Jani}
 use Rattle.command_words.specs.declared.request.Job as code_job
 use Rattle.command_words.specs.declared.request.Job.TheVariants as code_job_case
 use Rattle.command_words.specs.declared.request.Walking as code_walking
+use Rattle.command_words.specs.declared.request.Claim as code_claim
+use Rattle.command_words.specs.declared.request.Claim.TheVariants as code_claim_case
+use Rattle.command_words.specs.declared.request.Checking as code_checking
 use Rattle.command_words.specs.declared.request.Request as code_request
 use Rattle.command_words.specs.declared.request.Request.TheVariants as code_request_case
 use Rattle.command_words.specs.declared.request.WordsFail.{WordsFail}
@@ -48,13 +51,47 @@ pub record Walking : Type 0 where
   pub job : Job
   pub given : List Assignment
 
+-- what another file says of a process: this one is a path of it; or these two are its states and its rows
+pub data Claim : Type 0 where
+  of_path : (path : List ℕ) → Claim
+  of_rows : (states rows : List ℕ) → Claim
+
+pub record Checking : Type 0 where
+  pub lang : Lang
+  pub file : List ℕ
+  pub claim : Claim
+  pub given : List Assignment
+
 pub data Request : Type 0 where
   on_file : (task : Task) (file : List ℕ) → Request
   walk : (walking : Walking) → Request
+  check : (checking : Checking) → Request
 
+-- ---- the words of files
+abbrev pub claim_files : Claim → List (List ℕ)
+claim_files (of_path path) = path ∷ []
+claim_files (of_rows states rows) = states ∷ rows ∷ []
+
+-- the file of the model
 abbrev pub file_of : Request → List ℕ
 file_of (on_file task file) = file
 file_of (walk w) = w.file
+file_of (check c) = c.file
+
+-- all files, in the order of their words
+abbrev pub files_of : Request → List (List ℕ)
+files_of (on_file task file) = file ∷ []
+files_of (walk w) = w.file ∷ []
+files_of (check c) = c.file ∷ claim_files c.claim
+
+-- a word of a file behind these: it isn't empty, and it is none of them
+abbrev pub IsNameBehind : List (List ℕ) → List ℕ → Type 0
+IsNameBehind before name = (name ≢ []) × AllByRecursion (λ other. name ≢ other) before
+
+-- words of files behind these
+abbrev pub AreNamesBehind : List (List ℕ) → List (List ℕ) → Type 0
+AreNamesBehind before [] = Unit {0}
+AreNamesBehind before (name ∷ names) = IsNameBehind before name × AreNamesBehind (before ++ name ∷ []) names
 
 -- ---- the forms with a file alone: `to-jani FILE`, `to-prism FILE`, `check prism FILE`, `check jani FILE`
 -- the file's word alone
@@ -117,10 +154,23 @@ pub record IsWalk (words : List (List ℕ)) (w : Walking) : Type 0 where
   pub words_are : words ≡ front_words w ++ rest
   pub given : AreGiven rest w.given
 
+-- ---- the forms with further files: `check-path LANG FILE PATH`, `check-rows LANG FILE STATES ROWS`; then any number of words
+-- NAME=VALUE
+abbrev pub claim_verb : Claim → List ℕ
+claim_verb (of_path path) = codes "check-path"
+claim_verb (of_rows states rows) = codes "check-rows"
+
+pub record IsCheck (words : List (List ℕ)) (c : Checking) : Type 0 where
+  pub names : AreNamesBehind [] (c.file ∷ claim_files c.claim)
+  pub rest : List (List ℕ)
+  pub words_are : words ≡ claim_verb c.claim ∷ lang_word c.lang ∷ c.file ∷ (claim_files c.claim ++ rest)
+  pub given : AreGiven rest c.given
+
 -- ---- all forms
 abbrev pub IsRequest : List (List ℕ) → Request → Type 0
 IsRequest words (on_file task name) = (name ≢ []) × (words ≡ verb_of task ++ name ∷ [])
 IsRequest words (walk w) = IsWalk words w
+IsRequest words (check c) = IsCheck words c
 
 abbrev pub HasForm : List (List ℕ) → Type 0
 HasForm words = (r : Request) × IsRequest words r
@@ -140,8 +190,17 @@ job_count (seeded (Some state) seed steps) = 5
 abbrev pub words_before : Walking → ℕ
 words_before w = 3 + job_count w.job
 
+abbrev pub words_before_given : Checking → ℕ
+words_before_given c = 3 + length (claim_files c.claim)
+
+-- how many words ask for it
+abbrev pub word_count : Request → ℕ
+word_count (on_file task name) = length (verb_of task) + 1
+word_count (walk w) = words_before w + length w.given
+word_count (check c) = words_before_given c + length c.given
+
 abbrev pub WordsCount : Type 0
-WordsCount = (words : List (List ℕ)) (w : Walking) → IsRequest words (walk w) → length words ≡ words_before w + length w.given
+WordsCount = (words : List (List ℕ)) (request : Request) → IsRequest words request → length words ≡ word_count request
 
 -- words ask for one thing at most
 abbrev pub OneRequest : Type 0
@@ -156,9 +215,17 @@ job_of (code_job_case.Seed from seed steps) = seeded (option_map (λ s. s.now) f
 abbrev pub walking_of : code_walking.Walking → Walking
 walking_of w = record { lang = w.lang; file = w.file.now; job = job_of w.job; given = assignments_of w.given }
 
+abbrev pub claim_of : code_claim.Claim → Claim
+claim_of (code_claim_case.Path path) = of_path path.now
+claim_of (code_claim_case.Rows states rows) = of_rows states.now rows.now
+
+abbrev pub checking_of : code_checking.Checking → Checking
+checking_of c = record { lang = c.lang; file = c.file.now; claim = claim_of c.claim; given = assignments_of c.given }
+
 abbrev pub request_of : code_request.Request → Request
 request_of (code_request_case.OnFile task file) = on_file task file.now
 request_of (code_request_case.Walk w) = walk (walking_of w)
+request_of (code_request_case.Check c) = check (checking_of c)
 
 -- what is answered: what the words ask for, or where they leave every form
 abbrev pub AnswersWords : {X : Type 0} → (X → Type 0) → (List (List ℕ) → Type 0) → List (List ℕ) → Result X WordsFail → Type 0

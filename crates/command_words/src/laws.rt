@@ -3,7 +3,7 @@ ghost use Rattle.command_words.specs.Words.{OneRequest, WordsCount};
 
 use process_texts::text_laws;
 
-/// Words ask for one thing at most, and so many of them stand before those that give values of constants. Nothing is done.
+/// Words ask for one thing at most, and so many words ask for it. Nothing is done.
 pub fn words_law()
     ensures one { OneRequest }
     ensures count { WordsCount }

@@ -1,6 +1,7 @@
 //! The words of the command line: what they ask for, or where they leave every form.
 #![tactic(auto)]
 
+mod claims;
 mod fronts;
 mod given;
 mod laws;
@@ -9,5 +10,5 @@ mod request;
 mod words;
 
 pub use laws::words_law;
-pub use request::{Assignment, Job, Lang, Request, Task, Walking, WordsFail};
+pub use request::{Assignment, Checking, Claim, Job, Lang, Request, Task, Walking, WordsFail};
 pub use words::request_in;

@@ -1,10 +1,10 @@
 // What words ask for.
-ghost use Rattle.std.specs.Prelude.{◌≡◌};
-ghost use Rattle.command_words.specs.Words.{file_of, request_of};
+ghost use Rattle.std.specs.Prelude.{◌≡◌, IfOk, map};
+ghost use Rattle.command_words.specs.Words.{files_of, request_of};
 
 use bridge_io::List;
 use process_texts::GivenText;
-use std::alloc::AllocError;
+use std::alloc::{AllocError, Global};
 
 /// What a run does with the file that its words name.
 #[derive(Clone, Copy)]
@@ -62,6 +62,28 @@ pub struct Walking<'a> {
     pub given: List<Assignment<'a>>,
 }
 
+/// What other files say of the process of a file.
+#[derive(Clone, Copy)]
+pub enum Claim<'a> {
+    /// `check-path LANG FILE PATH`: the file of this word is a path of it.
+    Path(&'a str),
+    /// `check-rows LANG FILE STATES ROWS`: the files of these words are its states and its rows.
+    Rows(&'a str, &'a str),
+}
+
+/// A claim about the process of a file under given constants, which is to be judged.
+#[derive(Drop)]
+pub struct Checking<'a> {
+    /// The language of the file.
+    pub lang: Lang,
+    /// The word of the file.
+    pub file: &'a str,
+    /// What is claimed. Its files are others.
+    pub claim: Claim<'a>,
+    /// The given constants in their order, no two of one name.
+    pub given: List<Assignment<'a>>,
+}
+
 /// What words ask for.
 #[derive(Drop)]
 pub enum Request<'a> {
@@ -69,17 +91,26 @@ pub enum Request<'a> {
     OnFile(Task, &'a str),
     /// A job on the process of a file.
     Walk(Walking<'a>),
+    /// A claim about the process of a file.
+    Check(Checking<'a>),
 }
 
 impl<'a> Request<'a> {
-    /// The word of its file.
-    pub fn file(&self) -> &str
-        ensures { result.now ≡ file_of (request_of self.now) }
+    /// The words of its files, in their order.
+    pub fn files(&self, alloc: Global) -> Result<List<&str>, AllocError>
+        ensures { IfOk result (λ files. map (λ s. s.now) files ≡ files_of (request_of self.now)) }
     {
-        match self {
-            Request::OnFile(_, file) => file,
-            Request::Walk(walking) => walking.file,
-        }
+        let files = match self {
+            Request::OnFile(_, file) => Vec::from_slice(alloc, &[*file]),
+            Request::Walk(walking) => Vec::from_slice(alloc, &[walking.file]),
+            Request::Check(checking) => match checking.claim {
+                Claim::Path(path) => Vec::from_slice(alloc, &[checking.file, path]),
+                Claim::Rows(states, rows) => {
+                    Vec::from_slice(alloc, &[checking.file, states, rows])
+                }
+            },
+        };
+        Ok(List::from_vec(files?))
     }
 }
 

@@ -1,11 +1,12 @@
 // All words.
 ghost use Rattle.std.specs.Prelude.{◌∷◌, MatchResult, codes};
 ghost use Rattle.command_words.specs.Words.{AnswersWords, HasFileWord, HasForm, IsFileWord, IsRequest, IsWrong, on_file, request_of, texts};
-ghost use Rattle.command_words.specs.Fronts.{HeadForm, IsStart, StateForm, WalkForm};
+ghost use Rattle.command_words.specs.Fronts.{IsClaimFront, IsStart, ShowForm, SimulateForm};
 
+use crate::claims::{ClaimFront, path_in, rows_in};
 use crate::fronts::{Front, head_in, state_in, walk_in};
 use crate::given::assignments_in;
-use crate::request::{Job, Lang, Request, Task, Walking, WordsFail};
+use crate::request::{Checking, Job, Lang, Request, Task, Walking, WordsFail};
 use std::alloc::Global;
 
 /// What the words ask for; or, where they are of no form, the position of the first word with which no form goes on, or of the
@@ -37,6 +38,14 @@ pub fn request_in(alloc: Global, words: &[String]) -> Result<Request<'_>, WordsF
             Ok(start) => with_given(alloc, words, start),
             Err(WordsFail::At(k)) => Err(WordsFail::At(k + 1)),
             Err(WordsFail::Memory(e)) => Err(WordsFail::Memory(e)),
+        },
+        "check-path" => match path_in(rest) {
+            Ok(front) => claim_with_given(alloc, words, front),
+            Err(k) => Err(WordsFail::At(k + 1)),
+        },
+        "check-rows" => match rows_in(rest) {
+            Ok(front) => claim_with_given(alloc, words, front),
+            Err(k) => Err(WordsFail::At(k + 1)),
         },
         _ => Err(WordsFail::At(1)),
     }
@@ -91,7 +100,7 @@ struct Start<'a> {
 
 // The words behind `show` up to those of the constants, or the position at which no form goes on.
 fn show_in(words: &[String]) -> Result<Start<'_>, usize>
-    ensures { MatchResult result (IsStart (codes "show" ∷ texts words.now)) (λ k. IsWrong (HeadForm StateForm) (texts words.now) k) }
+    ensures { MatchResult result (IsStart (codes "show" ∷ texts words.now)) (λ k. IsWrong ShowForm (texts words.now) k) }
 {
     let head = match head_in(words) {
         Ok(head) => head,
@@ -112,7 +121,7 @@ fn show_in(words: &[String]) -> Result<Start<'_>, usize>
 
 // The same of the words behind `simulate`.
 fn simulate_in(alloc: Global, words: &[String]) -> Result<Start<'_>, WordsFail>
-    ensures { AnswersWords (IsStart (codes "simulate" ∷ texts words.now)) (HeadForm WalkForm) (texts words.now) result }
+    ensures { AnswersWords (IsStart (codes "simulate" ∷ texts words.now)) SimulateForm (texts words.now) result }
 {
     let head = match head_in(words) {
         Ok(head) => head,
@@ -144,6 +153,28 @@ fn with_given<'a>(
             lang: start.lang,
             file: start.file,
             job: start.front.job,
+            given,
+        })),
+        Err(WordsFail::At(k)) => Err(WordsFail::At(before + k)),
+        Err(WordsFail::Memory(e)) => Err(WordsFail::Memory(e)),
+    }
+}
+
+// The request of a claim in these words, with the constants that stand behind.
+fn claim_with_given<'a>(
+    alloc: Global,
+    words: &[String],
+    front: ClaimFront<'a>,
+) -> Result<Request<'a>, WordsFail>
+    requires { IsClaimFront (texts words.now) front }
+    ensures { AnswersWords (λ r. IsRequest (texts words.now) (request_of r)) HasForm (texts words.now) result }
+{
+    let before = words.len() - front.rest.len();
+    match assignments_in(alloc, front.rest) {
+        Ok(given) => Ok(Request::Check(Checking {
+            lang: front.lang,
+            file: front.file,
+            claim: front.claim,
             given,
         })),
         Err(WordsFail::At(k)) => Err(WordsFail::At(before + k)),

@@ -2,13 +2,15 @@
 use Rattle.std.proofs.Common.{arith, ◌≡◌, ◌⊎◌, ◌∙◌, refl, ap, subst, ℕ, ◌+◌, List, [], length, Option, inl, inr}
 use Rattle.std.specs.Io.KnownBytes.{Appends}
 use Rattle.bridge_io.specs.Outside.{HasFailed, Lefts}
-use Rattle.command_words.specs.Words.{Request, Walking, WordsCount, on_file, walk, file_of, IsRequest, IsWrongAt}
+use Rattle.command_words.specs.Words.{Request, Walking, Checking, WordsCount, on_file, walk, check, files_of, IsRequest, IsWrongAt}
 use Rattle.model_walks.specs.Walks.{EndsOnBytes}
 use Rattle.model_walks.specs.declared.ending.Ending.TheVariants as Ends
 use Rattle.model_command.specs.Outcome.{status_of, line_of, text_of, word_line}
-use Rattle.model_command.specs.Run.{IsCause, IsNext, IsEnd, IsWhole, IsReadEnd, IsCarriedOut, EndsWith, IsTold}
+use Rattle.model_claims.specs.Claims.{EndsOnFiles}
+use Rattle.model_command.specs.Run.{IsCause, IsNext, IsEnd, IsTaskEnd, IsWhole, AreWhole, ComesTo, IsReadEnd, IsCarriedOut, EndsWith, IsTold}
 use Rattle.model_command.specs.declared.outcome.Outcome.{Outcome}
 use Rattle.model_command.specs.declared.outcome.Outcome.TheVariants.{Done, Ended, Refused, Words, ReadFault, NoMemory}
+use Rattle.model_command.proofs.Several.{alone, walk_read}
 
 -- the statuses of what is carried out
 abbrev IsOfWork : ℕ → Type 0
@@ -19,33 +21,33 @@ not_other answer n other e work = grind (arith, other, e, work)
 
 -- the position behind the words of a request
 pub behind : (words : List (List ℕ)) (request : Request) (n : ℕ) → WordsCount → IsRequest words request → n ≡ length words + 1 → IsNext request n
-behind words (on_file task name) n law form e = tt
-behind words (walk w) n law form e = e ∙ ap (λ k. k + 1) (law words w form)
+behind words request n law form e = e ∙ ap (λ k. k + 1) (law words request form)
 
 module _ {S : Type 0} (left : S → Option Lefts) (faults : S → ℕ) (steady : S → List ℕ → Type 0) (words : List (List ℕ)) (old new : S) where
-  pub cause : (request : Request) → IsRequest words request → (outcome : Outcome) → IsEnd left faults steady request old new outcome
-      → IsCause left faults steady words (file_of request) old new outcome
-  cause request form outcome end = inr (request, form, refl, end)
-
   module _ {K E : Type 0} (taken : K → Option (List ℕ)) (fails : K → ℕ) (said : E → Option (List ℕ)) (failures : E → ℕ) (out out' : K) (err err' : E) (answer : ℕ) where
     pub answered : (name : List ℕ) (outcome : Outcome) → IsCause left faults steady words name old new outcome → IsTold taken fails said failures out out' err err' name outcome answer
         → (n : List ℕ) × (o : Outcome) × IsCause left faults steady words n old new o × EndsWith taken fails said failures out out' err err' n o answer
     answered name outcome why (inl e) = (name, outcome, why, e)
     answered name outcome why (inr e) = (name, NoMemory, inl tt, e)
 
-    carried : (request : Request) (name : List ℕ) → name ≡ file_of request → IsRequest words request → (o : Outcome) → IsReadEnd request (left old) (left new) o → answer ≡ status_of o →
+    -- the same of a request
+    pub told_end : (request : Request) (name : List ℕ) (outcome : Outcome) → IsEnd left faults steady request name old new outcome → IsTold taken fails said failures out out' err err' name outcome answer
+        → (n : List ℕ) × (o : Outcome) × IsEnd left faults steady request n old new o × EndsWith taken fails said failures out out' err err' n o answer
+    told_end request name outcome end (inl e) = (name, outcome, end, e)
+    told_end request name outcome end (inr e) = (name, NoMemory, tt, e)
+
+    carried : (request : Request) (name : List ℕ) → IsRequest words request → (o : Outcome) → IsReadEnd request name (left old) (left new) o → answer ≡ status_of o →
         Appends (taken out) (taken out') (text_of o) → Appends (said err) (said err') (line_of name o) →
         (o : Outcome) × (answer ≡ status_of o) × IsCarriedOut taken said (left old) (left new) out out' err err' words o
-    carried request name same form o end status text line =
-        (o, status, (request, end.0, form, end.1, end.2, text, subst (λ n. Appends (said err) (said err') (line_of n o)) same line))
+    carried request name form o end status text line = (o, status, (request, end.0, name, form, end.1, end.2, text, line))
 
     -- statuses 0, 1, 7 and 8 come of what is carried out alone
     pub written : (name : List ℕ) (outcome : Outcome) → IsCause left faults steady words name old new outcome → EndsWith taken fails said failures out out' err err' name outcome answer →
         IsOfWork answer → (o : Outcome) × (answer ≡ status_of o) × IsCarriedOut taken said (left old) (left new) out out' err err' words o
     written name (Done text) (inl why) e work = absurd why
-    written name (Done text) (inr why) (inl e) work = carried why.0 name why.2 why.1 (Done text) why.3 e.0 e.1 e.2
+    written name (Done text) (inr why) (inl e) work = carried why.0 name why.1 (Done text) why.2 e.0 e.1 e.2
     written name (Ended en) (inl why) e work = absurd why
-    written name (Ended en) (inr why) (inl e) work = carried why.0 name why.2 why.1 (Ended en) why.3 e.0 e.1 e.2
+    written name (Ended en) (inr why) (inl e) work = carried why.0 name why.1 (Ended en) why.2 e.0 e.1 e.2
     written name (Refused reason place) why (inl e) work = absurd (not_other answer 2 (inl refl) e.0 work)
     written name (Words k) why (inl e) work = absurd (not_other answer 3 (inr (inl refl)) e.0 work)
     written name ReadFault why (inl e) work = absurd (not_other answer 4 (inr (inr (inl refl))) e.0 work)
@@ -56,11 +58,13 @@ module _ {S : Type 0} (left : S → Option Lefts) (faults : S → ℕ) (steady :
     -- what status 3 comes of
     abbrev IsOfWords : Type 0
     IsOfWords = (k : ℕ) × Appends (taken out) (taken out') [] × Appends (said err) (said err') (word_line k)
-        × (IsWrongAt words k ⊎ ((w : Walking) × (bytes : List ℕ) × IsRequest words (walk w) × IsWhole (left old) (left new) w.file bytes × EndsOnBytes w.lang w bytes (Ends.Word k)))
+        × (IsWrongAt words k ⊎ ((w : Walking) × (bytes : List ℕ) × IsRequest words (walk w) × IsWhole (left old) (left new) w.file bytes × EndsOnBytes w.lang w bytes (Ends.Word k))
+        ⊎ ((c : Checking) × (contents : List (List ℕ)) × IsRequest words (check c) × AreWhole (left old) (left new) (files_of (check c)) contents × EndsOnFiles c contents (Ends.Word k)))
 
-    of_word : (request : Request) (k : ℕ) → IsRequest words request → IsReadEnd request (left old) (left new) (Ended (Ends.Word k)) → Appends (taken out) (taken out') [] → Appends (said err) (said err') (word_line k) → IsOfWords
-    of_word (on_file task name) k form end text line = absurd end.2
-    of_word (walk w) k form end text line = (k, text, line, inr (w, end.0, form, end.1, end.2))
+    of_word : (request : Request) (name : List ℕ) (k : ℕ) → IsRequest words request → IsReadEnd request name (left old) (left new) (Ended (Ends.Word k)) → Appends (taken out) (taken out') [] → Appends (said err) (said err') (word_line k) → IsOfWords
+    of_word (on_file task file) name k form end text line = absurd (alone (λ bytes. IsTaskEnd task bytes (Ended (Ends.Word k))) (left old) (left new) file end.0 end.1 end.2.1).2
+    of_word (walk w) name k form end text line = let r = (walk_read w name (left old) (left new) (Ended (Ends.Word k)) end).1 in (k, text, line, inr (inl (w, r.0, form, r.1, r.2)))
+    of_word (check c) name k form end text line = (k, text, line, inr (inr (c, end.0, form, end.1, end.2)))
 
     not_three : (answer n : ℕ) → (n ≡ 0) ⊎ (n ≡ 1) ⊎ (n ≡ 2) ⊎ (n ≡ 4) ⊎ (n ≡ 5) ⊎ (n ≡ 6) ⊎ (n ≡ 7) ⊎ (n ≡ 8) → answer ≡ n → answer ≡ 3 → ⊥
     not_three answer n other e three = grind (arith, other, e, three)
@@ -68,14 +72,15 @@ module _ {S : Type 0} (left : S → Option Lefts) (faults : S → ℕ) (steady :
     pub of_words : (name : List ℕ) (outcome : Outcome) → IsCause left faults steady words name old new outcome → EndsWith taken fails said failures out out' err err' name outcome answer → answer ≡ 3 → IsOfWords
     of_words name (Done text) why (inl e) three = absurd (omega (arith, e.0, three))
     of_words name (Ended (Ends.Done text)) why (inl e) three = absurd (omega (arith, e.0, three))
+    of_words name (Ended (Ends.No line)) why (inl e) three = absurd (omega (arith, e.0, three))
     of_words name (Ended (Ends.Stopped path line)) why (inl e) three = absurd (omega (arith, e.0, three))
     of_words name (Ended (Ends.Word k)) (inl why) e three = absurd why
-    of_words name (Ended (Ends.Word k)) (inr why) (inl e) three = of_word why.0 k why.1 why.3 e.1 e.2
+    of_words name (Ended (Ends.Word k)) (inr why) (inl e) three = of_word why.0 name k why.1 why.2 e.1 e.2
     of_words name (Ended (Ends.Faulty lines)) why (inl e) three = absurd (omega (arith, e.0, three))
     of_words name (Ended (Ends.Excess path line)) why (inl e) three = absurd (omega (arith, e.0, three))
     of_words name (Refused reason place) why (inl e) three = absurd (omega (arith, e.0, three))
     of_words name (Words k) (inl why) (inl e) three = (k, e.1, e.2, inl why)
-    of_words name (Words k) (inr why) (inl e) three = absurd why.3
+    of_words name (Words k) (inr why) (inl e) three = absurd why.2
     of_words name ReadFault why (inl e) three = absurd (omega (arith, e.0, three))
     of_words name NoMemory why (inl e) three = absurd (omega (arith, e.0, three))
     of_words name outcome why (inr (inl e)) three = absurd (omega (arith, e.0, three))
@@ -83,9 +88,10 @@ module _ {S : Type 0} (left : S → Option Lefts) (faults : S → ℕ) (steady :
 
     -- what status 4 comes of
     pub of_read : (name : List ℕ) (outcome : Outcome) → IsCause left faults steady words name old new outcome → EndsWith taken fails said failures out out' err err' name outcome answer → answer ≡ 4 →
-        (request : Request) × IsRequest words request × HasFailed (faults old) (faults new) × (steady old (file_of request) → ⊥)
+        (request : Request) × (name : List ℕ) × (mid : Option Lefts) × IsRequest words request × ComesTo (left old) mid (files_of request) name × HasFailed (faults old) (faults new) × (steady old name → ⊥)
     of_read name (Done text) why (inl e) four = absurd (omega (arith, e.0, four))
     of_read name (Ended (Ends.Done text)) why (inl e) four = absurd (omega (arith, e.0, four))
+    of_read name (Ended (Ends.No line)) why (inl e) four = absurd (omega (arith, e.0, four))
     of_read name (Ended (Ends.Stopped path line)) why (inl e) four = absurd (omega (arith, e.0, four))
     of_read name (Ended (Ends.Word k)) why (inl e) four = absurd (omega (arith, e.0, four))
     of_read name (Ended (Ends.Faulty lines)) why (inl e) four = absurd (omega (arith, e.0, four))
@@ -93,7 +99,7 @@ module _ {S : Type 0} (left : S → Option Lefts) (faults : S → ℕ) (steady :
     of_read name (Refused reason place) why (inl e) four = absurd (omega (arith, e.0, four))
     of_read name (Words k) why (inl e) four = absurd (omega (arith, e.0, four))
     of_read name ReadFault (inl why) e four = absurd why
-    of_read name ReadFault (inr why) (inl e) four = (why.0, why.1, why.3.0, why.3.1)
+    of_read name ReadFault (inr why) (inl e) four = (why.0, name, why.2.0.0, why.1, why.2.0.1, why.2.1, why.2.2)
     of_read name NoMemory why (inl e) four = absurd (omega (arith, e.0, four))
     of_read name outcome why (inr (inl e)) four = absurd (omega (arith, e.0, four))
     of_read name outcome why (inr (inr e)) four = absurd (omega (arith, e.0, four))

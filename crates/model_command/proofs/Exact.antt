@@ -12,7 +12,7 @@ use Rattle.name_rules.specs.Least.{IsLeast}
 use Rattle.prism_check.specs.Faults.{faults}
 use Rattle.command_words.specs.declared.request.Task.{Task}
 use Rattle.command_words.specs.declared.request.Task.TheVariants.{ToJani, ToPrism, CheckPrism, CheckJani}
-use Rattle.command_words.specs.Words.{Request, on_file, IsRequest, HasForm, IsWrongAt, OneRequest}
+use Rattle.command_words.specs.Words.{Request, IsRequest, HasForm, IsWrongAt}
 use Rattle.model_walks.specs.declared.ending.Ending.{Ending}
 use Rattle.jani_table.specs.Least.{IsLeast as IsLeastOfJani}
 use Rattle.jani_table.specs.declared.table.Form.TheVariants as F
@@ -27,7 +27,7 @@ use Rattle.prism_translation.specs.Refused.{refused}
 use Rattle.model_command.specs.ToPrism.{IsTranslatable, IsRefusedBack, of_file, of_result}
 use Rattle.model_command.specs.Tasks.{IsFit, IsLeastFor}
 use Rattle.model_command.specs.Outcome.{status_of}
-use Rattle.model_command.specs.Run.{IsCause, IsEnd, IsWhole, IsLongEnd, IsReadEnd}
+use Rattle.model_command.specs.Run.{IsCause, IsWhole}
 use Rattle.model_command.specs.declared.outcome.Outcome.{Outcome}
 use Rattle.model_command.specs.declared.outcome.Outcome.TheVariants.{Done, Ended, Refused, Words, ReadFault, NoMemory}
 
@@ -54,7 +54,7 @@ whole_bytes lefts (Some now) name bytes read had whole =
     let same : read ++ [] ≡ bytes = cc in
     sym (append-nil read) ∙ same
 
-too_long_told : (lefts now : Lefts) (name bytes read : List ℕ) → lefts name ≡ Some bytes → lefts name ≡ prepend_known read (now name) → IsSome (now name) → length read ≤ length bytes
+pub too_long_told : (lefts now : Lefts) (name bytes read : List ℕ) → lefts name ≡ Some bytes → lefts name ≡ prepend_known read (now name) → IsSome (now name) → length read ≤ length bytes
 too_long_told lefts now name bytes read had was on = of (now name) was on
   where
     of : (rest : Option (List ℕ)) → lefts name ≡ prepend_known read rest → IsSome rest → length read ≤ length bytes
@@ -106,42 +106,3 @@ least_not_fit ToJani bytes f fault (tree, ok) = not_faultless bytes f tree fault
 least_not_fit ToPrism bytes f fault (tree, ok) = not_translatable bytes f tree fault ok
 least_not_fit CheckPrism bytes f fault (tree, ok) = not_faultless bytes f tree fault ok
 least_not_fit CheckJani bytes f fault (tree, ok) = not_faultless_jani bytes f tree fault ok
-
-module _ (task : Task) (name : List ℕ) (lefts : Lefts) (bytes : List ℕ) (had : lefts name ≡ Some bytes) (fit : IsFit task bytes) (within : length bytes ≤ 16777216) where
-  long_kept : (after : Option Lefts) (reason : Reason) (place : Place) → IsLongEnd (on_file task name) (Some lefts) after reason place → ⊥
-  long_kept None reason place r = absurd r.1.2
-  long_kept (Some now) reason place r =
-      let t = r.1 in
-      let long : length t.0 ≤ length bytes = too_long_told lefts now name bytes t.0 had t.2.was t.3 in
-      let many : length t.0 ≡ 16777216 + 1 = t.1 in
-      omega (arith, long, many, within)
-
-  fit_kept : (after : Option Lefts) (reason : Reason) (place : Place) → IsLongEnd (on_file task name) (Some lefts) after reason place ⊎ IsReadEnd (on_file task name) (Some lefts) after (Refused reason place) → ⊥
-  fit_kept after reason place (inl r) = long_kept after reason place r
-  fit_kept after reason place (inr r) =
-      least_not_fit task r.0 r.2.0 r.2.1 (subst (IsFit task) (sym (whole_bytes lefts after name bytes r.0 had r.1)) fit)
-
-module _ {S : Type 0} (left : S → Option Lefts) (faults : S → ℕ) (steady : S → List ℕ → Type 0) (words : List (List ℕ)) (named : List ℕ) (old new : S) (answer : ℕ) (one : OneRequest)
-    (lefts : Lefts) (task : Task) (name bytes : List ℕ) (told : left old ≡ Some lefts) (had : lefts name ≡ Some bytes) (form : IsRequest words (on_file task name)) (fit : IsFit task bytes) (within : length bytes ≤ 16777216) where
-  refusal_kept : (request : Request) (reason : Reason) (place : Place) → IsRequest words request → IsEnd left faults steady request old new (Refused reason place) → ⊥
-  refusal_kept request reason place asked end =
-      let P : Request → Option Lefts → Type 0 = λ r before. IsLongEnd r before (left new) reason place ⊎ IsReadEnd r before (left new) (Refused reason place) in
-      let e : P (on_file task name) (Some lefts) = subst (P (on_file task name)) told (subst (λ r. P r (left old)) (one words request (on_file task name) asked form) end) in
-      fit_kept task name lefts bytes had fit within (left new) reason place e
-
-  ended_not : (request : Request) (e : Ending) → IsRequest words request → IsEnd left faults steady request old new (Ended e) → ⊥
-  ended_not request e asked end =
-      let P : Request → Type 0 = λ r. IsReadEnd r (left old) (left new) (Ended e) in
-      let d : P (on_file task name) = subst P (one words request (on_file task name) asked form) end in
-      d.2
-
-  pub exact_fit : (outcome : Outcome) → IsCause left faults steady words named old new outcome → (answer ≡ status_of outcome) ⊎ (answer ≡ 5) → (answer ≡ 0) ⊎ (answer ≡ 4) ⊎ (answer ≡ 5) ⊎ (answer ≡ 6)
-  exact_fit (Done text) cause status = grind (arith, status)
-  exact_fit (Ended e) (inl cause) status = absurd cause
-  exact_fit (Ended e) (inr cause) status = absurd (ended_not cause.0 e cause.1 cause.3)
-  exact_fit (Refused reason place) (inl cause) status = absurd cause
-  exact_fit (Refused reason place) (inr cause) status = absurd (refusal_kept cause.0 reason place cause.1 cause.3)
-  exact_fit (Words j) (inl cause) status = absurd (wrong_not_form words j (on_file task name) cause form)
-  exact_fit (Words j) (inr cause) status = absurd cause.3
-  exact_fit ReadFault cause status = grind (arith, status)
-  exact_fit NoMemory cause status = grind (arith, status)

@@ -1,6 +1,10 @@
 pub mod Causes
 pub mod Exact
+pub mod Fit
+pub mod Halts
+pub mod Judged
 pub mod Place
+pub mod Several
+pub mod ToPrism
 pub mod Told
 pub mod Translations
-pub mod ToPrism

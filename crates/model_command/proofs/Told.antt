@@ -16,17 +16,18 @@ use Rattle.bridge_io.specs.declared.reason.Fault.{Fault}
 use Rattle.bridge_io.specs.declared.place.Place.{Place}
 use Rattle.command_words.specs.declared.request.Task.{Task}
 use Rattle.command_words.specs.declared.request.Task.TheVariants.{ToJani, ToPrism, CheckPrism, CheckJani}
-use Rattle.command_words.specs.Words.{Request, Walking, on_file, walk, file_of, IsRequest, OneRequest}
+use Rattle.command_words.specs.Words.{Request, Walking, on_file, walk, IsRequest, OneRequest}
 use Rattle.model_command.specs.Tasks.{Makes, IsFit, IsLeastFor}
 use Rattle.model_command.specs.Outcome.{status_of, text_of, line_of, place_in, refusal_line}
-use Rattle.model_command.specs.Run.{IsCause, IsWalkEnd, IsLongEnd, IsReadEnd, EndsWith}
+use Rattle.model_command.specs.Run.{IsCause, IsWhole, IsTaskEnd, IsWalkEnd, IsLongEnd, IsReadEnd, EndsWith}
 use Rattle.model_command.specs.Headline.{IsAccepted, IsHeadline, IsFault, IsShownAsTold, fault_line, too_long}
 use Rattle.model_command.specs.declared.outcome.Outcome.{Outcome}
 use Rattle.model_command.specs.declared.outcome.Outcome.TheVariants.{Done, Ended, Refused, Words, ReadFault, NoMemory}
 use Rattle.model_command.proofs.Place.{same_place}
 use Rattle.model_command.proofs.Exact.{whole_bytes, wrong_not_form, least_not_fit}
+use Rattle.model_command.proofs.Several.{long_alone, task_read, walk_read}
 
-appended : (xs : List ℕ) (now : Option (List ℕ)) (more : List ℕ) → Appends (Some xs) now more → now ≡ Some (xs ++ more)
+pub appended : (xs : List ℕ) (now : Option (List ℕ)) (more : List ℕ) → Appends (Some xs) now more → now ≡ Some (xs ++ more)
 appended xs None more h = absurd h
 appended xs (Some ys) more h = ap Some h
 
@@ -77,7 +78,8 @@ module _ (task : Task) (lefts : Lefts) (after : Option Lefts) (name bytes : List
   abbrev Refusal : Reason → Place → Type 0
   Refusal reason place = (IsAccepted task bytes → ⊥) × ((f : Fault) × IsFault task bytes f × (refusal_line name place (number_of reason) (name_of reason) ≡ fault_line name bytes f))
 
-  refusal : (reason : Reason) (place : Place) → IsLongEnd (on_file task name) (Some lefts) after reason place ⊎ IsReadEnd (on_file task name) (Some lefts) after (Refused reason place) → Refusal reason place
+  refusal : (reason : Reason) (place : Place) → ((reason ≡ TooLong) × IsTooLong (Some lefts) after name 16777216 (TooLongAt place))
+      ⊎ ((read : List ℕ) × IsWhole (Some lefts) after name read × IsTaskEnd task read (Refused reason place)) → Refusal reason place
   refusal reason place (inl r) =
       let t = told_long lefts name bytes had after reason place r in (
         λ acc. let le : length bytes ≤ 16777216 = acc.0 in let gt : 16777216 < length bytes = t.0 in absurd (omega arith),
@@ -101,7 +103,7 @@ module _ (task : Task) (lefts : Lefts) (after : Option Lefts) (name bytes : List
         ),
       )
 
-  done : (text : List ℕ) → IsReadEnd (on_file task name) (Some lefts) after (Done text) → IsAccepted task bytes × Makes task bytes text
+  done : (text : List ℕ) → (read : List ℕ) × IsWhole (Some lefts) after name read × IsTaskEnd task read (Done text) → IsAccepted task bytes × Makes task bytes text
   done text w =
       let same : w.0 ≡ bytes = whole_bytes lefts after name bytes w.0 had w.1 in
       let all : Makes task bytes text = subst (λ b. Makes task b text) same w.2 in
@@ -128,7 +130,7 @@ module _ (task : Task) (lefts : Lefts) (after : Option Lefts) (name bytes : List
 
 -- ---- one state, and walks
 module _ (w : Walking) (lefts : Lefts) (after : Option Lefts) (bytes was said : List ℕ) (out err : Option (List ℕ)) (answer : ℕ) (had : lefts w.file ≡ Some bytes) where
-  shown : (o : Outcome) → IsReadEnd (walk w) (Some lefts) after o → answer ≡ status_of o → out ≡ Some (was ++ text_of o) → err ≡ Some (said ++ line_of w.file o) → IsShownAsTold w bytes was said out err answer
+  shown : (o : Outcome) → (read : List ℕ) × IsWhole (Some lefts) after w.file read × IsWalkEnd w read o → answer ≡ status_of o → out ≡ Some (was ++ text_of o) → err ≡ Some (said ++ line_of w.file o) → IsShownAsTold w bytes was said out err answer
   shown o end status text line =
       let same : end.0 ≡ bytes = whole_bytes lefts after w.file bytes end.0 had end.1 in
       let short : length bytes ≤ 16777216 = subst (λ b. length b ≤ 16777216) same end.1.within in
@@ -137,7 +139,7 @@ module _ (w : Walking) (lefts : Lefts) (after : Option Lefts) (bytes was said : 
         long = λ gt. absurd (omega (arith, gt, short));
       }
 
-  long_shown : (reason : Reason) (place : Place) → IsLongEnd (walk w) (Some lefts) after reason place → answer ≡ 2 → out ≡ Some (was ++ []) →
+  long_shown : (reason : Reason) (place : Place) → (reason ≡ TooLong) × IsTooLong (Some lefts) after w.file 16777216 (TooLongAt place) → answer ≡ 2 → out ≡ Some (was ++ []) →
       err ≡ Some (said ++ refusal_line w.file place (number_of reason) (name_of reason)) → IsShownAsTold w bytes was said out err answer
   long_shown reason place r status text line =
       let t = told_long lefts w.file bytes had after reason place r in
@@ -148,17 +150,13 @@ module _ (w : Walking) (lefts : Lefts) (after : Option Lefts) (bytes was said : 
       }
 
 -- ---- the whole run
-module _ {S : Type 0} (left : S → Option Lefts) (faults : S → ℕ) (steady : S → List ℕ → Type 0) (words : List (List ℕ)) (named : List ℕ) (old new : S)
-    (one : OneRequest) (lefts : Lefts) (asked : Request) (bytes : List ℕ) (told : left old ≡ Some lefts) (had : lefts (file_of asked) ≡ Some bytes) (form : IsRequest words asked)
-    (was said : List ℕ) (out err : Option (List ℕ)) (answer : ℕ) (no_read : answer ≡ 4 → ⊥) (no_memory : answer ≡ 6 → ⊥) where
-  -- the request is that of the words
-  of_asked : (P : Request → Option Lefts → Type 0) → (request : Request) → IsRequest words request → P request (left old) → P asked (Some lefts)
-  of_asked P request r p = subst (P asked) told (subst (λ q. P q (left old)) (one words request asked r form) p)
+pub of_asked : (words : List (List ℕ)) (one : OneRequest) (lefts : Lefts) (asked : Request) (before : Option Lefts) → before ≡ Some lefts → IsRequest words asked →
+    (P : Request → Option Lefts → Type 0) → (request : Request) → IsRequest words request → P request before → P asked (Some lefts)
+of_asked words one lefts asked before told form P request r p = subst (P asked) told (subst (λ q. P q before) (one words request asked r form) p)
 
-  -- the file that is named in what is written is that of the words
-  named_so : (o : Outcome) (request : Request) → IsRequest words request → named ≡ file_of request → Appends (Some said) err (line_of named o) → err ≡ Some (said ++ line_of (file_of asked) o)
-  named_so o request r same e =
-      appended said err _ e ∙ ap (λ n. Some (said ++ line_of n o)) (same ∙ ap file_of (one words request asked r form))
+-- the file that is named in what is written
+pub named_so : (said : List ℕ) (err : Option (List ℕ)) (o : Outcome) (named name : List ℕ) → named ≡ name → Appends (Some said) err (line_of named o) → err ≡ Some (said ++ line_of name o)
+named_so said err o named name same e = appended said err _ e ∙ ap (λ n. Some (said ++ line_of n o)) same
 
 module _ {S : Type 0} (left : S → Option Lefts) (faults : S → ℕ) (steady : S → List ℕ → Type 0) (words : List (List ℕ)) (named : List ℕ) (old new : S) (one : OneRequest) (lefts : Lefts) (told : left old ≡ Some lefts)
     (bytes was said : List ℕ) (out err : Option (List ℕ)) (answer : ℕ) (no_read : answer ≡ 4 → ⊥) (no_memory : answer ≡ 6 → ⊥) where
@@ -166,20 +164,28 @@ module _ {S : Type 0} (left : S → Option Lefts) (faults : S → ℕ) (steady :
       answer ≡ status_of outcome → Appends (Some was) out (text_of outcome) → Appends (Some said) err (line_of named outcome) → IsHeadline task bytes name was said out err answer
   headline_of task name had form (Done text) (inl cause) status o e = absurd cause
   headline_of task name had form (Done text) (inr cause) status o e =
-      let w = of_asked left faults steady words named old new one lefts (on_file task name) bytes told had form was said out err answer no_read no_memory (λ r before. IsReadEnd r before (left new) (Done text)) cause.0 cause.1 cause.3 in
-      is_done task lefts (left new) name bytes had was said out err answer text (done task lefts (left new) name bytes had text w) status (appended was out text o) (appended said err [] e)
+      let w = of_asked words one lefts (on_file task name) (left old) told form (λ r before. IsReadEnd r named before (left new) (Done text)) cause.0 cause.1 cause.2 in
+      is_done task lefts (left new) name bytes had was said out err answer text (done task lefts (left new) name bytes had text (task_read task name named (Some lefts) (left new) (Done text) w).1) status (appended was out text o) (appended said err [] e)
   headline_of task name had form (Ended en) (inl cause) status o e = absurd cause
   headline_of task name had form (Ended en) (inr cause) status o e =
-      let w = of_asked left faults steady words named old new one lefts (on_file task name) bytes told had form was said out err answer no_read no_memory (λ r before. IsReadEnd r before (left new) (Ended en)) cause.0 cause.1 cause.3 in
-      absurd w.2
+      let w = of_asked words one lefts (on_file task name) (left old) told form (λ r before. IsReadEnd r named before (left new) (Ended en)) cause.0 cause.1 cause.2 in
+      absurd (task_read task name named (Some lefts) (left new) (Ended en) w).1.2
   headline_of task name had form (Refused reason place) (inl cause) status o e = absurd cause
   headline_of task name had form (Refused reason place) (inr cause) status o e =
-      let w = of_asked left faults steady words named old new one lefts (on_file task name) bytes told had form was said out err answer no_read no_memory
-      (λ r before. IsLongEnd r before (left new) reason place ⊎ IsReadEnd r before (left new) (Refused reason place)) cause.0 cause.1 cause.3 in
-      is_refused task lefts (left new) name bytes had was said out err answer _ (refusal task lefts (left new) name bytes had reason place w) status (appended was out [] o)
-      (named_so left faults steady words named old new one lefts (on_file task name) bytes told had form was said out err answer no_read no_memory (Refused reason place) cause.0 cause.1 cause.2 e)
+      by_end (of_asked words one lefts (on_file task name) (left old) told form
+      (λ r before. IsLongEnd r named before (left new) reason place ⊎ IsReadEnd r named before (left new) (Refused reason place)) cause.0 cause.1 cause.2)
+    where
+      by_end : IsLongEnd (on_file task name) named (Some lefts) (left new) reason place ⊎ IsReadEnd (on_file task name) named (Some lefts) (left new) (Refused reason place) → IsHeadline task bytes name was said out err answer
+      by_end (inl r) =
+          let k = long_alone name named (Some lefts) (left new) reason place r in
+          is_refused task lefts (left new) name bytes had was said out err answer _ (refusal task lefts (left new) name bytes had reason place (inl k.1)) status (appended was out [] o)
+          (named_so said err (Refused reason place) named name k.0 e)
+      by_end (inr r) =
+          let k = task_read task name named (Some lefts) (left new) (Refused reason place) r in
+          is_refused task lefts (left new) name bytes had was said out err answer _ (refusal task lefts (left new) name bytes had reason place (inr k.1)) status (appended was out [] o)
+          (named_so said err (Refused reason place) named name k.0 e)
   headline_of task name had form (Words j) (inl cause) status o e = absurd (wrong_not_form words j (on_file task name) cause form)
-  headline_of task name had form (Words j) (inr cause) status o e = absurd cause.3
+  headline_of task name had form (Words j) (inr cause) status o e = absurd cause.2
   headline_of task name had form ReadFault cause status o e = absurd (no_read status)
   headline_of task name had form NoMemory cause status o e = absurd (no_memory status)
 
@@ -187,26 +193,27 @@ module _ {S : Type 0} (left : S → Option Lefts) (faults : S → ℕ) (steady :
       answer ≡ status_of outcome → Appends (Some was) out (text_of outcome) → Appends (Some said) err (line_of named outcome) → IsShownAsTold w bytes was said out err answer
   shown_of w had form (Done text) (inl cause) status o e = absurd cause
   shown_of w had form (Done text) (inr cause) status o e =
-      let v = of_asked left faults steady words named old new one lefts (walk w) bytes told had form was said out err answer no_read no_memory (λ r before. IsReadEnd r before (left new) (Done text)) cause.0 cause.1 cause.3 in
-      absurd v.2
+      let v = of_asked words one lefts (walk w) (left old) told form (λ r before. IsReadEnd r named before (left new) (Done text)) cause.0 cause.1 cause.2 in
+      absurd (walk_read w named (Some lefts) (left new) (Done text) v).1.2
   shown_of w had form (Ended en) (inl cause) status o e = absurd cause
   shown_of w had form (Ended en) (inr cause) status o e =
-      let v = of_asked left faults steady words named old new one lefts (walk w) bytes told had form was said out err answer no_read no_memory (λ r before. IsReadEnd r before (left new) (Ended en)) cause.0 cause.1 cause.3 in
-      shown w lefts (left new) bytes was said out err answer had (Ended en) v status (appended was out _ o)
-      (named_so left faults steady words named old new one lefts (walk w) bytes told had form was said out err answer no_read no_memory (Ended en) cause.0 cause.1 cause.2 e)
+      let v = of_asked words one lefts (walk w) (left old) told form (λ r before. IsReadEnd r named before (left new) (Ended en)) cause.0 cause.1 cause.2 in
+      let k = walk_read w named (Some lefts) (left new) (Ended en) v in
+      shown w lefts (left new) bytes was said out err answer had (Ended en) k.1 status (appended was out _ o) (named_so said err (Ended en) named w.file k.0 e)
   shown_of w had form (Refused reason place) (inl cause) status o e = absurd cause
   shown_of w had form (Refused reason place) (inr cause) status o e =
-      by_end (of_asked left faults steady words named old new one lefts (walk w) bytes told had form was said out err answer no_read no_memory
-      (λ r before. IsLongEnd r before (left new) reason place ⊎ IsReadEnd r before (left new) (Refused reason place)) cause.0 cause.1 cause.3)
+      by_end (of_asked words one lefts (walk w) (left old) told form
+      (λ r before. IsLongEnd r named before (left new) reason place ⊎ IsReadEnd r named before (left new) (Refused reason place)) cause.0 cause.1 cause.2)
     where
-      line : err ≡ Some (said ++ line_of w.file (Refused reason place))
-      line = named_so left faults steady words named old new one lefts (walk w) bytes told had form was said out err answer no_read no_memory (Refused reason place) cause.0 cause.1 cause.2 e
-
-      by_end : IsLongEnd (walk w) (Some lefts) (left new) reason place ⊎ IsReadEnd (walk w) (Some lefts) (left new) (Refused reason place) → IsShownAsTold w bytes was said out err answer
-      by_end (inl r) = long_shown w lefts (left new) bytes was said out err answer had reason place r status (appended was out [] o) line
-      by_end (inr r) = shown w lefts (left new) bytes was said out err answer had (Refused reason place) r status (appended was out [] o) line
+      by_end : IsLongEnd (walk w) named (Some lefts) (left new) reason place ⊎ IsReadEnd (walk w) named (Some lefts) (left new) (Refused reason place) → IsShownAsTold w bytes was said out err answer
+      by_end (inl r) =
+          let k = long_alone w.file named (Some lefts) (left new) reason place r in
+          long_shown w lefts (left new) bytes was said out err answer had reason place k.1 status (appended was out [] o) (named_so said err (Refused reason place) named w.file k.0 e)
+      by_end (inr r) =
+          let k = walk_read w named (Some lefts) (left new) (Refused reason place) r in
+          shown w lefts (left new) bytes was said out err answer had (Refused reason place) k.1 status (appended was out [] o) (named_so said err (Refused reason place) named w.file k.0 e)
   shown_of w had form (Words j) (inl cause) status o e = absurd (wrong_not_form words j (walk w) cause form)
-  shown_of w had form (Words j) (inr cause) status o e = absurd cause.3
+  shown_of w had form (Words j) (inr cause) status o e = absurd cause.2
   shown_of w had form ReadFault cause status o e = absurd (no_read status)
   shown_of w had form NoMemory cause status o e = absurd (no_memory status)
 

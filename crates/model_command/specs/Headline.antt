@@ -1,14 +1,16 @@
 -- What a run on a told file answers and writes.
 -- (This project's own rule.)
-use Rattle.std.specs.Prelude.{◌≡◌, ◌↔◌, ℕ, ◌<◌, ◌≤◌, List, ◌++◌, length, Option, Some}
+use Rattle.std.specs.Prelude.{◌≡◌, ◌⊎◌, ◌↔◌, ℕ, ◌<◌, ◌≤◌, List, [], ◌∷◌, ◌++◌, length, Option, Some}
+use Rattle.std.specs.List.{AllZip, AllByRecursion}
+use Rattle.bridge_io.specs.Outside.{Lefts}
 use Rattle.bridge_io.specs.Reason.{number_of, name_of}
 use Rattle.bridge_io.specs.declared.reason.Fault.{Fault}
 use Rattle.bridge_io.specs.declared.reason.Reason.TheVariants.{TooLong}
 use Rattle.command_words.specs.declared.request.Task.{Task}
-use Rattle.command_words.specs.Words.{Walking}
+use Rattle.command_words.specs.Words.{Walking, Checking, check, files_of}
 use Rattle.model_command.specs.Outcome.{place_in, refusal_line, status_of, text_of, line_of}
 use Rattle.model_command.specs.Tasks.{Makes, IsFit, IsLeastFor}
-use Rattle.model_command.specs.Run.{IsWalkEnd}
+use Rattle.model_command.specs.Run.{IsWalkEnd, IsClaimEnd}
 use Rattle.model_command.specs.declared.outcome.Outcome.{Outcome}
 
 -- ---- translations and checks
@@ -44,3 +46,25 @@ pub record IsShownAsTold (w : Walking) (bytes was said : List ℕ) (out err : Op
   pub short : length bytes ≤ 16777216 → (o : Outcome) × IsWalkEnd w bytes o × (answer ≡ status_of o)
       × (out ≡ Some (was ++ text_of o)) × (err ≡ Some (said ++ line_of w.file o))
   pub long : 16777216 < length bytes → (answer ≡ 2) × (out ≡ Some was) × (err ≡ Some (said ++ fault_line w.file bytes too_long))
+
+-- ---- claims
+-- the contents that are left under names
+abbrev pub AreHeld : Lefts → List (List ℕ) → List (List ℕ) → Type 0
+AreHeld left names contents = AllZip (λ name bytes. left name ≡ Some bytes) names contents
+
+abbrev pub AreShort : List (List ℕ) → Type 0
+AreShort contents = AllByRecursion (λ bytes. length bytes ≤ 16777216) contents
+
+-- the first file past the limit, and its name
+abbrev pub IsFirstLong : List (List ℕ) → List (List ℕ) → List ℕ → List ℕ → Type 0
+IsFirstLong (n ∷ names) (b ∷ contents) name bytes =
+    ((16777216 < length b) × (name ≡ n) × (bytes ≡ b)) ⊎ ((length b ≤ 16777216) × IsFirstLong names contents name bytes)
+IsFirstLong names contents name bytes = ⊥
+
+-- Where all files are within the limit it ends as the definitions say, and this is answered and written; else the first that is
+-- past it is refused.
+pub record IsJudgedAsTold (c : Checking) (contents : List (List ℕ)) (was said : List ℕ) (out err : Option (List ℕ)) (answer : ℕ) : Type 0 where
+  pub short : AreShort contents → (name : List ℕ) × (o : Outcome) × IsClaimEnd c contents name o × (answer ≡ status_of o)
+      × (out ≡ Some (was ++ text_of o)) × (err ≡ Some (said ++ line_of name o))
+  pub long : (name bytes : List ℕ) → IsFirstLong (files_of (check c)) contents name bytes → (answer ≡ 2) × (out ≡ Some was)
+      × (err ≡ Some (said ++ fault_line name bytes too_long))

@@ -2,6 +2,7 @@ pub mod Checking
 pub mod Headline
 pub mod Outcome
 pub mod Run
+pub mod Reading
 pub mod Tasks
 pub mod Translation
 pub mod ToPrism

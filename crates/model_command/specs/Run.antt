@@ -1,6 +1,7 @@
 -- How a run ends, why, and what it then wrote.
 -- (This project's own rule.)
-use Rattle.std.specs.Prelude.{◌≡◌, ◌⊎◌, ℕ, ◌≤◌, List, length, Option, codes}
+use Rattle.std.specs.Prelude.{◌≡◌, ◌⊎◌, ℕ, ◌+◌, ◌≤◌, List, [], ◌∷◌, ◌++◌, length, map, Option, Some, codes, slice_get}
+use Rattle.std.specs.Borrow.{Bor}
 use Rattle.std.specs.Io.KnownBytes.{Appends}
 use Rattle.bridge_io.specs.Outside.{HasFailed, Lefts, Takes, IsSpent, AppendsFront}
 use Rattle.bridge_io.specs.ReadFail.{IsTooLong}
@@ -10,10 +11,11 @@ use Rattle.bridge_io.specs.declared.reason.Reason.TheVariants.{TooLong}
 use Rattle.bridge_io.specs.declared.reason.Fault.{Fault}
 use Rattle.bridge_io.specs.declared.place.Place.{Place}
 use Rattle.command_words.specs.declared.request.Task.{Task}
-use Rattle.command_words.specs.Words.{Request, Walking, on_file, walk, file_of, IsRequest, IsWrongAt}
+use Rattle.command_words.specs.Words.{Request, Walking, Checking, on_file, walk, check, files_of, word_count, IsRequest, IsWrongAt}
 use Rattle.model_command.specs.Tasks.{Makes, IsLeastFor}
 use Rattle.model_walks.specs.Models.{IsModelFault}
-use Rattle.model_walks.specs.Walks.{EndsOnBytes, IsBehind}
+use Rattle.model_walks.specs.Walks.{EndsOnBytes}
+use Rattle.model_claims.specs.Claims.{EndsOnFiles, IsFileFault}
 use Rattle.model_command.specs.Outcome.{status_of, line_of, text_of, place_in}
 use Rattle.model_command.specs.declared.outcome.Outcome.{Outcome}
 use Rattle.model_command.specs.declared.outcome.Outcome.TheVariants.{Done, Ended, Refused, Words, ReadFault, NoMemory}
@@ -24,10 +26,28 @@ pub record IsWhole (before after : Option Lefts) (name bytes : List ℕ) : Type 
   pub spent : IsSpent after name
   pub within : length bytes ≤ 16777216
 
+-- names as texts
+abbrev pub names_of : List (Bor (List ℕ)) → List (List ℕ)
+names_of names = map (λ s. s.now) names
+
+-- The whole files under the names were read one after another: these contents.
+abbrev pub AreWhole : Option Lefts → Option Lefts → List (List ℕ) → List (List ℕ) → Type 0
+AreWhole before after [] [] = after ≡ before
+AreWhole before after (name ∷ names) (bytes ∷ contents) = (mid : Option Lefts) × IsWhole before mid name bytes × AreWhole mid after names contents
+AreWhole before after [] (bytes ∷ contents) = ⊥
+AreWhole before after (name ∷ names) [] = ⊥
+
+-- Reading comes to this name: the files before it were read whole.
+pub record ComesTo (before mid : Option Lefts) (names : List (List ℕ)) (name : List ℕ) : Type 0 where
+  pub front : List (List ℕ)
+  pub back : List (List ℕ)
+  pub among : names ≡ front ++ name ∷ back
+  pub contents : List (List ℕ)
+  pub read : AreWhole before mid front contents
+
 -- the position behind the words that ask for it
 abbrev pub IsNext : Request → ℕ → Type 0
-IsNext (on_file task name) next = Unit {0}
-IsNext (walk w) next = IsBehind w next
+IsNext request next = next ≡ word_count request + 1
 
 -- how a task ends on the bytes of its file; want of memory may come at any time
 abbrev pub IsTaskEnd : Task → List ℕ → Outcome → Type 0
@@ -47,27 +67,51 @@ IsWalkEnd w bytes (Words k) = ⊥
 IsWalkEnd w bytes ReadFault = ⊥
 IsWalkEnd w bytes NoMemory = Unit {0}
 
-abbrev pub IsEndOn : Request → List ℕ → Outcome → Type 0
-IsEndOn (on_file task name) bytes o = IsTaskEnd task bytes o
-IsEndOn (walk w) bytes o = IsWalkEnd w bytes o
+-- how a claim is judged: it is refused at the file of this name, which has this place among all
+abbrev pub IsClaimEnd : Checking → List (List ℕ) → List ℕ → Outcome → Type 0
+IsClaimEnd c contents name (Done text) = ⊥
+IsClaimEnd c contents name (Ended e) = EndsOnFiles c contents e
+IsClaimEnd c contents name (Refused reason place) = (i : ℕ) × (bytes : List ℕ) × (f : Fault) × IsFileFault c contents i f
+    × (slice_get (files_of (check c)) i ≡ Some name) × (slice_get contents i ≡ Some bytes) × (reason ≡ f.reason) × (place ≡ place_in bytes f.at)
+IsClaimEnd c contents name (Words k) = ⊥
+IsClaimEnd c contents name ReadFault = ⊥
+IsClaimEnd c contents name NoMemory = Unit {0}
 
--- it ends so once its file is read whole
-abbrev pub IsReadEnd : Request → Option Lefts → Option Lefts → Outcome → Type 0
-IsReadEnd request before after o = (bytes : List ℕ) × IsWhole before after (file_of request) bytes × IsEndOn request bytes o
+-- of one file
+abbrev pub IsAlone : (List ℕ → Type 0) → List (List ℕ) → Type 0
+IsAlone Of [] = ⊥
+IsAlone Of (bytes ∷ []) = Of bytes
+IsAlone Of (bytes ∷ other ∷ contents) = ⊥
 
--- its file is longer than the limit
-abbrev pub IsLongEnd : Request → Option Lefts → Option Lefts → Reason → Place → Type 0
-IsLongEnd request before after reason place = (reason ≡ TooLong) × IsTooLong before after (file_of request) 16777216 (TooLongAt place)
+-- how a request ends on the contents of its files, at the one of this name
+abbrev pub IsEndOn : Request → List (List ℕ) → List ℕ → Outcome → Type 0
+IsEndOn (on_file task file) contents name o = (name ≡ file) × IsAlone (λ bytes. IsTaskEnd task bytes o) contents
+IsEndOn (walk w) contents name o = (name ≡ w.file) × IsAlone (λ bytes. IsWalkEnd w bytes o) contents
+IsEndOn (check c) contents name o = IsClaimEnd c contents name o
 
--- why a request ends so
-abbrev pub IsEnd : {S : Type 0} → (S → Option Lefts) → (S → ℕ) → (S → List ℕ → Type 0) → Request → S → S → Outcome → Type 0
-IsEnd left faults steady request old new (Done text) = IsReadEnd request (left old) (left new) (Done text)
-IsEnd left faults steady request old new (Ended e) = IsReadEnd request (left old) (left new) (Ended e)
-IsEnd left faults steady request old new (Refused reason place) =
-    IsLongEnd request (left old) (left new) reason place ⊎ IsReadEnd request (left old) (left new) (Refused reason place)
-IsEnd left faults steady request old new (Words k) = ⊥
-IsEnd left faults steady request old new ReadFault = HasFailed (faults old) (faults new) × (steady old (file_of request) → ⊥)
-IsEnd left faults steady request old new NoMemory = Unit {0}
+-- it ends so once its files are read whole
+abbrev pub IsReadEnd : Request → List ℕ → Option Lefts → Option Lefts → Outcome → Type 0
+IsReadEnd request name before after o = (contents : List (List ℕ)) × AreWhole before after (files_of request) contents × IsEndOn request contents name o
+
+-- its file of this name is longer than the limit
+abbrev pub IsLongEnd : Request → List ℕ → Option Lefts → Option Lefts → Reason → Place → Type 0
+IsLongEnd request name before after reason place =
+    (reason ≡ TooLong) × ((mid : Option Lefts) × ComesTo before mid (files_of request) name × IsTooLong mid after name 16777216 (TooLongAt place))
+
+-- its file of this name couldn't be read
+abbrev pub IsFaultEnd : {S : Type 0} → (S → Option Lefts) → (S → ℕ) → (S → List ℕ → Type 0) → Request → List ℕ → S → S → Type 0
+IsFaultEnd left faults steady request name old new =
+    ((mid : Option Lefts) × ComesTo (left old) mid (files_of request) name) × HasFailed (faults old) (faults new) × (steady old name → ⊥)
+
+-- why a request ends so, and at which of its files
+abbrev pub IsEnd : {S : Type 0} → (S → Option Lefts) → (S → ℕ) → (S → List ℕ → Type 0) → Request → List ℕ → S → S → Outcome → Type 0
+IsEnd left faults steady request name old new (Done text) = IsReadEnd request name (left old) (left new) (Done text)
+IsEnd left faults steady request name old new (Ended e) = IsReadEnd request name (left old) (left new) (Ended e)
+IsEnd left faults steady request name old new (Refused reason place) =
+    IsLongEnd request name (left old) (left new) reason place ⊎ IsReadEnd request name (left old) (left new) (Refused reason place)
+IsEnd left faults steady request name old new (Words k) = ⊥
+IsEnd left faults steady request name old new ReadFault = IsFaultEnd left faults steady request name old new
+IsEnd left faults steady request name old new NoMemory = Unit {0}
 
 -- the words are of no form; want of memory may come at any time
 abbrev pub IsByWords : List (List ℕ) → Outcome → Type 0
@@ -78,10 +122,10 @@ IsByWords words (Words k) = IsWrongAt words k
 IsByWords words ReadFault = ⊥
 IsByWords words NoMemory = Unit {0}
 
--- why a run of these words ends so, and on which file: the words are of no form, or ask for something that ends so
+-- why a run of these words ends so, and at which file: the words are of no form, or ask for something that ends so
 abbrev pub IsCause : {S : Type 0} → (S → Option Lefts) → (S → ℕ) → (S → List ℕ → Type 0) → List (List ℕ) → List ℕ → S → S → Outcome → Type 0
 IsCause left faults steady words name old new o =
-    IsByWords words o ⊎ ((request : Request) × IsRequest words request × (name ≡ file_of request) × IsEnd left faults steady request old new o)
+    IsByWords words o ⊎ ((request : Request) × IsRequest words request × IsEnd left faults steady request name old new o)
 
 abbrev pub write_fault_line : List ℕ
 write_fault_line = codes "bridge: write fault\n"
@@ -105,8 +149,8 @@ IsTold taken faults said failures out out' err err' name outcome answer =
     ⊎ EndsWith taken faults said failures out out' err err' name NoMemory answer
 
 -- ---- statuses by themselves
--- a request ended so on the whole bytes of its file, and its texts were written
+-- a request ended so on the whole contents of its files, at the one of this name, and its texts were written
 abbrev pub IsCarriedOut : {K E : Type 0} → (K → Option (List ℕ)) → (E → Option (List ℕ)) → Option Lefts → Option Lefts → K → K → E → E → List (List ℕ) → Outcome → Type 0
 IsCarriedOut taken said before after out out' err err' words o =
-    (request : Request) × (bytes : List ℕ) × IsRequest words request × IsWhole before after (file_of request) bytes × IsEndOn request bytes o
-    × Appends (taken out) (taken out') (text_of o) × Appends (said err) (said err') (line_of (file_of request) o)
+    (request : Request) × (contents : List (List ℕ)) × (name : List ℕ) × IsRequest words request × AreWhole before after (files_of request) contents × IsEndOn request contents name o
+    × Appends (taken out) (taken out') (text_of o) × Appends (said err) (said err') (line_of name o)

@@ -2,30 +2,30 @@
 ghost use Rattle.std.specs.Prelude.{◌≡◌, ◌≤◌, ◌⊎◌, ◌+◌, ℕ, List, [], Some, length};
 ghost use Rattle.std.specs.Io.KnownBytes.{Appends};
 ghost use Rattle.bridge_io.specs.Outside.{HasFailed, Lefts};
-ghost use Rattle.command_words.specs.Words.{Walking, texts, on_file, walk, file_of, request_of, IsRequest, IsWrongAt};
-ghost use Rattle.model_command.specs.Outcome.{status_of, word_line};
+ghost use Rattle.command_words.specs.Words.{Walking, texts, on_file, walk, check, checking_of, files_of, request_of, IsRequest, IsWrongAt};
+ghost use Rattle.model_command.specs.Outcome.{halted, status_of, word_line};
 ghost use Rattle.model_walks.specs.Walks.{EndsOnBytes, WalksOn};
 ghost use Rattle.model_walks.specs.declared.ending.Ending.TheVariants as Ending;
-ghost use Rattle.model_command.specs.Run.{IsCause, IsEnd, IsEndOn, IsNext, IsDelivered, IsTaskEnd, IsTold, IsWalkEnd, IsWhole, EndsWith, IsCarriedOut};
+ghost use Rattle.model_claims.specs.Claims.{EndsOnFiles, JudgesOn};
+ghost use Rattle.model_command.specs.Run.{AreWhole, ComesTo, IsCause, IsClaimEnd, IsEnd, IsEndOn, IsNext, IsDelivered, IsTaskEnd, IsTold, IsWalkEnd, IsWhole, EndsWith, IsCarriedOut, names_of};
 ghost use Rattle.model_command.specs.Tasks.{Makes, IsFit, Judged};
-ghost use Rattle.model_command.specs.Headline.{IsHeadline, IsShownAsTold};
+ghost use Rattle.model_command.specs.Headline.{AreHeld, IsHeadline, IsJudgedAsTold, IsShownAsTold};
 
 use crate::checking::{count_jani, count_prism};
 use crate::outcome::{Outcome, refusal};
+use crate::reading::read_files;
 use crate::to_prism::translate_back;
 use crate::translation::translate;
-use bridge_io::{List, ReadFail, Reason, Refused, Shelf, Sink, read_all, write_whole};
-use command_words::{Request, Task, WordsFail, request_in, words_law};
+use bridge_io::{List, ReadFail, Reason, Refused, Shelf, Sink, write_whole};
+use command_words::{Checking, Request, Task, WordsFail, request_in, words_law};
+use model_claims::{ClaimRefused, judge_claim};
 use model_walks::{Ending, show_or_walk};
 use std::alloc::Global;
-
-// The most bytes of a file.
-const LIMIT: usize = 16_777_216;
 
 // The status where a write failed.
 const WRITE_FAULT: u8 = 5;
 
-/// Does what the words of the command line ask for, with the file that is left on the shelf under FILE, and answers the status.
+/// Does what the words of the command line ask for, with the files that are left on the shelf under their words, and answers the status.
 ///
 /// | words | what is written to `out` with status 0 |
 /// |---|---|
@@ -36,20 +36,23 @@ const WRITE_FAULT: u8 = 5;
 /// | `show LANG FILE STATE NAME=VALUE ..` | the columns, the state, its labels and rewards, and its choices |
 /// | `simulate LANG FILE given N,N,.. NAME=VALUE ..` | the path along these numbers of choices and branches |
 /// | `simulate LANG FILE seed N STEPS NAME=VALUE ..` | a path of so many steps, drawn by the words of the generator Pcg64 after this seed; or up to a state without choices |
+/// | `check-path LANG FILE PATH NAME=VALUE ..` | `yes`: PATH holds a path of the model |
+/// | `check-rows LANG FILE STATES ROWS NAME=VALUE ..` | `yes`: STATES holds states of the model, each once and an initial one among them, and ROWS their choices, which lead to no others |
 ///
 /// LANG is `prism` or `jani`. A walk starts at the model's first state; with `from STATE` before `given` or `seed`, at that one.
 ///
 /// | status | when | on `out` | on `err`, each line with its LF |
 /// |---|---|---|---|
-/// | 0 | the file has no fault, and was translated, checked, shown or walked to the end | the text | nothing |
+/// | 0 | the file has no fault, and was translated, checked, shown or walked to the end; or what is claimed of its model is right | the text | nothing |
 /// | 1 | a walk came to a choice that has no distribution, to a number that there is no choice or branch for, or to a branch of probability 0 | the path so far | `bridge: stopped at step K: WHY` |
-/// | 2 | the file is longer than 16,777,216 bytes; or a PRISM file has a fault of its tokens, its grammar, its names, its size or its types; or a JANI file has a fault of its JSON, its shape, its names, its types or the profile; or a JANI file to be translated has none and its translation would write a variable where PRISM forbids it, or be too large | nothing | `FILE:LINE:COLUMN: reason NO Name` |
+/// | 1 | what is claimed of the model isn't right | `no` and why | nothing |
+/// | 2 | a file is longer than 16,777,216 bytes; or a PRISM file has a fault of its tokens, its grammar, its names, its size or its types; or a JANI file has a fault of its JSON, its shape, its names, its types or the profile; or a JANI file to be translated has none and its translation would write a variable where PRISM forbids it, or be too large; or a line breaks the form of PATH, of STATES or of ROWS | nothing | `FILE:LINE:COLUMN: reason NO Name`, with the word of that file |
 /// | 3 | the words are of no form; or a value is given for no open constant of the model, or is none of its type, or past the bound; or an open constant isn't given; or STATE is no state of the model, or no initial one where a walk starts | nothing | `bridge: word K`, K being the first word with which no form goes on, or that doesn't fit, or the one that is missing |
-/// | 4 | a read failed | nothing | `bridge: read fault FILE` |
+/// | 4 | a read failed | nothing | `bridge: read fault FILE`, with the word of that file |
 /// | 5 | a write failed | a front of the text | a front of `bridge: write fault`, or of the line, where `err` failed |
 /// | 6 | memory ran out | nothing | `bridge: no memory` |
 /// | 7 | the model has faults under the given constants | nothing | `instance KIND NAME` for each |
-/// | 8 | a value that is needed passes the bound of fractions, or a state has too many choices or branches | the path so far | `bridge: wide at WHERE` or `bridge: too many at WHERE` |
+/// | 8 | a value that is needed passes the bound of fractions, or a state has too many choices or branches | the path so far | `bridge: wide at WHERE` or `bridge: too many at WHERE`, WHERE being `instance`, `step K`, or for rows `state S` |
 ///
 /// All text is built before its first byte is written.
 pub fn run<H: Shelf, K: Sink, E: Sink>(
@@ -69,9 +72,12 @@ pub fn run<H: Shelf, K: Sink, E: Sink>(
         × IsCarriedOut K.taken E.taken (H.left shelf.old) (H.left shelf.new) out.old out.new err.old err.new (texts words.now) outcome }
     ensures words { result ≡ 3 → (k : ℕ) × Appends (K.taken out.old) (K.taken out.new) [] × Appends (E.taken err.old) (E.taken err.new) (word_line k)
         × (IsWrongAt (texts words.now) k ⊎ ((w : _) × (bytes : List ℕ) × IsRequest (texts words.now) (walk w)
-        × IsWhole (H.left shelf.old) (H.left shelf.new) w.file bytes × EndsOnBytes w.lang w bytes (Ending.Word k))) }
-    ensures read_fault { result ≡ 4 → (request : _) × IsRequest (texts words.now) request
-        × HasFailed (H.faults shelf.old) (H.faults shelf.new) × (H.steady shelf.old (file_of request) → ⊥) }
+        × IsWhole (H.left shelf.old) (H.left shelf.new) w.file bytes × EndsOnBytes w.lang w bytes (Ending.Word k))
+        ⊎ ((c : _) × (contents : List (List ℕ)) × IsRequest (texts words.now) (check c)
+        × AreWhole (H.left shelf.old) (H.left shelf.new) (files_of (check c)) contents × EndsOnFiles c contents (Ending.Word k))) }
+    ensures read_fault { result ≡ 4 → (request : _) × (name : List ℕ) × (mid : _) × IsRequest (texts words.now) request
+        × ComesTo (H.left shelf.old) mid (files_of request) name
+        × HasFailed (H.faults shelf.old) (H.faults shelf.new) × (H.steady shelf.old name → ⊥) }
     ensures write_fault { result ≡ 5 → HasFailed (K.faults out.old) (K.faults out.new) ⊎ HasFailed (E.faults err.old) (E.faults err.new) }
     ensures bounded { result ≤ 8 }
 
@@ -99,6 +105,14 @@ pub fn run<H: Shelf, K: Sink, E: Sink>(
         → K.taken out.old ≡ Some was → E.taken err.old ≡ Some said → IsRequest (texts words.now) (walk w)
         → (result ≡ 4 → ⊥) → (result ≡ 5 → ⊥) → (result ≡ 6 → ⊥)
         → IsShownAsTold w bytes was said (K.taken out.new) (E.taken err.new) result }
+
+    // Likewise where the words ask for a claim to be judged: it is the end that the contents of all files, the constants and the
+    // process make of it, and no other.
+    ensures judged { (left : Lefts) (c : _) (contents : List (List ℕ)) (was said : List ℕ) → H.left shelf.old ≡ Some left
+        → AreHeld left (files_of (check c)) contents
+        → K.taken out.old ≡ Some was → E.taken err.old ≡ Some said → IsRequest (texts words.now) (check c)
+        → (result ≡ 4 → ⊥) → (result ≡ 5 → ⊥) → (result ≡ 6 → ⊥)
+        → IsJudgedAsTold c contents was said (K.taken out.new) (E.taken err.new) result }
 {
     words_law();
     answer(alloc, words, shelf, out, err)
@@ -118,41 +132,108 @@ fn answer<H: Shelf, K: Sink, E: Sink>(
 {
     words_law();
     match request_in(alloc, words) {
-        Ok(request) => {
-            let outcome = judge(alloc, words.len() + 1, &request, shelf);
-            tell(alloc, request.file(), &outcome, out, err)
-        }
+        Ok(request) => carry_out(alloc, words.len() + 1, &request, shelf, out, err),
         Err(WordsFail::At(k)) => tell(alloc, "", &Outcome::Words(k), out, err),
         Err(WordsFail::Memory(_)) => tell(alloc, "", &Outcome::NoMemory, out, err),
     }
 }
 
-// How a request ends before anything is written. `next` is the position behind its words.
-fn judge<H: Shelf>(alloc: Global, next: usize, request: &Request, shelf: &mut H) -> Outcome
+// The same of a request, whose words end before the position `next`.
+fn carry_out<H: Shelf, K: Sink, E: Sink>(
+    alloc: Global,
+    next: usize,
+    request: &Request,
+    shelf: &mut H,
+    out: &mut K,
+    err: &mut E,
+) -> u8
     requires { IsNext (request_of request.now) next }
-    ensures { IsEnd H.left H.faults H.steady (request_of request.now) shelf.old shelf.new result }
+    ensures { (name : List ℕ) × (outcome : _)
+        × IsEnd H.left H.faults H.steady (request_of request.now) name shelf.old shelf.new outcome
+        × EndsWith K.taken K.faults E.taken E.faults out.old out.new err.old err.new name outcome result }
 {
-    let bytes = match read_all(alloc, shelf, request.file(), LIMIT) {
-        Ok(bytes) => bytes,
-        Err(ReadFail::Memory(_)) => return Outcome::NoMemory,
-        Err(ReadFail::Fault) => return Outcome::ReadFault,
-        Err(ReadFail::TooLong(place)) => return Outcome::Refused(Reason::TooLong, place),
+    let Ok(names) = request.files(alloc) else {
+        return tell(alloc, "", &Outcome::NoMemory, out, err);
     };
-    end_on(alloc, next, request, bytes.as_slice())
+    let end = judge(alloc, next, request, names.as_slice(), shelf);
+    tell(alloc, end.name, &end.outcome, out, err)
 }
 
-// How the request ends on the bytes of its file.
-fn end_on(alloc: Global, next: usize, request: &Request, bytes: &[u8]) -> Outcome
-    requires { IsNext (request_of request.now) next }
-    ensures { IsEndOn (request_of request.now) bytes.now result }
+// How a request ends before anything is written, and at which of its files.
+#[derive(Drop)]
+struct End<'a> {
+    name: &'a str,
+    outcome: Outcome,
+}
+
+// How a request for the files of these names ends.
+fn judge<'a, H: Shelf>(
+    alloc: Global,
+    next: usize,
+    request: &Request,
+    names: &[&'a str],
+    shelf: &mut H,
+) -> End<'a>
+    requires next { IsNext (request_of request.now) next }
+    requires names { names_of names.now ≡ files_of (request_of request.now) }
+    ensures { IsEnd H.left H.faults H.steady (request_of request.now) result.name.now shelf.old shelf.new result.outcome }
 {
-    match request {
-        Request::OnFile(task, _) => told(bytes, perform(alloc, *task, bytes)),
-        Request::Walk(walking) => ended(bytes, show_or_walk(alloc, next, walking, bytes)),
+    match read_files(alloc, shelf, names) {
+        Ok(files) => end_on(alloc, next, request, names, files.as_slice()),
+        Err(halt) => End {
+            name: halt.name,
+            outcome: halted(halt.fail),
+        },
     }
 }
 
-// What comes of a task on these bytes: the text that it makes of them, or the place of their least fault.
+// How it ends where a file can't be read.
+fn halted(fail: ReadFail) -> Outcome
+    ensures { result ≡ halted fail }
+{
+    match fail {
+        ReadFail::Memory(_) => Outcome::NoMemory,
+        ReadFail::Fault => Outcome::ReadFault,
+        ReadFail::TooLong(place) => Outcome::Refused(Reason::TooLong, place),
+    }
+}
+
+// How the request ends on the contents of its files.
+fn end_on<'a>(
+    alloc: Global,
+    next: usize,
+    request: &Request,
+    names: &[&'a str],
+    files: &[List<u8>],
+) -> End<'a>
+    requires next { IsNext (request_of request.now) next }
+    requires names { names_of names.now ≡ files_of (request_of request.now) }
+    requires files { length files.now ≡ length names.now }
+    ensures { IsEndOn (request_of request.now) files.now result.name.now result.outcome }
+{
+    match request {
+        Request::OnFile(task, _) => {
+            let bytes = files[0].as_slice();
+            End {
+                name: names[0],
+                outcome: told(bytes, perform(alloc, *task, bytes)),
+            }
+        }
+        Request::Walk(walking) => {
+            let bytes = files[0].as_slice();
+            End {
+                name: names[0],
+                outcome: ended(bytes, show_or_walk(alloc, next, walking, bytes)),
+            }
+        }
+        Request::Check(checking) => {
+            let made = judge_claim(alloc, next, checking, files);
+            judged(checking, names, files, made)
+        }
+    }
+}
+
+// What comes of a task on this one file: the text that it makes of it, or the place of its least fault.
 fn told(bytes: &[u8], made: Result<List<u8>, Refused>) -> Outcome
     ensures { (task : Task) → Judged task bytes.now made → IsTaskEnd task bytes.now result }
 {
@@ -169,6 +250,34 @@ fn ended(bytes: &[u8], made: Result<Ending, Refused>) -> Outcome
     match made {
         Ok(ending) => Outcome::Ended(ending),
         Err(refused) => refusal(bytes, refused),
+    }
+}
+
+// The same of a claim, at the file that is refused, or else at the model's.
+fn judged<'a>(
+    checking: &Checking,
+    names: &[&'a str],
+    files: &[List<u8>],
+    made: Result<Ending, ClaimRefused>,
+) -> End<'a>
+    requires names { names_of names.now ≡ files_of (check (checking_of checking.now)) }
+    requires files { length files.now ≡ length names.now }
+    requires made { JudgesOn (checking_of checking.now) files.now made }
+    ensures { IsClaimEnd (checking_of checking.now) files.now result.name.now result.outcome }
+{
+    match made {
+        Ok(ending) => End {
+            name: names[0],
+            outcome: Outcome::Ended(ending),
+        },
+        Err(ClaimRefused::At(i, fault)) => End {
+            name: names[i],
+            outcome: refusal(files[i].as_slice(), Refused::At(fault)),
+        },
+        Err(ClaimRefused::Memory(_)) => End {
+            name: names[0],
+            outcome: Outcome::NoMemory,
+        },
     }
 }
 

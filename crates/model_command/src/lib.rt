@@ -1,11 +1,13 @@
-//! One run of `bridge`: the words of the command line, the file that they name, the translation of its model, and the
+//! One run of `bridge`: the words of the command line, the files that they name, the translation of a model, and the
 //! texts and the status that say how it ended. The contract of `run` says that what is written denotes what was read.
-//! The words are `to-jani FILE`, `to-prism FILE`, `check LANG FILE`, `show LANG FILE STATE ..` and `simulate LANG FILE ..`.
+//! The words are `to-jani FILE`, `to-prism FILE`, `check LANG FILE`, `show LANG FILE STATE ..`, `simulate LANG FILE ..`,
+//! `check-path LANG FILE PATH ..` and `check-rows LANG FILE STATES ROWS ..`.
 #![tactic(auto)]
 
 mod checking;
 mod command;
 mod outcome;
+mod reading;
 mod to_prism;
 mod translation;
 

@@ -11,13 +11,13 @@ use std::alloc::{AllocError, Global};
 pub enum Outcome {
     /// The file is translated or checked: this is to be written.
     Done(List<u8>),
-    /// A state was to be shown or a walk taken, and that ended so.
+    /// A state was to be shown, a walk taken or a claim judged, and that ended so.
     Ended(Ending),
-    /// The file is refused for a reason, at a place.
+    /// A file is refused for a reason, at a place.
     Refused(Reason, Place),
     /// The words are of no form. The position, from 1, of the first with which no form goes on.
     Words(usize),
-    /// The file couldn't be read.
+    /// A file couldn't be read.
     ReadFault,
     NoMemory,
 }
@@ -71,6 +71,7 @@ fn ending_status(ending: &Ending) -> u8
 {
     match ending {
         Ending::Done(_) => 0,
+        Ending::No(_) => 1,
         Ending::Stopped(_, _) => 1,
         Ending::Word(_) => 3,
         Ending::Faulty(_) => 7,
@@ -83,6 +84,7 @@ fn ending_text(ending: &Ending) -> &[u8]
 {
     match ending {
         Ending::Done(text) => text.as_slice(),
+        Ending::No(line) => line.as_slice(),
         Ending::Stopped(path, _) => path.as_slice(),
         Ending::Excess(path, _) => path.as_slice(),
         _ => &[],
@@ -94,6 +96,7 @@ fn ending_line(alloc: Global, ending: &Ending) -> Result<Vec<u8>, AllocError>
 {
     match ending {
         Ending::Done(_) => Ok(Vec::new(alloc)),
+        Ending::No(_) => Ok(Vec::new(alloc)),
         Ending::Stopped(_, line) => line.as_str().as_bytes().to_vec(alloc),
         Ending::Word(k) => Ok(word_line(alloc, *k)?.into_bytes()),
         Ending::Faulty(lines) => lines.as_slice().to_vec(alloc),

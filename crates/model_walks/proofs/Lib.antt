@@ -1,2 +1,3 @@
 pub mod Constants
+pub mod Starts
 pub mod Walks

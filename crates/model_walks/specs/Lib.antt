@@ -1,3 +1,4 @@
 pub mod Constants
 pub mod Models
+pub mod Starts
 pub mod Walks

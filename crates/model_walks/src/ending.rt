@@ -1,12 +1,14 @@
-//! How a state is shown, or a walk ends.
+//! How a state is shown, a walk ends, or a claim is judged.
 
 use bridge_io::{List, Text};
 
-/// How a state is shown, or a walk ends, on a file without fault.
+/// How a state is shown, a walk ends, or a claim about the process is judged, on a file without fault.
 #[derive(Drop)]
 pub enum Ending {
-    /// The state is shown, or the walk came to its end: this is to be written.
+    /// The state is shown, the walk came to its end, or the claim is right: this is to be written.
     Done(List<u8>),
+    /// The claim is wrong: the line that says why.
+    No(List<u8>),
     /// The walk came to a choice without a distribution, or to a number that there is no choice or branch for: the path so far,
     /// and the line that says so.
     Stopped(List<u8>, Text),

@@ -2,7 +2,9 @@
 #![tactic(auto)]
 
 mod ending;
+mod starting;
 mod walking;
 
 pub use ending::Ending;
+pub use starting::{Unstarted, begun, good_front, read_flat};
 pub use walking::show_or_walk;

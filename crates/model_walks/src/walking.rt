@@ -1,35 +1,27 @@
 //! One state of a model, and walks through it.
-ghost use Rattle.std.specs.Prelude.{◌≡◌, ◌+◌, ◌-◌, ◌<◌, ◌≤◌, ◌^◌, ℕ, List, [], length, IfOk, IfErr, map};
-ghost use Rattle.prism_print.specs.Same.{bare_file};
-ghost use Rattle.prism_names.specs.Flat.{flat};
-ghost use Rattle.prism_tree.specs.Syntax as prism;
+ghost use Rattle.std.specs.Prelude.{◌≡◌, ℕ, List, IfOk};
 ghost use Rattle.jani_tree.specs.Syntax as jani;
-ghost use Rattle.command_words.specs.Given.{assignment_of};
-ghost use Rattle.command_words.specs.Words.{job_of, walking_of};
+ghost use Rattle.command_words.specs.Words.{job_of, walking_of, words_before};
 ghost use Rattle.command_words.specs.declared.request.Lang.TheVariants.{Prism, Jani};
-ghost use Rattle.instance_start.specs.Started.{FailsToStart, Starts};
 ghost use Rattle.instance_start.specs.Description.{Description};
 ghost use Rattle.prism_meaning.specs.Described.{prism_description};
 ghost use Rattle.jani_instance.specs.Described.{jani_description};
 ghost use Rattle.walk_texts.specs.declared.report.Report.{Report};
-ghost use Rattle.model_files.specs.PrismFile.{IsFaultless, RefusesPrism};
-ghost use Rattle.model_walks.specs.Constants.{good_front};
-ghost use Rattle.model_walks.specs.Walks.{EndsOnModel, IsBehind, IsReport, WalksOn, ending_of, start_word, wide_instance_line};
-ghost use Rattle.model_walks.specs.declared.ending.Ending.TheVariants.{Excess, Word};
+ghost use Rattle.model_walks.specs.Starts.{Begins, IsBehind};
+ghost use Rattle.model_walks.specs.Walks.{EndsOnModel, IsReport, WalksOn, ending_of, start_word};
 
 use crate::ending::Ending;
-use bridge_io::{List, Refused, Text};
-use command_words::{Assignment, Job, Lang, Walking};
+use crate::starting::{Unstarted, begun, good_front, read_flat};
+use bridge_io::Refused;
+use command_words::{Job, Lang, Walking};
 use jani_check::CheckedJani;
 use jani_instance::start_jani;
-use model_files::{read_jani, read_prism};
-use op_trees::Value;
+use model_files::read_jani;
 use prism_meaning::{described_law, start_prism};
-use prism_places::{FlatPrism, flatten};
-use process_core::{Given, StartFail, Steps};
-use process_texts::GivenText;
+use prism_places::FlatPrism;
+use process_core::Steps;
 use std::alloc::{AllocError, Global};
-use walk_texts::{Report, fault_lines, show, simulate_given, simulate_seed};
+use walk_texts::{Report, show, simulate_given, simulate_seed};
 
 /// Shows a state of the model in these bytes, or walks through it. `next` is the position behind the words that ask for it. `Err` is
 /// the least fault of the bytes, or want of memory.
@@ -39,7 +31,7 @@ pub fn show_or_walk(
     walking: &Walking,
     bytes: &[u8],
 ) -> Result<Ending, Refused>
-    requires { IsBehind (walking_of walking.now) next }
+    requires { IsBehind (words_before (walking_of walking.now)) (walking_of walking.now).given next }
     ensures { WalksOn (walking_of walking.now).lang (walking_of walking.now) bytes.now result }
 {
     match walking.lang {
@@ -50,7 +42,7 @@ pub fn show_or_walk(
 
 /// The same for a PRISM file.
 fn in_prism(alloc: Global, next: usize, walking: &Walking, bytes: &[u8]) -> Result<Ending, Refused>
-    requires { IsBehind (walking_of walking.now) next }
+    requires { IsBehind (words_before (walking_of walking.now)) (walking_of walking.now).given next }
     ensures { WalksOn Prism (walking_of walking.now) bytes.now result }
 {
     let flat = match read_flat(alloc, bytes) {
@@ -62,19 +54,6 @@ fn in_prism(alloc: Global, next: usize, walking: &Walking, bytes: &[u8]) -> Resu
     Ok(ending)
 }
 
-/// The PRISM file that the bytes are, with its formulas and copies written out, if it has no fault, or its least fault.
-fn read_flat(alloc: Global, bytes: &[u8]) -> Result<FlatPrism, Refused>
-    ensures ok { IfOk result (λ f. (tree : prism.File) × IsFaultless bytes.now tree × (bare_file f ≡ bare_file (flat tree))) }
-    ensures refused { IfErr result (RefusesPrism bytes.now) }
-{
-    let checked = match read_prism(alloc, bytes) {
-        Ok(checked) => checked,
-        Err(refused) => return Err(refused),
-    };
-    let flat = flatten(alloc, &checked)?;
-    Ok(flat)
-}
-
 /// How it ends on a PRISM file that is written out. `Err` is want of memory.
 fn on_prism(
     alloc: Global,
@@ -82,17 +61,19 @@ fn on_prism(
     walking: &Walking,
     flat: &FlatPrism,
 ) -> Result<Ending, AllocError>
-    requires { IsBehind (walking_of walking.now) next }
+    requires { IsBehind (words_before (walking_of walking.now)) (walking_of walking.now).given next }
     ensures { IfOk result (EndsOnModel (prism_description flat.now) (walking_of walking.now)) }
 {
-    let given = good_front(alloc, walking.given.as_slice())?;
+    let values = walking.given.as_slice();
+    let given = good_front(alloc, values)?;
     let started = start_prism(alloc, flat, given.as_slice());
-    ended(alloc, next, walking, given.len(), started)
+    let begun = begun(alloc, next, values, given.len(), started);
+    ended(alloc, walking, begun)
 }
 
 /// The same for a JANI file.
 fn in_jani(alloc: Global, next: usize, walking: &Walking, bytes: &[u8]) -> Result<Ending, Refused>
-    requires { IsBehind (walking_of walking.now) next }
+    requires { IsBehind (words_before (walking_of walking.now)) (walking_of walking.now).given next }
     ensures { WalksOn Jani (walking_of walking.now) bytes.now result }
 {
     let checked = match read_jani(alloc, bytes) {
@@ -110,103 +91,29 @@ fn on_jani(
     walking: &Walking,
     checked: &CheckedJani,
 ) -> Result<Ending, AllocError>
-    requires { IsBehind (walking_of walking.now) next }
+    requires { IsBehind (words_before (walking_of walking.now)) (walking_of walking.now).given next }
     ensures { IfOk result (EndsOnModel (jani_description (jani.file_of checked.now)) (walking_of walking.now)) }
 {
-    let given = good_front(alloc, walking.given.as_slice())?;
+    let values = walking.given.as_slice();
+    let given = good_front(alloc, values)?;
     let started = start_jani(alloc, checked, given.as_slice());
-    ended(alloc, next, walking, given.len(), started)
+    let begun = begun(alloc, next, values, given.len(), started);
+    ended(alloc, walking, begun)
 }
 
-/// The values that are given before the first one that is past the bound. `Err` is want of memory.
-fn good_front(alloc: Global, given: &[Assignment]) -> Result<List<Given>, AllocError>
-    ensures { IfOk result (λ gs. gs ≡ good_front (map assignment_of given.now)) }
-{
-    let mut front = List::new(alloc);
-    for one in given {
-        match one.value {
-            GivenText::Good(value) => front.push(named(alloc, one.name, value)?)?,
-            _ => return Ok(front),
-        }
-    }
-    Ok(front)
-}
-
-fn named(alloc: Global, name: &str, value: Value) -> Result<Given, AllocError>
-    ensures { IfOk result (λ g. g ≡ record { name = name.now; value = value }) }
-{
-    let name = Text::copy_of(alloc, name)?;
-    Ok(Given { name, value })
-}
-
-/// How it ends with a model that was started under so many values, those before the first one that is past the bound.
+/// How it ends with a model that is started, or isn't.
 fn ended<S: Steps + Drop>(
     alloc: Global,
-    next: usize,
     walking: &Walking,
-    front: usize,
-    started: Result<S, StartFail>,
+    begun: Result<S, Unstarted>,
 ) -> Result<Ending, AllocError>
-    requires behind { IsBehind (walking_of walking.now) next }
-    requires front { front ≡ length (good_front (walking_of walking.now).given) }
-    ensures { (d : Description) → Starts S.process d (good_front (walking_of walking.now).given) started → IfOk result (EndsOnModel d (walking_of walking.now)) }
+    ensures { (d : Description) → Begins S.process d (words_before (walking_of walking.now)) (walking_of walking.now).given begun → IfOk result (EndsOnModel d (walking_of walking.now)) }
 {
-    let is_late = front < walking.given.len();
-    match started {
-        Ok(instance) => {
-            if is_late {
-                return Ok(wrong_value(next, walking.given.len(), front));
-            }
-            shown(alloc, walking, &instance)
-        }
-        Err(fail) => unstarted(alloc, next, walking, front, fail),
+    match begun {
+        Ok(process) => shown(alloc, walking, &process),
+        Err(Unstarted::Ended(ending)) => Ok(ending),
+        Err(Unstarted::Memory(e)) => Err(e),
     }
-}
-
-/// The same with a model that isn't started.
-fn unstarted(
-    alloc: Global,
-    next: usize,
-    walking: &Walking,
-    front: usize,
-    fail: StartFail,
-) -> Result<Ending, AllocError>
-    requires behind { IsBehind (walking_of walking.now) next }
-    requires front { front ≡ length (good_front (walking_of walking.now).given) }
-    ensures { (d : Description) → FailsToStart d (good_front (walking_of walking.now).given) fail → IfOk result (EndsOnModel d (walking_of walking.now)) }
-{
-    let all = walking.given.len();
-    match fail {
-        StartFail::Memory(e) => Err(e),
-        StartFail::Word(i) => Ok(wrong_value(next, all, i)),
-        StartFail::Wide => {
-            if front < all {
-                return Ok(wrong_value(next, all, front));
-            }
-            wide_instance(alloc)
-        }
-        StartFail::Faults(faults) => {
-            if front < all {
-                return Ok(wrong_value(next, all, front));
-            }
-            Ok(Ending::Faulty(fault_lines(alloc, faults.as_slice())?))
-        }
-    }
-}
-
-fn wide_instance(alloc: Global) -> Result<Ending, AllocError>
-    ensures { IfOk result (λ o. o ≡ Excess [] wide_instance_line) }
-{
-    let line = Text::copy_of(alloc, "bridge: wide at instance\n")?;
-    Ok(Ending::Excess(List::new(alloc), line))
-}
-
-/// The position of the word of the value that is wrong, of words the last so many of which give values.
-fn wrong_value(next: usize, all: usize, i: usize) -> Ending
-    requires { all ≤ next }
-    ensures { (next - all) + i < 2 ^ 64 → result ≡ Word ((next - all) + i) }
-{
-    Ending::Word((next - all).saturating_add(i))
 }
 
 /// How it ends with a process: what is shown of it.

@@ -6,19 +6,18 @@ use Rattle.model_command.specs.declared.outcome.Outcome.TheVariants.{NoMemory, W
 use Rattle.model_command.proofs.Causes.{answered, behind}
 use Rattle.model_command.proofs.command.answer.Goals as goal
 
-pub judge-outcome-requires : goal.judge-outcome-requires
-judge-outcome-requires g c =
+pub carry_out-requires : goal.carry_out-requires
+carry_out-requires g c =
     behind (texts c.args.words.now) (request_of c.in-Ok.request) _ c.words_law.ensures.count c.in-Ok.ensures (ap (λ n. n + 1) (sym (length-map c.args.words.now string_bytes)))
 
 pub returns-in-Ok : goal.returns-in-Ok
 returns-in-Ok g c =
-    answered g.H.Shelf.left g.H.Shelf.faults g.H.Shelf.steady _ _ _ g.K.Sink.taken g.K.Sink.faults g.E.Sink.taken g.E.Sink.faults _ _ _ _ c.tell.result
-    c.file.result.now c.judge-outcome.result (inr (request_of c.in-Ok.request, c.in-Ok.ensures, c.file.ensures, c.judge-outcome.ensures)) c.tell.ensures
+    let e = c.carry_out.ensures in (e.0, e.1, inr (request_of c.in-Ok.request, c.in-Ok.ensures, e.2), e.3)
 
 pub returns-in-Err-At : goal.returns-in-Err-At
 returns-in-Err-At g c =
-    answered g.H.Shelf.left g.H.Shelf.faults g.H.Shelf.steady _ _ _ g.K.Sink.taken g.K.Sink.faults g.E.Sink.taken g.E.Sink.faults _ _ _ _ c.tell-in-Err-At.result
-    [] (Words c.in-Err-At.k) (inl (rw c.in-Err-At.field-0-is at c.in-Err-At.ensures)) c.tell-in-Err-At.ensures
+    answered g.H.Shelf.left g.H.Shelf.faults g.H.Shelf.steady _ _ _ g.K.Sink.taken g.K.Sink.faults g.E.Sink.taken g.E.Sink.faults _ _ _ _ c.tell.result
+    [] (Words c.in-Err-At.k) (inl (rw c.in-Err-At.field-0-is at c.in-Err-At.ensures)) c.tell.ensures
 
 pub returns-in-Err-Memory : goal.returns-in-Err-Memory
 returns-in-Err-Memory g c =
