@@ -4,7 +4,7 @@
     bench/walks.py [--program crates/bridge/out/bridge] [--runs 3]
 
 A walk of 100,000 steps through 10 modules of two commands each, of which every second synchronises with the next, in PRISM and in
-the JANI file that `to-jani` makes of it; the state of a model that has 60,000 choices; and a walk of 1,000 steps over a formula that
+the JANI file that `to-jani` makes of it; the state of a model that has 60,000 choices; and a walk of 100,000 steps over a formula that
 names the one before it twice, seventeen times over. What is to be reached: at most 10 microseconds a step, 5 a choice, and 300 a step for
 the last. The plain program has the same model written out in Python, draws by the same words, and has to come to the same path.
 """
@@ -19,7 +19,7 @@ from timing import timed, words
 
 STEPS = 100000
 CHOICES = 60000
-DOUBLED = 1000
+DOUBLED = 100000
 SEED = 7
 MASK = (1 << 128) - 1
 
