@@ -1,4 +1,5 @@
--- The trees of the properties of a PRISM properties file as it is written, and what the code holds.
+-- The trees of the properties of a PRISM properties file as it is written (PRISM manual, "Property Specification"), and what the
+-- code holds.
 use Rattle.bridge_io.specs.declared.reason.Named.{Named}
 use Rattle.op_trees.specs.Tree.{tree}
 use Rattle.prism_tree.specs.Syntax.{Expression}

@@ -1,4 +1,5 @@
 -- What holds of the properties and the faults of PRISM properties files, as the grammar and its faults are stated in prop_grammar.
+-- (This project's own.)
 use Rattle.std.specs.Prelude.{◌≡◌, ℕ, List}
 use Rattle.bridge_io.specs.declared.reason.Fault.{Fault}
 use Rattle.prop_grammar.specs.Syntax.{WrittenProperty}

@@ -1,4 +1,4 @@
--- Kept tokens in which a quoted name is kept as a name.
+-- Kept tokens in which a quoted name is kept as a name. (This project's own way of reading labels.)
 use Rattle.prism_exprs.specs.declared.tokens.Kept.{Kept}
 use Rattle.prism_exprs.specs.declared.tokens.Kept.TheVariants.{Ident, Quoted}
 use Rattle.prism_exprs.specs.declared.tokens.Found.{Found}

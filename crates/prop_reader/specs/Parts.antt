@@ -1,4 +1,4 @@
--- Parts of a properties file in a scope, and which tokens go on with them.
+-- Parts of a properties file (PRISM manual, "Property Specification") in a scope, and which tokens go on with them.
 use Rattle.std.specs.Prelude.{if◌then◌else◌, Bool, false, not, ◌&&◌, ◌||◌, is_some, ◌≡◌, List, [], ◌∷◌, ◌++◌, map, Option, Some, None, Result, Ok, Err}
 use Rattle.bridge_io.specs.declared.reason.Named.{Named}
 use Rattle.prism_lex.specs.declared.token.TokenKind.{TokenKind}

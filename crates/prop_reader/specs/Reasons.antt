@@ -1,4 +1,5 @@
--- The reason that is told of a token that cannot stand where reading stopped, from the cause and the tokens before it.
+-- The reason that is told of a token that cannot stand where reading stopped, from the cause and the tokens before it. (This
+-- project's own rule.)
 use Rattle.std.specs.Prelude.{ℕ, Bool, true, false, ◌&&◌, List, [], ◌∷◌, if◌then◌else◌}
 use Rattle.bridge_io.specs.declared.reason.Reason.{Reason}
 use Rattle.bridge_io.specs.declared.reason.Reason.TheVariants.{Syntax, PropertyLeftOut}

@@ -1,4 +1,4 @@
--- What a program keeps to count merged choices: how often each occurs, under keys that tell them apart.
+-- What a program keeps to count merged choices: how often each occurs, under keys that tell them apart. (This project's own.)
 use Rattle.std.specs.Prelude.{◌≡◌, ℕ, ℤ, pos, List, [], ◌∷◌, ◌++◌, map, Option, Some, None, Vec, length, unwrap_or}
 use Rattle.std.specs.Global.{Global}
 use Rattle.std.specs.List.{count_by}

@@ -1,4 +1,4 @@
--- What a program keeps of the rows it has read, to tell a repeated target.
+-- What a program keeps of the rows it has read, to tell a repeated target. (This project's own.)
 use Rattle.std.specs.Prelude.{◌≡◌, ℕ, List, [], ◌∷◌, ◌&&◌, Bool, false, nat_eq}
 use Rattle.std.specs.List.{list_any}
 use Rattle.std.specs.Ordering.{nat_cmp}

@@ -1,4 +1,4 @@
--- What the parts of the judgement of rows answer one another.
+-- What the parts of the judgement of rows answer one another. (This project's own.)
 use Rattle.std.specs.Prelude.{Bool, ◌≡◌, ℕ, ◌≤◌, List, [], ◌∷◌, true, false, Option, Some, None, Result, Ok, Err, Vec}
 use Rattle.std.specs.Global.{Global}
 use Rattle.std.specs.List.{AllZip, list_any}
