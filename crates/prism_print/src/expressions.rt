@@ -48,8 +48,9 @@ fn is_function(op: PrismOp) -> bool
     )
 }
 
-/// Whether an expression stands in parentheses where it is an operand.
-fn is_node(e: &Pe) -> bool
+/// Whether an expression stands in parentheses where it is an operand: an operator that isn't written as a function (PRISM manual,
+/// "Expressions").
+pub fn is_node(e: &Pe) -> bool
     ensures { result ≡ is_node (tree e.now) }
 {
     match e {
@@ -81,9 +82,10 @@ fn write_operand(out: &mut Vec<u8>, e: &Pe) -> Result<(), AllocError>
     }
 }
 
-/// Writes an expression.
+/// Writes the canonical text of an expression at the end of `out` (PRISM manual, "Expressions"). An `Err` is want of memory; what
+/// stands there then isn't said.
 #[cycle(expression)]
-pub(crate) fn write_expression(out: &mut Vec<u8>, e: &Pe) -> Result<(), AllocError>
+pub fn write_expression(out: &mut Vec<u8>, e: &Pe) -> Result<(), AllocError>
     ensures { OnOk result (out.new.items ≡ out.old.items ++ expression_text (tree e.now)) }
 {
     match e {

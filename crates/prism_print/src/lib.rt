@@ -10,5 +10,6 @@ mod laws;
 mod modules;
 mod parts;
 
+pub use expressions::{is_node, write_expression};
 pub use file::print;
 pub use laws::{commented_law, printable_law};
