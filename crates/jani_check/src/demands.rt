@@ -18,7 +18,7 @@ use std::alloc::{AllocError, Global};
 
 /// What the type of an expression has to be; an int is a number too.
 #[derive(Clone, Copy)]
-pub(crate) enum Wanted {
+pub enum Wanted {
     Bool,
     Int,
     Number,

@@ -29,4 +29,9 @@ mod writers;
 mod writes;
 
 pub use check::{CheckedJani, check_jani};
+pub use demands::Wanted;
 pub use laws::{places_law, writable_law};
+pub use reads::is_label;
+pub use rewards::is_reward;
+pub use things::{Thing, Things, thing_type, var_thing};
+pub use typing::{is_constant, is_lasting, is_transient, is_wanted, judge_type, offset};

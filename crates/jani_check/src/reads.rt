@@ -40,7 +40,8 @@ fn judge_assigned(scope: &Scope, write: &JaniWrite, best: Option<Fault>) -> Opti
     judge_expression(scope, &write.value, first)
 }
 
-fn is_label(thing: Option<Thing>) -> bool
+/// Whether it is a transient variable that is a truth value.
+pub fn is_label(thing: Option<Thing>) -> bool
     ensures { result ≡ is_label thing }
 {
     matches!(thing, Some(Thing::Transient(Ty::Bool)))

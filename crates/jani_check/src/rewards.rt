@@ -104,7 +104,7 @@ fn lack_some(scope: &Scope, values: &Values, writes: &[JaniWrite]) -> bool
 }
 
 /// Whether it is a transient variable that is a number.
-pub(crate) fn is_reward(thing: Option<Thing>) -> bool
+pub fn is_reward(thing: Option<Thing>) -> bool
     ensures { result ≡ is_reward thing }
 {
     matches!(thing, Some(Thing::Transient(Ty::Int | Ty::Real)))

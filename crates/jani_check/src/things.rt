@@ -15,7 +15,7 @@ use std::alloc::{AllocError, Global};
 
 /// A constant, a variable that is not transient, or a transient one, with the type of its values.
 #[derive(Clone, Copy)]
-pub(crate) enum Thing {
+pub enum Thing {
     Constant(Ty),
     Variable(Ty),
     Transient(Ty),
@@ -35,7 +35,8 @@ pub(crate) fn kind_type(kind: &JaniKind) -> Ty
     }
 }
 
-fn var_thing(var: &JaniVar) -> Thing
+/// What a variable is.
+pub fn var_thing(var: &JaniVar) -> Thing
     ensures { result ≡ var_thing (var_of var.now) }
 {
     let ty = kind_type(&var.kind);
@@ -48,13 +49,13 @@ fn var_thing(var: &JaniVar) -> Thing
 
 /// Things by their names; the first of one name counts.
 #[derive(Drop)]
-pub(crate) struct Things<'a> {
+pub struct Things<'a> {
     first: IndexMap<&'a str, Thing>,
 }
 
 impl<'a> Things<'a> {
-    /// The constants and the global variables of a file.
-    pub(crate) fn global(alloc: Global, file: &'a JaniFile) -> Result<Things<'a>, AllocError>
+    /// The constants and the global variables of a file. `Err` is want of memory.
+    pub fn global(alloc: Global, file: &'a JaniFile) -> Result<Things<'a>, AllocError>
         ensures { IfOk result (λ t. (x : List ℕ) → thing_under t x ≡ global_thing (file_of file.now) x) }
     {
         let mut first = IndexMap::new(alloc);
@@ -72,8 +73,8 @@ impl<'a> Things<'a> {
         Ok(Things { first })
     }
 
-    /// What a name stands for.
-    pub(crate) fn get(&self, name: &str) -> Option<Thing>
+    /// What a name stands for. It takes no memory.
+    pub fn get(&self, name: &str) -> Option<Thing>
         ensures { result ≡ thing_under self.now name.now }
     {
         self.first.get(name).copied()
@@ -151,7 +152,7 @@ impl<'s, 'a> Telling for Scope<'s, 'a> {
 }
 
 /// The type of its values.
-pub(crate) fn thing_type(thing: Thing) -> Ty
+pub fn thing_type(thing: Thing) -> Ty
     ensures { result ≡ thing_type thing }
 {
     match thing {

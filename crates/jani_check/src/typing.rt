@@ -7,7 +7,7 @@ ghost use Rattle.name_rules.specs.Least.{soonest};
 ghost use Rattle.jani_tree.specs.Syntax.{write_of};
 ghost use Rattle.jani_check.specs.Demands.{assigned, fixed, given};
 ghost use Rattle.jani_check.specs.Scopes.{scope_thing};
-ghost use Rattle.jani_check.specs.Things.{is_constant, is_lasting, is_transient, types_by};
+ghost use Rattle.jani_check.specs.Things.{is_constant, is_lasting, is_transient};
 ghost use Rattle.jani_check.specs.TypeFaults.{demand_faults, has_variable, is_variable, is_wanted, type_faults_of, wanted_at};
 ghost use Rattle.jani_check.specs.Views.{demand_by};
 
@@ -16,7 +16,7 @@ use crate::things::{Scope, Thing, thing_type};
 use bridge_io::{Fault, Reason};
 use jani_tree::{JaniWrite, Je};
 use name_rules::{sooner, sooner_if};
-use op_trees::{Expr, Ty, type_of};
+use op_trees::{Expr, Names, Ty, type_of};
 
 /// The least of a fault that was found before and those of the type of an expression and of what is assigned.
 pub(crate) fn judge_type_of(scope: &Scope, demand: &Demand, best: Option<Fault>) -> Option<Fault>
@@ -61,21 +61,21 @@ fn judge_given(scope: &Scope, write: &JaniWrite, best: Option<Fault>) -> Option<
 }
 
 /// Whether it is a constant.
-fn is_constant(thing: Option<Thing>) -> bool
+pub fn is_constant(thing: Option<Thing>) -> bool
     ensures { result ≡ is_constant thing }
 {
     matches!(thing, Some(Thing::Constant(_)))
 }
 
 /// Whether it is a transient variable.
-pub(crate) fn is_transient(thing: Option<Thing>) -> bool
+pub fn is_transient(thing: Option<Thing>) -> bool
     ensures { result ≡ is_transient thing }
 {
     matches!(thing, Some(Thing::Transient(_)))
 }
 
 /// Whether it is a variable that is not transient.
-pub(crate) fn is_lasting(thing: Option<Thing>) -> bool
+pub fn is_lasting(thing: Option<Thing>) -> bool
     ensures { result ≡ is_lasting thing }
 {
     matches!(thing, Some(Thing::Variable(_)))
@@ -91,7 +91,8 @@ fn wanted_at(thing: Option<Thing>) -> Wanted
     }
 }
 
-fn is_wanted(wanted: Wanted, ty: Ty) -> bool
+/// Whether the type of an expression is what it has to be.
+pub fn is_wanted(wanted: Wanted, ty: Ty) -> bool
     ensures { result ≡ is_wanted wanted ty }
 {
     match wanted {
@@ -102,18 +103,19 @@ fn is_wanted(wanted: Wanted, ty: Ty) -> bool
     }
 }
 
-// The type of an expression, which has to be what is wanted.
-fn judge_type(scope: &Scope, wanted: Wanted, e: &Je, best: Option<Fault>) -> Option<Fault>
-    ensures { result ≡ soonest best (type_faults_of (types_by (scope_thing scope.now)) wanted (tree e.now)) }
+/// The least of a fault that was found before and those of the type of an expression, which has to be what is wanted, by the types of
+/// names.
+pub fn judge_type<N: Names>(names: &N, wanted: Wanted, e: &Je, best: Option<Fault>) -> Option<Fault>
+    ensures { result ≡ soonest best (type_faults_of (N.types names.now) wanted (tree e.now)) }
 {
-    match type_of(e, scope) {
+    match type_of(e, names) {
         Ok(ty) => sooner_if(!is_wanted(wanted, ty), offset(e), Reason::WrongType, best),
         Err(at) => sooner(best, at, Reason::WrongType),
     }
 }
 
-/// The offset of an expression.
-pub(crate) fn offset(e: &Je) -> usize
+/// The offset of an expression. It takes no memory.
+pub fn offset(e: &Je) -> usize
     ensures { result ≡ offset_of (tree e.now) }
 {
     match e {

@@ -19,6 +19,7 @@ pub mod AllFaults
 pub mod TypesPlaced
 pub mod TypesInOrder
 pub mod TypesJudged
+pub mod TypedTables
 pub mod Renamed
 pub mod Owners
 pub mod Misfits

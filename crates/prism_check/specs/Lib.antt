@@ -13,3 +13,4 @@ pub mod Judged
 pub mod Counted
 pub mod Typing
 pub mod Writings
+pub mod FileNames

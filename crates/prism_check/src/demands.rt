@@ -15,10 +15,14 @@ use std::alloc::{AllocError, Global};
 
 /// What the type of an expression has to be; an int is a number too.
 #[derive(Clone, Copy)]
-pub(crate) enum Wanted {
+pub enum Wanted {
+    /// A bool.
     Bool,
+    /// An int.
     Int,
+    /// An int or a real.
     Number,
+    /// Any type.
     Anything,
 }
 

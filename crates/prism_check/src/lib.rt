@@ -6,6 +6,7 @@ mod check;
 mod copies;
 mod declarations;
 mod demands;
+mod file_names;
 mod formula_sizes;
 mod judge;
 mod laws;
@@ -27,4 +28,9 @@ mod writes;
 mod writing;
 
 pub use check::{CheckedPrism, check_prism};
+pub use demands::Wanted;
+pub use file_names::FileNames;
 pub use laws::{flat_is_clean_law, written_out_sizes_law};
+pub use sizes::{HEIGHT_LIMIT, NODE_LIMIT};
+pub use tree_size::Size;
+pub use typing::{is_wanted, offset_of};

@@ -17,11 +17,13 @@ use crate::tree_size::{Size, measure_all};
 use prism_tree::{PrismFile, PrismRewards};
 use std::alloc::{AllocError, Global};
 
-// The limits on a file that is written out.
-const NODE_LIMIT: u64 = 2_000_000;
+/// So many nodes at most have the expressions of a file that is written out.
+pub const NODE_LIMIT: u64 = 2_000_000;
 
-const HEIGHT_LIMIT: u64 = 1_024;
+/// So high at most is each of them.
+pub const HEIGHT_LIMIT: u64 = 1_024;
 
+// The other limits on a file that is written out.
 const COMMAND_LIMIT: usize = 200_000;
 
 const REWARD_ITEM_LIMIT: usize = 1_024;

@@ -16,14 +16,16 @@ use prism_tree::Pe;
 /// How many nodes some expressions have, and the height of the highest. Either number stands at 2^64 - 1 where it would
 /// pass that.
 #[derive(Clone, Copy)]
-pub(crate) struct Size {
-    pub(crate) nodes: u64,
-    pub(crate) height: u64,
+pub struct Size {
+    /// The nodes of all of them.
+    pub nodes: u64,
+    /// The nodes on the longest way down in one of them.
+    pub height: u64,
 }
 
 impl Size {
     /// The size of no expression.
-    pub(crate) fn nothing() -> Size
+    pub fn nothing() -> Size
         ensures { result ≡ nothing }
     {
         Size {
@@ -43,7 +45,7 @@ impl Size {
     }
 
     /// The size of these expressions and those.
-    pub(crate) fn beside(self, other: Size) -> Size
+    pub fn beside(self, other: Size) -> Size
         ensures nodes { result.nodes ≡ capped (self.nodes + other.nodes) }
         ensures height { result.height ≡ max self.height other.height }
     {

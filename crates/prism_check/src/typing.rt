@@ -83,8 +83,8 @@ impl<'a, 'b, 'c> Names<'a, 'b, 'c> {
         }
     }
 
-    // The type of a name.
-    fn ty(&self, name: &str) -> Option<Ty>
+    /// The type of a name.
+    pub(crate) fn ty(&self, name: &str) -> Option<Ty>
         ensures { result ≡ type_of self.now name.now }
     {
         self.ty_under(self.read(name))
@@ -258,8 +258,8 @@ fn typed(names: &Names, place: Option<usize>, e: &Pe, best: Option<Fault>) -> Fi
     }
 }
 
-// Whether this type may stand where that is wanted.
-fn is_wanted(wanted: Wanted, ty: Ty) -> bool
+/// Whether this type may stand where that is wanted.
+pub fn is_wanted(wanted: Wanted, ty: Ty) -> bool
     ensures { result ≡ is_wanted wanted ty }
 {
     match wanted {
@@ -281,7 +281,7 @@ fn is_unwanted(wanted: Wanted, ty: Option<Ty>) -> bool
 }
 
 /// Where an expression begins.
-pub(crate) fn offset_of(e: &Pe) -> usize
+pub fn offset_of(e: &Pe) -> usize
     ensures { result ≡ offset_of (tree e.now) }
 {
     match e {
