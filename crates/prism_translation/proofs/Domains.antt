@@ -16,7 +16,7 @@ use Rattle.jani_meaning.specs.Elements.{lasting}
 use Rattle.jani_meaning.specs.Scene as jani_scene
 use Rattle.jani_meaning.specs.Scene.{location_column}
 use Rattle.name_table.specs.PrismAsks.{NewNames, value_name}
-use Rattle.prism_translation.specs.Image.{image}
+use Rattle.jani_images.specs.Image.{image}
 use Rattle.prism_translation.specs.Elements.{Element, elements, lasting_variables}
 use Rattle.prism_translation.specs.Names.{new_names}
 use Rattle.prism_translation.specs.Parts.{counted, whole_literal, range_of, scope_of, location_variable}
@@ -25,7 +25,7 @@ use Rattle.prism_translation.specs.Translated.{translated}
 use Rattle.prism_translation.specs.Sound.{IsConstant, NamesConstants, SoundKind, FileIsSound, GivesAlike}
 use Rattle.prism_translation.proofs.ColumnsAlike.{range_of_column, IsThere, columns_alike, column_here, variables_there, locations_there}
 use Rattle.prism_translation.proofs.Numbered.{lasting_owned}
-use Rattle.prism_translation.proofs.ImageSeen.{image_seen}
+use Rattle.jani_images.proofs.ImageSeen.{image_seen}
 use Rattle.prism_translation.proofs.NamesAlike.{constant_alike, plain_reading}
 
 module _ (file : File) (v w : Valuation) where

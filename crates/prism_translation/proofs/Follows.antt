@@ -40,14 +40,14 @@ use Rattle.jani_meaning.specs.Moment as jani_moment
 use Rattle.jani_meaning.specs.Moment.{location_write}
 use Rattle.jani_meaning.proofs.Columns.{has_count, location_within}
 use Rattle.name_table.specs.PrismAsks.{NewNames, name_at, value_name}
-use Rattle.prism_translation.specs.Image.{image}
+use Rattle.jani_images.specs.Image.{image}
 use Rattle.prism_translation.specs.Elements.{Element, has_several, Placed}
 use Rattle.prism_translation.specs.Names.{new_names}
 use Rattle.prism_translation.specs.Parts.{made, counted, whole_literal, location_name, is_there}
 use Rattle.prism_translation.specs.Modules.{truth, all_of, guard, write_by, write, weight, branch, is_single}
 use Rattle.prism_translation.specs.StateLaws.{columns, state_of}
 use Rattle.prism_translation.specs.Translated.{translated}
-use Rattle.prism_translation.proofs.ImageSeen.{image_seen}
+use Rattle.jani_images.proofs.ImageSeen.{image_seen}
 use Rattle.prism_translation.proofs.Evaluated.{edge_ready, current, command_ready}
 
 -- ---- locations

@@ -8,7 +8,6 @@ pub mod Silent
 pub mod Actions
 pub mod AllChoices
 pub mod Evaluated
-pub mod ImageSeen
 pub mod ColumnsAlike
 pub mod Follows
 pub mod Apart

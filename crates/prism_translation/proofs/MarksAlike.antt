@@ -55,7 +55,7 @@ use Rattle.prism_translation.specs.Targets.{targets}
 use Rattle.prism_translation.specs.StateLaws.{columns, state_of}
 use Rattle.prism_translation.specs.Translated.{translated}
 use Rattle.prism_translation.specs.Sound.{FileIsSound, GivesAlike, KnownExpression, AtMostOne, SoundLocations, MarksAreSound, HasOneGiver, is_some_given, StartsWithTruth, StartsWithNought, given_there}
-use Rattle.prism_translation.specs.Image.{image}
+use Rattle.jani_images.specs.Image.{image}
 use Rattle.prism_translation.proofs.Numbered.{numbered_walk}
 use Rattle.prism_translation.proofs.Apart.{asks_length}
 use Rattle.prism_translation.proofs.Follows.{truth_seen, IsSound, LocationColumn, NoLocationColumn, SoundLocation, sees, here_alone, is_here}

@@ -37,13 +37,13 @@ use Rattle.jani_meaning.specs.Scene as jani_scene
 use Rattle.jani_meaning.specs.Moment as jani_moment
 use Rattle.name_table.specs.declared.entry.Entry.{Entry}
 use Rattle.name_table.specs.PrismAsks.{NewNames, name_at, value_name, outside}
-use Rattle.prism_translation.specs.Image.{image}
+use Rattle.jani_images.specs.Image.{image}
 use Rattle.prism_translation.specs.Names.{new_names}
 use Rattle.prism_translation.specs.Parts.{constant}
 use Rattle.prism_translation.specs.StateLaws.{columns, state_of}
 use Rattle.prism_translation.specs.Translated.{translated}
 use Rattle.prism_translation.specs.Sound.{IsConstant, IsVariable, IsConstantExpression, GivesAlike}
-use Rattle.prism_translation.proofs.ImageSeen.{image_seen}
+use Rattle.jani_images.proofs.ImageSeen.{image_seen}
 use Rattle.prism_translation.proofs.Follows.{column_name, variable_name}
 use Rattle.prism_translation.proofs.ColumnNames.{names_of_columns, names_apart, named_by, index, index_below, entries_differ, entries_long, constant_entry, nothing, es, c}
 use Rattle.prism_translation.proofs.Numbered.{no_owned}

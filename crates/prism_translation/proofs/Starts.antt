@@ -19,7 +19,7 @@ use Rattle.jani_meaning.specs.Elements.{Owned, lasting, initial_number}
 use Rattle.jani_meaning.specs.Scene as jani_scene
 use Rattle.jani_meaning.specs.Scene.{location_column}
 use Rattle.name_table.specs.PrismAsks.{NewNames, value_name}
-use Rattle.prism_translation.specs.Image.{image}
+use Rattle.jani_images.specs.Image.{image}
 use Rattle.prism_translation.specs.Elements.{Element, elements, has_several, lasting_variables}
 use Rattle.prism_translation.specs.Names.{new_names}
 use Rattle.prism_translation.specs.Parts.{range_of, scope_of, location_variable, first_of}

@@ -13,7 +13,7 @@ use Rattle.process_core.specs.Instance.{numbered}
 use Rattle.jani_tree.specs.Syntax.{Expression, Write, Destination, File}
 use Rattle.jani_meaning.specs.Elements.{Owned, is_called, structure_number}
 use Rattle.name_table.specs.PrismAsks.{NewNames, value_name, outside}
-use Rattle.prism_translation.specs.Image.{image}
+use Rattle.jani_images.specs.Image.{image}
 use Rattle.prism_translation.specs.Elements.{Element, elements, has_several, Placed, may_use, is_at}
 use Rattle.prism_translation.specs.Parts.{made, instead, counted, is_there}
 use Rattle.prism_translation.specs.Modules.{truth, falsehood, Action, actions}

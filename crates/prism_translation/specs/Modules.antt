@@ -11,7 +11,7 @@ use Rattle.process_core.specs.Instance.{only_if}
 use Rattle.jani_tree.specs.Syntax.{Expression, Write, Destination, Edge, File}
 use Rattle.jani_meaning.specs.Elements.{location_number, lasting, place_of}
 use Rattle.name_table.specs.PrismAsks.{NewNames, name_at, value_name}
-use Rattle.prism_translation.specs.Image.{image}
+use Rattle.jani_images.specs.Image.{image}
 use Rattle.prism_translation.specs.Elements.{Element, has_several, Placed, placed_edges, at_home}
 use Rattle.prism_translation.specs.Targets.{Target, targets, serves, serves_silently, is_blocked}
 use Rattle.prism_translation.specs.Parts.{made, instead, counted, location_name, location_variable, is_there, variable}

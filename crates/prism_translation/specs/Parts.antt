@@ -11,7 +11,7 @@ use Rattle.prism_tree.specs.Syntax as prism
 use Rattle.jani_tree.specs.Syntax.{VarKind, boolean, integer, number, real_bounded, one_sided, bounded, Const, Var, File}
 use Rattle.jani_meaning.specs.Elements.{Owned, initial_number}
 use Rattle.name_table.specs.PrismAsks.{NewNames, name_at, value_name, outside}
-use Rattle.prism_translation.specs.Image.{image}
+use Rattle.jani_images.specs.Image.{image}
 use Rattle.prism_translation.specs.Elements.{Element, Lasting}
 
 -- ---- names

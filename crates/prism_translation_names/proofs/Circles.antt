@@ -42,7 +42,7 @@ use Rattle.jani_meaning.specs.Elements as jani
 use Rattle.jani_meaning.specs.Elements.{owned_by, is_called, is_lasting, is_own, is_global, lasting, place_of}
 use Rattle.name_table.specs.declared.entry.Entry.{Entry}
 use Rattle.name_table.specs.PrismAsks.{NewNames, name_at, value_name, outside}
-use Rattle.prism_translation.specs.Image.{unsigned, literal, image}
+use Rattle.jani_images.specs.Image.{unsigned, literal, image}
 use Rattle.prism_translation.specs.Names.{new_names}
 use Rattle.prism_translation.specs.Parts.{constant}
 use Rattle.prism_translation.specs.Translated.{translated}

@@ -33,8 +33,8 @@ use Rattle.jani_tree.specs.Syntax.{Expression}
 use Rattle.jani_check.specs.Least.{fault, fault_if}
 use Rattle.jani_check.specs.Demands as jani_demands
 use Rattle.jani_check.specs.TypeFaults as jani_types
-use Rattle.prism_translation.proofs.ImageSeen.{same_op}
-use Rattle.prism_translation.specs.Image.{prism_op, unsigned, literal, image}
+use Rattle.jani_images.proofs.ImageSeen.{same_op}
+use Rattle.jani_images.specs.Image.{prism_op, unsigned, literal, image}
 use Rattle.prism_translation_types.specs.TypeLaws.{ImageTypedAlike}
 
 -- ---- types of images

@@ -2,7 +2,6 @@ mod ByPlaces
 mod Classes
 mod GainItems
 mod GivenTo
-mod Images
 mod Kept
 mod LineLists
 mod LongActions

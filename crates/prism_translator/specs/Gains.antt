@@ -8,7 +8,7 @@ use Rattle.jani_tree.specs.Syntax.{Expression, Write, File}
 use Rattle.jani_meaning.specs.Elements.{Owned, structure_number}
 use Rattle.name_table.specs.PrismAsks.{NewNames, name_at, value_name}
 use Rattle.prism_translation.specs.Elements.{Placed}
-use Rattle.prism_translation.specs.Image.{image}
+use Rattle.jani_images.specs.Image.{image}
 use Rattle.prism_translation.specs.Parts.{made, instead}
 use Rattle.prism_translation.specs.Modules.{truth}
 use Rattle.prism_translation.specs.Marks.{Given, assigned_to, state_item, or_nought}

@@ -5,7 +5,6 @@ pub mod Gathered
 pub mod Given
 pub mod Homes
 pub mod LineParts
-pub mod Nodes
 pub mod Parts
 pub mod Translation
 pub mod Writers

@@ -7,7 +7,7 @@ ghost use Rattle.op_trees.specs.Tree.{tree};
 ghost use Rattle.process_core.specs.Ready.{if_some};
 ghost use Rattle.prism_tree.specs.Syntax as prism;
 ghost use Rattle.jani_tree.specs.Syntax as jani;
-ghost use Rattle.prism_translation.specs.Image.{image};
+ghost use Rattle.jani_images.specs.Image.{image};
 ghost use Rattle.prism_translation.specs.Modules.{all_of, new, guard, write, write_by, location_write, weight, branch};
 ghost use Rattle.prism_translator.specs.Code.{file_in, names_in, IsReady, element_of, IsElement, is_one, command_with};
 

@@ -8,7 +8,7 @@ ghost use Rattle.prism_tree.specs.Syntax as prism;
 ghost use Rattle.jani_tree.specs.Syntax as jani;
 ghost use Rattle.name_table.specs.JaniParts.{owned_of};
 ghost use Rattle.name_table.specs.PrismAsks.{value_name};
-ghost use Rattle.prism_translation.specs.Image.{image};
+ghost use Rattle.jani_images.specs.Image.{image};
 ghost use Rattle.prism_translation.specs.Parts.{made, instead, counted, constant, range_of, variable, scope_of, is_there};
 ghost use Rattle.prism_translation.specs.Modules.{truth, falsehood};
 ghost use Rattle.prism_translator.specs.Code.{file_in, names_in, IsReady, lasting_of};

@@ -21,7 +21,7 @@ use Rattle.jani_table.specs.Operators as JaniTable
 use Rattle.jani_table.specs.Operators.{jani_meaning}
 use Rattle.jani_tree.specs.Syntax.{Expression}
 use Rattle.jani_tree.specs.Canonical.{HasOperands}
-use Rattle.prism_translation.specs.Image.{prism_op, unsigned, literal, image}
+use Rattle.jani_images.specs.Image.{prism_op, unsigned, literal, image}
 
 -- ---- negative literals
 nat_abs-neg : (z : ℤ) → nat_abs (neg_ℤ z) ≡ nat_abs z

@@ -1,0 +1,2 @@
+pub mod ImageSeen
+pub mod Mapped
