@@ -1,26 +1,26 @@
 -- Expressions stand where their parts do.
-use Rattle.std.proofs.Common.{◌≡◌, ℕ, List, ◌++◌, Bool, Option, refl, ap, ap₂, ◌∙◌}
+use Rattle.std.proofs.Common.{◌≡◌, ℕ, List, ◌++◌, Bool, true, false, Option, Some, Ok, refl, sym, ap, ap₂, ◌∙◌}
 use Rattle.std.proofs.lemmas.Option.{slice_get_within}
 use Rattle.frac_core.specs.declared.decimal.Decimal.{Decimal}
-use Rattle.op_trees.specs.Meaning.{Meaning}
-use Rattle.op_trees.specs.Seen.{Seen, one_node, two_node, lazy_node}
+use Rattle.op_trees.specs.Meaning.{Meaning, answered, is_wide_value, narrowed}
+use Rattle.op_trees.specs.Seen.{Seen, known, known_names, one_node, two_node, lazy_node, seen}
 use Rattle.op_trees.specs.Tree as T
 use Rattle.op_trees.specs.Tree.{Tree}
 use Rattle.op_trees.specs.declared.tree.Value.{Value}
 use Rattle.instance_start.specs.declared.data.Place.{Place}
 use Rattle.expr_store.specs.declared.node.Node.{Node}
-use Rattle.expr_store.specs.declared.node.Node.TheVariants.{Truth, Number, Name, One, Two, Three}
-use Rattle.expr_store.specs.Nodes.{Holds, IsGrown, seen_at, seen_node, Stands}
+use Rattle.expr_store.specs.declared.node.Node.TheVariants.{Fixed, Number, Name, One, Two, Three}
+use Rattle.expr_store.specs.Nodes.{Holds, IsGrown, OneIs, TwoIs, seen_at, seen_node, Stands}
 use Rattle.expr_store.specs.NodeLaws.{held_later, seen_held, stands_later}
 
 module _ {O : Type 0} (m : Meaning O) (places : List ℕ → Option Place) (old new : List (Node O)) (i : ℕ) where
   held_then : (n : Node O) → Holds new i n → (later : List (Node O)) (at : Option Place → Option Value) → seen_at m at (new ++ later) i ≡ seen_node m at (seen_at m at (new ++ later)) n
   held_then n h later at = seen_held m at (new ++ later) i n (held_later (record { later = later; is = refl }) h)
 
-  pub truth_stands : (at : ℕ) (b : Bool) → Holds new i (Truth b) → Stands m places new i (T.Truth at b)
-  truth_stands at b h = record {
-    within = slice_get_within new i (Truth b) h.is;
-    sees = held_then (Truth b) h;
+  pub fixed_stands : (t : Tree O) (v : Value) → ((env : List ℕ → Seen) → known (Some v) ≡ seen m t env) → Holds new i (Fixed v) → Stands m places new i t
+  fixed_stands t v e h = record {
+    within = slice_get_within new i (Fixed v) h.is;
+    sees = λ later there. held_then (Fixed v) h later there ∙ e (known_names (λ x. there (places x)));
   }
 
   pub number_stands : (at : ℕ) (d : Decimal) → Holds new i (Number d) → Stands m places new i (T.Number at d)
@@ -41,6 +41,22 @@ module _ {O : Type 0} (m : Meaning O) (places : List ℕ → Option Place) (old 
     sees = λ later there. held_then (One o a) h later there ∙ ap (one_node m o) ((stands_later g s).sees later there);
   }
 
+  pub one_folded : (o : O) (a at : ℕ) (t : Tree O) (v : Value) → OneIs m old o a v → IsGrown old new → Holds new i (Fixed v) → Stands m places old a t → Stands m places new i (T.One at o t)
+  one_folded o a at t v f g h s = record {
+    within = slice_get_within new i (Fixed v) h.is;
+    sees = λ later there. held_then (Fixed v) h later there ∙ sym (f.is (g.later ++ later) there) ∙ ap (one_node m o) (s.sees (g.later ++ later) there);
+  }
+
+  pub two_folded : (o : O) (a b at : ℕ) (t u : Tree O) (v : Value) → TwoIs m old o a b v → IsGrown old new → Holds new i (Fixed v) → Stands m places old a t → Stands m places old b u →
+      Stands m places new i (T.Two at o t u)
+  two_folded o a b at t u v f g h s r = record {
+    within = slice_get_within new i (Fixed v) h.is;
+    sees =
+        λ later there. held_then (Fixed v) h later there
+        ∙ sym (f.is (g.later ++ later) there)
+        ∙ ap₂ (two_node m o) (s.sees (g.later ++ later) there) (r.sees (g.later ++ later) there);
+  }
+
   pub two_stands : (o : O) (a b at : ℕ) (t u : Tree O) → IsGrown old new → Holds new i (Two o a b) → Stands m places old a t → Stands m places old b u →
       Stands m places new i (T.Two at o t u)
   two_stands o a b at t u g h s r = record {
@@ -56,3 +72,22 @@ module _ {O : Type 0} (m : Meaning O) (places : List ℕ → Option Place) (old 
         λ later there. held_then (Three o a b c) h later there
         ∙ ap₂ {B = Seen → Seen} (λ r g. g r) ((stands_later g s).sees later there) (ap₂ (λ s t r. lazy_node m o r s t) ((stands_later g r).sees later there) ((stands_later g q).sees later there));
   }
+
+-- the value of a literal
+pub literal_is : (w v : Value) → narrowed (Some w) ≡ Ok v → w ≡ v
+literal_is w v h = by_test (is_wide_value (Some w)) h
+  where
+    by_test : (b : Bool) → answered b (Some w) ≡ Ok v → w ≡ v
+    by_test true e = absurd (cc)
+    by_test false e = cc
+
+-- an operator over a node that is a value
+module _ {O : Type 0} (m : Meaning O) (ns : List (Node O)) where
+  held_value : (a : ℕ) (x : Value) → Holds ns a (Fixed x) → (later : List (Node O)) (at : Option Place → Option Value) → seen_at m at (ns ++ later) a ≡ known (Some x)
+  held_value a x h later at = seen_held m at (ns ++ later) a (Fixed x) (held_later (record { later = later; is = refl }) h)
+
+  pub one_is : (o : O) (a : ℕ) (x v : Value) → Holds ns a (Fixed x) → one_node m o (known (Some x)) ≡ known (Some v) → OneIs m ns o a v
+  one_is o a x v h e = record { is = λ later at. ap (one_node m o) (held_value a x h later at) ∙ e }
+
+  pub two_is : (o : O) (a b : ℕ) (x y v : Value) → Holds ns a (Fixed x) → Holds ns b (Fixed y) → two_node m o (known (Some x)) (known (Some y)) ≡ known (Some v) → TwoIs m ns o a b v
+  two_is o a b x y v h k e = record { is = λ later at. ap₂ (two_node m o) (held_value a x h later at) (held_value b y k later at) ∙ e }

@@ -1,5 +1,5 @@
 -- What a node comes out as follows from what its operands come out as.
-use Rattle.std.proofs.Common.{◌≡◌, ℕ, List, Bool, true, false, ◌||◌, Option, Some, None, Result, Err, if◌then◌else◌, refl, sym, ap, subst, ◌∙◌}
+use Rattle.std.proofs.Common.{◌≡◌, ℕ, List, Bool, true, false, ◌||◌, Option, Some, None, Result, Ok, Err, if◌then◌else◌, refl, sym, ap, subst, ◌∙◌}
 use Rattle.std.proofs.Math.Bool.{or-false, or-true}
 use Rattle.op_trees.specs.declared.tree.Value.{Value}
 use Rattle.op_trees.specs.declared.tree.Next.{Next}
@@ -12,7 +12,7 @@ use Rattle.op_trees.proofs.Answered.{next_answer, lazy_answer}
 use Rattle.state_choices.specs.Trimmed.{computed}
 use Rattle.instance_start.specs.declared.data.Place.{Place}
 use Rattle.expr_store.specs.declared.node.Node.{Node}
-use Rattle.expr_store.specs.declared.node.Node.TheVariants.{Truth, Number, Name, One, Two, Three}
+use Rattle.expr_store.specs.declared.node.Node.TheVariants.{Fixed, Number, Name, One, Two, Three}
 use Rattle.expr_store.specs.Nodes.{node_at, seen_at, seen_some}
 use Rattle.expr_store.specs.NodeLaws.{seen_is}
 use Rattle.expr_store.specs.Rest.{finished}
@@ -50,7 +50,7 @@ module _ {O : Type 0} (m : Meaning O) where
 
   some_counted : (at : Option Place → Option Value) (before : ℕ → Seen) (o : Option (Node O)) → IsCounted (seen_some m at before o)
   some_counted at before None = known_counted None
-  some_counted at before (Some (Truth b)) = known_counted _
+  some_counted at before (Some (Fixed v)) = known_counted _
   some_counted at before (Some (Number d)) = known_counted _
   some_counted at before (Some (Name p)) = known_counted (at p)
   some_counted at before (Some (One o a)) = one_counted o (before a) (m.strict o)
@@ -110,6 +110,34 @@ module _ {O : Type 0} (m : Meaning O) where
           ≡ (if s then one_answer m o (computed a) else lazy_answer m o (computed a) (Err Undef) (Err Undef))
       by_strict true = one_answered o a.wide a.value
       by_strict false = three_answer o a (known None) (known None) (known_counted None) (known_counted None)
+
+-- ---- operators over values
+settled_as : (value : Option Value) (wide : Bool) (v : Value) → (is_wide_value value ≡ true → wide ≡ true) → answered wide value ≡ Ok v →
+    ◌≡◌ {A = Seen} (record { value = value; wide = wide }) (known (Some v))
+settled_as value true v h e = absurd (cc)
+settled_as None false v h e = absurd (cc)
+settled_as (Some w) false v h e = ap (λ b. record { value = Some w; wide = b }) (sym (not_wide (is_wide_value (Some w)) h)) ∙ ap (λ x. known (Some x)) same
+  where
+    not_wide : (b : Bool) → (b ≡ true → false ≡ true) → b ≡ false
+    not_wide true h = sym (h refl)
+    not_wide false h = refl
+
+    same : w ≡ v
+    same = cc
+
+module _ {O : Type 0} (m : Meaning O) (o : O) (strict : m.strict o ≡ true) where
+  pub one_of_value : (x v : Value) → one_answer m o (computed (known (Some x))) ≡ Ok v → one_node m o (known (Some x)) ≡ known (Some v)
+  one_of_value x v e =
+      let s = one_node m o (known (Some x)) in
+      settled_as s.value s.wide v (one_counted m o (known (Some x)) (m.strict o)).counts
+      (one_answer_is m o (known (Some x)) ∙ ap (λ b. if b then one_answer m o (computed (known (Some x))) else lazy_answer m o (computed (known (Some x))) (Err Undef) (Err Undef)) strict ∙ e)
+
+  pub two_of_values : (x y v : Value) → both_answer m o (computed (known (Some x))) (computed (known (Some y))) ≡ Ok v → two_node m o (known (Some x)) (known (Some y)) ≡ known (Some v)
+  two_of_values x y v e =
+      let s = two_node m o (known (Some x)) (known (Some y)) in
+      settled_as s.value s.wide v (two_counted m o (known (Some x)) (known (Some y)) (m.strict o)).counts
+      (two_answer m o (known (Some x)) (known (Some y)) (known_counted (Some y))
+      ∙ ap (λ b. if b then both_answer m o (computed (known (Some x))) (computed (known (Some y))) else lazy_answer m o (computed (known (Some x))) (computed (known (Some y))) (Err Undef)) strict ∙ e)
 
 -- ---- the value of a node, by those of its operands
 module _ {O : Type 0} (m : Meaning O) (at : Option Place → Option Value) (ns : List (Node O)) (i : ℕ) where

@@ -1,4 +1,5 @@
--- What is seen of a node rests on the nodes before it alone; so what stands goes on standing in lists of nodes that go on.
+-- What is seen of a node rests on the nodes before it alone; so what stands goes on standing in lists of nodes that go on. (This
+-- project's own.)
 use Rattle.std.specs.Prelude.{◌≡◌, ◌<◌, ◌≤◌, ◌+◌, ℕ, zero, suc, List, [], ◌∷◌, ◌++◌, length, slice_get, Bool, true, false, ◌&&◌, nat_lt, Option, Some, None, unwrap_or, if◌then◌else◌}
 use Rattle.std.proofs.Common.{refl, sym, ap, ap₂, ◌∙◌, arith}
 use Rattle.std.proofs.lemmas.Bool.{ltb-true}
@@ -11,7 +12,7 @@ use Rattle.op_trees.specs.Tree.{Tree}
 use Rattle.op_trees.specs.declared.tree.Value.{Value}
 use Rattle.instance_start.specs.declared.data.Place.{Place}
 use Rattle.expr_store.specs.declared.node.Node.{Node}
-use Rattle.expr_store.specs.declared.node.Node.TheVariants.{Truth, Number, Name, One, Two, Three}
+use Rattle.expr_store.specs.declared.node.Node.TheVariants.{Fixed, Number, Name, One, Two, Three}
 use Rattle.expr_store.specs.Nodes.{is_behind, behind, node_at, Holds, IsGrown, seen_of, seen_node, seen_some, seen_behind, seen_at, Stands}
 
 -- ---- lists that go on
@@ -59,7 +60,7 @@ module _ {O : Type 0} (m : Meaning O) (at : Option Place → Option Value) where
 
   -- a node is seen alike where its operands are
   node_agree : (i : ℕ) (f g : ℕ → Seen) → ((j : ℕ) → j < i → f j ≡ g j) → (n : Node O) → is_behind i n ≡ true → seen_node m at f n ≡ seen_node m at g n
-  node_agree i f g h (Truth b) k = refl
+  node_agree i f g h (Fixed v) k = refl
   node_agree i f g h (Number d) k = refl
   node_agree i f g h (Name p) k = refl
   node_agree i f g h (One o a) k = ap (one_node m o) (h a (ltb-true a i k))

@@ -5,16 +5,15 @@ use Rattle.op_trees.specs.Meaning.{Meaning, number}
 use Rattle.op_trees.specs.Seen.{Seen, known, known_names, one_node, two_node, lazy_node, seen}
 use Rattle.op_trees.specs.Tree.{Tree}
 use Rattle.op_trees.specs.declared.tree.Value.{Value}
-use Rattle.op_trees.specs.declared.tree.Value.TheVariants as V
 use Rattle.instance_start.specs.declared.data.Place.{Place}
 use Rattle.expr_store.specs.declared.node.ExprId.{ExprId}
 use Rattle.expr_store.specs.declared.node.Node.{Node}
-use Rattle.expr_store.specs.declared.node.Node.TheVariants.{Truth, Number, Name, One, Two, Three}
+use Rattle.expr_store.specs.declared.node.Node.TheVariants.{Fixed, Number, Name, One, Two, Three}
 
 module _ {O : Type 0} where
   -- the operands of a node all stand before this number
   abbrev pub is_behind : ℕ → Node O → Bool
-  is_behind i (Truth b) = true
+  is_behind i (Fixed v) = true
   is_behind i (Number d) = true
   is_behind i (Name p) = true
   is_behind i (One o a) = nat_lt a i
@@ -50,7 +49,7 @@ seen_of seen i = unwrap_or (slice_get seen i) (known None)
 module _ {O : Type 0} (m : Meaning O) (at : Option Place → Option Value) where
   -- what is seen of a node by what is seen of its operands
   abbrev pub seen_node : (ℕ → Seen) → Node O → Seen
-  seen_node before (Truth b) = known (Some (V.Truth b))
+  seen_node before (Fixed v) = known (Some v)
   seen_node before (Number d) = known (Some (number d))
   seen_node before (Name p) = known (at p)
   seen_node before (One o a) = one_node m o (before a)
@@ -69,6 +68,14 @@ module _ {O : Type 0} (m : Meaning O) (at : Option Place → Option Value) where
   -- what is seen of the node of a number, nothing where there is none or where it doesn't stand behind its operands
   unfoldable pub seen_at : List (Node O) → ℕ → Seen
   seen_at ns i = seen_of (seen_behind [] ns) i
+
+-- In each list of nodes that goes on from these, whatever stands at the places of names, an operator over nodes comes out as this value.
+module _ {O : Type 0} (m : Meaning O) where
+  pub record OneIs (ns : List (Node O)) (o : O) (a : ℕ) (v : Value) : Type 0 where
+    pub is : (later : List (Node O)) (at : Option Place → Option Value) → one_node m o (seen_at m at (ns ++ later) a) ≡ known (Some v)
+
+  pub record TwoIs (ns : List (Node O)) (o : O) (a b : ℕ) (v : Value) : Type 0 where
+    pub is : (later : List (Node O)) (at : Option Place → Option Value) → two_node m o (seen_at m at (ns ++ later) a) (seen_at m at (ns ++ later) b) ≡ known (Some v)
 
 -- In each list of nodes that goes on from these, whatever stands at the places of names, this number is seen as this expression is.
 module _ {O : Type 0} (m : Meaning O) (places : List ℕ → Option Place) where

@@ -79,7 +79,7 @@ impl<'a, O: Operator> Evaluation<'a, O> {
     {
         match self.store.node(i) {
             None => Err(EvalFail::Undef),
-            Some(Node::Truth(b)) => Ok(Value::Truth(b)),
+            Some(Node::Fixed(v)) => held(Some(v)),
             Some(Node::Number(d)) => literal(d),
             Some(Node::Name(place)) => held(value_at(self.values, self.constants, place)),
             Some(Node::One(o, a)) => {

@@ -2,7 +2,7 @@
 
 use crate::node::Node;
 use instance_start::Place;
-use op_trees::Operator;
+use op_trees::{Operator, Value};
 
 /// A bucket: equal nodes have the same one, and few others have it too. It is told by a node apart from its operator.
 #[derive(Clone, Copy, PartialEq, Eq, Hash)]
@@ -15,7 +15,7 @@ pub(crate) struct Bucket {
 /// The bucket of a node.
 pub(crate) fn bucket_of<O: Operator>(node: &Node<O>) -> Bucket {
     match node {
-        Node::Truth(_) => bucket_under(0, 0, 0),
+        Node::Fixed(value) => bucket_of_value(*value),
         Node::Number(d) => bucket_under(
             (d.digits % 1000000007) as usize,
             d.exponent.unsigned_abs() as usize,
@@ -25,6 +25,17 @@ pub(crate) fn bucket_of<O: Operator>(node: &Node<O>) -> Bucket {
         Node::One(_, a) => bucket_under(*a, 0, 0),
         Node::Two(_, a, b) => bucket_under(*a, *b, 0),
         Node::Three(_, a, b, c) => bucket_under(*a, *b, *c),
+    }
+}
+
+fn bucket_of_value(value: Value) -> Bucket {
+    match value {
+        Value::Truth(b) => bucket_under(usize::from(b), 0, 3),
+        Value::Number(x) => bucket_under(
+            x.num().unsigned_abs() as usize,
+            x.den().unsigned_abs() as usize,
+            4,
+        ),
     }
 }
 

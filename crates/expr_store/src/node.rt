@@ -3,13 +3,14 @@ ghost use Rattle.std.specs.Prelude.{◌≡◌, IsTrue};
 ghost use Rattle.expr_store.specs.Nodes.{is_behind};
 
 use frac_core::Decimal;
-use instance_start::Place;
-use op_trees::Operator;
+use instance_start::{Place, equal_values};
+use op_trees::{Operator, Value};
 
-/// A node: a literal, the place of a name, or an operator over nodes, each by its number.
+/// A node: a value that an expression without names has, a literal that passes the bound of fractions, the place of a name, or an
+/// operator over nodes, each by its number.
 #[derive(Clone, Copy)]
 pub enum Node<O> {
-    Truth(bool),
+    Fixed(Value),
     Number(Decimal),
     Name(Option<Place>),
     One(O, usize),
@@ -28,7 +29,7 @@ pub(crate) fn is_behind<O: Operator>(i: usize, node: &Node<O>) -> bool
     ensures { result ≡ is_behind i node.now }
 {
     match node {
-        Node::Truth(_) => true,
+        Node::Fixed(_) => true,
         Node::Number(_) => true,
         Node::Name(_) => true,
         Node::One(_, a) => *a < i,
@@ -42,7 +43,7 @@ pub(crate) fn are_same<O: Operator>(x: &Node<O>, y: &Node<O>) -> bool
     ensures { IsTrue result → x.now ≡ y.now }
 {
     match (x, y) {
-        (Node::Truth(b), Node::Truth(c)) => *b == *c,
+        (Node::Fixed(v), Node::Fixed(w)) => are_same_values(*v, *w),
         (Node::Number(d), Node::Number(e)) => *d == *e,
         (Node::Name(p), Node::Name(q)) => are_same_places(*p, *q),
         (Node::One(o, a), Node::One(p, b)) => *o == *p && *a == *b,
@@ -52,6 +53,13 @@ pub(crate) fn are_same<O: Operator>(x: &Node<O>, y: &Node<O>) -> bool
         }
         _ => false,
     }
+}
+
+/// Whether two values are the same.
+fn are_same_values(v: Value, w: Value) -> bool
+    ensures { IsTrue result → v ≡ w }
+{
+    equal_values(v, w)
 }
 
 fn are_same_places(p: Option<Place>, q: Option<Place>) -> bool

@@ -2,11 +2,12 @@
 ghost use Rattle.std.specs.Prelude.{◌≡◌, ◌<◌, [], IfOk, IfSome, IsTrue, length, true};
 ghost use Rattle.expr_store.specs.Nodes.{Holds, IsGrown, is_behind, node_at};
 ghost use Rattle.expr_store.specs.Views.{nodes};
+ghost use Rattle.expr_store.specs.declared.node.Node.TheVariants.{Fixed};
 
 use crate::finding::{Bucket, bucket_of};
 use crate::node::{ExprId, Node, are_same, is_behind};
 use indexmap::IndexMap;
-use op_trees::Operator;
+use op_trees::{Operator, Value};
 use std::alloc::{AllocError, Global};
 
 /// Expressions, each different subexpression once: its nodes in an order in which each stands behind its operands. Names are
@@ -55,6 +56,16 @@ impl<O: Operator> ExprStore<O> {
                     None
                 }
             }
+        }
+    }
+
+    /// The value of a node that is one.
+    pub(crate) fn fixed(&self, i: usize) -> Option<Value>
+        ensures { IfSome result (λ v. Holds (nodes self.now) i (Fixed v)) }
+    {
+        match self.node(i) {
+            Some(Node::Fixed(v)) => Some(v),
+            _ => None,
         }
     }
 

@@ -156,7 +156,7 @@ fn writes(
         ≡ location_seen i destination.now.location ∷ map (write_seen (columns_of (setting_of here.now)) (look_at (setting_of here.now))) destination.now.writes.items)) }
 {
     let assignments = destination.writes.as_slice();
-    let mut all = List::new(alloc);
+    let mut all = List::with_capacity(alloc, assignments.len().saturating_add(1))?;
     all.push(location_write(destination.location, i))?;
     for assignment in assignments {
         all.push(write_of(assignment, here, evaluation))?;

@@ -97,7 +97,7 @@ pub(crate) fn groups<'a>(
 ) -> Result<Vec<Group<'a>>, AllocError>
     ensures { IfOk result (λ gs. map choices.group_of gs.items ≡ groups_of (map choices.sum_of rewards.now) (map member_of members.now) vectors.now) }
 {
-    let mut groups = silent_groups(alloc, rewards, members)?;
+    let mut groups = silent_groups(alloc, rewards, members, vectors.len())?;
     for vector in vectors {
         groups.push(Group {
             label: vector.label,
@@ -108,17 +108,18 @@ pub(crate) fn groups<'a>(
     Ok(groups)
 }
 
-/// The silent edges of each element.
+/// The silent edges of each element, with room for so many groups more.
 fn silent_groups<'a>(
     alloc: Global,
     rewards: &'a [Result<Frac, EvalFail>],
     members: &'a [Evaluated],
+    more: usize,
 ) -> Result<Vec<Group<'a>>, AllocError>
     ensures { IfOk result (λ gs. map choices.group_of gs.items ≡ map (silent_group (map choices.sum_of rewards.now)) (map member_of members.now)) }
 {
-    let mut groups = Vec::new(alloc);
+    let mut groups = Vec::with_capacity(alloc, members.len().saturating_add(more))?;
     for member in members {
-        let mut lists = Vec::new(alloc);
+        let mut lists = Vec::with_capacity(alloc, 1)?;
         lists.push(member.silent.as_slice())?;
         groups.push(Group {
             label: None,

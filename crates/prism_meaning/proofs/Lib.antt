@@ -1,6 +1,7 @@
 pub mod Values
 pub mod Preparing
 pub mod Evaluating
+pub mod Cutting
 pub mod Trimming
 pub mod Grouped
 pub mod Found

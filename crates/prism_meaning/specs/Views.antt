@@ -1,6 +1,6 @@
 -- What the code of an instance stands for: groups that are fixed at the start, and names.
 -- (This project's own rule.)
-use Rattle.std.specs.Prelude.{◌≡◌, length, List, [], map, Option, option_copied}
+use Rattle.std.specs.Prelude.{◌≡◌, ℕ, length, List, [], ◌∷◌, map, take, drop, Option, option_copied}
 use Rattle.std.specs.Borrow.{Bor}
 use Rattle.op_trees.specs.Meaning.{Environment}
 use Rattle.op_trees.specs.Seen.{Seen, known_names}
@@ -36,8 +36,17 @@ commands_of cs = map (λ c. command_of c.now) cs
 abbrev pub shape_of : Shape → shapes.Shape
 shape_of g = record { label = option_copied g.label; rewards = map (λ is. items_of is.items) g.rewards.items; lists = map (λ cs. commands_of cs.items) g.lists.items }
 
+-- a list cut into parts of these lengths, from the left
+abbrev pub cut : {X : Type 0} → List ℕ → List X → List (List X)
+cut [] xs = []
+cut (n ∷ ns) xs = take n xs ∷ cut ns (drop n xs)
+
 abbrev pub evaluated_of : Evaluated → Group
-evaluated_of g = record { label = option_copied g.label; rewards = map choices.sum_of g.rewards; lists = map (map choices.command_of) g.lists }
+evaluated_of g = record {
+  label = option_copied g.label;
+  rewards = map choices.sum_of g.rewards;
+  lists = cut (map (λ l. length l.items) g.lists.now) (map choices.command_of g.commands);
+}
 
 -- ---- names, where there are constants alone
 abbrev pub values_in : ConstantNames → Environment

@@ -1,5 +1,5 @@
 //! What commands come out as at a state.
-ghost use Rattle.std.specs.Prelude.{◌≡◌, IfOk, map};
+ghost use Rattle.std.specs.Prelude.{◌≡◌, ◌++◌, IfOk, map};
 ghost use Rattle.process_core.specs.Choices.{is_false};
 ghost use Rattle.state_choices.specs.Views.{seen_of, command_of, update_of, write_of};
 ghost use Rattle.state_choices.specs.Trimmed.{computed, trimmed, trimmed_update, trimmed_write};
@@ -17,21 +17,21 @@ use prism_tree::PrismOp;
 use state_choices::{Command, Update, Write};
 use std::alloc::{AllocError, Global};
 
-/// What commands come out as.
-pub(crate) fn commands(
+/// Adds what commands come out as.
+pub(crate) fn add_commands(
     alloc: Global,
     commands: &[PreparedCommand],
     columns: &[Column],
     state: &mut Evaluation<PrismOp>,
-) -> Result<List<Command>, AllocError>
-    ensures { IfOk result (λ cs. (map command_of cs ≡ map (λ c. trimmed (command_by (map column_of columns.now) (seen_by state.old) c)) commands.now) × IsSame state.old state.new) }
+    all: &mut List<Command>,
+) -> Result<(), AllocError>
+    ensures { IfOk result (λ u. (map command_of all.new ≡ map command_of all.old ++ map (λ c. trimmed (command_by (map column_of columns.now) (seen_by state.old) c)) commands.now) × IsSame state.old state.new) }
 {
-    let mut all = List::with_capacity(alloc, commands.len())?;
     for command in commands {
         let one = command_under(alloc, command, columns, state)?;
         all.push(one)?;
     }
-    Ok(all)
+    Ok(())
 }
 
 /// What a command comes out as. Where its guard is false, its updates aren't asked for.

@@ -1,7 +1,6 @@
 //! The values of the constants of a file.
 ghost use Rattle.std.specs.Prelude.{◌≡◌, ◌<◌, ◌++◌, ℕ, List, IfOk, OnOk, MatchResult, [], ◌∷◌, length, map, Some};
 ghost use Rattle.std.specs.Option.{option_map};
-ghost use Rattle.op_trees.specs.Seen.{known};
 ghost use Rattle.op_trees.specs.Tree.{tree};
 ghost use Rattle.name_rules.specs.Circles.{AreTurns, circles, declared_by};
 ghost use Rattle.name_rules.specs.Names.{under};
@@ -18,7 +17,7 @@ ghost use Rattle.prism_meaning.specs.Views.{names_by, seen_in};
 use crate::constant_names::{ConstantNames, value_of};
 use instance_start::{Place, given_value};
 use name_rules::{Declaration, NameMap, add_names, judge_circles};
-use op_trees::{EvalFail, Value};
+use op_trees::{EvalFail, Value, held};
 use prism_tree::{Pe, PrismConst, PrismFile};
 use process_core::{Given, StartFail};
 use std::alloc::{AllocError, Global};
@@ -126,28 +125,6 @@ pub(crate) fn constants_alone<'a>(
     ensures { seen_in result ≡ names_by places.now table.now }
 {
     ConstantNames { places, table }
-}
-
-/// A value that the code holds is never wide.
-fn held(value: Option<Value>) -> Result<Value, EvalFail>
-    ensures { result ≡ computed (known value) }
-{
-    match value {
-        Some(value) => small(value),
-        None => Err(EvalFail::Undef),
-    }
-}
-
-fn small(value: Value) -> Result<Value, EvalFail>
-    ensures { result ≡ computed (known (Some value)) }
-{
-    match value {
-        Value::Truth(b) => Ok(Value::Truth(b)),
-        Value::Number(q) => {
-            let _num = q.num();
-            Ok(Value::Number(q))
-        }
-    }
 }
 
 /// Whether a value is wide.

@@ -62,10 +62,11 @@ pub struct Prepared<'a> {
     pub labels: Vec<ExprId>,
 }
 
-/// Combinations at a state.
+/// Combinations at a state: what the commands of all their lists come out as, one list behind the other.
 #[derive(Drop)]
 pub struct Evaluated<'a> {
     pub label: Option<&'a Text>,
     pub rewards: List<Result<Frac, EvalFail>>,
-    pub lists: List<List<Command>>,
+    pub lists: &'a [Vec<PreparedCommand>],
+    pub commands: List<Command>,
 }

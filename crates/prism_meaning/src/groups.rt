@@ -1,5 +1,6 @@
 //! What the groups of an instance come out as at a state.
-ghost use Rattle.std.specs.Prelude.{◌≡◌, IfOk, Err, map, if◌then◌else◌};
+ghost use Rattle.std.specs.Prelude.{◌≡◌, IfOk, Err, map, length, take, drop, if◌then◌else◌};
+ghost use Rattle.std.specs.List.{flat_map};
 ghost use Rattle.op_trees.specs.declared.tree.EvalFail.TheVariants.{Undef};
 ghost use Rattle.process_core.specs.Choices.{is_true};
 ghost use Rattle.state_choices.specs.Views as choices;
@@ -7,9 +8,9 @@ ghost use Rattle.state_choices.specs.Trimmed.{computed, computed_sum, trimmed, t
 ghost use Rattle.instance_start.specs.Columns.{column_of};
 ghost use Rattle.expr_store.specs.Views.{seen_by, IsSame};
 ghost use Rattle.prism_meaning.specs.Prepared.{command_by, group_by, item_by, sum_by};
-ghost use Rattle.prism_meaning.specs.Views.{evaluated_of};
+ghost use Rattle.prism_meaning.specs.Views.{cut, evaluated_of};
 
-use crate::commands::commands;
+use crate::commands::add_commands;
 use crate::data::{Evaluated, PreparedCommand, PreparedItem, PreparedShape};
 use bridge_io::List;
 use expr_store::{Evaluation, ExprId};
@@ -23,7 +24,7 @@ use std::alloc::{AllocError, Global};
 /// What the groups come out as.
 pub(crate) fn evaluated<'a>(
     alloc: Global,
-    shapes: &[PreparedShape<'a>],
+    shapes: &'a [PreparedShape<'a>],
     columns: &[Column],
     state: &mut Evaluation<PrismOp>,
 ) -> Result<Vec<Evaluated<'a>>, AllocError>
@@ -40,36 +41,46 @@ pub(crate) fn evaluated<'a>(
 /// What a group comes out as.
 fn evaluated_under<'a>(
     alloc: Global,
-    shape: &PreparedShape<'a>,
+    shape: &'a PreparedShape<'a>,
     columns: &[Column],
     state: &mut Evaluation<PrismOp>,
 ) -> Result<Evaluated<'a>, AllocError>
     ensures { IfOk result (λ g. (evaluated_of g ≡ trimmed_group (group_by (map column_of columns.now) (seen_by state.old) shape.now)) × IsSame state.old state.new) }
 {
-    let lists = lists(alloc, shape.lists.as_slice(), columns, state)?;
+    let lists = shape.lists.as_slice();
+    let commands = all_commands(alloc, lists, columns, state)?;
     let rewards = sums(alloc, shape.rewards.as_slice(), state)?;
     Ok(Evaluated {
         label: shape.label,
         rewards,
         lists,
+        commands,
     })
 }
 
-/// What the commands of each list come out as.
-fn lists(
+/// What the commands of all lists come out as, one list behind the other.
+fn all_commands(
     alloc: Global,
     lists: &[Vec<PreparedCommand>],
     columns: &[Column],
     state: &mut Evaluation<PrismOp>,
-) -> Result<List<List<Command>>, AllocError>
-    ensures { IfOk result (λ ls. (map (map choices.command_of) ls ≡ map (λ l. map (λ c. trimmed (command_by (map column_of columns.now) (seen_by state.old) c)) l.items) lists.now) × IsSame state.old state.new) }
+) -> Result<List<Command>, AllocError>
+    ensures { IfOk result (λ cs. (map choices.command_of cs ≡ flat_map (λ l. map (λ c. trimmed (command_by (map column_of columns.now) (seen_by state.old) c)) l.items) lists.now) × IsSame state.old state.new) }
 {
-    let mut all = List::with_capacity(alloc, lists.len())?;
+    let mut all = List::with_capacity(alloc, command_count(lists))?;
     for list in lists {
-        let one = commands(alloc, list.as_slice(), columns, state)?;
-        all.push(one)?;
+        add_commands(alloc, list.as_slice(), columns, state, &mut all)?;
     }
     Ok(all)
+}
+
+/// How many commands the lists have, so that there is room for them.
+fn command_count(lists: &[Vec<PreparedCommand>]) -> usize {
+    let mut count: usize = 0;
+    for list in lists {
+        count = count.saturating_add(list.len());
+    }
+    count
 }
 
 /// What each reward structure adds by the items that are listed of it.
@@ -152,7 +163,7 @@ pub(crate) fn groups<'a>(
     let mut groups = Vec::with_capacity(alloc, all.len())?;
     for one in all {
         let rewards = one.rewards.as_slice();
-        let lists = slices(alloc, one.lists.as_slice())?;
+        let lists = slices(alloc, one.lists, one.commands.as_slice())?;
         groups.push(Group {
             label: one.label,
             rewards,
@@ -162,12 +173,32 @@ pub(crate) fn groups<'a>(
     Ok(groups)
 }
 
-fn slices<'a>(alloc: Global, lists: &'a [List<Command>]) -> Result<Vec<&'a [Command]>, AllocError>
-    ensures { IfOk result (λ ls. map (λ l. l.now) ls.items ≡ lists.now) }
+/// The commands of each list, from those of all lists.
+fn slices<'a>(
+    alloc: Global,
+    lists: &[Vec<PreparedCommand>],
+    commands: &'a [Command],
+) -> Result<Vec<&'a [Command]>, AllocError>
+    ensures { IfOk result (λ ls. map (λ l. map choices.command_of l.now) ls.items ≡ cut (map (λ l. length l.items) lists.now) (map choices.command_of commands.now)) }
 {
     let mut all = Vec::with_capacity(alloc, lists.len())?;
+    let mut rest = commands;
     for list in lists {
-        all.push(list.as_slice())?;
+        let (these, later) = parted(rest, list.len());
+        all.push(these)?;
+        rest = later;
     }
     Ok(all)
+}
+
+/// The first so many commands, and those behind them.
+fn parted<'a>(commands: &'a [Command], count: usize) -> (&'a [Command], &'a [Command])
+    ensures first { result.0.now ≡ take count commands.now }
+    ensures later { result.1.now ≡ drop count commands.now }
+{
+    if count < commands.len() {
+        commands.split_at(count)
+    } else {
+        (commands, &[])
+    }
 }

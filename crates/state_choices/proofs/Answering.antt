@@ -1,5 +1,5 @@
 -- Answers handed on.
-use Rattle.std.proofs.Common.{◌≡◌, Bool, true, false, Option, Some, None, Result, Ok, Err, refl, sym, ap, ◌∙◌, subst}
+use Rattle.std.proofs.Common.{◌≡◌, List, Bool, true, false, Option, Some, None, Result, Ok, Err, refl, sym, ap, ◌∙◌, subst}
 use Rattle.std.specs.Result.{IsErrAnd}
 use Rattle.process_core.specs.Bounds.{Excess, IsWide, IsTooMany, first_excess}
 use Rattle.process_core.specs.Answers.{FailsBy, Answers, only_wide}
@@ -27,6 +27,11 @@ of_part v w TooMany h a = absurd (never_too_many v a)
 pub handed_on : {X : Type 0} (P : X → Type 0) (v w : Bool) (f : StepFail) (r : Result X StepFail) → IsErrAnd r (λ g. g ≡ f) → (v ≡ true → w ≡ true) → FailsBy (only_wide v) f → Answers (only_wide w) P r
 handed_on P v w f (Ok x) h k a = absurd h
 handed_on P v w f (Err g) h k a = subst (FailsBy (only_wide w)) (sym h) (of_part v w f k a)
+
+-- the same answer, said of other lists
+pub answer_as : {X V : Type 0} (f : X → List V) (v w : Bool) (xs ys : List V) (r : Result X StepFail) → v ≡ w → xs ≡ ys → Answers (only_wide v) (λ x. f x ≡ xs) r →
+    Answers (only_wide w) (λ x. f x ≡ ys) r
+answer_as f v w xs ys r d e a = subst (λ l. Answers (only_wide w) (λ x. f x ≡ l) r) e (subst (λ b. Answers (only_wide b) (λ x. f x ≡ xs) r) d a)
 
 -- the bounds of a state, in their order
 pub wide_first : (guards many rest : Bool) → guards ≡ true → first_excess guards many rest ≡ Some IsWide

@@ -1,5 +1,5 @@
 -- Lists that loops gather, one member more, and lists of images.
-use Rattle.std.proofs.Common.{◌≡◌, ℕ, ◌+◌, ◌<◌, List, [], ◌∷◌, ◌++◌, map, Bool, true, length, get_or, take, sym, ap, ap₂, ◌∙◌, append-nil, append_assoc}
+use Rattle.std.proofs.Common.{◌≡◌, ℕ, ◌+◌, ◌<◌, List, [], ◌∷◌, ◌++◌, map, Bool, true, length, get_or, take, sym, ap, ap₂, ◌∙◌, append-nil, append_assoc, arith}
 use Rattle.std.specs.List.{list_any, flat_map}
 use Rattle.std.proofs.lemmas.List.{take_more, map-append}
 use Rattle.std.proofs.lemmas.List.Concat.{flat_map-append}
@@ -39,3 +39,9 @@ map_after view f before xs i x old new y h e so_far pushed here =
     ∙ ap₂ (λ a b. a ++ b ∷ []) so_far here
     ∙ append_assoc before (map f (take i xs)) (f x ∷ [])
     ∙ ap (λ l. before ++ l) (sym (map-append f (take i xs) (x ∷ [])) ∙ ap (map f) (ap (λ z. take i xs ++ z ∷ []) e ∙ sym (take_more xs i x h)))
+
+-- a list of one member
+pub single : {X : Type 0} (xs : List X) (x : X) → length xs ≡ 1 → x ≡ get_or xs 0 x → xs ≡ x ∷ []
+single [] x n e = let no : ⊥ = omega arith in absurd no
+single (y ∷ []) x n e = ap (λ z. z ∷ []) (sym e)
+single (y ∷ (z ∷ zs)) x n e = let no : ⊥ = omega arith in absurd no

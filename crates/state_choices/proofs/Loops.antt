@@ -15,9 +15,9 @@ use Rattle.process_core.specs.Bounds.{partial_products, is_wide_rest, is_enabled
 use Rattle.state_choices.specs.declared.data.Update.{Update}
 use Rattle.state_choices.specs.declared.data.Command.{Command}
 use Rattle.state_choices.specs.declared.data.Group.{Group}
-use Rattle.state_choices.specs.Views.{update_of, updates_of, combination_of, participants_of, group_of}
+use Rattle.state_choices.specs.Views.{update_of, updates_of, alone_in, command_of, combination_of, participants_of, group_of}
 use Rattle.state_choices.specs.Groups.{of_group, of_groups}
-use Rattle.state_choices.specs.Counted.{may_hold}
+use Rattle.state_choices.specs.Counted.{is_wide_way, may_hold}
 use Rattle.state_choices.proofs.Opened.{enabled_group, wide_enabled, choices_enabled}
 
 abbrev pub wide_updates : List (Bor Update) → Bool
@@ -28,6 +28,19 @@ way_wide w = list_any is_wide (partial_products unit (map weight_of (updates_of 
 
 abbrev pub way_branch : Values → List Sum → Vec (Bor Update) Global → List (Branch Fraction Values)
 way_branch s rewards w = branch_of s rewards (updates_of w.items) ∷ []
+
+-- where there is one participant
+abbrev pub update_wide : Update → Bool
+update_wide u = is_wide_way (update_of u ∷ [])
+
+abbrev pub update_branch : Values → List Sum → Update → List (Branch Fraction Values)
+update_branch s rewards u = branch_of s rewards (update_of u ∷ []) ∷ []
+
+abbrev pub alone_wide : Group → Command → Bool
+alone_wide g r = is_wide_rest (alone_in g r)
+
+abbrev pub alone_choice : Values → Group → Command → List (Choice Name Fraction Values)
+alone_choice s g r = choice_of s (alone_in g r)
 
 abbrev pub participants_wide : Group → Vec (Bor Command) Global → Bool
 participants_wide g w = is_wide_rest (combination_of g w.items)
@@ -78,6 +91,35 @@ module _ (g : Group) (ws : List (Vec (Bor Command) Global)) (e : map (λ w. part
       sym (flat_map-map (choice_of s) (λ (w : Vec (Bor Command) Global). combination_of g w.items) ws)
       ∙ ap (choices s) are_enabled
       ∙ choices_enabled s (of_group (group_of g))
+
+-- of one list, each member by itself
+pub one_of_one : {X : Type 0} (xs : List X) → one_of_each (xs ∷ []) ≡ map (λ x. x ∷ []) xs
+one_of_one xs = flat_map_single (λ x. x ∷ []) xs
+
+-- one participant's updates by themselves
+module _ (us : List Update) where
+  alone_ways : one_of_each (map update_of us ∷ []) ≡ map (λ u. update_of u ∷ []) us
+  alone_ways = one_of_one (map update_of us) ∙ map-map (λ u. u ∷ []) update_of us
+
+  pub wide_alone : list_any update_wide us ≡ list_any is_wide_way (one_of_each (map update_of us ∷ []))
+  wide_alone = sym (any-map is_wide_way (λ (u : Update). update_of u ∷ []) us) ∙ ap (list_any is_wide_way) (sym alone_ways)
+
+  pub branches_alone : (s : Values) (rewards : List Sum) → map (λ u. branch_of s rewards (update_of u ∷ [])) us ≡ map (branch_of s rewards) (one_of_each (map update_of us ∷ []))
+  branches_alone s rewards = sym (map-map (branch_of s rewards) (λ (u : Update). update_of u ∷ []) us) ∙ ap (map (branch_of s rewards)) (sym alone_ways)
+
+-- the commands of a group of one list by themselves
+module _ (g : Group) (rs : List Command) (e : (group_of g).lists ≡ map command_of rs ∷ []) where
+  are_alone : of_group (group_of g) ≡ map (alone_in g) rs
+  are_alone =
+      ap (λ l. map (joined g) (one_of_each l)) e
+      ∙ ap (map (joined g)) (one_of_one (map command_of rs) ∙ map-map (λ r. r ∷ []) command_of rs)
+      ∙ map-map (joined g) (λ (r : Command). command_of r ∷ []) rs
+
+  pub wide_each_alone : list_any (alone_wide g) rs ≡ list_any is_wide_rest (of_group (group_of g))
+  wide_each_alone = sym (any-map is_wide_rest (alone_in g) rs) ∙ ap (list_any is_wide_rest) (sym are_alone)
+
+  pub choices_each_alone : (s : Values) → flat_map (alone_choice s g) rs ≡ choices s (of_group (group_of g))
+  choices_each_alone s = sym (flat_map-map (choice_of s) (alone_in g) rs) ∙ ap (choices s) (sym are_alone)
 
 -- the groups by themselves
 pub wide_groups : (gs : List Group) → list_any (λ g. list_any is_wide_rest (of_group (group_of g))) gs ≡ list_any is_wide_rest (of_groups (map group_of gs))

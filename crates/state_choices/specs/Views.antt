@@ -1,5 +1,5 @@
 -- What the program's data stands for. A value that is wide is seen as wide and with no value, since a program knows no more of it.
-use Rattle.std.specs.Prelude.{List, map, Some, None, Result, Ok, Err, true, false, option_copied}
+use Rattle.std.specs.Prelude.{List, [], ◌∷◌, map, Some, None, Result, Ok, Err, true, false, option_copied}
 use Rattle.std.specs.Borrow.{Bor}
 use Rattle.frac_core.specs.Fraction.{Fraction}
 use Rattle.op_trees.specs.Seen.{Seen}
@@ -52,6 +52,10 @@ group_of g = record { label = option_copied g.label; rewards = map sum_of g.rewa
 -- the combination of a group with these participants
 abbrev pub combination_of : code_group.Group → List (Bor Command) → core.Combination
 combination_of g rs = record { label = option_copied g.label; rewards = map sum_of g.rewards.now; participants = participants_of rs }
+
+-- the combination of a group with this participant alone
+abbrev pub alone_in : code_group.Group → Command → core.Combination
+alone_in g r = record { label = option_copied g.label; rewards = map sum_of g.rewards.now; participants = command_of r ∷ [] }
 
 abbrev pub item_of : code_item.Item → Item
 item_of i = record { guard = seen_of i.guard; value = seen_of i.value }

@@ -1,5 +1,5 @@
 //! The branches of a combination.
-ghost use Rattle.std.specs.Prelude.{◌≡◌, map, IfOk};
+ghost use Rattle.std.specs.Prelude.{◌≡◌, ◌∷◌, [], map, IfOk};
 ghost use Rattle.std.specs.List.{flat_map, list_any};
 ghost use Rattle.frac_core.specs.Fraction.{is_wide, unit};
 ghost use Rattle.frac_core.specs.Sums.{product};
@@ -7,10 +7,12 @@ ghost use Rattle.process_core.specs.Choices.{weight_of, written, assigned, own_r
 ghost use Rattle.process_core.specs.Bounds.{partial_products};
 ghost use Rattle.process_core.specs.Answers.{Answers, only_wide};
 ghost use Rattle.process_core.specs.Seen.{seen_branch};
+ghost use Rattle.state_choices.specs.Counted.{is_wide_way};
 ghost use Rattle.state_choices.specs.Views.{participants_of, update_of, updates_of, write_of, reward_of, sum_of};
 
 use crate::data::{Command, Reward, Update, Write};
 use crate::faults::weight_of;
+use crate::numbers::times;
 use crate::product::one_of_each;
 use crate::values::number_of;
 use bridge_io::List;
@@ -26,7 +28,40 @@ pub(crate) fn branches(
     rewards: &[Result<Frac, EvalFail>],
     participants: &[&Command],
 ) -> Result<List<Branch>, StepFail>
-    ensures { Answers (only_wide (list_any (λ us. list_any is_wide (partial_products unit (map weight_of us))) (ways (participants_of participants.now))))
+    ensures { Answers (only_wide (list_any is_wide_way (ways (participants_of participants.now))))
+        (λ bs. map seen_branch bs ≡ map (branch_of s.now (map sum_of rewards.now)) (ways (participants_of participants.now))) result }
+{
+    if participants.len() == 1 {
+        return branches_alone(alloc, s, rewards, participants[0].updates.as_slice());
+    }
+    branches_together(alloc, s, rewards, participants)
+}
+
+/// The branch of each update, where there is one participant. No list of ways is made.
+fn branches_alone(
+    alloc: Global,
+    s: &[Value],
+    rewards: &[Result<Frac, EvalFail>],
+    updates: &[Update],
+) -> Result<List<Branch>, StepFail>
+    ensures { Answers (only_wide (list_any (λ u. is_wide_way (update_of u ∷ [])) updates.now))
+        (λ bs. map seen_branch bs ≡ map (λ u. branch_of s.now (map sum_of rewards.now) (update_of u ∷ [])) updates.now) result }
+{
+    let mut all = List::with_capacity(alloc, updates.len())?;
+    for update in updates {
+        all.push(branch_of(alloc, s, rewards, &[update])?)?;
+    }
+    Ok(all)
+}
+
+/// The branch of each way to take one update from each of several participants.
+fn branches_together(
+    alloc: Global,
+    s: &[Value],
+    rewards: &[Result<Frac, EvalFail>],
+    participants: &[&Command],
+) -> Result<List<Branch>, StepFail>
+    ensures { Answers (only_wide (list_any is_wide_way (ways (participants_of participants.now))))
         (λ bs. map seen_branch bs ≡ map (branch_of s.now (map sum_of rewards.now)) (ways (participants_of participants.now))) result }
 {
     let ways = ways(alloc, participants)?;
@@ -68,7 +103,7 @@ fn branch_of(
     rewards: &[Result<Frac, EvalFail>],
     updates: &[&Update],
 ) -> Result<Branch, StepFail>
-    ensures { Answers (only_wide (list_any is_wide (partial_products unit (map weight_of (updates_of updates.now)))))
+    ensures { Answers (only_wide (is_wide_way (updates_of updates.now)))
         (λ b. seen_branch b ≡ branch_of s.now (map sum_of rewards.now) (updates_of updates.now)) result }
 {
     let weight = product(updates)?;
@@ -88,7 +123,7 @@ fn product(updates: &[&Update]) -> Result<Frac, StepFail>
 {
     let mut weight = Frac::one();
     for u in updates {
-        match weight.mul(weight_of(u)) {
+        match times(weight, weight_of(u)) {
             Ok(more) => weight = more,
             Err(_) => return Err(StepFail::Wide),
         }

@@ -1,12 +1,12 @@
 //! The choices of a state.
 ghost use Rattle.std.specs.Prelude.{◌≡◌, ◌++◌, ◌∷◌, [], map, IfOk, OnOk, option_copied, is_none};
-ghost use Rattle.std.specs.List.{filter, list_any};
+ghost use Rattle.std.specs.List.{filter, flat_map, list_any};
 ghost use Rattle.process_core.specs.Process as process;
 ghost use Rattle.process_core.specs.Choices.{is_false, choice_of, choices, guard_of, kinds_of, undef_alone, outcome_of, branch_of, ways};
 ghost use Rattle.process_core.specs.Bounds.{excess, is_wide_rest};
 ghost use Rattle.process_core.specs.Answers.{Answers, only_wide};
 ghost use Rattle.process_core.specs.Seen.{seen_choice, seen_outcome};
-ghost use Rattle.state_choices.specs.Views.{seen_of, command_of, group_of, participants_of, sum_of, combination_of};
+ghost use Rattle.state_choices.specs.Views.{seen_of, command_of, group_of, participants_of, sum_of, combination_of, alone_in};
 ghost use Rattle.state_choices.specs.Groups.{of_group, of_groups};
 ghost use Rattle.state_choices.specs.Counted.{may_hold, is_wide_outcome};
 
@@ -43,7 +43,7 @@ fn all_choices(alloc: Global, s: &[Value], groups: &[Group]) -> Result<List<Choi
     ensures { Answers (only_wide (list_any is_wide_rest (of_groups (map group_of groups.now))))
         (λ cs. map seen_choice cs ≡ choices s.now (of_groups (map group_of groups.now))) result }
 {
-    let mut all = List::new(alloc);
+    let mut all = List::with_capacity(alloc, groups.len())?;
     for group in groups {
         add_choices(alloc, s, group, &mut all)?;
     }
@@ -52,6 +52,40 @@ fn all_choices(alloc: Global, s: &[Value], groups: &[Group]) -> Result<List<Choi
 
 /// Adds the choices of a group.
 fn add_choices(
+    alloc: Global,
+    s: &[Value],
+    group: &Group,
+    all: &mut List<Choice>,
+) -> Result<(), StepFail>
+    ensures { Answers (only_wide (list_any is_wide_rest (of_group (group_of group.now))))
+        (λ u. map seen_choice all.new ≡ map seen_choice all.old ++ choices s.now (of_group (group_of group.now))) result }
+{
+    let lists = group.lists.as_slice();
+    if lists.len() == 1 {
+        return add_each_alone(alloc, s, group, lists[0], all);
+    }
+    add_combinations(alloc, s, group, all)
+}
+
+/// Adds the choices of commands that are each a combination by itself. No list of participants is made.
+fn add_each_alone(
+    alloc: Global,
+    s: &[Value],
+    group: &Group,
+    list: &[Command],
+    all: &mut List<Choice>,
+) -> Result<(), StepFail>
+    ensures { Answers (only_wide (list_any (λ r. is_wide_rest (alone_in group.now r)) list.now))
+        (λ u. map seen_choice all.new ≡ map seen_choice all.old ++ flat_map (λ r. choice_of s.now (alone_in group.now r)) list.now) result }
+{
+    for command in list {
+        add_choice(alloc, s, group, &[command], all)?;
+    }
+    Ok(())
+}
+
+/// Adds the choices of a group, each of a combination of one command of each list.
+fn add_combinations(
     alloc: Global,
     s: &[Value],
     group: &Group,

@@ -10,6 +10,7 @@ ghost use Rattle.state_choices.specs.Views.{seen_of, command_of, update_of, sum_
 
 use crate::data::{Command, Update};
 use crate::flaws::flaws_in;
+use crate::numbers::plus;
 use crate::values::number_of;
 use frac_core::Frac;
 use op_trees::EvalFail;
@@ -82,7 +83,7 @@ fn total(updates: &[Update]) -> Result<Frac, StepFail>
 {
     let mut sum = Frac::zero();
     for u in updates {
-        match sum.add(weight_of(u)) {
+        match plus(sum, weight_of(u)) {
             Ok(more) => sum = more,
             Err(_) => return Err(StepFail::Wide),
         }

@@ -11,6 +11,7 @@ mod faults;
 mod flaws;
 mod groups;
 mod laws;
+mod numbers;
 mod product;
 mod rewards;
 mod values;

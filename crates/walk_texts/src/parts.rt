@@ -1,15 +1,17 @@
 // The parts of lines.
 
-ghost use Rattle.std.specs.Prelude.{◌≡◌, ◌++◌, OnOk, decimal};
+ghost use Rattle.std.specs.Prelude.{◌≡◌, ◌++◌, OnOk, decimal, map};
+ghost use Rattle.decimal_json.specs.Text.{with_commas};
 ghost use Rattle.process_core.specs.Seen.{seen_kinds};
-ghost use Rattle.process_texts.specs.Texts.{fraction_text, name_text, state_text};
+ghost use Rattle.process_texts.specs.Texts.{comma_before, fraction_text, name_text, state_text, value_text};
 ghost use Rattle.walk_texts.specs.Lines.{kinds_text, label_text};
 
 use bridge_io::Text;
 use frac_core::Frac;
 use itoa::Buffer;
+use op_trees::Value;
 use process_core::{Bad, State};
-use process_texts::{name_text, state_text};
+use process_texts::name_text;
 use std::alloc::{AllocError, Global};
 
 /// Writes a number.
@@ -32,12 +34,45 @@ pub(crate) fn push_fraction(out: &mut Vec<u8>, x: Frac) -> Result<(), AllocError
     Ok(())
 }
 
+/// Writes a value.
+fn push_value(out: &mut Vec<u8>, value: Value) -> Result<(), AllocError>
+    ensures { OnOk result (out.new.items ≡ out.old.items ++ value_text value) }
+{
+    match value {
+        Value::Truth(true) => out.extend_from_slice(b"true"),
+        Value::Truth(false) => out.extend_from_slice(b"false"),
+        Value::Number(x) => push_fraction(out, x),
+    }
+}
+
+/// Writes a comma before each part but the first.
+fn push_comma(out: &mut Vec<u8>, i: usize) -> Result<(), AllocError>
+    ensures { OnOk result (out.new.items ≡ out.old.items ++ comma_before i) }
+{
+    if i > 0 {
+        out.extend_from_slice(b",")?;
+    }
+    Ok(())
+}
+
+/// Writes values with commas between them.
+fn push_values(out: &mut Vec<u8>, values: &[Value]) -> Result<(), AllocError>
+    ensures { OnOk result (out.new.items ≡ out.old.items ++ with_commas (map value_text values.now)) }
+{
+    for (i, value) in values.iter().enumerate() {
+        push_comma(out, i)?;
+        push_value(out, *value)?;
+    }
+    Ok(())
+}
+
 /// Writes a state.
-pub(crate) fn push_state(alloc: Global, out: &mut Vec<u8>, s: &State) -> Result<(), AllocError>
+pub(crate) fn push_state(out: &mut Vec<u8>, s: &State) -> Result<(), AllocError>
     ensures { OnOk result (out.new.items ≡ out.old.items ++ state_text s.now.values) }
 {
-    let text = state_text(alloc, s)?;
-    out.extend_from_slice(text.as_str().as_bytes())
+    out.extend_from_slice(b"(")?;
+    push_values(out, s.values.as_slice())?;
+    out.extend_from_slice(b")")
 }
 
 /// Writes a name.

@@ -20,7 +20,7 @@ fn push_step(alloc: Global, out: &mut Vec<u8>, step: &Step) -> Result<(), AllocE
 {
     push_label(alloc, out, &step.label)?;
     out.extend_from_slice(b" ")?;
-    push_state(alloc, out, &step.target)?;
+    push_state(out, &step.target)?;
     out.extend_from_slice(b"\n")
 }
 

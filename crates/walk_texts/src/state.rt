@@ -27,7 +27,7 @@ pub(crate) fn push_head<S: Steps>(
     let header = header_text(alloc, s)?;
     out.extend_from_slice(header.as_str().as_bytes())?;
     out.extend_from_slice(b"\n")?;
-    push_state(alloc, out, state)?;
+    push_state(out, state)?;
     out.extend_from_slice(b"\n")
 }
 
@@ -102,35 +102,35 @@ fn push_rewards(out: &mut Vec<u8>, rewards: &[Frac]) -> Result<(), AllocError>
 }
 
 /// Writes the line of a branch.
-fn push_branch(alloc: Global, out: &mut Vec<u8>, branch: &Branch) -> Result<(), AllocError>
+fn push_branch(out: &mut Vec<u8>, branch: &Branch) -> Result<(), AllocError>
     ensures { OnOk result (out.new.items ≡ out.old.items ++ branch_line (seen_branch branch.now)) }
 {
     out.extend_from_slice(b"  ")?;
     push_fraction(out, branch.weight)?;
     out.extend_from_slice(b" ")?;
-    push_state(alloc, out, &branch.target)?;
+    push_state(out, &branch.target)?;
     push_rewards(out, branch.rewards.as_slice())?;
     out.extend_from_slice(b"\n")
 }
 
 /// Writes the lines of branches.
-fn push_branches(alloc: Global, out: &mut Vec<u8>, branches: &[Branch]) -> Result<(), AllocError>
+fn push_branches(out: &mut Vec<u8>, branches: &[Branch]) -> Result<(), AllocError>
     ensures { OnOk result (out.new.items ≡ out.old.items ++ flat_map branch_line (map seen_branch branches.now)) }
 {
     for branch in branches {
-        push_branch(alloc, out, branch)?;
+        push_branch(out, branch)?;
     }
     Ok(())
 }
 
 /// Writes the rest of a choice's line, and the lines of its branches.
-fn push_outcome(alloc: Global, out: &mut Vec<u8>, outcome: &Outcome) -> Result<(), AllocError>
+fn push_outcome(out: &mut Vec<u8>, outcome: &Outcome) -> Result<(), AllocError>
     ensures { OnOk result (out.new.items ≡ out.old.items ++ outcome_text (seen_outcome outcome.now)) }
 {
     match outcome {
         Outcome::Good(branches) => {
             out.extend_from_slice(b" good\n")?;
-            push_branches(alloc, out, branches.as_slice())
+            push_branches(out, branches.as_slice())
         }
         Outcome::Faulty(bad) => {
             out.extend_from_slice(b" bad ")?;
@@ -153,7 +153,7 @@ fn push_choice(
     push_number(out, i)?;
     out.extend_from_slice(b" ")?;
     push_label(alloc, out, &choice.label)?;
-    push_outcome(alloc, out, &choice.outcome)
+    push_outcome(out, &choice.outcome)
 }
 
 /// Writes the choices, numbered from 0.

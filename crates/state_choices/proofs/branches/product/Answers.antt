@@ -18,14 +18,14 @@ pub loop-u-preserved : goal.loop-u-preserved
 loop-u-preserved c =
     so_far_more products_run (map (λ (u : Bor Update). weight_of (update_of u.now)) c.args.updates.now) _ _ _ c.loop-u.weight c.in-Ok.more
     (ap (map (λ (u : Bor Update). weight_of (update_of u.now))) (drop_item c.args.updates.now c.loop-u.u-index c.u-item.result c.loop-u-test.true c.u-item.is))
-    (ap (λ w. narrow (times c.loop-u.weight w)) (sym c.weight_of.ensures) ∙ sym c.mul.ensures ∙ c.in-Ok.is) c.loop-u.invariant
+    (ap (λ w. narrow (times c.loop-u.weight w)) (sym c.weight_of.ensures) ∙ sym c.times.ensures ∙ c.in-Ok.is) c.loop-u.invariant
 
 pub returns-in-Err : goal.returns-in-Err
 returns-in-Err c =
     ap only_wide
     (so_far_wide products_run (map (λ (u : Bor Update). weight_of (update_of u.now)) c.args.updates.now) _ _ _ c.loop-u.weight c.in-Err.field-0
     (ap (map (λ (u : Bor Update). weight_of (update_of u.now))) (drop_item c.args.updates.now c.loop-u.u-index c.u-item.result c.loop-u-test.true c.u-item.is))
-    (ap (λ w. narrow (times c.loop-u.weight w)) (sym c.weight_of.ensures) ∙ sym c.mul.ensures ∙ c.in-Err.is) c.loop-u.invariant)
+    (ap (λ w. narrow (times c.loop-u.weight w)) (sym c.weight_of.ensures) ∙ sym c.times.ensures ∙ c.in-Err.is) c.loop-u.invariant)
 
 pub returns : goal.returns
 returns c =

@@ -18,14 +18,14 @@ pub returns-in_err-add_choices : goal.returns-in_err-add_choices
 returns-in_err-add_choices c =
     let gs = c.args.groups.now in
     let Is = λ (cs : List Choice). map seen_choice cs ≡ choices c.args.s.now (of_groups (map group_of gs)) in
-    handed_on Is _ _ c.in_err-add_choices.field-0.0 c.from_residual.result c.from_residual.ensures.1
+    handed_on Is _ _ c.in_err-add_choices.field-0.0 c.from_residual-in_err-add_choices.result c.from_residual-in_err-add_choices.ensures.1
     (λ w. sym (wide_groups gs) ∙ any_here (λ (g : Group). list_any is_wide_rest (of_group (group_of g))) gs c.loop-group.group-index c.group-item.result c.loop-group-test.true c.group-item.is w)
     c.in_err-add_choices.ensures
 
 pub loop-group-init : goal.loop-group-init
 loop-group-init c =
-    gathered_none (λ (g : Group). list_any is_wide_rest (of_group (group_of g))) (λ (g : Group). choices c.args.s.now (of_group (group_of g))) c.args.groups.now [] (map seen_choice c.new-all.result)
-    (ap (map seen_choice) c.new-all.ensures)
+    gathered_none (λ (g : Group). list_any is_wide_rest (of_group (group_of g))) (λ (g : Group). choices c.args.s.now (of_group (group_of g))) c.args.groups.now [] (map seen_choice c.in_ok-all.all)
+    (ap (map seen_choice) c.in_ok-all.ensures)
 
 pub loop-group-preserved : goal.loop-group-preserved
 loop-group-preserved c =

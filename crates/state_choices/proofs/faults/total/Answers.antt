@@ -17,14 +17,14 @@ pub loop-u-preserved : goal.loop-u-preserved
 loop-u-preserved c =
     so_far_more sums_run (map (λ (u : Update). weight_of (update_of u)) c.args.updates.now) _ _ _ c.loop-u.sum c.in-Ok.more
     (ap (map (λ (u : Update). weight_of (update_of u))) (drop_item c.args.updates.now c.loop-u.u-index c.u-item.result c.loop-u-test.true c.u-item.is))
-    (ap (λ w. narrow (plus c.loop-u.sum w)) (sym c.weight_of.ensures) ∙ sym c.add.ensures ∙ c.in-Ok.is) c.loop-u.invariant
+    (ap (λ w. narrow (plus c.loop-u.sum w)) (sym c.weight_of.ensures) ∙ sym c.plus.ensures ∙ c.in-Ok.is) c.loop-u.invariant
 
 pub returns-in-Err : goal.returns-in-Err
 returns-in-Err c =
     ap only_wide
     (so_far_wide sums_run (map (λ (u : Update). weight_of (update_of u)) c.args.updates.now) _ _ _ c.loop-u.sum c.in-Err.field-0
     (ap (map (λ (u : Update). weight_of (update_of u))) (drop_item c.args.updates.now c.loop-u.u-index c.u-item.result c.loop-u-test.true c.u-item.is))
-    (ap (λ w. narrow (plus c.loop-u.sum w)) (sym c.weight_of.ensures) ∙ sym c.add.ensures ∙ c.in-Err.is) c.loop-u.invariant)
+    (ap (λ w. narrow (plus c.loop-u.sum w)) (sym c.weight_of.ensures) ∙ sym c.plus.ensures ∙ c.in-Err.is) c.loop-u.invariant)
 
 pub returns : goal.returns
 returns c =

@@ -1,17 +1,11 @@
-use Rattle.std.proofs.Common.{◌≡◌, ◌∙◌, ◌∷◌, [], ◌++◌, List, length, get_or, sym, ap, map, arith, subst, IfOk, Vec, Global}
+use Rattle.std.proofs.Common.{◌≡◌, ◌∙◌, ◌∷◌, [], ◌++◌, List, length, get_or, sym, ap, map, subst, IfOk, Vec, Global}
 use Rattle.std.specs.List.{flat_map}
 use Rattle.std.proofs.lemmas.List.Folds.{flat_map-map}
 use Rattle.std.proofs.lemmas.List.Concat.{flat_map_single}
 use Rattle.basics.specs.Lists.{at_take_all}
 use Rattle.process_core.specs.Product.{extended}
-use Rattle.state_choices.proofs.Gathered.{flat_more}
+use Rattle.state_choices.proofs.Gathered.{flat_more, single}
 use Rattle.state_choices.proofs.product.extended.Goals as goal
-
--- a list of one member
-single : {X : Type 0} (xs : List X) (x : X) → length xs ≡ 1 → x ≡ get_or xs 0 x → xs ≡ x ∷ []
-single [] x n e = let no : ⊥ = omega arith in absurd no
-single (y ∷ []) x n e = ap (λ z. z ∷ []) (sym e)
-single (y ∷ (z ∷ zs)) x n e = let no : ⊥ = omega arith in absurd no
 
 by_one : {X : Type 0} (fronts : List (List X)) (xs : List X) (x : X) → length xs ≡ 1 → x ≡ get_or xs 0 x → map (λ p. p ++ x ∷ []) fronts ≡ extended fronts xs
 by_one fronts xs x n e = sym (ap (extended fronts) (single xs x n e) ∙ flat_map_single (λ p. p ++ x ∷ []) fronts)

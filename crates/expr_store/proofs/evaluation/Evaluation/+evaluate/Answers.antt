@@ -6,7 +6,7 @@ use Rattle.state_choices.specs.Trimmed.{computed}
 use Rattle.expr_store.specs.Nodes.{seen_at}
 use Rattle.expr_store.specs.Rest.{finished}
 use Rattle.expr_store.specs.Views.{nodes, same_seen}
-use Rattle.expr_store.specs.declared.node.Node.TheVariants.{Truth, Number, Name}
+use Rattle.expr_store.specs.declared.node.Node.TheVariants.{Fixed, Number, Name}
 use Rattle.expr_store.proofs.Valued.{node_arm, one_arm, two_arm, three_arm}
 use Rattle.expr_store.proofs.evaluation.Evaluation.+evaluate.Goals as goal
 
@@ -18,13 +18,13 @@ value_anew-returns-in-None-clause-value g t c =
     let ns = nodes e.store.now in
     node_arm m at ns c.args.i None (sym c.node.ensures ∙ c.in-None.is) _ refl
 
-pub value_anew-returns-in-Some-Truth-clause-value : goal.value_anew-returns-in-Some-Truth-clause-value
-value_anew-returns-in-Some-Truth-clause-value g t c =
+pub value_anew-returns-in-Some-Fixed-clause-value : goal.value_anew-returns-in-Some-Fixed-clause-value
+value_anew-returns-in-Some-Fixed-clause-value g t c =
     let m = g.O.Operator.meaning in
     let e = c.args.self.now in
     let at = value_at e.values.now e.constants.now in
     let ns = nodes e.store.now in
-    node_arm m at ns c.args.i (Some (Truth c.in-Some-Truth.b)) (sym c.node.ensures ∙ c.in-Some-Truth.is ∙ ap Some c.in-Some-Truth.field-0-is) _ refl
+    node_arm m at ns c.args.i (Some (Fixed c.in-Some-Fixed.v)) (sym c.node.ensures ∙ c.in-Some-Fixed.is ∙ ap Some c.in-Some-Fixed.field-0-is) c.held.result c.held.ensures
 
 pub value_anew-returns-in-Some-Number-clause-value : goal.value_anew-returns-in-Some-Number-clause-value
 value_anew-returns-in-Some-Number-clause-value g t c =
@@ -40,7 +40,7 @@ value_anew-returns-in-Some-Name-clause-value g t c =
     let e = c.args.self.now in
     let at = value_at e.values.now e.constants.now in
     let ns = nodes e.store.now in
-    node_arm m at ns c.args.i (Some (Name c.in-Some-Name.place)) (sym c.node.ensures ∙ c.in-Some-Name.is ∙ ap Some c.in-Some-Name.field-0-is) c.held.result (c.held.ensures ∙ ap narrowed c.value_at.ensures)
+    node_arm m at ns c.args.i (Some (Name c.in-Some-Name.place)) (sym c.node.ensures ∙ c.in-Some-Name.is ∙ ap Some c.in-Some-Name.field-0-is) c.held-in-Some-Name.result (c.held-in-Some-Name.ensures ∙ ap narrowed c.value_at.ensures)
 
 pub value_anew-returns-in-Some-One-clause-value : goal.value_anew-returns-in-Some-One-clause-value
 value_anew-returns-in-Some-One-clause-value g t c =

@@ -1,12 +1,14 @@
-use Rattle.std.proofs.Common.{sym, ap, subst, ◌∙◌}
+use Rattle.std.proofs.Common.{refl, sym, ap, subst, ◌∙◌}
 use Rattle.std.proofs.lemmas.Result.{IfOk-weaker}
 use Rattle.std.specs.Prelude.{IfOk}
 use Rattle.op_trees.specs.Tree.{tree}
+use Rattle.op_trees.specs.Tree as T
+use Rattle.op_trees.specs.declared.tree.Value.TheVariants as V
 use Rattle.expr_store.specs.NodeLaws.{grown_then, stands_later}
 use Rattle.expr_store.specs.Nodes.{Holds, Stands}
 use Rattle.expr_store.specs.Views.{nodes}
-use Rattle.expr_store.specs.declared.node.Node.TheVariants.{Truth, Number, Name}
-use Rattle.expr_store.proofs.Standing.{truth_stands, number_stands, name_stands}
+use Rattle.expr_store.specs.declared.node.Node.TheVariants.{Fixed, Name}
+use Rattle.expr_store.proofs.Standing.{fixed_stands, name_stands}
 use Rattle.expr_store.proofs.store.ExprStore.+put.Goals as goal
 
 pub returns-in-Truth-clause-stands : goal.returns-in-Truth-clause-stands
@@ -14,18 +16,16 @@ returns-in-Truth-clause-stands g t c =
     let m = g.O.Operator.meaning in
     let places = g.S.Scope.places c.args.scope.now in
     let new = nodes c.put_node.new.self in
-    IfOk-weaker c.put_node.result (λ id. Holds new id.number (Truth c.in-Truth.b)) (λ id. Stands m places new id.number (tree c.args.e.now))
-    (λ id k. subst (Stands m places new id.number) (sym (ap tree c.in-Truth.is)) (truth_stands m places new new id.number c.in-Truth.field-0 c.in-Truth.b k))
+    IfOk-weaker c.put_node.result (λ id. Holds new id.number (Fixed (V.Truth c.in-Truth.b))) (λ id. Stands m places new id.number (tree c.args.e.now))
+    (λ id k. subst (Stands m places new id.number) (sym (ap tree c.in-Truth.is)) (fixed_stands m places new new id.number (T.Truth c.in-Truth.field-0 c.in-Truth.b) (V.Truth c.in-Truth.b) (λ env. refl) k))
     c.put_node.ensures.holds
 
 pub returns-in-Number-clause-stands : goal.returns-in-Number-clause-stands
 returns-in-Number-clause-stands g t c =
     let m = g.O.Operator.meaning in
     let places = g.S.Scope.places c.args.scope.now in
-    let new = nodes c.put_node-in-Number.new.self in
-    IfOk-weaker c.put_node-in-Number.result (λ id. Holds new id.number (Number c.in-Number.d)) (λ id. Stands m places new id.number (tree c.args.e.now))
-    (λ id k. subst (Stands m places new id.number) (sym (ap tree c.in-Number.is)) (number_stands m places new new id.number c.in-Number.field-0 c.in-Number.d k))
-    c.put_node-in-Number.ensures.holds
+    let new = nodes c.put_literal.new.self in
+    subst (λ t. IfOk c.put_literal.result (λ id. Stands m places new id.number t)) (sym (ap tree c.in-Number.is)) (c.put_literal.ensures.stands places c.in-Number.field-0)
 
 pub returns-in-Name-clause-stands : goal.returns-in-Name-clause-stands
 returns-in-Name-clause-stands g t c =
