@@ -1,30 +1,53 @@
 -- The faults of a properties file of PRISM against a model: those of names, then of size, then of types (PRISM manual, "Property
--- Specification"). The limits, the reasons and their places are this project's own rule.
-use Rattle.std.specs.Prelude.{◌≡◌, ℕ, max, List, [], ◌++◌, map, Option, Some, None, Bool, true, false, not, ◌||◌, nat_lt, is_some, if◌then◌else◌}
+-- Specification": "Identifying A Set Of States", "Reward-based Properties", "Properties Files"). The limits, the reasons and their
+-- places are this project's own rule.
+use Rattle.std.specs.Prelude.{◌≡◌, ℕ, max, List, [], ◌∷◌, ◌++◌, map, Option, Some, None, Bool, true, false, not, ◌||◌, nat_lt, is_some, unwrap_or, if◌then◌else◌}
 use Rattle.std.specs.List.{flat_map, fold, sum, list_any, position}
 use Rattle.std.specs.Option.{option_map}
+use Rattle.bridge_io.specs.declared.reason.Named.{Named}
 use Rattle.bridge_io.specs.declared.reason.Fault.{Fault}
 use Rattle.bridge_io.specs.declared.reason.Reason.TheVariants.{TwiceNamed, Unknown, TooLarge, WrongType, NotConstant}
 use Rattle.op_trees.specs.declared.tree.Ty.TheVariants as T
 use Rattle.op_trees.specs.Tree.{renamed, node_count, height_of}
-use Rattle.op_trees.specs.declared.tree.Ty.{Ty}
-use Rattle.op_trees.specs.Types.{Types, type_in}
-use Rattle.prism_tree.specs.Operators.{prism_meaning}
+use Rattle.op_trees.specs.Types.{Types, type_in, misfits}
 use Rattle.op_trees.specs.Names.{offset_of, some_name}
 use Rattle.process_core.specs.Ready.{if_some}
+use Rattle.prism_tree.specs.Operators.{prism_meaning}
 use Rattle.prism_tree.specs.Syntax.{Expression, Rewards, File}
 use Rattle.prism_tree.specs.Grammar.{unquoted}
 use Rattle.prism_names.specs.Order.{whole}
 use Rattle.name_rules.specs.Names.{is_called}
 use Rattle.name_rules.specs.Least.{fault, fault_if}
+use Rattle.prism_check.specs.declared.demands.Wanted.{Wanted}
+use Rattle.prism_check.specs.declared.demands.Wanted.TheVariants as W
 use Rattle.prism_check.specs.Faults.{or_else}
 use Rattle.prism_check.specs.NameFaults.{is_among, doubled, given_labels, values, names_of, unless_known}
-use Rattle.prism_check.specs.TypeFaults.{types, misfits, is_variable}
+use Rattle.prism_check.specs.TypeFaults.{types, is_unwanted, has_variable}
 use Rattle.prop_grammar.specs.declared.syntax.Structure.{Structure}
 use Rattle.prop_grammar.specs.Syntax.{WrittenProperty}
 use Rattle.prop_grammar.specs.Grammar.{has_quotes}
 use Rattle.prop_trees.specs.Trees.{Name, PrismProperty, Role, state, steps, probability, parts, structure_of, ask_with, path_with}
 use Rattle.prop_trees.specs.Names.{filed_name}
+
+-- the names, the reward structures and the bounds and state formulas of all properties
+abbrev pub titles : List WrittenProperty → List Named
+titles ps = flat_map (λ p. if_some p.name) ps
+
+abbrev pub structures : List WrittenProperty → List Structure
+structures ps = flat_map (λ p. if_some (structure_of p.ask)) ps
+
+abbrev pub all_parts : List WrittenProperty → List (Role × Expression)
+all_parts ps = flat_map parts ps
+
+-- a reward structure of this name
+abbrev pub is_titled : Name → Rewards → Bool
+is_titled x r = list_any (is_called x) (if_some r.name)
+
+-- A state formula is a bool, a bound of steps an int, a bound of probability a number.
+abbrev pub wanted_of : Role → Wanted
+wanted_of state = W.Bool
+wanted_of steps = W.Int
+wanted_of probability = W.Number
 
 module _ (file : File) where
   -- ---- names
@@ -32,9 +55,6 @@ module _ (file : File) where
   -- a label, if it has quotes, else a constant, a formula or a variable
   abbrev pub is_known : Name → Bool
   is_known x = if has_quotes x then is_among (given_labels ++ map (λ l. l.name) file.labels) (unquoted x) else is_among (values file) x
-
-  abbrev pub is_titled : Name → Rewards → Bool
-  is_titled x r = list_any (is_called x) (if_some r.name)
 
   -- the number of a reward structure: that of this name, or without one the first
   abbrev pub number_by : Option Name → Option ℕ
@@ -47,19 +67,18 @@ module _ (file : File) where
   abbrev pub unknown_structure : Structure → List Fault
   unknown_structure s = fault_if (not (is_some (structure_number s))) s.at Unknown
 
-  abbrev pub unknown_names : WrittenProperty → List Fault
-  unknown_names p =
-      flat_map unknown_structure (if_some (structure_of p.ask))
-      ++ flat_map (λ e. flat_map (unless_known is_known) (names_of e)) (map (λ x. x.1) (parts p))
+  abbrev pub unknown_in : Role × Expression → List Fault
+  unknown_in x = flat_map (unless_known is_known) (names_of x.1)
 
-  -- a name of two properties, at the later one
+  -- a name of two properties, at the later one; structures and names that the file has not
   abbrev pub name_faults : List WrittenProperty → List Fault
-  name_faults ps = doubled TwiceNamed (flat_map (λ p. if_some p.name) ps) ++ flat_map unknown_names ps
+  name_faults ps =
+      doubled TwiceNamed (titles ps) ++ (flat_map unknown_structure (structures ps) ++ flat_map unknown_in (all_parts ps))
 
   -- ---- size, formulas written out; a label is one node
 
   abbrev pub expressions : List WrittenProperty → List Expression
-  expressions ps = flat_map (λ p. map (λ x. whole file x.1) (parts p)) ps
+  expressions ps = map (λ x. whole file x.1) (all_parts ps)
 
   abbrev pub size_faults : List WrittenProperty → List Fault
   size_faults ps =
@@ -71,38 +90,26 @@ module _ (file : File) where
   abbrev pub name_types : Types
   name_types x = if has_quotes x then Some T.Bool else types file x
 
-  -- A state formula is a bool, a bound of steps an int, a bound of probability a number.
-  abbrev pub is_wanted : Role → Ty → Bool
-  is_wanted state T.Bool = true
-  is_wanted steps T.Int = true
-  is_wanted probability T.Int = true
-  is_wanted probability T.Real = true
-  is_wanted r t = false
-
-  -- An expression without a type has its fault at a node.
-  abbrev pub is_unwanted : Role → Option Ty → Bool
-  is_unwanted r None = false
-  is_unwanted r (Some t) = not (is_wanted r t)
-
+  -- A name without a type is a misfit; an expression that has misfits has no type.
   abbrev pub type_faults_of : Role → Expression → List Fault
   type_faults_of r e =
-      map (λ at. fault at WrongType) (misfits name_types e)
-      ++ fault_if (is_unwanted r (type_in prism_meaning name_types e)) (offset_of e) WrongType
+      map (λ at. fault at WrongType) (misfits prism_meaning name_types e)
+      ++ fault_if (is_unwanted (wanted_of r) (type_in prism_meaning name_types e)) (offset_of e) WrongType
 
-  -- A bound names constants alone, where its formulas are written out.
-  abbrev pub varies : Name → Bool
-  varies x = has_quotes x || is_variable file x
+  -- A bound names constants alone: no label, and no variable where its formulas are written out.
+  abbrev pub varies : Expression → Bool
+  varies e = some_name has_quotes e || has_variable file e
 
   abbrev pub constant_faults : Role → Expression → List Fault
   constant_faults state e = []
-  constant_faults steps e = fault_if (some_name varies (whole file e)) (offset_of e) NotConstant
-  constant_faults probability e = fault_if (some_name varies (whole file e)) (offset_of e) NotConstant
+  constant_faults steps e = fault_if (varies e) (offset_of e) NotConstant
+  constant_faults probability e = fault_if (varies e) (offset_of e) NotConstant
 
   abbrev pub part_faults : Role × Expression → List Fault
   part_faults x = type_faults_of x.0 x.1 ++ constant_faults x.0 x.1
 
   abbrev pub type_faults : List WrittenProperty → List Fault
-  type_faults ps = flat_map (λ p. flat_map part_faults (parts p)) ps
+  type_faults ps = flat_map part_faults (all_parts ps)
 
   -- ---- all faults of the first of these phases that has any
 
@@ -111,12 +118,9 @@ module _ (file : File) where
 
   -- ---- the properties of the model
 
+  -- the number of a reward structure, 0 where there is none
   abbrev pub number_of : Structure → ℕ
-  number_of s = or_nought (structure_number s)
-    where
-      or_nought : Option ℕ → ℕ
-      or_nought None = 0
-      or_nought (Some i) = i
+  number_of s = unwrap_or (structure_number s) 0
 
   -- the property that is written, with its names marked and its structure numbered
   abbrev pub filed : WrittenProperty → PrismProperty
