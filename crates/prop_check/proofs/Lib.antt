@@ -1,0 +1,11 @@
+pub mod Keeping
+pub mod Spelled
+pub mod Phases
+pub mod Filed
+pub mod Measuring
+pub mod Stepping
+pub mod Misfits
+pub mod Placing
+pub mod Knowing
+pub mod Labelled
+pub mod Reading

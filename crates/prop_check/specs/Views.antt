@@ -1,0 +1,20 @@
+-- What the code's lists of the parts of properties have.
+use Rattle.std.specs.Prelude.{List, [], ◌∷◌}
+use Rattle.op_trees.specs.Tree.{tree}
+use Rattle.prism_tree.specs.Syntax.{Expression}
+use Rattle.prop_trees.specs.Trees.{Role, state, steps, probability}
+use Rattle.prop_check.specs.declared.parts.Role as code
+use Rattle.prop_check.specs.declared.parts.Role.TheVariants as R
+use Rattle.prop_check.specs.declared.parts.Part.{Part}
+
+abbrev pub role_of : code.Role → Role
+role_of R.State = state
+role_of R.Steps = steps
+role_of R.Probability = probability
+
+abbrev pub part_of : Part → Role × Expression
+part_of p = (role_of p.role, tree p.e.now)
+
+-- two state formulas
+abbrev pub states : Expression → Expression → List (Role × Expression)
+states a b = (state, a) ∷ (state, b) ∷ []

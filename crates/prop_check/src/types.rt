@@ -1,0 +1,98 @@
+// The faults of types.
+
+ghost use Rattle.std.specs.Prelude.{◌≡◌, map, None};
+ghost use Rattle.std.specs.List.{flat_map};
+ghost use Rattle.bridge_io.specs.declared.reason.Reason.TheVariants.{NotConstant};
+ghost use Rattle.op_trees.specs.Names.{offset_of, some_name};
+ghost use Rattle.op_trees.specs.Tree.{tree};
+ghost use Rattle.name_rules.specs.Least.{fault_if, soonest};
+ghost use Rattle.prop_grammar.specs.Grammar.{has_quotes};
+ghost use Rattle.prop_trees.specs.PrismFaults.{part_faults, type_faults_of, varies, wanted_of};
+ghost use Rattle.prop_check.specs.Views.{part_of, role_of};
+
+use crate::labels::has_quotes;
+use crate::parts::{Part, Role};
+use crate::scope::Scope;
+use bridge_io::{Fault, Reason};
+use name_rules::{sooner, sooner_if};
+use op_trees::{Expr, type_of};
+use prism_check::{Wanted, is_wanted, offset_of};
+use prism_tree::Pe;
+
+/// The least fault of the types of these bounds and state formulas, if they have one.
+pub(crate) fn judge_types(scope: &Scope, parts: &[Part]) -> Option<Fault>
+    ensures { result ≡ soonest None (flat_map (part_faults scope.now.file) (map part_of parts.now)) }
+{
+    let mut best = None;
+    for part in parts {
+        best = judge_part(scope, part, best);
+    }
+    best
+}
+
+fn judge_part(scope: &Scope, part: &Part, best: Option<Fault>) -> Option<Fault>
+    ensures { result ≡ soonest best (part_faults scope.now.file (part_of part.now)) }
+{
+    let typed = judge_type(scope, part.role, part.e, best);
+    match part.role {
+        Role::State => typed,
+        Role::Steps => judge_constant(scope, part.e, typed),
+        Role::Probability => judge_constant(scope, part.e, typed),
+    }
+}
+
+// What it has to be.
+fn wanted_of(role: Role) -> Wanted
+    ensures { result ≡ wanted_of (role_of role) }
+{
+    match role {
+        Role::State => Wanted::Bool,
+        Role::Steps => Wanted::Int,
+        Role::Probability => Wanted::Number,
+    }
+}
+
+fn judge_type(scope: &Scope, role: Role, e: &Pe, best: Option<Fault>) -> Option<Fault>
+    ensures { result ≡ soonest best (type_faults_of scope.now.file (role_of role) (tree e.now)) }
+{
+    match type_of(e, scope) {
+        Ok(ty) => {
+            let is_unwanted = !is_wanted(wanted_of(role), ty);
+            sooner_if(is_unwanted, offset_of(e), Reason::WrongType, best)
+        }
+        Err(at) => sooner(best, at, Reason::WrongType),
+    }
+}
+
+// A bound names constants alone.
+fn judge_constant(scope: &Scope, e: &Pe, best: Option<Fault>) -> Option<Fault>
+    ensures { result ≡ soonest best (fault_if (varies scope.now.file (tree e.now)) (offset_of (tree e.now)) NotConstant) }
+{
+    sooner_if(
+        is_varying(scope, e),
+        offset_of(e),
+        Reason::NotConstant,
+        best,
+    )
+}
+
+// Whether it names a label, or a variable where its formulas are written out.
+fn is_varying(scope: &Scope, e: &Pe) -> bool
+    ensures { result ≡ varies scope.now.file (tree e.now) }
+{
+    names_label(e) || scope.varies(e)
+}
+
+// Whether it names a label.
+fn names_label(e: &Pe) -> bool
+    ensures { result ≡ some_name has_quotes (tree e.now) }
+{
+    match e {
+        Expr::Truth(_, _) => false,
+        Expr::Number(_, _) => false,
+        Expr::Name(_, name) => has_quotes(name.as_str()),
+        Expr::One(_, _, a) => names_label(a),
+        Expr::Two(_, _, a, b) => names_label(a) || names_label(b),
+        Expr::Three(_, _, a, b, c) => names_label(a) || names_label(b) || names_label(c),
+    }
+}
