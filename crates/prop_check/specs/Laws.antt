@@ -1,4 +1,4 @@
--- What holds of properties files and what is read of them.
+-- What holds of properties files and what is read of them. (This project's own.)
 use Rattle.std.specs.Prelude.{◌≡◌, ℕ, List}
 use Rattle.std.specs.List.{AllByRecursion as Each}
 use Rattle.bridge_io.specs.declared.reason.Fault.{Fault}

@@ -1,4 +1,4 @@
--- One node of an expression with a name marked, and the whole expression node by node.
+-- One node of an expression with a name marked, and the whole expression node by node. (This project's own.)
 use Rattle.std.specs.Prelude.{◌≡◌}
 use Rattle.std.proofs.Common.{refl, ap, ap₂, ◌∙◌}
 use Rattle.op_trees.specs.Tree.{Truth, Number, Name, One, Two, Three, renamed}

@@ -1,4 +1,4 @@
--- How large the expressions of properties are once their formulas are written out.
+-- How large the expressions of properties are once their formulas are written out. (This project's own.)
 use Rattle.std.specs.Prelude.{ℕ, ◌+◌, max, List, [], ◌∷◌}
 use Rattle.prism_tree.specs.Syntax.{Expression, File}
 use Rattle.prism_names.specs.Order.{whole_nodes, whole_height}

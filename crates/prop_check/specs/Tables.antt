@@ -1,4 +1,4 @@
--- What the code's tables of the names of a model have.
+-- What the code's tables of the names of a model have. (This project's own.)
 use Rattle.std.specs.Prelude.{◌≡◌, ℕ, List, ◌++◌, map, Bool, true, false, Option, Some, None, is_some, bytes_eq}
 use Rattle.std.specs.List.{position}
 use Rattle.indexmap.specs.IndexMap.{get_by}
@@ -34,8 +34,8 @@ ArePlaced s rs = (n : Option Name) → place_in s n ≡ place_by rs n
 
 -- ---- all tables of a judged file
 pub record IsScope (s : Inside) : Type 0 where
-  pub labels : has_label s.labels ≡ is_among (given_labels ++ map (λ l. l.name) s.names.file.labels)
-  pub structures : ArePlaced s.structures s.names.file.rewards
+  pub labels : has_label s.labels ≡ is_among (given_labels ++ map (λ l. l.name) s.names.value.file.labels)
+  pub structures : ArePlaced s.structures s.names.value.file.rewards
 
 -- a name that has no value has none of a wrong type
 pub no_value : {t : Option Ty} → AgreesWith t None

@@ -1,4 +1,4 @@
--- What the code's lists of the parts of properties have.
+-- What the code's lists of the parts of properties have. (This project's own.)
 use Rattle.std.specs.Prelude.{List, [], ◌∷◌}
 use Rattle.op_trees.specs.Tree.{tree}
 use Rattle.prism_tree.specs.Syntax.{Expression}

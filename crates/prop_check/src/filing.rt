@@ -93,19 +93,29 @@ fn filed_path(alloc: Global, path: &PathForm) -> Result<Path, AllocError>
         PathForm::Finally(e) => Ok(Path::Finally(marked_expression(alloc, e)?)),
         PathForm::Globally(e) => Ok(Path::Globally(marked_expression(alloc, e)?)),
         PathForm::Until(a, b) => {
-            let first = marked_expression(alloc, a)?;
-            Ok(Path::Until(first, marked_expression(alloc, b)?))
+            let (first, second) = marked_both(alloc, a, b)?;
+            Ok(Path::Until(first, second))
         }
         PathForm::WeakUntil(a, b) => {
-            let first = marked_expression(alloc, a)?;
-            Ok(Path::WeakUntil(first, marked_expression(alloc, b)?))
+            let (first, second) = marked_both(alloc, a, b)?;
+            Ok(Path::WeakUntil(first, second))
         }
         PathForm::FinallyWithin(k, e) => {
-            let bound = marked_expression(alloc, k)?;
-            Ok(Path::FinallyWithin(bound, marked_expression(alloc, e)?))
+            let (bound, target) = marked_both(alloc, k, e)?;
+            Ok(Path::FinallyWithin(bound, target))
         }
         PathForm::UntilWithin(k, a, b) => until_within(alloc, k, a, b),
     }
+}
+
+// Two expressions with names marked.
+fn marked_both(alloc: Global, a: &Pe, b: &Pe) -> Result<(Pe, Pe), AllocError>
+    ensures first { IfOk result (λ r. tree r.0 ≡ renamed filed_name (tree a.now)) }
+    ensures second { IfOk result (λ r. tree r.1 ≡ renamed filed_name (tree b.now)) }
+{
+    let first = marked_expression(alloc, a)?;
+    let second = marked_expression(alloc, b)?;
+    Ok((first, second))
 }
 
 // `a U<=k b`
@@ -114,6 +124,6 @@ fn until_within(alloc: Global, k: &Pe, a: &Pe, b: &Pe) -> Result<Path, AllocErro
         (λ r. path_of r ≡ until_within (renamed filed_name (tree k.now)) (renamed filed_name (tree a.now)) (renamed filed_name (tree b.now))) }
 {
     let bound = marked_expression(alloc, k)?;
-    let first = marked_expression(alloc, a)?;
-    Ok(Path::UntilWithin(bound, first, marked_expression(alloc, b)?))
+    let (first, second) = marked_both(alloc, a, b)?;
+    Ok(Path::UntilWithin(bound, first, second))
 }

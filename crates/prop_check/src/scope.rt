@@ -19,7 +19,7 @@ use std::marker::Model;
 /// The names of a judged file, its labels and its reward structures, as tables. Contracts see what they see of the file.
 #[derive(Drop)]
 pub(crate) struct Scope<'a> {
-    names: FileNames<'a>,
+    names: Box<FileNames<'a>>,
     labels: Labels<'a>,
     structures: Structures<'a>,
 }
@@ -34,7 +34,7 @@ impl<'a> Model for Scope<'a> {
 
     ghost use Rattle.prop_check.specs.Tables.{IsScope};
 
-    ghost view = { λ s. s.names };
+    ghost view = { λ s. s.names.value };
 
     ghost invariant = { IsScope };
 }
@@ -45,9 +45,9 @@ impl<'a> Scope<'a> {
         ensures { IfOk result (λ scope. scope ≡ checked.now) }
     {
         let file = checked.file();
+        let names = Box::new(alloc, FileNames::of(alloc, checked)?)?;
         let labels = Labels::of(alloc, file.labels.as_slice())?;
         let structures = Structures::of(alloc, file.rewards.as_slice())?;
-        let names = FileNames::of(alloc, checked)?;
         Ok(Scope {
             names,
             labels,

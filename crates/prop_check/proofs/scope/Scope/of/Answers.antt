@@ -9,7 +9,7 @@ use Rattle.prop_check.proofs.scope.Scope.of.Goals as goal
 
 pub invariant_of-result : goal.invariant_of-result
 invariant_of-result c =
-    let same : file_of c.file-file.result.now ≡ c.in_ok-names.names.file = c.file-file.ensures.tree ∙ sym (ap (λ (k : Checked). k.file) c.in_ok-names.ensures) in
+    let same : file_of c.file-file.result.now ≡ c.in_ok-names.names.value.file = c.file-file.ensures.tree ∙ sym (ap (λ (k : Checked). k.file) (c.in_ok-names.ensures.ok ∙ c.in_ok-of.ensures)) in
     record {
       labels =
           c.in_ok-labels.ensures

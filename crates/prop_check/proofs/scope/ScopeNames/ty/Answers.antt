@@ -1,5 +1,6 @@
 use Rattle.std.proofs.Common.{◌∙◌, ap}
 use Rattle.prism_check.specs.Checked.{Checked}
+use Rattle.prism_check.specs.TypeFaults.{types}
 use Rattle.prop_trees.specs.PrismFaults.{name_types}
 use Rattle.prop_check.proofs.Knowing.{typed_label, typed_value}
 use Rattle.prop_check.proofs.scope.ScopeNames.ty.Goals as goal
@@ -10,5 +11,6 @@ returns-then-has_quotes c = typed_label c.args.self.now.file c.args.name.now c.h
 pub returns-else-has_quotes : goal.returns-else-has_quotes
 returns-else-has_quotes c =
     let x = c.args.name.now in
-    typed_value c.self.inside.names.file x c.has_quotes.result c.ty.result c.has_quotes.ensures c.if-has_quotes.false c.ty.ensures
+    typed_value c.self.inside.names.value.file x c.has_quotes.result c.ty.result c.has_quotes.ensures c.if-has_quotes.false
+    (c.ty.ensures ∙ ap (λ (k : Checked). types k.file x) c.deref.ensures)
     ∙ ap (λ (k : Checked). name_types k.file x) c.self.view_is
