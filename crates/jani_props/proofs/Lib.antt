@@ -1,0 +1,13 @@
+pub mod Spelling
+pub mod Cleaned
+pub mod Walk
+pub mod Lists
+pub mod Only
+pub mod Sums
+pub mod Parts
+pub mod Judging
+pub mod Meanings
+pub mod Numbering
+pub mod Forms
+pub mod Filed
+pub mod Refusing

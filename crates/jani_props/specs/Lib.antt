@@ -1,0 +1,9 @@
+pub mod Words
+pub mod Table
+pub mod Shape
+pub mod Clean
+pub mod Syntax
+pub mod Spelled
+pub mod Faults
+pub mod Model
+pub mod Reading

@@ -1,0 +1,79 @@
+-- What stands where in the properties of a JANI file (jani-model specification, version 1, "Properties"): the objects, their members and
+-- what each member has to be. Which forms are left out is this project's own rule.
+use Rattle.std.specs.Prelude.{ℕ, List, [], Option, Some, None, codes, bytes_eq, find, map}
+use Rattle.std.specs.Option.{option_map}
+use Rattle.jani_table.specs.declared.table.Form.{Form}
+use Rattle.jani_table.specs.declared.table.Form.TheVariants as Table
+use Rattle.jani_table.specs.declared.table.Need.{Need}
+use Rattle.jani_table.specs.Table as table
+use Rattle.jani_table.specs.Table.{spelled}
+use Rattle.jani_props.specs.declared.words.Side.TheVariants.{Least, Greatest}
+use Rattle.jani_props.specs.declared.table.PropKey.{PropKey}
+use Rattle.jani_props.specs.declared.table.PropKey.TheVariants as K
+use Rattle.jani_props.specs.declared.table.PropForm.{PropForm}
+use Rattle.jani_props.specs.declared.table.PropForm.TheVariants as F
+use Rattle.jani_props.specs.declared.table.PropKind.{PropKind}
+use Rattle.jani_props.specs.declared.table.PropKind.TheVariants as O
+use Rattle.jani_props.specs.declared.table.TheConstants.{PROPERTY, FILTER, PROBABILITY, REWARD, FROM_BELOW, FROM_ABOVE, ONE_PATH, TWO_PATHS, STEP_BOUND, LABEL}
+
+-- the key as it is written
+abbrev pub spelled_key : PropKey → List ℕ
+spelled_key (K.Of k) = spelled k
+spelled_key K.Expression = codes "expression"
+spelled_key K.Fun = codes "fun"
+spelled_key K.Values = codes "values"
+spelled_key K.States = codes "states"
+spelled_key K.Accumulate = codes "accumulate"
+spelled_key K.Reach = codes "reach"
+spelled_key K.StepBounds = codes "step-bounds"
+spelled_key K.Upper = codes "upper"
+
+-- a member that an object may have, whether it has to, and what its value has to be
+abbrev pub Row : Type 0
+Row = PropKey × Need × PropForm
+
+-- The members of each object of properties alone, as src/table.rt lists them. A comment may stand in every object.
+abbrev pub own_rows : PropKind → List Row
+own_rows O.Property = PROPERTY
+own_rows O.Filter = FILTER
+own_rows O.Probability = PROBABILITY
+own_rows O.Reward = REWARD
+own_rows (O.Comparison Least) = FROM_BELOW
+own_rows (O.Comparison Greatest) = FROM_ABOVE
+own_rows O.OnePath = ONE_PATH
+own_rows O.TwoPaths = TWO_PATHS
+own_rows O.StepBound = STEP_BOUND
+own_rows O.Label = LABEL
+own_rows (O.Operation k) = []
+
+-- what the value of an operator's member has to be, by what it has to be in a model
+abbrev pub operand_form : Form → PropForm
+operand_form Table.Expression = F.Expression
+operand_form Table.Operator = F.Operator
+operand_form Table.LeftOut = F.LeftOut
+operand_form f = F.Note
+
+-- an operator has the members that it has in a model
+abbrev pub operand_row : table.Row → Row
+operand_row r = (K.Of r.0, r.1, operand_form r.2)
+
+abbrev pub rows_of : PropKind → List Row
+rows_of (O.Operation k) = map operand_row (table.rows_of k)
+rows_of kind = own_rows kind
+
+abbrev pub own_row_of : PropKind → List ℕ → Option Row
+own_row_of kind s = find (λ r. bytes_eq (spelled_key r.0) s) (own_rows kind)
+
+abbrev pub form_in : Option Row → Option PropForm
+form_in r = option_map (λ r. r.2) r
+
+-- what the value of a member with this key has to be; none where an object of this kind has no such member
+abbrev pub known_form : PropKind → List ℕ → Option PropForm
+known_form (O.Operation k) s = option_map operand_form (table.known_form k s)
+known_form kind s = form_in (own_row_of kind s)
+
+-- what the items of a list have to be; none where no list may stand
+abbrev pub item_form : PropForm → Option PropForm
+item_form F.Properties = Some F.Property
+item_form F.Sums = Some F.Sum
+item_form f = None

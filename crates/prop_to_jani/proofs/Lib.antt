@@ -1,0 +1,15 @@
+mod Renaming
+mod Stripped
+mod Marking
+mod Wholes
+mod Judged
+mod Filed
+mod Corresponding
+mod Agreeing
+mod Valued
+mod Promised
+mod Lookups
+mod Quotes
+mod Entries
+mod Translating
+mod Bounding

@@ -1,0 +1,141 @@
+-- The table of new names: what stands under each old name.
+use Rattle.std.proofs.Common.{◌≡◌, ℕ, ◌+◌, ◌<◌, ◌≤◌, refl, sym, ap, ap₂, ◌∙◌, arith, Bool, true, false, ◌||◌, List, [], ◌∷◌, map, length, take, drop, get_or, min, Option, Some, None}
+use Rattle.std.specs.Prelude.{if◌then◌else◌, nat_le, bytes_eq, unwrap_or}
+use Rattle.std.specs.Borrow.{Bor}
+use Rattle.std.specs.List.{list_all}
+use Rattle.std.specs.Str.{IsAscii, is_utf8}
+use Rattle.std.proofs.lemmas.Bool.{and_parts}
+use Rattle.std.proofs.lemmas.Bool.Decides.{nat_tests}
+use Rattle.std.proofs.lemmas.List.{drop_all, drop-drop, drop-map}
+use Rattle.std.proofs.lemmas.Str.{IsUtf8-from_ascii, is_utf8-from_IsUtf8}
+use Rattle.std.proofs.lemmas.Str.Ascii.{IsAscii-nil, IsAscii-cons}
+use Rattle.basics.specs.Lists.{drop_item}
+use Rattle.basics.specs.Texts.{bytes_eq-true}
+use Rattle.prism_lex.specs.Automaton.{is_letter, is_digit}
+use Rattle.prism_lex.specs.Tokens.{is_name}
+use Rattle.prism_tree.specs.Syntax.{Label, File}
+use Rattle.prism_tree.specs.Grammar.{unquoted}
+use Rattle.prism_print.specs.Printable.{Each, IsPrintableLabel}
+use Rattle.jani_check.specs.Things.{or_else}
+use Rattle.name_table.specs.declared.entry.Entry.{Entry}
+use Rattle.name_table.specs.Asks.{variables, value_names, entries, labels_at, new_name, new_names}
+use Rattle.prop_grammar.specs.Grammar.{has_quotes}
+use Rattle.prop_trees.specs.Trees.{Name}
+use Rattle.prop_trees.specs.Names.{marked, Meant, of_model, is_initial, is_deadlock, nothing, meant}
+use Rattle.prop_to_jani.specs.declared.names.PropertyNames.{PropertyNames}
+use Rattle.prop_to_jani.specs.ToJani.{label_names, new_model_name, new_meant, new_property_name}
+use Rattle.prop_to_jani.specs.Code.{found, new_in, label_in, model_in, meant_in, name_in}
+
+-- ---- one name more
+else_found : (o : Option Name) (b : Bool) (n : Name) (rest : Option Name) → or_else (or_else o (if b then Some n else None)) rest ≡ or_else o (if b then Some n else rest)
+else_found (Some z) b n rest = refl
+else_found None true n rest = refl
+else_found None false n rest = refl
+
+pub found_next : (olds : List (Bor Name)) (news : List Name) (total : Option Name) (i : ℕ) (y : Bor Name) (n : Name) (old new : Option Name) (x : Name) →
+    i < length olds → i < length news → y ≡ get_or olds i y → n ≡ get_or news i n → new ≡ or_else old (if bytes_eq y.now x then Some n else None) →
+    or_else old (found (map (λ z. z.now) (drop i olds)) (drop i news) x) ≡ total →
+    or_else new (found (map (λ z. z.now) (drop (i + 1) olds)) (drop (i + 1) news) x) ≡ total
+found_next olds news total i y n old new x h k e f added so_far =
+    ap (λ o. or_else o (found (map (λ z. z.now) (drop (i + 1) olds)) (drop (i + 1) news) x)) added
+    ∙ else_found old (bytes_eq y.now x) n _
+    ∙ sym (ap₂ (λ l m. or_else old (found (map (λ z. z.now) l) m x)) (drop_item olds i y h e) (drop_item news i n k f))
+    ∙ so_far
+
+or_none : (o : Option Name) → o ≡ or_else o None
+or_none None = refl
+or_none (Some x) = refl
+
+not_found : (olds : List Name) (x : Name) → found olds [] x ≡ None
+not_found [] x = refl
+not_found (y ∷ ys) x = refl
+
+pub found_all : (olds : List (Bor Name)) (news : List Name) (total : Option Name) (n i : ℕ) (got : Option Name) (x : Name) → n ≡ min (length olds) (length news) → n ≤ i →
+    or_else got (found (map (λ z. z.now) (drop i olds)) (drop i news) x) ≡ total → got ≡ total
+found_all olds news total n i got x m h so_far = or_none got ∙ sym (ap (or_else got) (rest _ refl)) ∙ so_far
+  where
+    rest : (b : Bool) → b ≡ nat_le (length olds) (length news) → found (map (λ z. z.now) (drop i olds)) (drop i news) x ≡ None
+    rest true b = ap (λ (l : List (Bor Name)). found (map (λ z. z.now) l) (drop i news) x) (drop_all i olds (grind arith))
+    rest false b = ap (λ (l : List Name). found (map (λ z. z.now) (drop i olds)) l x) (drop_all i news (grind arith)) ∙ not_found _ x
+
+-- ---- what is found is the marked name of the entry
+found_marked : (ys : List Name) (es : List Entry) (x : Name) → unwrap_or (found ys (map (λ e. marked e.name) es) x) (marked []) ≡ marked (new_name ys es x)
+found_marked [] es x = refl
+found_marked (y ∷ ys) [] x = refl
+found_marked (y ∷ ys) (e ∷ es) x = by_test (bytes_eq y x) (found_marked ys es x)
+  where
+    by_test : (b : Bool) → unwrap_or (found ys (map (λ u. marked u.name) es) x) (marked []) ≡ marked (new_name ys es x) →
+        unwrap_or (if b then Some (marked e.name) else found ys (map (λ u. marked u.name) es) x) (marked []) ≡ marked (if b then e.name else new_name ys es x)
+    by_test true h = refl
+    by_test false h = h
+
+-- entries behind those of the names are not looked at
+name_taken : {A : Type 0} (f : A → Name) (xs : List A) (es : List Entry) (x : Name) → new_name (map f xs) (take (length xs) es) x ≡ new_name (map f xs) es x
+name_taken f [] es x = refl
+name_taken f (y ∷ ys) [] x = refl
+name_taken f (y ∷ ys) (e ∷ es) x = ap (λ n. if bytes_eq (f y) x then e.name else n) (name_taken f ys es x)
+
+-- ---- labels are texts
+byte_ascii : (b : ℕ) → (is_letter b || is_digit b) ≡ true → b < 128
+byte_ascii b h = grind (arith, nat_tests)
+
+letter_ascii : (b : ℕ) → is_letter b ≡ true → b < 128
+letter_ascii b h = byte_ascii b (ap (λ t. t || is_digit b) h)
+
+bytes_ascii : (bs : List ℕ) → list_all (λ c. is_letter c || is_digit c) bs ≡ true → IsAscii bs
+bytes_ascii [] h = IsAscii-nil
+bytes_ascii (b ∷ bs) h = let r = and_parts (is_letter b || is_digit b) _ h in IsAscii-cons b bs (byte_ascii b r.0) (bytes_ascii bs r.1)
+
+name_utf8 : (x : Name) → is_name x ≡ true → is_utf8 x ≡ true
+name_utf8 [] h = absurd cc
+name_utf8 (b ∷ bs) h = let r = and_parts (is_letter b) _ h in is_utf8-from_IsUtf8 (b ∷ bs) (IsUtf8-from_ascii (b ∷ bs) (IsAscii-cons b bs (letter_ascii b r.0) (bytes_ascii bs r.1)))
+
+no_label : (ls : List Label) (es : List Entry) (x : Name) → Each IsPrintableLabel ls → is_utf8 x ≡ false → new_name (map (λ l. l.name.name) ls) es x ≡ []
+no_label [] es x h u = refl
+no_label (l ∷ ls) [] x h u = refl
+no_label (l ∷ ls) (e ∷ es) x h u = by_test (bytes_eq l.name.name x) refl (no_label ls es x h.1 u)
+  where
+    by_test : (b : Bool) → bytes_eq l.name.name x ≡ b → new_name (map (λ k. k.name.name) ls) es x ≡ [] → (if b then e.name else new_name (map (λ k. k.name.name) ls) es x) ≡ []
+    by_test true t r = absurd (let same : is_utf8 l.name.name ≡ is_utf8 x = ap is_utf8 (bytes_eq-true l.name.name x t) in let yes : true ≡ false = sym (name_utf8 l.name.name h.0.0) ∙ same ∙ u in cc)
+    by_test false t r = r
+
+-- ---- all names
+module _ (file : File) (n : PropertyNames) (labels : Each IsPrintableLabel file.labels)
+    (values_are : (x : Name) → new_in n.values x ≡ found (value_names file) (map (λ e. marked e.name) (entries file)) x)
+    (labels_are : (x : Name) → new_in n.labels x ≡ found (label_names file) (drop (length (variables file)) (drop (length file.constants) (map (λ e. marked e.name) (entries file)))) x) where
+  behind : List Entry
+  behind = drop (labels_at file (entries file)) (entries file)
+
+  marked_behind : drop (length (variables file)) (drop (length file.constants) (map (λ e. marked e.name) (entries file))) ≡ map (λ e. marked e.name) behind
+  unfolding behind
+  marked_behind =
+      drop-drop (length (variables file)) (length file.constants) (map (λ e. marked e.name) (entries file))
+      ∙ drop-map (λ (e : Entry). marked e.name) (labels_at file (entries file)) (entries file)
+
+  label_is : (z : Name) → unwrap_or (label_in n z) (marked []) ≡ marked (new_name (label_names file) (new_names file).labels z)
+  unfolding behind
+  label_is z = by_test (is_utf8 z) refl
+    where
+      by_test : (b : Bool) → is_utf8 z ≡ b → unwrap_or (if b then new_in n.labels z else None) (marked []) ≡ marked (new_name (label_names file) (new_names file).labels z)
+      by_test true u =
+          ap (λ o. unwrap_or o (marked [])) (labels_are z ∙ ap (λ news. found (label_names file) news z) marked_behind)
+          ∙ found_marked (label_names file) behind z
+          ∙ ap marked (sym (name_taken (λ l. l.name.name) file.labels behind z))
+      by_test false u = ap marked (sym (name_taken (λ l. l.name.name) file.labels behind z ∙ no_label file.labels behind z labels u))
+
+  model_is : (y : Name) → model_in n y ≡ marked (new_model_name file y)
+  model_is y = by_quotes (has_quotes y)
+    where
+      by_quotes : (b : Bool) → unwrap_or (if b then label_in n (unquoted y) else new_in n.values y) (marked [])
+          ≡ marked (if b then new_name (label_names file) (new_names file).labels (unquoted y) else (new_names file).value y)
+      by_quotes true = label_is (unquoted y)
+      by_quotes false = ap (λ o. unwrap_or o (marked [])) (values_are y) ∙ found_marked (value_names file) (entries file) y
+
+  meant_is : (x : Name) (m : Meant) → meant_in n x m ≡ new_meant file x m
+  meant_is x (of_model y) = model_is y
+  meant_is x is_initial = refl
+  meant_is x is_deadlock = refl
+  meant_is x nothing = refl
+
+  pub names_are : (x : Name) → name_in n x ≡ new_property_name file x
+  names_are x = meant_is x (meant x)

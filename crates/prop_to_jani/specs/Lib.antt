@@ -1,0 +1,3 @@
+pub mod ToJani
+pub mod Laws
+pub mod Code
