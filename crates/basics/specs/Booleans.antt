@@ -1,5 +1,5 @@
 -- Truth values. `Bool` of std's lemmas has both parts of an `&&` or `||` at once, and what makes one true or false.
-use Rattle.std.proofs.Common.{◌≡◌, Bool, true, false, not, ◌&&◌, ◌||◌, refl, sym}
+use Rattle.std.proofs.Common.{◌≡◌, Bool, true, false, not, ◌&&◌, ◌||◌, refl, sym, ◌∙◌}
 
 pub first_true : (a b : Bool) → (a && b) ≡ true → a ≡ true
 first_true true b e = refl
@@ -16,6 +16,9 @@ first_false false b e = refl
 pub second_false : (a b : Bool) → (a || b) ≡ false → b ≡ false
 second_false true b e = absurd cc
 second_false false b e = e
+
+pub not_both : {A : Type 0} (b : Bool) → b ≡ true → b ≡ false → A
+not_both b h k = let e : true ≡ false = sym h ∙ k in absurd cc
 
 pub both_not : (a b : Bool) → a ≡ false → b ≡ false → (not a && not b) ≡ true
 both_not true b h k = absurd cc

@@ -16,6 +16,10 @@ pub append_right : {A : Type 0} (xs ys : List A) → xs ++ ys ≡ [] → ys ≡ 
 append_right [] ys e = e
 append_right (x ∷ xs) ys e = absurd cc
 
+pub empty_map : {A B : Type 0} (f : A → B) (xs : List A) → map f xs ≡ [] → xs ≡ []
+empty_map f [] e = refl
+empty_map f (x ∷ xs) e = absurd cc
+
 pub append_parts : {A : Type 0} (xs ys : List A) → xs ++ ys ≡ [] → (xs ≡ []) × (ys ≡ [])
 append_parts xs ys e = (append_left xs ys e, append_right xs ys e)
 
@@ -46,6 +50,11 @@ slice_get-take zero i xs x h = absurd cc
 slice_get-take (suc n) i [] x h = absurd cc
 slice_get-take (suc n) zero (y ∷ xs) x h = (omega arith, h)
 slice_get-take (suc n) (suc i) (y ∷ xs) x h = let r = slice_get-take n i xs x h in (let low = r.0 in omega arith, r.1)
+
+pub slice_get-front : {A : Type 0} (xs ys : List A) (i : ℕ) → i < length xs → slice_get (xs ++ ys) i ≡ slice_get xs i
+slice_get-front [] ys i l = absurd (omega (arith, l))
+slice_get-front (x ∷ xs) ys zero l = refl
+slice_get-front (x ∷ xs) ys (suc i) l = slice_get-front xs ys i (omega (arith, l))
 
 pub slice_get-append_add : {A : Type 0} (xs ys : List A) (n i : ℕ) → length xs ≡ n → slice_get (xs ++ ys) (n + i) ≡ slice_get ys i
 slice_get-append_add [] ys n i l = let on : n + i ≡ i = omega arith in ap (slice_get ys) on

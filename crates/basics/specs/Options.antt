@@ -1,5 +1,6 @@
 -- Options.
-use Rattle.std.proofs.Common.{◌≡◌, Bool, true, false, ◌||◌, Option, Some, None, is_some, is_none, option_map, if◌then◌else◌, refl}
+use Rattle.std.proofs.Common.{◌≡◌, ◌⊎◌, Bool, true, false, ◌||◌, Option, Some, None, is_some, is_none, option_map, if◌then◌else◌, refl, inl, inr}
+use Rattle.std.specs.Prelude.{IsTrue}
 use Rattle.std.specs.Option.{option_or}
 
 pub none_of : {A : Type 0} (o : Option A) → is_some o ≡ false → o ≡ None
@@ -9,6 +10,10 @@ none_of (Some x) e = absurd cc
 pub none_is : {A : Type 0} (o : Option A) → is_none o ≡ true → o ≡ None
 none_is None e = refl
 none_is (Some x) e = absurd cc
+
+pub has_some : {A : Type 0} (o : Option A) → IsTrue (is_some o) → (x : A) × (o ≡ Some x)
+has_some None h = absurd cc
+has_some (Some x) h = (x, refl)
 
 pub is_some-map : {A B : Type 0} (f : A → B) (o : Option A) → is_some (option_map f o) ≡ is_some o
 is_some-map f None = refl
@@ -25,3 +30,8 @@ is_some-if false x o = refl
 pub option_map-if : {A B : Type 0} (f : A → B) (b : Bool) (x : A) (o : Option A) → option_map f (if b then Some x else o) ≡ (if b then Some (f x) else option_map f o)
 option_map-if f true x o = refl
 option_map-if f false x o = refl
+
+-- where one or the other is some
+pub if_some : {A : Type 0} (b : Bool) (x : A) (o : Option A) (w : A) → (if b then Some x else o) ≡ Some w → ((b ≡ true) × (x ≡ w)) ⊎ ((b ≡ false) × (o ≡ Some w))
+if_some true x o w e = inl (refl, cc)
+if_some false x o w e = inr (refl, e)

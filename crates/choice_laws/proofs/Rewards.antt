@@ -5,6 +5,7 @@ use Rattle.std.proofs.Common.{refl, sym, ap, ap₂, ◌∙◌}
 use Rattle.std.proofs.lemmas.List.Folds.{flat_map-map, list_any-append}
 use Rattle.std.proofs.lemmas.List.Elements.{All-nil, All-cons, All-head, All-tail, All-weaker}
 use Rattle.std.proofs.Math.Bool.{or-false, not-not, or_assoc}
+use Rattle.process_core.specs.Idle.{same_branch}
 use Rattle.basics.specs.Members.{any-map, any_agree, any_two}
 use Rattle.frac_core.specs.Fraction.{Fraction, nought}
 use Rattle.frac_core.specs.Sums.{product}
@@ -69,10 +70,6 @@ kinds_bare own given rs h =
     (any-map (λ r. list_any has_outside r.updates) bare_ready rs ∙ any_agree _ _ (λ r. any-map has_outside bare_update r.updates) rs)
     (any-map (λ r. weighs_wrong (weights_of r.updates)) bare_ready rs
     ∙ any_agree _ _ (λ r. ap (λ l. weighs_wrong (all_defined l)) (map-map (λ u. number_of u.weight.value) bare_update r.updates)) rs)
-
-same_branch : (x y : Fraction) (t u : Values) (rs qs : List Fraction) → x ≡ y → t ≡ u → rs ≡ qs →
-    ◌≡◌ {A = Branch Fraction Values} (record { probability = x; target = t; rewards = rs }) (record { probability = y; target = u; rewards = qs })
-same_branch x y t u rs qs p q r = cc
 
 nothing_assigned : (us : List Update) → flat_map (λ u. u.rewards) (map bare_update us) ≡ []
 nothing_assigned [] = refl

@@ -1,4 +1,4 @@
-mod Parts
+pub mod Parts
 mod Decimals
 pub mod Digits
 pub mod Readings

@@ -101,7 +101,7 @@ read_more text i d s t r q h l e f = record {
 
 -- ---- numerals
 
-digit_is : (c : ℕ) → digit_value c < 10 → is_ascii_digit c ≡ true
+pub digit_is : (c : ℕ) → digit_value c < 10 → is_ascii_digit c ≡ true
 digit_is c h = grind (arith, nat_tests)
 
 digit_not : (c : ℕ) → digit_value c < 10 → (c == 46 ≡ false) × (is_mark c ≡ false)

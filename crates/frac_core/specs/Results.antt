@@ -29,3 +29,11 @@ from_narrow x r h = by_test (is_wide x) refl h
     by_test : (b : Bool) → b ≡ is_wide x → ◌≡◌ {A = Result Fraction FracFail} (if b then Err Wide else Ok x) (Ok r) → (r ≡ x) × (is_wide r ≡ false)
     by_test true w e = absurd cc
     by_test false w e = let same : r ≡ x = cc in (same, ap is_wide same ∙ sym w)
+
+-- none is given where it is wide
+pub wide_where : (x : Fraction) (f : FracFail) → narrow x ≡ Err f → is_wide x ≡ true
+wide_where x f h = by_test (is_wide x) refl h
+  where
+    by_test : (b : Bool) → b ≡ is_wide x → ◌≡◌ {A = Result Fraction FracFail} (if b then Err Wide else Ok x) (Err f) → is_wide x ≡ true
+    by_test true e k = sym e
+    by_test false e k = absurd cc

@@ -3,8 +3,9 @@ use Rattle.std.proofs.Common.{◌≡◌, ◌≢◌, ℕ, ◌+◌, List, [], ◌�
 use Rattle.std.proofs.lemmas.List.{length-map}
 use Rattle.std.specs.Prelude.{if◌then◌else◌, unwrap_or, MatchResult}
 use Rattle.std.specs.List.{flat_map, list_any}
+use Rattle.state_choices.proofs.Narrow.{narrow_seen}
 use Rattle.basics.specs.Booleans.{first_false, second_false}
-use Rattle.basics.specs.Lists.{append_parts}
+use Rattle.basics.specs.Lists.{append_parts, empty_map}
 use Rattle.op_trees.specs.Seen.{Seen}
 use Rattle.op_trees.specs.declared.tree.Value.{Value}
 use Rattle.op_trees.specs.declared.tree.Value.TheVariants as V
@@ -70,23 +71,20 @@ any_wide_column : (cs : List core.Column) → list_any (λ c. is_wide_domain c.d
 any_wide_column [] = refl
 any_wide_column (c ∷ cs) = ap₂ (λ a b. (a || c.first.wide) || b) (domain_wide c.domain) (any_wide_column cs)
 
-seen_kept : (s : Seen) → s.wide ≡ false → trimmed_seen s ≡ s
-seen_kept s h = ap (λ w. record { value = if w then None else s.value; wide = s.wide }) h
-
 domain_kept : (d : Domain) → is_wide_domain d ≡ false → trimmed_domain d ≡ d
 domain_kept Truths h = refl
-domain_kept (Between l h) e = ap₂ Between (seen_kept l (first_false l.wide h.wide e)) (seen_kept h (second_false l.wide h.wide e))
+domain_kept (Between l h) e = ap₂ Between (narrow_seen l (first_false l.wide h.wide e)) (narrow_seen h (second_false l.wide h.wide e))
 
 constants_kept : (ss : List Seen) → list_any (λ s. s.wide) ss ≡ false → map trimmed_seen ss ≡ ss
 constants_kept [] h = refl
-constants_kept (s ∷ ss) h = ap₂ (λ x l. x ∷ l) (seen_kept s (first_false s.wide _ h)) (constants_kept ss (second_false s.wide _ h))
+constants_kept (s ∷ ss) h = ap₂ (λ x l. x ∷ l) (narrow_seen s (first_false s.wide _ h)) (constants_kept ss (second_false s.wide _ h))
 
 columns_kept : (cs : List core.Column) → list_any (λ c. is_wide_domain c.domain || c.first.wide) cs ≡ false → map trimmed_column cs ≡ cs
 columns_kept [] h = refl
 columns_kept (c ∷ cs) h =
     let here = first_false (is_wide_domain c.domain || c.first.wide) _ h in
     ap₂ (λ (x : core.Column) l. x ∷ l)
-    (ap₂ (λ d f. record { name = c.name; domain = d; first = f }) (domain_kept c.domain (first_false (is_wide_domain c.domain) c.first.wide here)) (seen_kept c.first (second_false (is_wide_domain c.domain) c.first.wide here)))
+    (ap₂ (λ d f. record { name = c.name; domain = d; first = f }) (domain_kept c.domain (first_false (is_wide_domain c.domain) c.first.wide here)) (narrow_seen c.first (second_false (is_wide_domain c.domain) c.first.wide here)))
     (columns_kept cs (second_false (is_wide_domain c.domain || c.first.wide) _ h))
 
 -- ---- what the program sees is the scene
@@ -109,16 +107,12 @@ faults_are constants values variables l =
     named_are (map constant_of constants) (scene_of values variables) (length-map (map constant_of constants) (λ (c : Constant). c.name) ∙ length-map constants constant_of ∙ l ∙ sym (length-map values seen_of))
     ∙ ap (λ ns. constants_named ns (map seen_of values) ++ flat_map column_named (map variable_of variables)) names
 
-nothing_mapped : {A B : Type 0} (f : A → B) (xs : List A) → map f xs ≡ [] → xs ≡ []
-nothing_mapped f [] h = refl
-nothing_mapped f (x ∷ xs) h = absurd cc
-
 nothing_long : {A : Type 0} (xs : List A) → length xs ≡ 0 → xs ≡ []
 nothing_long [] h = refl
 nothing_long (x ∷ xs) h = absurd (omega (arith, h))
 
 pub no_faults : (constants : List Constant) (k : Scene) (fs : List InstanceFault) → fs ≡ named_faults constants k → length fs ≡ 0 → instance_faults k ≡ []
-no_faults constants k fs e l = nothing_mapped _ (instance_faults k) (sym e ∙ nothing_long fs l)
+no_faults constants k fs e l = empty_map _ (instance_faults k) (sym e ∙ nothing_long fs l)
 
 pub some_fault : (constants : List Constant) (k : Scene) (fs : List InstanceFault) → fs ≡ named_faults constants k → length fs ≢ 0 → instance_faults k ≢ []
 some_fault constants k fs e l h = l (ap length (e ∙ ap (map (named_fault (map (λ (c : Constant). c.name) constants) (map (λ (c : core.Column). c.name) k.columns))) h))

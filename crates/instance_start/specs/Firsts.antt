@@ -5,6 +5,8 @@ use Rattle.std.specs.List.{All}
 use Rattle.std.specs.Option.{MatchOption}
 use Rattle.std.proofs.Common.{refl, sym, ap, ap₂, subst, ◌∙◌}
 use Rattle.std.proofs.lemmas.List.Elements.{All-head, All-tail}
+use Rattle.std.proofs.lemmas.Bool.{and_from}
+use Rattle.basics.specs.Booleans.{first_true, second_true}
 use Rattle.basics.specs.Lists.{append_parts}
 use Rattle.op_trees.specs.declared.tree.Value.{Value}
 use Rattle.op_trees.specs.declared.tree.Value.TheVariants as V
@@ -12,7 +14,6 @@ use Rattle.process_core.specs.Ready.{Values}
 use Rattle.process_core.specs.Choices.{all_defined, with_first}
 use Rattle.process_core.specs.Equal.{equal_values_is}
 use Rattle.process_core.specs.Instance.{Domain, Truths, Between, Column, Range, is_in, is_state, is_initial, begins, is_first, range_from, range_faults, range_has, range_lacks, has_value, is_empty, only_if, first_faults, domain_faults, column_faults, numbered}
-use Rattle.instance_start.specs.States.{first_true, second_true, and_from}
 
 -- a variable without a range begins with a truth value
 abbrev pub begins_right : Domain → Option Value → Bool

@@ -3,11 +3,10 @@ use Rattle.std.specs.Prelude.{◌≡◌, List, [], ◌∷◌, ◌++◌, map, Boo
 use Rattle.std.specs.List.{flat_map}
 use Rattle.std.proofs.Common.{refl, sym, ap, subst, ◌∙◌}
 use Rattle.basics.specs.Each.{empty_each, each_with, each_then}
-use Rattle.basics.specs.Lists.{append_right}
+use Rattle.basics.specs.Lists.{append_right, append_left}
 use Rattle.bridge_io.specs.declared.reason.Reason.{Reason}
 use Rattle.bridge_io.specs.declared.reason.Fault.{Fault}
 use Rattle.op_trees.specs.Tree.{Truth, Number, Name, One, Two, Three}
-use Rattle.jani_table.specs.Laws.{append_left}
 use Rattle.jani_tree.specs.Syntax.{Expression, Const, VarKind, boolean, integer, number, real_bounded, one_sided, bounded, Var, Write, Location, Destination, Edge, Automaton, File}
 use Rattle.jani_tree.specs.Canonical.{OfSome, OfAll, HasOperands, HasBounds, VarForm, WriteForm, DestinationForm, EdgeForm, ConstForm, LocationForm, AutomatonForm, FileForm}
 use Rattle.jani_tree.specs.Form.{HasItems, ExprForm, KindForm, ConstRead, VarRead, WriteRead, LocationRead, DestinationRead, EdgeRead, AutomatonRead}

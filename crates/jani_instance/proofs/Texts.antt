@@ -3,6 +3,7 @@ use Rattle.std.specs.Prelude.{◌≡◌, ℕ, zero, suc, ◌+◌, ◌-◌, ◌<�
 use Rattle.std.specs.Fmt.{decimal}
 use Rattle.std.proofs.Common.{refl, sym, ap, ap₂, ◌∙◌, arith, length-append}
 use Rattle.std.proofs.lemmas.List.{length-map}
+use Rattle.basics.specs.Lists.{slice_get-front}
 use Rattle.process_core.specs.Instance.{Valuation}
 use Rattle.jani_tree.specs.Syntax.{File}
 use Rattle.jani_meaning.specs.Elements.{automaton_called, elements, lasting}
@@ -26,11 +27,6 @@ text_at mark j (suc n) zero h = ap (λ k. Some (mark ++ decimal k)) (let d : j �
 text_at mark j (suc n) (suc i) h =
     text_at mark (j + 1) n i (let d : i < n = omega (arith, h) in d) ∙ ap (λ k. Some (mark ++ decimal k)) (let d : j + 1 + i ≡ j + suc i = omega arith in d)
 
-in_first : {X : Type 0} (xs ys : List X) (i : ℕ) → i < length xs → slice_get (xs ++ ys) i ≡ slice_get xs i
-in_first [] ys i h = absurd (omega (arith, h))
-in_first (x ∷ xs) ys zero h = refl
-in_first (x ∷ xs) ys (suc i) h = in_first xs ys i (let d : i < length xs = omega (arith, h) in d)
-
 in_second : {X : Type 0} (xs ys : List X) (i : ℕ) → slice_get (xs ++ ys) (length xs + i) ≡ slice_get ys i
 in_second [] ys i = ap (slice_get ys) (let d : 0 + i ≡ i = omega arith in d)
 in_second (x ∷ xs) ys i = ap (slice_get (x ∷ (xs ++ ys))) (let d : suc (length xs) + i ≡ suc (length xs + i) = omega arith in d) ∙ in_second xs ys i
@@ -40,7 +36,7 @@ location_text file i h =
     let n = length file.elements in
     let m = length (lasting file) in
     let e = texts_length (codes "@") 0 n in
-    in_first (texts_from (codes "@") 0 n) (texts_from (codes "#") 0 m) i (let d : i < length (texts_from (codes "@") 0 n) = omega (arith, h, e) in d)
+    slice_get-front (texts_from (codes "@") 0 n) (texts_from (codes "#") 0 m) i (let d : i < length (texts_from (codes "@") 0 n) = omega (arith, h, e) in d)
     ∙ text_at (codes "@") 0 n i h
     ∙ ap (λ k. Some (codes "@" ++ decimal k)) (let d : 0 + i ≡ i = omega arith in d)
 

@@ -6,8 +6,9 @@ use Rattle.std.specs.Option.{option_map}
 use Rattle.std.proofs.lemmas.Bool.{not-false}
 use Rattle.std.proofs.lemmas.List.Elements.{All-map, All-append, All-from_recursion}
 use Rattle.std.proofs.lemmas.Slice.Eq.{bytes_eq-Decides}
+use Rattle.basics.specs.Options.{has_some}
 use Rattle.basics.specs.Booleans.{second_true}
-use Rattle.basics.specs.Lists.{append_parts}
+use Rattle.basics.specs.Lists.{append_parts, empty_map}
 use Rattle.basics.specs.Each.{each_then, each_with, each_any, each_map, each_join, each_parts, each_of, empty_each}
 use Rattle.bridge_io.specs.declared.reason.Fault.{Fault}
 use Rattle.bridge_io.specs.declared.reason.Reason.TheVariants.{WrongType, NotConstant}
@@ -80,10 +81,6 @@ each_numbered : {A B : Type 0} (P : A → Type 0) (Q : B → Type 0) (f : ℕ �
 each_numbered P Q f h i [] p = tt
 each_numbered P Q f h i (x ∷ xs) p = each_join Q (f i x) (numbered f (i + 1) xs) (h i x p.0) (each_numbered P Q f h (i + 1) xs p.1)
 
-empty_map : {A B : Type 0} (f : A → B) (xs : List A) → map f xs ≡ [] → xs ≡ []
-empty_map f [] e = refl
-empty_map f (x ∷ xs) e = absurd cc
-
 -- ---- literals are in normal form
 normal_numbers : (e : Expression) → ExprForm HasItems e → AllNumbers (λ d. IsTrue (is_normal d)) e
 normal_numbers (Truth at b) h = tt
@@ -105,10 +102,6 @@ wider T.Real T.Bool v h k = absurd cc
 wider T.Real T.Int (V.Number q) h k = refl
 wider T.Real T.Int (V.Truth b) h k = k
 wider T.Real T.Real v h k = k
-
-has_some : (o : Option Ty) → IsTrue (is_some o) → (t : Ty) × (o ≡ Some t)
-has_some None h = absurd cc
-has_some (Some t) h = (t, refl)
 
 no_fault : (b : Bool) (at : ℕ) → fault_if b at WrongType ≡ [] → b ≡ false
 no_fault true at e = absurd cc

@@ -8,6 +8,7 @@ use Rattle.std.proofs.Common.{refl, sym, ap, ap₂, subst, ◌∙◌, arith, ltb
 use Rattle.std.proofs.lemmas.Int.{ints}
 use Rattle.std.proofs.lemmas.List.{length-map}
 use Rattle.std.proofs.lemmas.Bool.{and_from}
+use Rattle.process_core.specs.States.{state_set, fits_value, keeps_write_to}
 use Rattle.basics.specs.Booleans.{first_true, second_true, both_not}
 use Rattle.bridge_io.specs.declared.reason.Named.{Named}
 use Rattle.frac_core.specs.Fraction.{Fraction, whole, compare}
@@ -36,22 +37,6 @@ states_have_columns file v s h =
     state_length (columns_of file v) s h
     ∙ length-append (map location_column (elements file)) (map (λ o. column (constant_names file v) o.var) (lasting file))
     ∙ ap₂ (λ a b. a + b) (length-map (elements file) location_column ∙ length-map file.elements (automaton_called file)) (length-map (lasting file) (λ o. column (constant_names file v) o.var))
-
--- ---- a value of a column's domain in its place keeps a state a state
-state_set : (cs : List Column) (s : Values) (i : ℕ) (v : Value) → IsTrue (is_state cs s) → is_in (domain_at cs i) v ≡ true → IsTrue (is_state cs (slice_set s i v))
-state_set [] [] i v h k = h
-state_set [] (w ∷ s) i v h k = absurd cc
-state_set (c ∷ cs) [] i v h k = absurd cc
-state_set (c ∷ cs) (w ∷ s) zero v h k = and_from (is_in c.domain v) (is_state cs s) k (second_true (is_in c.domain w) (is_state cs s) h)
-state_set (c ∷ cs) (w ∷ s) (suc i) v h k =
-    and_from (is_in c.domain w) (is_state cs (slice_set s i v)) (first_true (is_in c.domain w) (is_state cs s) h)
-    (state_set cs s i v (second_true (is_in c.domain w) (is_state cs s) h) k)
-
-fits_value : (d : Domain) (o : Option Value) (v : Value) → o ≡ Some v → fits_in d o ≡ true → is_in d v ≡ true
-fits_value d o v e h = subst (λ p. fits_in d p ≡ true) e h
-
-pub keeps_write_to : (cs : List Column) (i : ℕ) (value : Seen) → KeepsStates (is_state cs) (write_to cs i value)
-keeps_write_to cs i value = record { keeps = λ s v k e f. state_set cs s i v k (fits_value (domain_at cs i) value.value v e f) }
 
 -- ---- locations are within their range
 pub not_above : (x y : Fraction) → AtMost x y → is_above x y ≡ false

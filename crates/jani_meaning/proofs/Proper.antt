@@ -5,6 +5,7 @@ use Rattle.std.specs.List.{All, flat_map, filter}
 use Rattle.std.proofs.Common.{refl, ap₂, subst, ◌∙◌, arith, length-append}
 use Rattle.std.proofs.lemmas.List.{length-map}
 use Rattle.std.proofs.lemmas.List.Elements.{All-nil, All-cons, All-head, All-tail, All-append, All-map, All-weaker, All-filter}
+use Rattle.process_core.specs.States.{keeps_write_to}
 use Rattle.basics.specs.Members.{all_each}
 use Rattle.op_trees.specs.Seen.{Seen}
 use Rattle.process_core.specs.Ready.{Values, Name, Write, Ready, Sum, Vector, has_action, alone, silent, together, taking, of_elements}
@@ -17,7 +18,7 @@ use Rattle.jani_meaning.specs.Scene.{column, constant_names, columns_of}
 use Rattle.jani_meaning.specs.Moment.{column_write, location_write, write_at, update_at, edge_at, element_at, transient_at, is_current, moment}
 use Rattle.jani_meaning.specs.Process.{combinations}
 use Rattle.jani_meaning.specs.Laws.{ChoicesAreProper, MarksOfTransients}
-use Rattle.jani_meaning.proofs.Columns.{keeps_write_to, keeps_location, domain_of_location}
+use Rattle.jani_meaning.proofs.Columns.{keeps_location, domain_of_location}
 
 -- ---- lists
 each_flat : {X Y : Type 0} (P : Y → Type 0) (f : X → List Y) → ((x : X) → All P (f x)) → (xs : List X) → All P (flat_map f xs)

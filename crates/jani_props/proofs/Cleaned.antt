@@ -5,6 +5,7 @@ use Rattle.std.specs.Prelude.{bytes_eq, IsSomeAnd}
 use Rattle.std.specs.List.{list_any}
 use Rattle.std.proofs.lemmas.Slice.Eq.{bytes_eq-Decides}
 use Rattle.std.proofs.lemmas.Bool.{or_cases, and_parts}
+use Rattle.basics.specs.Options.{if_some}
 use Rattle.basics.specs.Lists.{append_left, append_right}
 use Rattle.bridge_io.specs.declared.reason.Reason.{Reason}
 use Rattle.bridge_io.specs.declared.reason.Reason.TheVariants.{UnknownMember, MissingMember, PropertyLeftOut, LeftOut, WrongShape}
@@ -44,16 +45,12 @@ use Rattle.jani_props.proofs.Spelling.{prop_spelled, op_spelled, property_word, 
 
 -- ---- members
 
-by_test : {A : Type 0} (b : Bool) (x : A) (o : Option A) (w : A) → (if b then Some x else o) ≡ Some w → ((b ≡ true) × (x ≡ w)) ⊎ ((b ≡ false) × (o ≡ Some w))
-by_test true x o w e = inl (refl, cc)
-by_test false x o w e = inr (refl, e)
-
 module _ (given : List ℕ → Bool) where
   -- the value of a known member has no fault
   member_clean : (kind : PropKind) (k : List ℕ) (g : PropForm) (ms : Fields) (w : Node) → known_form kind k ≡ Some g → members_faults given kind ms ≡ [] → member_text k ms ≡ Some w → faults given g w ≡ []
   member_clean kind k g no_fields w f c m = absurd cc
   member_clean kind k g (field n v rest) w f c m =
-      elim (by_test (bytes_eq k n.name) v (member_text k rest) w m) [
+      elim (if_some (bytes_eq k n.name) v (member_text k rest) w m) [
         | inl e ↦
             let same : k ≡ n.name = (bytes_eq-Decides k n.name).0 e.0 in
             let here : by_form (known_form kind n.name) (fault n.at UnknownMember) (λ g. faults given g v) ≡ [] = append_left _ (members_faults given kind rest) c in
@@ -119,7 +116,7 @@ object_in kind at ms close c =
 member_smaller : (k : List ℕ) (ms : Fields) (w : Node) → member_text k ms ≡ Some w → size w < size_fields ms
 member_smaller k no_fields w m = absurd cc
 member_smaller k (field n v rest) w m =
-    elim (by_test (bytes_eq k n.name) v (member_text k rest) w m) [
+    elim (if_some (bytes_eq k n.name) v (member_text k rest) w m) [
       | inl e ↦ subst (λ x. size x < size v + size_fields rest + 1) e.1 (omega arith)
       | inr e ↦ let h = member_smaller k rest w e.1 in omega arith
     ]

@@ -3,6 +3,7 @@ use Rattle.std.proofs.Common.{◌≡◌, ℕ, refl, sym, ap, ap₂, subst, ◌�
 use Rattle.std.specs.Prelude.{bytes_eq, codes, IsSomeAnd, nat_eq}
 use Rattle.std.proofs.lemmas.Slice.Eq.{bytes_eq-Decides}
 use Rattle.std.proofs.lemmas.Bool.Decides.{nat_tests}
+use Rattle.basics.specs.Options.{if_some}
 use Rattle.bridge_io.specs.declared.reason.Named.{Named}
 use Rattle.op_trees.specs.Tree.{Truth, Number, Name as At, One, Two, Three}
 use Rattle.jani_table.specs.declared.table.Kind.{Kind}
@@ -21,12 +22,6 @@ use Rattle.prop_trees.specs.Trees.{Name, ask_with}
 use Rattle.prop_trees.specs.Names.{Meant, of_model, is_initial, is_deadlock, nothing, meant, built_in, marked, initial_name, deadlock_name}
 use Rattle.prop_trees.specs.JaniText.{part, Is, HasOp, IsName, IsExpression, IsBound, IsOnePath, IsTwoPaths, IsPath, IsReached, IsProbability, IsValues, compared_by, side_of, structure_name}
 use Rattle.jani_props.specs.Spelled.{IsAsked}
-
--- ---- members
-
-by_test : {A : Type 0} (b : Bool) (x : A) (o : Option A) (w : A) → (if b then Some x else o) ≡ Some w → ((b ≡ true) × (x ≡ w)) ⊎ ((b ≡ false) × (o ≡ Some w))
-by_test true x o w e = inl (refl, cc)
-by_test false x o w e = inr (refl, e)
 
 -- ---- expressions
 
@@ -60,7 +55,7 @@ abbrev mutual
 at_member : (k : List ℕ) (ms : Fields) (w : Node) → member_text k ms ≡ Some w → expr_at k ms ≡ expr_of w
 at_member k no_fields w m = absurd cc
 at_member k (field n v rest) w m =
-    elim (by_test (bytes_eq k n.name) v (member_text k rest) w m) [
+    elim (if_some (bytes_eq k n.name) v (member_text k rest) w m) [
       | inl e ↦ ap (λ b. if b then expr_of v else expr_at k rest) e.0 ∙ ap expr_of e.1
       | inr e ↦ ap (λ b. if b then expr_of v else expr_at k rest) e.0 ∙ at_member k rest w e.1
     ]

@@ -5,7 +5,8 @@ use Rattle.std.specs.Prelude.{bytes_eq}
 use Rattle.std.specs.List.{list_any}
 use Rattle.std.proofs.lemmas.Slice.Eq.{bytes_eq-Decides}
 use Rattle.std.proofs.lemmas.Bool.{or_cases, and_parts}
-use Rattle.basics.specs.Lists.{append_right}
+use Rattle.basics.specs.Options.{if_some}
+use Rattle.basics.specs.Lists.{append_right, append_left}
 use Rattle.bridge_io.specs.declared.reason.Reason.{Reason}
 use Rattle.bridge_io.specs.declared.reason.Reason.TheVariants.{UnknownMember, MissingMember, LeftOut, WrongShape}
 use Rattle.bridge_io.specs.declared.reason.Fault.{Fault}
@@ -24,21 +25,13 @@ use Rattle.jani_table.specs.Operators.{op_of}
 use Rattle.jani_table.specs.Faults.{fault, fault_if, fault_unless, faults, items_faults, members_faults, own_faults, other_faults, missing_faults, row_faults, list_faults, object_faults, list_items_faults, member, member_text, has, items_in, part, is_needed, is_known, part_form, or_left_out, by_form, by_kind, object_kind, op_in, op_kind, or_unclear, is_text, is_array}
 use Rattle.jani_table.specs.Parts.{is_plain, kind_of, is_list_form, item_of, is_text_form}
 
-pub append_left : {A : Type 0} (xs ys : List A) → xs ++ ys ≡ [] → xs ≡ []
-append_left [] ys e = refl
-append_left (x ∷ xs) ys e = absurd cc
-
 -- ---- members
-
-by_test : {A : Type 0} (b : Bool) (x : A) (o : Option A) (w : A) → (if b then Some x else o) ≡ Some w → ((b ≡ true) × (x ≡ w)) ⊎ ((b ≡ false) × (o ≡ Some w))
-by_test true x o w e = inl (refl, cc)
-by_test false x o w e = inr (refl, e)
 
 -- the value of a known member has no fault
 pub member_clean : (kind : Kind) (key : Key) (g : Form) (ms : Fields) (w : Node) → known_form kind (spelled key) ≡ Some g → members_faults kind ms ≡ [] → member key ms ≡ Some w → faults g w ≡ []
 member_clean kind key g no_fields w k c m = absurd cc
 member_clean kind key g (field n v rest) w k c m =
-    elim (by_test (bytes_eq (spelled key) n.name) v (member key rest) w m) [
+    elim (if_some (bytes_eq (spelled key) n.name) v (member key rest) w m) [
       | inl e ↦
           let same : spelled key ≡ n.name = (bytes_eq-Decides (spelled key) n.name).0 e.0 in
           let here : by_form (known_form kind n.name) (fault n.at UnknownMember) (λ g. faults g v) ≡ [] = append_left _ (members_faults kind rest) c in
@@ -96,7 +89,7 @@ part_there kind key (array at vs) n c = absurd cc
 member_smaller : (k : List ℕ) (ms : Fields) (w : Node) → member_text k ms ≡ Some w → size w < size_fields ms
 member_smaller k no_fields w m = absurd cc
 member_smaller k (field n v rest) w m =
-    elim (by_test (bytes_eq k n.name) v (member_text k rest) w m) [
+    elim (if_some (bytes_eq k n.name) v (member_text k rest) w m) [
       | inl e ↦ subst (λ x. size x < size v + size_fields rest + 1) e.1 (omega arith)
       | inr e ↦ let h = member_smaller k rest w e.1 in omega arith
     ]

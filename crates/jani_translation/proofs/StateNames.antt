@@ -28,20 +28,6 @@ use Rattle.jani_translation.proofs.OneForOne.{lasting_are}
 use Rattle.jani_translation.proofs.Elements.{elements_are, IsOne, automata_one}
 use Rattle.jani_translation.proofs.Written.{given_reading, variable_columns}
 
--- ---- positions
-position_by : (b : Bool) (n m : ℕ) →
-    cond (nat_lt (cond (not b) (1 + n) 0) (suc m)) (Some (cond (not b) (1 + n) 0)) None ≡ cond b (Some 0) (option_map suc (cond (nat_lt n m) (Some n) None))
-position_by true n m =
-    let first : nat_lt 0 (suc m) ≡ true = lt-ltb 0 (suc m) (omega arith) in
-    ap (λ b. cond b (Some 0) None) first
-position_by false n m =
-    let on : 1 + n ≡ suc n = omega arith in
-    ap (λ k. cond (nat_lt k (suc m)) (Some k) None) on ∙ ap (λ c. cond c (Some (suc n)) None) (nat_lt-suc n m) ∙ by_test (nat_lt n m)
-  where
-    by_test : (c : Bool) → cond c (Some (suc n)) None ≡ option_map suc (cond c (Some n) None)
-    by_test true = refl
-    by_test false = refl
-
 -- ---- no variable belongs to an element
 pub none_owned : (i : ℕ) (z : Name) (vs : List Var) → position (is_own i z) (owned_by None vs) ≡ None
 none_owned i z [] = refl

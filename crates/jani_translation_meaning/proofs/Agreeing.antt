@@ -9,7 +9,7 @@ use Rattle.op_trees.specs.declared.tree.Value.{Value}
 use Rattle.op_trees.specs.declared.tree.Value.TheVariants as V
 use Rattle.op_trees.specs.Tree.{Truth, Number, Name as At, One, Two, Three, AllNumbers}
 use Rattle.op_trees.specs.Types.{AgreesWith, has_type, type_in}
-use Rattle.op_trees.specs.TypeLaws.{value_agrees, typed_operands}
+use Rattle.op_trees.specs.TypeLaws.{value_agrees, typed_operands, some_agrees}
 use Rattle.op_trees.specs.Meaning.{value_of}
 use Rattle.op_trees.specs.Seen.{known}
 use Rattle.op_trees.specs.SeenLaws.{names_all, seen_is}
@@ -46,13 +46,6 @@ found {A = A} P test (x ∷ xs) p = by_test (test x) refl (found P test xs p.1)
 -- ---- values and types
 pub undefined : (t : Option Ty) → AgreesWith t None
 undefined t = record { agrees = λ a x h k. cc }
-
-pub some_agrees : (a : Ty) (x : Value) → IsTrue (has_type a x) → AgreesWith (Some a) (Some x)
-some_agrees a x h =
-    record {
-      agrees = λ b y p q. let e : a ≡ b = cc in let f : x ≡ y = cc in
-          subst (λ t. IsTrue (has_type t y)) e (subst (λ v. IsTrue (has_type a v)) f h);
-    }
 
 wider_value : (w t : Ty) (x : Value) → source.is_wanted (wanted_by w) t ≡ true → IsTrue (has_type t x) → IsTrue (has_type w x)
 wider_value T.Bool T.Bool x k h = h

@@ -2,7 +2,7 @@
 use Rattle.std.proofs.Common.{◌≡◌, ℕ, ◌+◌, ◌<◌, ◌≤◌, sym, ap, subst, ◌∙◌, List, [], ◌∷◌, ◌++◌, Option, Some, length, drop, get_or, append_assoc, IsTrue, map-id}
 use Rattle.std.specs.Prelude.{map, IsSomeAnd}
 use Rattle.std.proofs.lemmas.List.{append-nil}
-use Rattle.basics.specs.Lists.{drop_item, append_right}
+use Rattle.basics.specs.Lists.{drop_item, append_right, append_left}
 use Rattle.jani_table.specs.declared.table.Form.{Form}
 use Rattle.decimal_json.specs.declared.tree.Json.{Json}
 use Rattle.jani_table.specs.Node.{Node, Nodes, no_nodes, more_nodes, node, nodes, at_of}
@@ -10,7 +10,6 @@ use Rattle.jani_table.specs.NodeLaws.{drop_all}
 use Rattle.jani_table.specs.Table.{item_form}
 use Rattle.jani_table.specs.Faults.{faults, items_faults, items_in, is_array, or_left_out}
 use Rattle.jani_table.specs.Parts.{item_of}
-use Rattle.jani_table.specs.Laws.{append_left}
 use Rattle.jani_tree.specs.Jani.{Each, IsItems, IsList, IsListAt}
 
 module _ {A : Type 0} (P : Node → A → Type 0) (form : Form) (vs : List Json) where

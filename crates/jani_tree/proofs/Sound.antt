@@ -3,7 +3,7 @@ use Rattle.std.proofs.Common.{◌≡◌, ℕ, ◌<◌, refl, sym, ap, subst, ◌
 use Rattle.std.specs.Prelude.{pos, codes, nat_lt}
 use Rattle.std.specs.Option.{option_map}
 use Rattle.std.proofs.lemmas.Bool.Decides.{nat_tests}
-use Rattle.basics.specs.Lists.{append_right, append_both}
+use Rattle.basics.specs.Lists.{append_right, append_both, append_left}
 use Rattle.bridge_io.specs.declared.reason.Fault.{Fault}
 use Rattle.bridge_io.specs.declared.reason.Named.{Named}
 use Rattle.bridge_io.specs.declared.reason.Reason.TheVariants.{TooLong, WrongShape, LeftOut, MissingMember, InitialSet}
@@ -20,7 +20,6 @@ use Rattle.jani_table.specs.declared.table.Kind.{Kind}
 use Rattle.jani_table.specs.declared.table.Kind.TheVariants as O
 use Rattle.jani_table.specs.declared.operator.JaniOp.{JaniOp}
 use Rattle.jani_table.specs.Node.{Node, null, truth, number, text, array, object, no_fields}
-use Rattle.jani_table.specs.Laws.{append_left}
 use Rattle.jani_table.specs.Words.{name_fault, unless, ty_text, ty_of, feature_of, refused_of}
 use Rattle.jani_table.specs.Operators.{op_of, op_text}
 use Rattle.jani_table.specs.Faults.{faults, fault_if, or_unclear, op_kind, has, fault_unless, is_true, member}

@@ -1,7 +1,7 @@
 -- Types without faults.
 use Rattle.std.proofs.Common.{◌≡◌, ℕ, refl, sym, ap, subst, ◌∙◌, List, [], Option, Some, None, is_some, true, false, Bool, not}
 use Rattle.std.specs.Prelude.{bytes_eq, codes}
-use Rattle.basics.specs.Lists.{append_right}
+use Rattle.basics.specs.Lists.{append_right, append_left}
 use Rattle.bridge_io.specs.declared.reason.Reason.TheVariants.{WrongShape, LeftOut}
 use Rattle.op_trees.specs.declared.tree.Ty.{Ty}
 use Rattle.op_trees.specs.declared.tree.Ty.TheVariants as T
@@ -16,7 +16,7 @@ use Rattle.decimal_json.specs.declared.tree.Member.{Member}
 use Rattle.jani_table.specs.Words.{ty_of, is_base, unless}
 use Rattle.jani_table.specs.Faults.{faults, fault_if, fault_unless, is_word, member, members_faults, missing_faults, other_faults, bound_faults}
 use Rattle.jani_table.specs.Table.{rows_of}
-use Rattle.jani_table.specs.Laws.{append_left, part_there, part_clean, unless_clean}
+use Rattle.jani_table.specs.Laws.{part_there, part_clean, unless_clean}
 use Rattle.jani_tree.specs.Syntax.{Expression, one_sided, bounded}
 use Rattle.jani_tree.specs.Jani.{IsExpr, IsRange, range_of}
 

@@ -8,6 +8,7 @@ use Rattle.std.proofs.Math.Seq.{take-append_seam}
 use Rattle.std.proofs.lemmas.List.Sums.{sum_by-append}
 use Rattle.std.proofs.lemmas.Bool.{and_parts, not-true}
 use Rattle.std.proofs.lemmas.Map.Keys.{any_passes_from_place}
+use Rattle.basics.specs.Booleans.{not_both}
 use Rattle.name_table.specs.declared.class.NameClass.{NameClass}
 use Rattle.name_table.specs.declared.class.NameClass.TheVariants.{Location}
 use Rattle.name_table.specs.declared.class.Target.{Target}
@@ -160,11 +161,8 @@ placed t asks i e h =
     let s = stands t [] asks i i e (omega arith) h in
     record { asked = s.asked; ask = s.ask; comes = comes t (take i (entries_of t asks)) s.asked.0 s.asked.1 e s.is }
 
-true_false : {A : Type 0} (b : Bool) → b ≡ true → b ≡ false → A
-true_false b h k = let e : true ≡ false = sym h ∙ k in absurd cc
-
 made_plain : {A : Type 0} (c : NameClass) (n : ℕ) (x : List ℕ) → x ≡ made_name c n → begins_zz x ≡ false → A
-made_plain c n x e h = true_false (begins_zz x) (ap begins_zz e ∙ made_begins c n) h
+made_plain c n x e h = not_both (begins_zz x) (ap begins_zz e ∙ made_begins c n) h
 
 abbrev Kept : Ask → Entry → Type 0
 Kept a e = (e.class ≡ a.0) × ((e.kept ≡ true → (a.1 ≡ Some e.name) × (begins_zz e.name ≡ false)) × ((a.1 ≡ Some e.name) × (begins_zz e.name ≡ false) → e.kept ≡ true))
@@ -175,7 +173,7 @@ kept_by t es a e (was_kept x o k h) =
     (ap (λ (u : Entry). u.class) h, (λ q. (o ∙ ap (λ (u : List ℕ). Some u) (sym n), ap begins_zz n ∙ k.plain), λ q. ap (λ (u : Entry). u.kept) h))
 kept_by t es a e (was_made h) = (
   ap (λ (u : Entry). u.class) h,
-  (λ q. true_false e.kept q (ap (λ (u : Entry). u.kept) h), λ q. made_plain a.0 _ e.name (ap (λ (u : Entry). u.name) h) q.1),
+  (λ q. not_both e.kept q (ap (λ (u : Entry). u.kept) h), λ q. made_plain a.0 _ e.name (ap (λ (u : Entry). u.name) h) q.1),
 )
 
 pub kept_is_old : (t : Target) (asks : List Ask) (i : ℕ) (a : Ask) (e : Entry) → ComesOf t asks i a e → Kept a e
@@ -186,7 +184,7 @@ kept_is_old t asks i a e c =
     subst F s (kept_by t (take i (entries_of t asks)) p.asked e p.comes)
 
 made_by : (t : Target) (es : List Entry) (c : NameClass) (o : Option (List ℕ)) (e : Entry) → Comes t es c o e → e.kept ≡ false → e.name ≡ made_name e.class (count_of e.class es)
-made_by t es c o e (was_kept x p k h) f = true_false e.kept (ap (λ (u : Entry). u.kept) h) f
+made_by t es c o e (was_kept x p k h) f = not_both e.kept (ap (λ (u : Entry). u.kept) h) f
 made_by t es c o e (was_made h) f =
     let d : e.class ≡ c = ap (λ (u : Entry). u.class) h in
     ap (λ (u : Entry). u.name) h ∙ ap (λ (u : NameClass). made_name u (count_of u es)) (sym d)
@@ -196,7 +194,7 @@ others_are_made t asks i e h f = let p = placed t asks i e h in made_by t _ p.as
 
 plain_by : (t : Target) (es : List Entry) (c : NameClass) (o : Option (List ℕ)) (e : Entry) → Comes t es c o e → e.kept ≡ true → begins_zz e.name ≡ false
 plain_by t es c o e (was_kept x p k h) f = ap (λ (u : Entry). begins_zz u.name) h ∙ k.plain
-plain_by t es c o e (was_made h) f = true_false e.kept f (ap (λ (u : Entry). u.kept) h)
+plain_by t es c o e (was_made h) f = not_both e.kept f (ap (λ (u : Entry). u.kept) h)
 
 pub kept_is_no_made : (t : Target) (asks : List Ask) (i : ℕ) (e : Entry) → slice_get (entries_of t asks) i ≡ Some e → e.kept ≡ true → begins_zz e.name ≡ false
 kept_is_no_made t asks i e h f = let p = placed t asks i e h in plain_by t _ p.asked.0 p.asked.1 e p.comes f
@@ -204,7 +202,7 @@ kept_is_no_made t asks i e h f = let p = placed t asks i e h in plain_by t _ p.a
 location_by : (t : Target) (es : List Entry) (c : NameClass) (o : Option (List ℕ)) (e : Entry) → Comes t es c o e → e.class ≡ Location → e.kept ≡ false
 location_by t es c o e (was_kept x p k h) l =
     let d : Location ≡ c = sym l ∙ ap (λ (u : Entry). u.class) h in
-    true_false (may_keep c) k.may (ap may_keep (sym d))
+    not_both (may_keep c) k.may (ap may_keep (sym d))
 location_by t es c o e (was_made h) l = ap (λ (u : Entry). u.kept) h
 
 pub locations_are_made : (t : Target) (asks : List Ask) (i : ℕ) (e : Entry) → slice_get (entries_of t asks) i ≡ Some e → e.class ≡ Location → e.kept ≡ false
@@ -236,7 +234,7 @@ alike t es i j c d o p e f l h g (was_kept x q k r) s n =
     let w = slice_take es i j e l h in
     let y : space t e.class ≡ space t d = s ∙ ap (λ (u : Entry). space t u.class) r in
     let z : x ≡ e.name = sym (n ∙ ap (λ (u : Entry). u.name) r) in
-    true_false _ (taken_at t (take j es) i e (space t d) x w y z) k.free
+    not_both _ (taken_at t (take j es) i e (space t d) x w y z) k.free
 alike t es i j c d o p e f l h (was_kept x q k r) (was_made m) s n =
     made_plain d _ x (sym (ap (λ (u : Entry). u.name) r) ∙ n ∙ ap (λ (u : Entry). u.name) m) k.plain
 alike t es i j c d o p e f l h (was_made r) (was_made m) s n =

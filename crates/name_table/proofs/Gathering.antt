@@ -30,34 +30,6 @@ pub told_twice : (t : Table) (xs ys : List Ask) → told (told t xs) ys ≡ told
 told_twice t xs ys = ap (λ (l : List _). record { target = t.target; entries = l }) (sym (after_append t.target t.entries xs ys))
 
 -- ---- each once
-one_kept : {A : Type 0} (b c : Bool) (p : A → Bool) (x : A) → p x ≡ not b → filter p (if c then [] else x ∷ []) ≡ (if b || c then [] else x ∷ [])
-one_kept true true p x h = refl
-one_kept false true p x h = refl
-one_kept true false p x h = rw h refl
-one_kept false false p x h = rw h refl
-
-pub firsts_more : {A : Type 0} (same : A → A → Bool) (xs : List A) (x : A) → firsts same (xs ++ x ∷ []) ≡ firsts same xs ++ (if list_any (λ y. same y x) xs then [] else x ∷ [])
-firsts_more same [] x = refl
-firsts_more {A = A} same (y ∷ ys) x =
-    ap (λ (l : List A). y ∷ filter (λ z. not (same y z)) l) (firsts_more same ys x)
-    ∙ ap (λ (l : List A). y ∷ l)
-    (filter-append (λ z. not (same y z)) (firsts same ys) (if list_any (λ z. same z x) ys then [] else x ∷ [])
-    ∙ ap (λ (l : List A). filter (λ z. not (same y z)) (firsts same ys) ++ l) (one_kept (same y x) (list_any (λ z. same z x) ys) (λ z. not (same y z)) x refl))
-
--- one more of those that are each once
-pub once_more : {A B : Type 0} (same : B → B → Bool) (s : A → B) (xs : List A) (i : ℕ) (x : A) (w : Bool) (old new : List A) → i < length xs → x ≡ get_or xs i x →
-    map s old ≡ firsts same (map s (take i xs)) → w ≡ list_any (λ y. same y (s x)) (map s (take i xs)) → new ≡ old ++ only_if (not w) x →
-    map s new ≡ firsts same (map s (take (i + 1) xs))
-once_more {B = B} same s xs i x w old new h e so_far test pushed =
-    ap (map s) pushed
-    ∙ map-append s old (only_if (not w) x)
-    ∙ ap₂ (λ (l m : List B). l ++ m) so_far (one w ∙ ap (λ (b : Bool). if b then [] else s x ∷ []) test)
-    ∙ sym (ap (λ l. firsts same (map s l)) (taken xs i x h e) ∙ ap (firsts same) (map-append s (take i xs) (x ∷ [])) ∙ firsts_more same (map s (take i xs)) (s x))
-  where
-    one : (b : Bool) → map s (only_if (not b) x) ≡ (if b then [] else s x ∷ [])
-    one true = refl
-    one false = refl
-
 -- a name is seen where it was before, or is the one that came
 pub seen_more : {A : Type 0} (s : A → Name) (xs : List A) (i : ℕ) (x : A) (z : Name) (new old : Bool) → i < length xs → x ≡ get_or xs i x →
     old ≡ list_any (λ y. bytes_eq y z) (map s (take i xs)) → new ≡ (if bytes_eq (s x) z then true else old) → new ≡ list_any (λ y. bytes_eq y z) (map s (take (i + 1) xs))

@@ -23,10 +23,6 @@ use Rattle.name_table.specs.Asks.{ask, called, contents, bodies, variables, acti
 use Rattle.name_table.proofs.EntryLemmas.{one_each, placed, kept_is_old, others_are_made, kept_is_no_made, no_two_alike}
 
 -- ---- members of cut lists
-pub get_front : {X : Type 0} (xs ys : List X) (i : ℕ) → i < length xs → slice_get (xs ++ ys) i ≡ slice_get xs i
-get_front [] ys i l = absurd (let no : ⊥ = omega arith in no)
-get_front (x ∷ xs) ys zero l = refl
-get_front (x ∷ xs) ys (suc i) l = get_front xs ys i (omega arith)
 
 pub get_part : (k n i : ℕ) (es : List Entry) (e : Entry) → slice_get (some_from k n es) i ≡ Some e → (i < n) × (slice_get es (k + i) ≡ Some e)
 get_part k n i es e h = let t = slice_get-take n i (drop k es) e h in (t.0, sym (slice_get-drop k i es) ∙ t.1)

@@ -133,7 +133,7 @@ none_agrees v = record { agrees = λ a x h k. cc }
 undefined_agrees : (t : Option Ty) → AgreesWith t None
 undefined_agrees t = record { agrees = λ a x h k. cc }
 
-some_agrees : (a : Ty) (x : Value) → IsTrue (has_type a x) → AgreesWith (Some a) (Some x)
+pub some_agrees : (a : Ty) (x : Value) → IsTrue (has_type a x) → AgreesWith (Some a) (Some x)
 some_agrees a x h =
     record {
       agrees = λ b y p q. let e : a ≡ b = cc in let f : x

@@ -1,5 +1,5 @@
 -- A file without circles has none once it is written out.
-use Rattle.std.specs.Prelude.{◌≡◌, ℕ, zero, suc, ◌+◌, ◌≤◌, List, [], ◌∷◌, map, length, Bool, true, false, ◌||◌, Option, Some, None, cond, bytes_eq, ◌⊎◌}
+use Rattle.std.specs.Prelude.{◌≡◌, ℕ, zero, suc, ◌+◌, ◌≤◌, List, [], ◌∷◌, ◌++◌, map, length, Bool, true, false, ◌||◌, Option, Some, None, cond, bytes_eq, ◌⊎◌}
 use Rattle.std.specs.List.{flat_map, filter, find, list_any}
 use Rattle.std.specs.Option.{option_map}
 use Rattle.std.proofs.Common.{refl, sym, ap, ap₂, ◌∙◌, inl, inr, subst, arith}
@@ -15,7 +15,7 @@ use Rattle.bridge_io.specs.declared.reason.Reason.TheVariants.{Cycle}
 use Rattle.op_trees.specs.Tree.{AllNames}
 use Rattle.op_trees.specs.Names.{names_of}
 use Rattle.op_trees.specs.NameLaws.{names_renamed}
-use Rattle.process_core.specs.Ready.{Name}
+use Rattle.process_core.specs.Ready.{Name, if_some}
 use Rattle.prism_tree.specs.Syntax.{Expression, Const, Formula, File}
 use Rattle.prism_names.specs.Names.{is_called, formula_body, unchanged}
 use Rattle.prism_names.specs.Flat.{flat_expression, flat_constant, flat}

@@ -6,7 +6,7 @@ use Rattle.std.proofs.lemmas.List.{length-map}
 use Rattle.std.proofs.lemmas.List.Elements.{All-nil}
 use Rattle.std.proofs.lemmas.Bool.{or_parts, not-false}
 use Rattle.basics.specs.Options.{none_of}
-use Rattle.basics.specs.Lists.{append_parts, append_both}
+use Rattle.basics.specs.Lists.{append_parts, append_both, empty_map}
 use Rattle.basics.specs.Each.{each_then, each_with, each_map, map_each, each_of, empty_each, each_empty, none_each}
 use Rattle.bridge_io.specs.declared.reason.Named.{Named}
 use Rattle.bridge_io.specs.declared.reason.Reason.TheVariants.{Unknown, Nothing, WrongType, WrittenTwice, TooLarge}
@@ -33,7 +33,7 @@ use Rattle.prism_check.specs.TypeFaults.{types, misfits, demand_faults, write_fa
 use Rattle.prism_check.specs.SizeFaults.{passes_limit, size_faults}
 use Rattle.prism_check.specs.Faults.{or_else}
 use Rattle.prism_check.specs.Clean.{FlatIsClean, FlatHasNoFault, FlatIsChecked}
-use Rattle.prism_check.proofs.Each.{map_same, flat_map_same, each_found, any_map, empty_map, no_fault, fault_none}
+use Rattle.prism_check.proofs.Each.{map_same, flat_map_same, each_found, any_map, no_fault, fault_none}
 use Rattle.prism_check.proofs.NamesIn.{listed_names, names_listed, names_written_out}
 use Rattle.prism_check.proofs.FlatDemands.{flat_demand, part-flat, outer-flat}
 use Rattle.prism_check.proofs.CleanPrintable.{flat_printable}

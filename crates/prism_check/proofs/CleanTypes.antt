@@ -1,10 +1,10 @@
 -- The types of a file that is written out, and what its expressions have to be.
-use Rattle.std.specs.Prelude.{◌≡◌, ℕ, zero, suc, ◌+◌, List, [], ◌∷◌, ◌++◌, map, length, Bool, true, false, not, ◌&&◌, Option, Some, None, is_some, cond, bytes_eq, if◌then◌else◌}
+use Rattle.std.specs.Prelude.{◌≡◌, ℕ, zero, suc, ◌+◌, List, [], ◌∷◌, ◌++◌, map, length, Bool, true, false, not, ◌&&◌, ◌||◌, Option, Some, None, is_some, cond, bytes_eq, if◌then◌else◌}
 use Rattle.std.specs.List.{find}
 use Rattle.std.specs.Option.{option_map}
 use Rattle.std.proofs.Common.{refl, sym, ap, ap₂, ◌∙◌, subst}
 use Rattle.std.proofs.Math.Path.{fun_ext}
-use Rattle.basics.specs.Lists.{append_parts, append_both}
+use Rattle.basics.specs.Lists.{append_parts, append_both, empty_map}
 use Rattle.bridge_io.specs.declared.reason.Reason.TheVariants.{WrongType, NotConstant}
 use Rattle.op_trees.specs.declared.tree.Ty.{Ty}
 use Rattle.op_trees.specs.Tree.{Truth, Number, Name as At, One, Two, Three, AllNames, replaced, substituted, written_out}
@@ -28,7 +28,7 @@ use Rattle.name_rules.specs.Least.{fault, fault_if}
 use Rattle.prism_flat.specs.ConstantLaws.{renamed_unchanged}
 use Rattle.prism_check.specs.Demands.{Demand, fixed, varying, written, var_type}
 use Rattle.prism_check.specs.TypeFaults.{Variable, numbered_variables, variables, variable_called, or_else, declared_types, types, misfits, is_unwanted, type_faults_of, is_variable, has_variable, target_of, target, write_faults, wanted_at, demand_faults}
-use Rattle.prism_check.proofs.Each.{map_same, empty_map, no_fault, fault_none}
+use Rattle.prism_check.proofs.Each.{map_same, no_fault, fault_none}
 use Rattle.prism_check.proofs.FlatDemands.{flat_demand, same_type}
 use Rattle.prism_check.proofs.TypeOrder.{types_of_plain, in_depth, types_read}
 

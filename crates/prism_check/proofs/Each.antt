@@ -30,11 +30,6 @@ map_same g f h k xs = map-map g f xs ∙ map_agree (λ x. g (f x)) h k xs
 pub flat_map_same : {A B C : Type 0} (g : B → List C) (f : A → B) (h : A → List C) → ((x : A) → g (f x) ≡ h x) → (xs : List A) → flat_map g (map f xs) ≡ flat_map h xs
 flat_map_same g f h k xs = flat_map-map g f xs ∙ flat_map_agree (λ x. g (f x)) h k xs
 
--- ---- lists that are empty
-pub empty_map : {A B : Type 0} (f : A → B) (xs : List A) → map f xs ≡ [] → xs ≡ []
-empty_map f [] e = refl
-empty_map f (x ∷ xs) e = absurd cc
-
 -- ---- one fault, where a test holds
 pub no_fault : (b : Bool) (at : ℕ) (reason : Reason) → fault_if b at reason ≡ [] → b ≡ false
 no_fault true at reason e = absurd cc

@@ -1,10 +1,12 @@
 -- What holds of each name of an expression: where its names are listed, tested, replaced by bodies and read through a map.
-use Rattle.std.specs.Prelude.{ℕ, zero, suc, ◌++◌, Option, Some, None}
+use Rattle.std.specs.Prelude.{◌≡◌, ℕ, zero, suc, ◌++◌, Bool, false, ◌||◌, Option, Some, None}
 use Rattle.std.specs.Option.{option_map}
+use Rattle.std.proofs.Common.{refl, ap₂}
 use Rattle.basics.specs.Each.{each_join, each_parts}
-use Rattle.op_trees.specs.Tree.{Tree, Truth, Number, Name as At, One, Two, Three, AllNames, replaced, written_out}
+use Rattle.op_trees.specs.Tree.{Tree, Truth, Number, Name as At, One, Two, Three, AllNames, replaced, written_out, renamed}
 use Rattle.op_trees.specs.SeenLaws.{names_then}
-use Rattle.op_trees.specs.Names.{names_of}
+use Rattle.op_trees.specs.Names.{names_of, some_name}
+use Rattle.op_trees.specs.NameLaws.{names_with, none_named, named_none, names_renamed}
 use Rattle.process_core.specs.Ready.{Name}
 use Rattle.prism_names.specs.WrittenOut.{names-substituted}
 use Rattle.prism_print.specs.Printable.{Each, IfAny}

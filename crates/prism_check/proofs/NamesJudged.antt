@@ -1,7 +1,7 @@
 -- Without a fault of names the turns of the formulas are an order in which each names only earlier ones.
 use Rattle.std.specs.Prelude.{◌≡◌, ℕ, List, [], ◌++◌, length}
 use Rattle.std.specs.List.{flat_map}
-use Rattle.std.proofs.Common.{subst, ap, ◌∙◌}
+use Rattle.std.proofs.Common.{subst, sym, ap, ◌∙◌}
 use Rattle.basics.specs.Lists.{append_left, append_right}
 use Rattle.prism_tree.specs.Syntax.{File}
 use Rattle.prism_names.specs.Places.{IsPlaceOrder}

@@ -1,9 +1,10 @@
 -- The types of names whose bodies lead round in no circle, and so those of formulas that stand in an order.
 use Rattle.std.specs.Prelude.{◌≡◌, ℕ, zero, suc, ◌<◌, List, length, Option, Some, None}
-use Rattle.std.proofs.Common.{refl, ap, arith}
+use Rattle.std.proofs.Common.{refl, ap, ap₂, arith}
+use Rattle.op_trees.specs.declared.tree.Ty.{Ty}
 use Rattle.op_trees.specs.Meaning.{Meaning}
-use Rattle.op_trees.specs.Tree.{Tree}
-use Rattle.op_trees.specs.Types.{Types, type_through, types_looked_up}
+use Rattle.op_trees.specs.Tree.{Tree, Truth, Number, Name as At, One, Two, Three, AllNames}
+use Rattle.op_trees.specs.Types.{Types, type_in, sort_one, sort_two, sort_three, type_through, types_looked_up}
 use Rattle.op_trees.specs.Seen.{FallsTo, IsFalling}
 use Rattle.op_trees.specs.SeenLaws.{names_then}
 use Rattle.op_trees.specs.TypeLaws.{type_agree_on}

@@ -7,8 +7,9 @@ use Rattle.std.proofs.Math.Path.{fun_ext}
 use Rattle.std.proofs.lemmas.Slice.Eq.{bytes_eq-Decides}
 use Rattle.std.proofs.lemmas.List.Folds.{list_any-append}
 use Rattle.std.proofs.lemmas.List.Sums.{fold-append}
-use Rattle.op_trees.specs.Tree.{tree, AllNames}
-use Rattle.op_trees.specs.Types.{Types, type_in, type_through, types_looked_up}
+use Rattle.op_trees.specs.declared.tree.Ty.{Ty}
+use Rattle.op_trees.specs.Tree.{tree, Truth, Number, Name as At, One, Two, Three, AllNames}
+use Rattle.op_trees.specs.Types.{Types, type_in, type_through, types_looked_up, sort_one, sort_two, sort_three}
 use Rattle.op_trees.specs.Seen.{FallsTo}
 use Rattle.op_trees.specs.SeenLaws.{names_then}
 use Rattle.op_trees.specs.Names.{some_name}

@@ -5,6 +5,7 @@ use Rattle.op_trees.specs.Names.{some_name}
 use Rattle.process_core.specs.Ready.{Name}
 use Rattle.name_rules.specs.Names.{has_name, is_among, under}
 use Rattle.prism_tree.specs.Syntax.{Expression, File}
+use Rattle.prism_check.specs.declared.file_names.NameTables.{NameTables}
 use Rattle.prism_check.specs.declared.file_names.TypeTables.{TypeTables}
 use Rattle.prism_check.specs.declared.file_names.FileNames.TheInside.{Inside}
 use Rattle.prism_check.specs.NameFaults.{values}
@@ -23,8 +24,12 @@ pub record AreTyped (t : TypeTables) (file : File) : Type 0 where
   pub types : (x : Name) → type_in_tables t x ≡ types file x
   pub varies : (e : Expression) → some_name (varies_in_tables t) e ≡ has_variable file e
 
+-- ---- names, and how large formulas are
+pub record AreNamed (t : NameTables) (file : File) : Type 0 where
+  pub known : has_name t.known ≡ is_among (values file)
+  pub sizes : AreSizes file (size_in t.sizes)
+
 -- ---- all tables of a judged file
 pub record AreFileNames (n : Inside) : Type 0 where
-  pub known : has_name n.known ≡ is_among (values n.checked.now.file)
+  pub names : AreNamed n.names n.checked.now.file
   pub types : AreTyped n.types n.checked.now.file
-  pub sizes : AreSizes n.checked.now.file (size_in n.sizes)

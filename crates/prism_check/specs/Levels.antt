@@ -1,5 +1,6 @@
 -- Whether some name of an expression is such a one where formulas are written out, looked up formula by formula.
-use Rattle.std.specs.Prelude.{ℕ, zero, suc, Bool, not, ◌&&◌, ◌||◌, Option, Some, None, is_some, unwrap_or}
+use Rattle.std.specs.Prelude.{ℕ, zero, suc, List, Bool, not, ◌&&◌, ◌||◌, Option, Some, None, is_some, unwrap_or}
+use Rattle.std.specs.Borrow.{Bor}
 use Rattle.name_rules.specs.declared.map.NameMap.{NameMap}
 use Rattle.process_core.specs.Ready.{Name}
 use Rattle.prism_tree.specs.Syntax.{Expression}

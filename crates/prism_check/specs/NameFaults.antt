@@ -1,6 +1,6 @@
 -- The faults of the names of a PRISM file (PRISM manual, "The PRISM Language": "Constants", "Modules and Variables",
 -- "Formulas and Labels", "Module Renaming").
-use Rattle.std.specs.Prelude.{List, [], ◌∷◌, ◌++◌, map, length, Option, Some, None, Bool, true, false, not, ◌&&◌, ◌||◌, if◌then◌else◌, codes, is_some, nat_eq}
+use Rattle.std.specs.Prelude.{ℕ, List, [], ◌∷◌, ◌++◌, map, length, Option, Some, None, Bool, true, false, not, ◌&&◌, ◌||◌, if◌then◌else◌, codes, is_some, nat_eq}
 use Rattle.std.specs.List.{flat_map, list_any}
 use Rattle.bridge_io.specs.declared.reason.Named.{Named}
 use Rattle.bridge_io.specs.declared.reason.Reason.TheVariants.{TwiceNamed, Unknown, RenameMissing, RenameOfRenamed, Nothing}

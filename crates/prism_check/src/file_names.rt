@@ -10,7 +10,7 @@ ghost use Rattle.name_rules.specs.Names.{has_name};
 ghost use Rattle.prism_check.specs.NameFaults.{is_among, values};
 ghost use Rattle.prism_check.specs.TypeFaults.{has_variable, types};
 ghost use Rattle.prism_check.specs.Typing.{IsDeclared};
-ghost use Rattle.prism_check.specs.FileNames.{AreTyped, type_in_tables, varies_in_tables};
+ghost use Rattle.prism_check.specs.FileNames.{AreNamed, AreTyped, type_in_tables, varies_in_tables};
 
 use crate::check::CheckedPrism;
 use crate::formula_sizes::formula_sizes;
@@ -78,6 +78,25 @@ fn declared_names<'a>(alloc: Global, file: &'a PrismFile) -> Result<Declared<'a>
     declarations(alloc, file, &modules)
 }
 
+// The names of a file, and how large its formulas are.
+#[derive(Drop)]
+struct NameTables<'a> {
+    known: NameSet<'a>,
+    sizes: NameMap<'a, Size>,
+}
+
+impl<'a> NameTables<'a> {
+    // Those of this file, whose formulas stand at these places, each after those that it names.
+    fn of(alloc: Global, file: &'a PrismFile, order: &[usize]) -> Result<NameTables<'a>, AllocError>
+        requires { IsPlaceOrder (file_of file.now) order.now }
+        ensures { IfOk result (λ tables. AreNamed tables (file_of file.now)) }
+    {
+        let known = known_names(alloc, file)?;
+        let sizes = formula_sizes(alloc, file, order)?;
+        Ok(NameTables { known, sizes })
+    }
+}
+
 // The constants, formulas and variables of a file, as a set.
 fn known_names<'a>(alloc: Global, file: &'a PrismFile) -> Result<NameSet<'a>, AllocError>
     ensures { IfOk result (λ known. has_name known ≡ is_among (values (file_of file.now))) }
@@ -92,9 +111,8 @@ fn known_names<'a>(alloc: Global, file: &'a PrismFile) -> Result<NameSet<'a>, Al
 #[derive(Drop)]
 pub struct FileNames<'a> {
     checked: &'a CheckedPrism,
-    known: NameSet<'a>,
+    names: NameTables<'a>,
     types: TypeTables<'a>,
-    sizes: NameMap<'a, Size>,
 }
 
 impl<'a> Model for FileNames<'a> {
@@ -118,14 +136,12 @@ impl<'a> FileNames<'a> {
         ensures { IfOk result (λ names. names ≡ checked.now) }
     {
         let file = checked.file();
-        let known = known_names(alloc, file)?;
+        let names = NameTables::of(alloc, file, checked.order())?;
         let types = TypeTables::of(alloc, file, checked.order())?;
-        let sizes = formula_sizes(alloc, file, checked.order())?;
         Ok(FileNames {
             checked,
-            known,
+            names,
             types,
-            sizes,
         })
     }
 
@@ -140,7 +156,7 @@ impl<'a> FileNames<'a> {
     pub fn has(&self, name: &str) -> bool
         ensures { result ≡ is_among (values self.now.file) name.now }
     {
-        self.known.has(name)
+        self.names.known.has(name)
     }
 
     /// The type of a name, if it has one; a formula has the type of its body.
@@ -162,7 +178,7 @@ impl<'a> FileNames<'a> {
         ensures nodes { result.nodes ≡ capped (whole_nodes self.now.file (tree e.now)) }
         ensures height { result.height ≡ capped (whole_height self.now.file (tree e.now)) }
     {
-        measure(e, &self.sizes)
+        measure(e, &self.names.sizes)
     }
 }
 

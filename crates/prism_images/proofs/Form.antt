@@ -81,7 +81,7 @@ form_kept new (Three at o a b c) h d n =
 parted : (xs ys : List Named) → map (λ n. n.name) (xs ++ ys) ≡ map (λ n. n.name) xs ++ map (λ n. n.name) ys
 parted xs ys = map-append (λ n. n.name) xs ys
 
-one_names : (at : ℕ) (o : PrismOp) (a : Tree JaniOp) → names_in (image_one at o a) ≡ names_in a
+pub one_names : (at : ℕ) (o : PrismOp) (a : Tree JaniOp) → names_in (image_one at o a) ≡ names_in a
 one_names at P.Neg a = refl
 one_names at o a = refl
 

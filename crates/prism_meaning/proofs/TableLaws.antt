@@ -25,7 +25,7 @@ use Rattle.prism_tree.specs.Syntax.{Expression, Const, File, const_of}
 use Rattle.prism_tree.specs.declared.syntax.PrismConst.{PrismConst}
 use Rattle.prism_names.specs.Names.{is_called, unchanged, see}
 use Rattle.prism_flat.specs.Scene.{constant, constant_seen, constant_value, constant_names, scene}
-use Rattle.prism_flat.specs.ConstantLaws.{ConstantsHaveValues}
+use Rattle.prism_flat.specs.ConstantLaws.{ConstantsHaveValues, see_agree_on}
 use Rattle.state_choices.specs.Views.{seen_of}
 use Rattle.state_choices.specs.Trimmed.{computed}
 use Rattle.instance_start.specs.Columns.{value_at}
@@ -38,10 +38,6 @@ use Rattle.prism_meaning.specs.Views.{names_by}
 use Rattle.prism_meaning.proofs.Found.{narrow_seen, value_seen}
 use Rattle.prism_meaning.proofs.Whole.{reads_plainly}
 use Rattle.prism_meaning.proofs.Turns.{declared_there, each_name, have_values, left_in_turn}
-
-see_agree : (e : Expression) (names new : Name → Seen) → AllNames (λ x. names x ≡ new x) e → see e names ≡ see e new
-unfolding see
-see_agree e names new h = seen_agree_on prism_meaning e names new h
 
 -- ---- lists by their places
 get_set : {A : Type 0} (xs : List A) (i j : ℕ) (x : A) → i < length xs → slice_get (slice_set xs i x) j ≡ (if nat_eq j i then Some x else slice_get xs j)
@@ -139,7 +135,7 @@ module _ (file : File) (v : Valuation) where
         by_value (Some b) m =
             let turned = left_in_turn (map declared_const file.constants) [] turns k t h.order e in
             let names = subst (λ us. All (HasTurned (map declared_const file.constants) (take k turns)) us) (ap (λ d. d.uses) (declared_there file.constants t c f) ∙ ap used m) turned in
-            see_agree b (names_by places table) (constant_names file v unchanged)
+            see_agree_on b (names_by places table) (constant_names file v unchanged)
             (names_then (HasTurned (map declared_const file.constants) (take k turns)) (λ y. names_by places table y ≡ constant_names file v unchanged y)
             (names_right table (take k turns) g) b (each_name (HasTurned (map declared_const file.constants) (take k turns)) b names))
 

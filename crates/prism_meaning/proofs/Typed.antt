@@ -7,8 +7,10 @@ use Rattle.std.proofs.lemmas.Bool.{or_cases}
 use Rattle.std.proofs.lemmas.List.Elements.{All-nil, All-cons}
 use Rattle.std.proofs.lemmas.List.Folds.{list_any-append}
 use Rattle.std.proofs.lemmas.Slice.Eq.{bytes_eq-Decides}
+use Rattle.basics.specs.Members.{any-map}
+use Rattle.basics.specs.Options.{has_some}
 use Rattle.basics.specs.Booleans.{second_true}
-use Rattle.basics.specs.Lists.{append_parts}
+use Rattle.basics.specs.Lists.{append_parts, empty_map}
 use Rattle.basics.specs.Each.{each_then, each_with, each_join, each_parts, each_of, empty_each}
 use Rattle.bridge_io.specs.declared.reason.Named.{Named}
 use Rattle.bridge_io.specs.declared.reason.Reason.TheVariants.{WrongType, NotConstant, Unknown}
@@ -46,7 +48,7 @@ use Rattle.prism_check.specs.TypeFaults.{Variable, declared_types, demand_faults
 use Rattle.prism_check.specs.TypeFaults as faults_of
 use Rattle.prism_check.specs.Faults.{or_else}
 use Rattle.prism_check.proofs.CleanFile.{no_either}
-use Rattle.prism_check.proofs.Each.{each_found, empty_map, no_fault}
+use Rattle.prism_check.proofs.Each.{each_found, no_fault}
 use Rattle.prism_check.proofs.NamesIn.{listed_names}
 use Rattle.prism_places.specs.Flattened.{IsFlat}
 use Rattle.instance_start.specs.Firsts.{BeginRight, begins_right}
@@ -101,10 +103,6 @@ wider T.Real T.Int (V.Number q) h k = refl
 wider T.Real T.Int (V.Truth b) h k = k
 wider T.Real T.Real v h k = k
 
-has_some : (o : Option Ty) → IsTrue (is_some o) → (t : Ty) × (o ≡ Some t)
-has_some None h = absurd cc
-has_some (Some t) h = (t, refl)
-
 -- ---- given values
 taken_typed : (t : Ty) (v : Value) → takes t v ≡ true → IsTrue (has_type t v)
 taken_typed T.Bool (V.Truth b) h = refl
@@ -155,10 +153,6 @@ found_some p (x ∷ xs) h = by_test (p x) h (found_some p xs)
     by_test true k r = refl
     by_test false k r = r k
 
-any_mapped : {A B : Type 0} (p : B → Bool) (f : A → B) (xs : List A) → list_any p (map f xs) ≡ list_any (λ x. p (f x)) xs
-any_mapped p f [] = refl
-any_mapped p f (x ∷ xs) = ap (λ b. p (f x) || b) (any_mapped p f xs)
-
 some_mapped : {A B : Type 0} (f : A → B) (o : Option A) → IsTrue (is_some o) → IsTrue (is_some (option_map f o))
 some_mapped f None h = h
 some_mapped f (Some x) h = refl
@@ -197,7 +191,7 @@ module _ (file : File) (flat : IsFlat file) where
   numbered_any x i (plain m ∷ ms) h =
       list_any-append (is_called x) (map (λ y. y.name) m.vars) (flat_map (module_vars file) ms)
       ∙ ap₂ (λ a b. a || b)
-      (any_mapped (is_called x) (λ y. y.name) m.vars ∙ sym (any_mapped (λ (v : Variable). bytes_eq v.name x) (λ y. record { owner = Some i; name = y.name.name; ty = var_type y }) m.vars))
+      (any-map (is_called x) (λ y. y.name) m.vars ∙ sym (any-map (λ (v : Variable). bytes_eq v.name x) (λ y. record { owner = Some i; name = y.name.name; ty = var_type y }) m.vars))
       (numbered_any x (i + 1) ms h)
       ∙ sym (list_any-append (λ (v : Variable). bytes_eq v.name x) (map (λ y. record { owner = Some i; name = y.name.name; ty = var_type y }) m.vars) (numbered_variables (i + 1) (map (part_of file) ms)))
   numbered_any x i (copied m ∷ ms) h = absurd cc
@@ -206,7 +200,7 @@ module _ (file : File) (flat : IsFlat file) where
   variables_any x =
       list_any-append (is_called x) (map (λ y. y.name) file.globals) (flat_map (module_vars file) file.modules)
       ∙ ap₂ (λ a b. a || b)
-      (any_mapped (is_called x) (λ y. y.name) file.globals ∙ sym (any_mapped (λ (v : Variable). bytes_eq v.name x) (λ y. record { owner = None; name = y.name.name; ty = var_type y }) file.globals))
+      (any-map (is_called x) (λ y. y.name) file.globals ∙ sym (any-map (λ (v : Variable). bytes_eq v.name x) (λ y. record { owner = None; name = y.name.name; ty = var_type y }) file.globals))
       (numbered_any x 0 file.modules flat.form.modules)
       ∙ sym (list_any-append (λ (v : Variable). bytes_eq v.name x) (map (λ y. record { owner = None; name = y.name.name; ty = var_type y }) file.globals) (numbered_variables 0 (parts file)))
 
@@ -214,7 +208,7 @@ module _ (file : File) (flat : IsFlat file) where
   known_typed x h =
       subst (λ o. IsTrue (is_some o)) (sym (types_declared x))
       (elim (or_cases (list_any (is_called x) (map (λ c. c.name) file.constants)) (list_any (is_called x) rest) (sym (list_any-append (is_called x) (map (λ c. c.name) file.constants) rest) ∙ h)) [
-        | inl e ↦ either_some _ _ (some_mapped (λ c. c.ty) _ (found_some (λ c. is_called x c.name) file.constants (sym (any_mapped (is_called x) (λ c. c.name) file.constants) ∙ e)))
+        | inl e ↦ either_some _ _ (some_mapped (λ c. c.ty) _ (found_some (λ c. is_called x c.name) file.constants (sym (any-map (is_called x) (λ c. c.name) file.constants) ∙ e)))
         | inr e ↦ second_some _ _ (some_mapped (λ v. v.ty) _ (found_some (λ v. bytes_eq v.name x) (variables file)
             (sym (variables_any x) ∙ sym (ap (λ fs. list_any (is_called x) (map (λ f. f.name) fs ++ (map (λ y. y.name) file.globals ++ flat_map (module_vars file) file.modules))) flat.form.formulas) ∙ e)))
       ])

@@ -4,6 +4,7 @@ use Rattle.std.specs.Prelude.{◌≡◌, List, []}
 use Rattle.std.specs.List.{All}
 use Rattle.std.proofs.Common.{refl}
 use Rattle.std.proofs.lemmas.List.Elements.{All-map}
+use Rattle.process_core.specs.States.{keeps_write_to}
 use Rattle.basics.specs.Members.{all_each}
 use Rattle.basics.specs.Lists.{append_parts}
 use Rattle.op_trees.specs.Seen.{Seen}
@@ -11,7 +12,7 @@ use Rattle.process_core.specs.Ready.{Values, Name, Update}
 use Rattle.process_core.specs.Distribution.{KeepsStates, KeepsAll, choices_proper}
 use Rattle.process_core.specs.Instance.{Valuation, Column, is_state, column_faults, constant_faults, numbered, instance_faults, first_values}
 use Rattle.process_core.specs.Steps.{IsProcess}
-use Rattle.instance_start.specs.States.{state_length, keeps_write_to}
+use Rattle.instance_start.specs.States.{state_length}
 use Rattle.instance_start.specs.Participants.{of_all}
 use Rattle.instance_start.specs.Marks.{marks_length, first_names, mark_kinds}
 use Rattle.instance_start.specs.Given.{given_by}

@@ -20,18 +20,6 @@ grown (n ∷ ns) m zero x h = refl
 grown (n ∷ ns) m (suc k) x h = grown ns m k x h
 
 -- ---- the first that passes
-position_by : (b : Bool) (n m : ℕ) →
-    cond (nat_lt (cond (not b) (1 + n) 0) (suc m)) (Some (cond (not b) (1 + n) 0)) None ≡ cond b (Some 0) (option_map suc (cond (nat_lt n m) (Some n) None))
-position_by true n m =
-    let first : nat_lt 0 (suc m) ≡ true = lt-ltb 0 (suc m) (omega arith) in
-    ap (λ b. cond b (Some 0) None) first
-position_by false n m =
-    let on : 1 + n ≡ suc n = omega arith in
-    ap (λ k. cond (nat_lt k (suc m)) (Some k) None) on ∙ ap (λ c. cond c (Some (suc n)) None) (nat_lt-suc n m) ∙ by_test (nat_lt n m)
-  where
-    by_test : (c : Bool) → cond c (Some (suc n)) None ≡ option_map suc (cond c (Some n) None)
-    by_test true = refl
-    by_test false = refl
 
 -- with one more behind
 position_behind : {X : Type 0} (p : X → Bool) (xs : List X) (y : X) → position p (xs ++ y ∷ []) ≡ option_or (position p xs) (only_then (p y) (length xs))

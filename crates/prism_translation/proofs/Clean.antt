@@ -7,9 +7,8 @@ use Rattle.std.proofs.lemmas.Option.{slice_get_past}
 use Rattle.std.proofs.Math.Path.{fun_ext}
 use Rattle.std.proofs.Math.Bool.{or-false}
 use Rattle.basics.specs.Each.{each_then, empty_each}
-use Rattle.basics.specs.Lists.{append_right}
+use Rattle.basics.specs.Lists.{append_right, append_left}
 use Rattle.bridge_io.specs.declared.reason.Reason.TheVariants.{TwiceNamed, RepeatedAutomaton, BranchReward, WrittenTwice, Nothing}
-use Rattle.jani_table.specs.Laws.{append_left}
 use Rattle.jani_tree.specs.Syntax.{Var, Automaton, File}
 use Rattle.jani_tree.specs.Canonical.{OfAll}
 use Rattle.jani_tree.specs.Form.{HasItems, AutomatonRead}

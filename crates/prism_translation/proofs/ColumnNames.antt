@@ -9,6 +9,7 @@ use Rattle.std.proofs.lemmas.Slice.Eq.{bytes_eq-Decides}
 use Rattle.std.proofs.lemmas.Option.{slice_get-get_or}
 use Rattle.std.proofs.lemmas.List.{length-map, length-take, get_or-take, get_or-drop}
 use Rattle.std.proofs.lemmas.List.Elements.{All-head, All-tail, All-weaker}
+use Rattle.basics.specs.Lists.{slice_get-front}
 use Rattle.basics.specs.Texts.{bytes_ne}
 use Rattle.process_core.specs.Ready.{Name}
 use Rattle.choice_laws.specs.Columns.{slot}
@@ -25,7 +26,7 @@ use Rattle.name_table.specs.declared.entry.Entry.{Entry}
 use Rattle.name_table.specs.Rule.{space}
 use Rattle.name_table.specs.Entries.{Ask}
 use Rattle.name_table.proofs.EntryLemmas.{one_each, no_two_alike}
-use Rattle.name_table.proofs.Parts.{get_front, class_has, first_have}
+use Rattle.name_table.proofs.Parts.{class_has, first_have}
 use Rattle.name_table.specs.Asks.{some_from}
 use Rattle.name_table.specs.PrismAsks.{NewNames, name_at, ask_for, constant_ask, location_ask, module_ask, asks}
 use Rattle.prism_translation.specs.Elements.{Element, elements, lasting_variables}
@@ -83,7 +84,7 @@ module _ (file : File) where
       first_have IsValue constant_ask (λ x. refl) file.constants (map (ask_for Variable) (lasting file) ++ (map location_ask file.elements ++ rest)) (m + (n + 0))
       (first_have IsValue (ask_for Variable) (λ x. refl) (lasting file) (map location_ask file.elements ++ rest) (n + 0)
       (first_have IsValue location_ask (λ x. refl) file.elements rest 0 (λ j b k h. absurd (omega arith)))) i a (omega arith)
-      (sym (get_front (asks file) (map action_ask (targets file)) i (let k = asks_length file in omega arith)) ∙ g)
+      (sym (slice_get-front (asks file) (map action_ask (targets file)) i (let k = asks_length file in omega arith)) ∙ g)
 
   pub nothing : Entry
   nothing = record { class = Constant; name = []; kept = false }

@@ -9,10 +9,9 @@ use Rattle.std.proofs.lemmas.List.Folds.{list_any-append}
 use Rattle.std.proofs.Math.Bool.{and-true, and-false, or-false}
 use Rattle.basics.specs.Texts.{bytes_eq-true, bytes_eq-self, bytes_eq_comm}
 use Rattle.basics.specs.Each.{each_then, each_with, map_each, none_each, each_none}
-use Rattle.basics.specs.Lists.{append_right}
+use Rattle.basics.specs.Lists.{append_right, append_left}
 use Rattle.bridge_io.specs.declared.reason.Named.{Named}
 use Rattle.bridge_io.specs.declared.reason.Reason.{Reason}
-use Rattle.jani_table.specs.Laws.{append_left}
 use Rattle.jani_tree.specs.Canonical.{OfAll}
 use Rattle.jani_check.specs.Things.{Name, is_called}
 use Rattle.jani_check.specs.NameFaults.{is_among, clash, doubled_after, doubled}

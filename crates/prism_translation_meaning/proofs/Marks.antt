@@ -11,7 +11,7 @@ use Rattle.basics.specs.Texts.{bytes_eq-true}
 use Rattle.basics.specs.Options.{none_of}
 use Rattle.basics.specs.Each.{each_then, each_with, each_rest, each_join, empty_each}
 use Rattle.basics.specs.Members.{any_agree}
-use Rattle.basics.specs.Lists.{append_right}
+use Rattle.basics.specs.Lists.{append_right, append_left}
 use Rattle.bridge_io.specs.declared.reason.Named.{Named}
 use Rattle.bridge_io.specs.declared.reason.Reason.TheVariants.{TransientInitial, TransientTwoAutomata}
 use Rattle.frac_core.specs.declared.decimal.Decimal.{Decimal}
@@ -23,7 +23,6 @@ use Rattle.op_trees.specs.declared.tree.Ty.TheVariants as T
 use Rattle.op_trees.specs.Names.{offset_of}
 use Rattle.choice_laws.proofs.Walks.{any-flat_map, any-filter}
 use Rattle.process_core.specs.Instance.{numbered}
-use Rattle.jani_table.specs.Laws.{append_left}
 use Rattle.jani_tree.specs.Canonical.{OfAll}
 use Rattle.jani_tree.specs.Form.{HasItems, IsGiven, VarRead}
 use Rattle.jani_tree.specs.Syntax.{Expression, VarKind, boolean, integer, number, real_bounded, one_sided, bounded, Var, Write, Location, Automaton, File}

@@ -12,6 +12,7 @@ use Rattle.std.proofs.lemmas.List.Elements.{All-weaker, recursion_from_All, All-
 use Rattle.std.proofs.lemmas.List.Folds.{list_any-append, list_any_none}
 use Rattle.std.proofs.lemmas.List.Quantifiers.{position-Some}
 use Rattle.std.proofs.Math.Bool.{and_comm}
+use Rattle.basics.specs.Booleans.{not_both}
 use Rattle.basics.specs.Texts.{bytes_ne, bytes_eq-self}
 use Rattle.basics.specs.Lists.{append_parts, append_both}
 use Rattle.basics.specs.Each.{each_then, each_map, each_parts, empty_each}
@@ -50,7 +51,7 @@ use Rattle.prism_translation.specs.Sound.{IsConstant}
 use Rattle.prism_translation.proofs.ColumnNames.{entries_differ, entries_long, constant_entry}
 use Rattle.prism_translation.proofs.Follows.{variable_name}
 use Rattle.prism_translation.proofs.Clean.{once_here, no_circles}
-use Rattle.prism_translation_names.proofs.Lists.{at_each, no_both}
+use Rattle.prism_translation_names.proofs.Lists.{at_each}
 use Rattle.prism_translation_names.proofs.Segments.{constants_part, constant_spelled}
 use Rattle.prism_translation_names.proofs.Values.{Differ, column_named, nowhere, constant_differs, constant_becomes, variable_becomes, place_below}
 
@@ -269,7 +270,7 @@ module _ (file : File) (checked : IsChecked file) where
   global_apart x (v ∷ vs) h = ap₂ (λ b c. b || c) (turned x v.name.name h.0) (global_apart x vs h.1)
     where
       turned : (y z : Name) → bytes_eq y z ≡ false → bytes_eq z y ≡ false
-      turned y z e = bytes_ne z y (λ s. no_both (bytes_eq y z) (ap (λ u. bytes_eq y u) s ∙ bytes_eq-self y) e)
+      turned y z e = bytes_ne z y (λ s. not_both (bytes_eq y z) (ap (λ u. bytes_eq y u) s ∙ bytes_eq-self y) e)
 
   -- no variable has the name of a constant, outside of elements
   no_place : (x : Name) → Each (λ y. bytes_eq x y ≡ false) (map (λ v. v.name.name) file.variables) → place_of (lasting file) n x ≡ None
@@ -323,7 +324,7 @@ module _ (file : File) (checked : IsChecked file) where
           let a = (called_at x i f).0 in
           let b = there.0 in
           let l = entries_long file in
-          absurd (entries_differ file (0 + i) (0 + h.number) (omega arith) (omega arith) (λ q. no_both (nat_eq i h.number) (eq-eqb i h.number (omega arith)) t)
+          absurd (entries_differ file (0 + i) (0 + h.number) (omega arith) (omega arith) (λ q. not_both (nat_eq i h.number) (eq-eqb i h.number (omega arith)) t)
           (sym (constant_entry file i a) ∙ s ∙ constant_entry file h.number b))
 
       by_constant : (o : Option ℕ) → position (λ c. is_called x c.name) file.constants ≡ o → place_of (lasting file) n x ≡ None → x ≡ y
@@ -343,7 +344,7 @@ module _ (file : File) (checked : IsChecked file) where
           let l = place_below file n x i g in
           let s : name_at (names file).constants h.number ≡ column_named file (n + i) =
           sym new_y ∙ sym e ∙ variable_becomes file n x i g ∙ sym (variable_name file (nowhere file) (nowhere file) [] i) in
-          no_both (bytes_eq (name_at (names file).constants h.number) (column_named file (n + i))) ((bytes_eq-Decides (name_at (names file).constants h.number) (column_named file (n + i))).1 s)
+          not_both (bytes_eq (name_at (names file).constants h.number) (column_named file (n + i))) ((bytes_eq-Decides (name_at (names file).constants h.number) (column_named file (n + i))).1 s)
           (constant_differs file h.number (n + i) there.0 (omega arith))
 
   same_tests : (a b c d : Name) → (a ≡ b → c ≡ d) → (c ≡ d → a ≡ b) → bytes_eq a b ≡ bytes_eq c d
@@ -351,7 +352,7 @@ module _ (file : File) (checked : IsChecked file) where
     where
       by_test : (t : Bool) → bytes_eq c d ≡ t → bytes_eq a b ≡ t
       by_test true e = (bytes_eq-Decides a b).1 (g ((bytes_eq-Decides c d).0 e))
-      by_test false e = bytes_ne a b (λ q. no_both (bytes_eq c d) ((bytes_eq-Decides c d).1 (f q)) e)
+      by_test false e = bytes_ne a b (λ q. not_both (bytes_eq c d) ((bytes_eq-Decides c d).1 (f q)) e)
 
   abbrev IsOld : Name → Type 0
   IsOld x = IsConstant file n x

@@ -7,6 +7,7 @@ use Rattle.std.proofs.lemmas.Option.{slice_get-get_or}
 use Rattle.std.proofs.lemmas.List.{length-map}
 use Rattle.std.proofs.lemmas.List.Elements.{All-cons, All-map, recursion_from_All}
 use Rattle.std.proofs.lemmas.Bool.{or_parts}
+use Rattle.basics.specs.Booleans.{not_both}
 use Rattle.basics.specs.Texts.{bytes_ne, bytes_eq-self}
 use Rattle.basics.specs.Lists.{append_both}
 use Rattle.basics.specs.Each.{each_then, each_with, map_each, each_empty, each_any}
@@ -35,7 +36,7 @@ use Rattle.prism_translation.specs.Names.{new_names}
 use Rattle.prism_translation.specs.Modules.{module_of}
 use Rattle.prism_translation.specs.Marks.{label, structure}
 use Rattle.prism_translation.specs.Translated.{translated}
-use Rattle.prism_translation_names.proofs.Lists.{at_each, no_both}
+use Rattle.prism_translation_names.proofs.Lists.{at_each}
 use Rattle.prism_translation_names.proofs.Entries.{IsValidName}
 use Rattle.prism_translation_names.proofs.Segments.{modules_part, labels_part, rewards_part, labels_spelled, is_of_label}
 use Rattle.prism_translation_names.proofs.Values.{Differ, zip_named, values_differ}
@@ -129,7 +130,7 @@ module _ (file : File) where
       label_free e.class e.name (is_of_label e.class ((labels_part file).spaces i d l)) w.free
 
   turned : (x y : Name) → bytes_eq x y ≡ false → bytes_eq y x ≡ false
-  turned x y h = bytes_ne y x (λ e. no_both (bytes_eq x y) (ap (λ z. bytes_eq x z) e ∙ bytes_eq-self x) h)
+  turned x y h = bytes_ne y x (λ e. not_both (bytes_eq x y) (ap (λ z. bytes_eq x z) e ∙ bytes_eq-self x) h)
 
   abbrev init : Name
   init = codes "init"

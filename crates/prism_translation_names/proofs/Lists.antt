@@ -30,6 +30,3 @@ each_numbered Q f i (x ∷ xs) h =
     let e : i + 0 ≡ i = omega arith in
     each_join Q (f i x) (numbered f (i + 1) xs) (subst (λ k. Each Q (f k x)) e (h 0 x refl))
     (each_numbered Q f (i + 1) xs (λ j y g. let l : i + suc j ≡ (i + 1) + j = omega arith in subst (λ k. Each Q (f k y)) l (h (suc j) y g)))
-
-pub no_both : {A : Type 0} (b : Bool) → b ≡ true → b ≡ false → A
-no_both b h k = let e : true ≡ false = sym h ∙ k in absurd cc

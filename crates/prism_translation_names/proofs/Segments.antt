@@ -5,7 +5,7 @@ use Rattle.std.specs.Option.{option_map}
 use Rattle.std.proofs.lemmas.Option.{slice_get-get_or}
 use Rattle.std.proofs.lemmas.List.{length-map}
 use Rattle.basics.specs.Each.{each_take, each_drop}
-use Rattle.basics.specs.Lists.{slice_get-append_add}
+use Rattle.basics.specs.Lists.{slice_get-append_add, slice_get-front}
 use Rattle.prism_lex.specs.declared.token.TokenKind.TheVariants.{Ident}
 use Rattle.prism_lex.specs.Tokens.{IsKind}
 use Rattle.prism_print.specs.Printable.{Each}
@@ -19,7 +19,7 @@ use Rattle.name_table.specs.Rule.{space}
 use Rattle.name_table.specs.Entries.{Ask}
 use Rattle.name_table.specs.Asks.{some_from}
 use Rattle.name_table.specs.PrismAsks.{NewNames, name_at, ask_for, constant_ask, location_ask, module_ask, asks, locations_at, modules_at, labels_at, rewards_at, actions_at}
-use Rattle.name_table.proofs.Parts.{get_front, first_have, IsPart, part}
+use Rattle.name_table.proofs.Parts.{first_have, IsPart, part}
 use Rattle.prism_translation.specs.Targets.{targets}
 use Rattle.prism_translation.specs.Names.{action_ask, all_asks, entries, new_names}
 use Rattle.prism_translation.proofs.Apart.{asks_length}
@@ -100,7 +100,7 @@ module _ (file : File) where
       part Prism (all_asks file) c at (length xs) (let b = length-append (asks file) (map action_ask (targets file)) in omega arith)
       (λ i a k g.
       first_have (λ b. space Prism b ≡ space Prism c) f e xs rest 0 (λ j b m h. absurd (omega arith)) i a (omega arith)
-      (sym (there i) ∙ sym (get_front (asks file) (map action_ask (targets file)) (at + i) (omega arith)) ∙ g))
+      (sym (there i) ∙ sym (slice_get-front (asks file) (map action_ask (targets file)) (at + i) (omega arith)) ∙ g))
 
   pub constants_part : IsPart Prism Constant (length file.constants) names.constants
   constants_part = part_at Constant constant_ask (λ x. refl) file.constants from_variables 0 (omega arith) (λ i. let on : 0 + i ≡ i = omega arith in ap (slice_get (asks file)) on)

@@ -6,11 +6,11 @@ use Rattle.std.proofs.Common.{refl, sym, ap, ap₂, ◌∙◌, arith, subst, inl
 use Rattle.std.proofs.lemmas.Bool.{eqb-true, and_parts, or_cases}
 use Rattle.std.proofs.lemmas.List.Elements.{All-nil, All-cons, All-weaker}
 use Rattle.std.proofs.Math.Bool.{or-true}
+use Rattle.basics.specs.Lists.{empty_map}
 use Rattle.bridge_io.specs.declared.reason.Named.{Named}
 use Rattle.bridge_io.specs.declared.reason.Reason.TheVariants.{SharedWrite}
 use Rattle.process_core.specs.Ready.{Name}
 use Rattle.choice_laws.proofs.Walks.{has_any}
-use Rattle.prism_check.proofs.Each.{empty_map}
 use Rattle.jani_tree.specs.Syntax.{Edge, Vector, File}
 use Rattle.jani_check.specs.Least.{fault}
 use Rattle.jani_meaning.specs.Elements as jani

@@ -2,7 +2,8 @@
 use Rattle.std.specs.Prelude.{◌≡◌, ℕ, [], map, Bool, true, false, not, ◌||◌, Option, Some, None, IsTrue, is_some, if◌then◌else◌}
 use Rattle.std.proofs.Common.{refl, sym, ap, ap₂, subst, ◌∙◌}
 use Rattle.std.proofs.lemmas.Bool.{not-false}
-use Rattle.basics.specs.Lists.{append_parts, append_both}
+use Rattle.basics.specs.Options.{has_some}
+use Rattle.basics.specs.Lists.{append_parts, append_both, empty_map}
 use Rattle.bridge_io.specs.declared.reason.Reason.TheVariants.{WrongType}
 use Rattle.frac_core.specs.declared.decimal.Decimal.{Decimal}
 use Rattle.op_trees.specs.declared.tree.Ty.{Ty}
@@ -24,7 +25,6 @@ use Rattle.prism_tree.specs.Syntax as prism
 use Rattle.name_rules.specs.Least as prism_least
 use Rattle.prism_check.specs.Demands as prism_demands
 use Rattle.prism_check.specs.TypeFaults as prism_types
-use Rattle.prism_check.proofs.Each.{empty_map}
 use Rattle.jani_table.specs.declared.operator.JaniOp.{JaniOp}
 use Rattle.jani_table.specs.declared.operator.JaniOp.TheVariants as J
 use Rattle.jani_table.specs.Operators.{jani_meaning}
@@ -108,10 +108,6 @@ pub record HasPrismType (ty : Types) (w : Ty) (e : prism.Expression) : Type 0 wh
   pub type : Ty
   pub is : type_in prism_meaning ty e ≡ Some type
   pub wanted : prism_types.is_wanted (prism_demands.wanted_by w) type ≡ true
-
-has_some : (o : Option Ty) → IsTrue (is_some o) → (t : Ty) × (o ≡ Some t)
-has_some None h = absurd cc
-has_some (Some t) h = (t, refl)
 
 pub has_type : (ty : Types) (w : Ty) (e : Expression) → jani_types.type_faults_of ty (jani_demands.wanted_by w) e ≡ [] → HasType ty w e
 has_type ty w e h =

@@ -20,7 +20,7 @@ use Rattle.prism_targets.specs.declared.served.EdgeServing.{EdgeServing}
 use Rattle.prism_targets.specs.declared.served.ElementServing.{ElementServing}
 use Rattle.prism_targets.specs.Tables.{places_of, Served}
 use Rattle.prism_targets.specs.Serving.{edge_in, served_in}
-use Rattle.prism_translator.specs.declared.names.Names.{Names}
+use Rattle.prism_translator.specs.declared.entries.Names.{Names}
 use Rattle.prism_translator.specs.declared.elements.Element.{Element as CodeElement}
 use Rattle.prism_translator.specs.Code.{file_in, names_in, element_of, commands_by, never, HasActions}
 use Rattle.prism_targets.specs.Code.{edge_served, element_served}

@@ -1,5 +1,5 @@
 mod ByPlaces
-mod Classes
+mod EntryClasses
 mod GainItems
 mod GivenTo
 mod Kept

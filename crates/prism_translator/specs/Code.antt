@@ -15,8 +15,8 @@ use Rattle.prism_translation.specs.Targets.{targets}
 use Rattle.prism_translation.specs.Parts.{made}
 use Rattle.prism_translation.specs.Modules.{falsehood, guard, branch, is_single, command}
 use Rattle.prism_targets.specs.Places.{place_in}
-use Rattle.prism_translator.specs.declared.names.Classes.{Classes}
-use Rattle.prism_translator.specs.declared.names.Names.{Names}
+use Rattle.prism_translator.specs.declared.entries.Classes.{Classes}
+use Rattle.prism_translator.specs.declared.entries.Names.{Names}
 use Rattle.prism_translator.specs.declared.parts.LastingVar.{LastingVar}
 use Rattle.prism_translator.specs.declared.elements.Element.{Element as CodeElement}
 

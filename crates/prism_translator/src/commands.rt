@@ -12,8 +12,8 @@ ghost use Rattle.prism_translation.specs.Modules.{all_of, new, guard, write, wri
 ghost use Rattle.prism_translator.specs.Code.{file_in, names_in, IsReady, element_of, IsElement, is_one, command_with};
 
 use crate::elements::Element;
+use crate::entries::{Names, name_at};
 use crate::image::image;
-use crate::names::{Names, name_at};
 use crate::parts::{counted, falsehood, instead, is_there, made, truth};
 use bridge_io::{List, Named};
 use jani_tree::{JaniDestination, JaniEdge, JaniWrite, Je};

@@ -20,13 +20,13 @@ ghost use Rattle.prism_translator.specs.Given.{AreGiven};
 ghost use Rattle.prism_translator.specs.Parts.{globals_in, modules_in, labels_in, rewards_in};
 
 use crate::elements::Element;
+use crate::entries::Names;
 use crate::gains::{Gain, gains};
 use crate::gathered::FileParts;
 use crate::given::GivenTable;
 use crate::homes::{at_home, globals, lasting_variables};
 use crate::labels::labels;
 use crate::modules::modules;
-use crate::names::Names;
 use crate::parts::{LastingVar, constants};
 use crate::rewards::structures;
 use crate::writers::WriterTable;

@@ -17,7 +17,7 @@ ghost use Rattle.prism_translator.specs.Code.{file_in, element_of};
 ghost use Rattle.prism_translator.specs.Gains.{gain_of, gain_with, gains_of, ArePlaces};
 
 use crate::elements::Element;
-use crate::names::Names;
+use crate::entries::Names;
 use gathering::NumberLists;
 use jani_tree::{JaniEdge, JaniWrite, Je};
 use prism_targets::{Maker, Places, Target};

@@ -11,15 +11,15 @@ use std::alloc::{AllocError, Global};
 
 /// The automata of the elements in order, the variables that are not transient, the labels and the reward structures.
 #[derive(Drop)]
-pub(crate) struct FileParts<'a> {
-    pub(crate) automata: Vec<&'a JaniAutomaton>,
-    pub(crate) lasting: Vec<OwnedVar<'a>>,
-    pub(crate) labels: Vec<OwnedVar<'a>>,
-    pub(crate) structures: Vec<OwnedVar<'a>>,
+pub struct FileParts<'a> {
+    pub automata: Vec<&'a JaniAutomaton>,
+    pub lasting: Vec<OwnedVar<'a>>,
+    pub labels: Vec<OwnedVar<'a>>,
+    pub structures: Vec<OwnedVar<'a>>,
 }
 
-/// The parts of a file without faults of names.
-pub(crate) fn gathered<'a>(alloc: Global, file: &'a JaniFile) -> Result<FileParts<'a>, AllocError>
+/// The parts of a file without faults of names. An `Err` is want of memory.
+pub fn file_parts<'a>(alloc: Global, file: &'a JaniFile) -> Result<FileParts<'a>, AllocError>
     requires { name_faults (file_of file.now) ≡ [] }
     ensures { IfOk result (λ g. AreGathered g (file_of file.now)) }
 {

@@ -12,7 +12,7 @@ ghost use Rattle.gathering.specs.Lists.{list_for};
 ghost use Rattle.prism_translator.specs.Code.{file_in, names_in, IsReady, lasting_of, lasting_with};
 ghost use Rattle.prism_translator.specs.Homes.{AreWriters, home_by_table, is_adopted};
 
-use crate::names::Names;
+use crate::entries::Names;
 use crate::parts::{LastingVar, variable};
 use crate::writers::WriterTable;
 use bridge_io::List;

@@ -6,7 +6,7 @@ ghost use Rattle.name_table.specs.PrismAsks.{value_name};
 ghost use Rattle.jani_images.specs.Image.{image};
 ghost use Rattle.prism_translator.specs.Code.{file_in, names_in, IsReady};
 
-use crate::names::Names;
+use crate::entries::Names;
 use jani_tree::Je;
 use prism_images::NewNames;
 use prism_tree::Pe;

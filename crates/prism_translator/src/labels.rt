@@ -11,9 +11,9 @@ ghost use Rattle.prism_translation.specs.Marks.{given_image, label_body, first_v
 ghost use Rattle.prism_translator.specs.Code.{file_in, names_in, IsReady};
 ghost use Rattle.prism_translator.specs.Given.{given_of, label_step, AreGiven};
 
+use crate::entries::Names;
 use crate::given::{Given, GivenTable};
 use crate::image::image;
-use crate::names::Names;
 use crate::parts::{falsehood, image_if, instead, is_there, shorter};
 use bridge_io::List;
 use name_table::{Entry, OwnedVar};

@@ -5,6 +5,7 @@
 mod actions;
 mod commands;
 mod elements;
+mod entries;
 mod file;
 mod gains;
 mod gathered;
@@ -14,7 +15,6 @@ mod image;
 mod labels;
 mod lines;
 mod modules;
-mod names;
 mod naming;
 mod parts;
 mod rewards;
@@ -22,4 +22,7 @@ mod served;
 mod translation;
 mod writers;
 
+pub use entries::{Names, name_at};
+pub use gathered::{FileParts, file_parts};
+pub use naming::new_names;
 pub use translation::{CheckedPrismText, translate};

@@ -15,8 +15,8 @@ ghost use Rattle.prism_translator.specs.LineParts.{made_line, several_line, old_
 
 use crate::actions::old_name;
 use crate::elements::Element;
+use crate::entries::{Names, name_at};
 use crate::gathered::FileParts;
-use crate::names::{Names, name_at};
 use crate::parts::shorter;
 use bridge_io::{List, Named, Text};
 use decimal_json::push_string;

@@ -14,7 +14,7 @@ ghost use Rattle.gathering.specs.Lists.{list_for};
 ghost use Rattle.prism_translator.specs.Code.{file_in, names_in, IsReady, element_of, IsElement, HasActions, lasting_of};
 
 use crate::elements::Element;
-use crate::names::{Names, name_at};
+use crate::entries::{Names, name_at};
 use crate::parts::{LastingVar, counted, made, variable};
 use crate::served::commands;
 use bridge_io::List;

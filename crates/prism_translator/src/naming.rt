@@ -8,7 +8,7 @@ ghost use Rattle.name_table.specs.JaniParts.{under, owned_of};
 ghost use Rattle.name_table.specs.PrismAsks.{names_by};
 ghost use Rattle.prism_translator.specs.Code.{file_in, names_in, classes_in, IsReady};
 
-use crate::names::{Classes, Names};
+use crate::entries::{Classes, Names};
 use jani_tree::{JaniConst, JaniFile};
 use name_table::{Entry, NameMap, OwnedVar};
 use prism_targets::Places;
@@ -82,8 +82,8 @@ fn constant_numbers<'a>(
 }
 
 /// What the names of a file become, where these are its variables that are not transient, the counts of its labels and its
-/// reward structures, and its entries.
-pub(crate) fn names<'a>(
+/// reward structures, and its entries. An `Err` is want of memory.
+pub fn new_names<'a>(
     alloc: Global,
     file: &'a JaniFile,
     lasting: &[OwnedVar<'a>],

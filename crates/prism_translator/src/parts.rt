@@ -13,8 +13,8 @@ ghost use Rattle.prism_translation.specs.Parts.{made, instead, counted, constant
 ghost use Rattle.prism_translation.specs.Modules.{truth, falsehood};
 ghost use Rattle.prism_translator.specs.Code.{file_in, names_in, IsReady, lasting_of};
 
+use crate::entries::{Names, name_at};
 use crate::image::image;
-use crate::names::{Names, name_at};
 use bridge_io::{List, Named, Text};
 use frac_core::Decimal;
 use jani_tree::{JaniConst, JaniKind, Je};

@@ -14,11 +14,11 @@ ghost use Rattle.prism_translator.specs.Code.{file_in, names_in, IsReady, HasAct
 ghost use Rattle.prism_translator.specs.Given.{given_of, AreGiven};
 ghost use Rattle.prism_translator.specs.Gains.{gain_of, gain_item, gains_of, structure_by};
 
+use crate::entries::{Names, name_at};
 use crate::gains::Gain;
 use crate::given::{Given, GivenTable};
 use crate::image::image;
 use crate::labels::given_image;
-use crate::names::{Names, name_at};
 use crate::parts::{counted, instead, is_there, made, truth};
 use bridge_io::List;
 use gathering::NumberLists;

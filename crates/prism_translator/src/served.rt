@@ -14,7 +14,7 @@ ghost use Rattle.prism_targets.specs.Serving.{edge_in, served_in};
 
 use crate::commands::command;
 use crate::elements::Element;
-use crate::names::{Names, name_at};
+use crate::entries::{Names, name_at};
 use crate::parts::{falsehood, made};
 use bridge_io::List;
 use jani_tree::JaniEdge;

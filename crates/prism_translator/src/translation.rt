@@ -16,11 +16,11 @@ ghost use Rattle.prism_translator.specs.Translation.{IsTranslation, IsTextBy};
 
 use crate::actions::ask_actions;
 use crate::elements::{Element, elements};
+use crate::entries::Names;
 use crate::file::file_by;
-use crate::gathered::{FileParts, gathered};
+use crate::gathered::{FileParts, file_parts};
 use crate::lines::lines;
-use crate::names::Names;
-use crate::naming::names;
+use crate::naming::new_names;
 use bridge_io::{Fault, List, Refused, Text};
 use jani_check::CheckedJani;
 use jani_tree::JaniFile;
@@ -46,7 +46,7 @@ pub fn translate(alloc: Global, checked: &CheckedJani) -> Result<CheckedPrismTex
     ensures least { IfErr result (FailsFor (refused (file_of checked.now))) }
 {
     let file = checked.file();
-    let parts = gathered(alloc, file)?;
+    let parts = file_parts(alloc, file)?;
     judged(alloc, file, &parts)
 }
 
@@ -176,7 +176,7 @@ fn text_of(
     requires located { All IsElement els.now }
     ensures { IfOk result (λ t. IsTranslation t (file_of file.now)) }
 {
-    let names = names(
+    let names = new_names(
         alloc,
         file,
         parts.lasting.as_slice(),

@@ -8,7 +8,7 @@ ghost use Rattle.prism_translator.specs.Code.{file_in, IsReady, element_of};
 ghost use Rattle.prism_translator.specs.Writers.{with_writer, with_if, home_for, writers_at, writers_through};
 
 use crate::elements::Element;
-use crate::names::Names;
+use crate::entries::Names;
 use jani_tree::{JaniDestination, JaniEdge, JaniWrite};
 use std::alloc::{AllocError, Global};
 

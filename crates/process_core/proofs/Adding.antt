@@ -8,7 +8,7 @@ use Rattle.basics.specs.Members.{any-map, any_agree, filter-map}
 use Rattle.indexmap.specs.IndexSet.{insert_key}
 use Rattle.frac_core.specs.Fraction.{Fraction, nought, plus, is_wide, same_number}
 use Rattle.frac_core.specs.Sums.{total}
-use Rattle.frac_core.specs.Results.{narrow, from_narrow}
+use Rattle.frac_core.specs.Results.{narrow, from_narrow, wide_where}
 use Rattle.frac_core.specs.declared.fraction.FracFail.{FracFail}
 use Rattle.frac_core.specs.declared.fraction.FracFail.TheVariants as F
 use Rattle.process_core.specs.Process.{Branch}
@@ -21,13 +21,6 @@ use Rattle.process_core.specs.declared.data.StepFail.{StepFail}
 use Rattle.process_core.specs.declared.data.StepFail.TheVariants.{Memory, Wide, TooMany}
 use Rattle.process_core.proofs.Targets.{place-map, entry, opened, opened_at, summed_more, targets_more, narrow_more, merging_wide, merging_narrow}
 use Rattle.process_core.proofs.Keys.{key_test}
-
-wide_from : (x : Fraction) (f : FracFail) → narrow x ≡ Err f → is_wide x ≡ true
-wide_from x f h = by_test (is_wide x) refl h
-  where
-    by_test : (b : Bool) → b ≡ is_wide x → ◌≡◌ {A = Result Fraction FracFail} (if b then Err F.Wide else Ok x) (Err f) → is_wide x ≡ true
-    by_test true e k = sym e
-    by_test false e k = absurd cc
 
 module _ (done : List (Branch Fraction Values)) (b : Branch Fraction Values) (keys : List (List ℤ)) (sums : List (Branch Fraction Values)) (h : IsSummed done keys sums) where
   any_there : list_any (pointwise int_eq (key_of b.target)) keys ≡ list_any (equal_states b.target) (targets_of equal_states done)
@@ -80,7 +73,7 @@ module _ (done : List (Branch Fraction Values)) (b : Branch Fraction Values) (ke
         }
 
     pub adds_wide : (f : FracFail) → narrow (plus e.probability b.probability) ≡ Err f → is_wide (plus (total (weights_to equal_states b.target done)) b.probability) ≡ true
-    adds_wide f n = ap (λ (x : Branch Fraction Values). is_wide (plus x.probability b.probability)) (sym entry_there) ∙ wide_from (plus e.probability b.probability) f n
+    adds_wide f n = ap (λ (x : Branch Fraction Values). is_wide (plus x.probability b.probability)) (sym entry_there) ∙ wide_where (plus e.probability b.probability) f n
 
 -- ---- a call that failed
 pub fails_as : (done rest all : List (Branch Fraction Values)) (b : Branch Fraction Values) (keys more : List (List ℤ)) (sums last : List (Branch Fraction Values)) (f : StepFail) →

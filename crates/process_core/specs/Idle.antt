@@ -65,7 +65,7 @@ kinds_end c own a rewards h =
     (any_end_no (λ r. list_any has_outside r.updates) c.participants (idle a rewards) refl)
     (any_end_no (λ r. weighs_wrong (weights_of r.updates)) c.participants (idle a rewards) weighs_one)
 
-same_branch : (x y : Fraction) (t u : Values) (rs qs : List Fraction) → x ≡ y → t ≡ u → rs ≡ qs →
+pub same_branch : (x y : Fraction) (t u : Values) (rs qs : List Fraction) → x ≡ y → t ≡ u → rs ≡ qs →
     ◌≡◌ {A = Branch Fraction Values} (record { probability = x; target = t; rewards = rs }) (record { probability = y; target = u; rewards = qs })
 same_branch x y t u rs qs p q r = cc
 

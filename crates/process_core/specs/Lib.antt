@@ -18,3 +18,4 @@ pub mod Answers
 pub mod Instance
 pub mod Steps
 pub mod Laws
+pub mod States

@@ -1,5 +1,6 @@
 -- A JSON text that begins with a quotation mark is a string with spaces behind it, and has no token that could break a limit.
 use Rattle.std.proofs.Common.{◌≡◌, ◌⊎◌, ℕ, zero, suc, ◌==◌, Bool, true, false, List, [], ◌∷◌, ◌++◌, codes, refl, sym, ap, ap₂, subst, ◌∙◌, inl, inr, append_assoc, append-nil, eqb-true}
+use Rattle.decimal_json.proofs.Once.{nexts_marks}
 use Rattle.decimal_json.specs.declared.tree.Json.{Json}
 use Rattle.decimal_json.specs.declared.tree.Json.TheVariants as J
 use Rattle.decimal_json.specs.Lang.{Mark, Lang, Place, one_of, gives, here, next, ◌>>=◌, ◌or◌, many_with}
@@ -16,11 +17,6 @@ AllSpace (c ∷ w) = (is_space c ≡ true) × AllSpace w
 byte_is : (k : ℕ) (p q : Place) (w : List ℕ) (c : ℕ) → byte k p w c q → (w ≡ k ∷ []) × (q.marks ≡ p.marks)
 unfolding byte one_of next
 byte_is k p q w c h = (h.0 ∙ ap (λ x. x ∷ []) (eqb-true c k h.1), ap (λ (r : Place). r.marks) h.2)
-
-nexts_marks : (w : List ℕ) (p : Place) → (nexts w p).marks ≡ p.marks
-unfolding next
-nexts_marks [] p = refl
-nexts_marks (c ∷ w) p = nexts_marks w (next p)
 
 string_is : (p q : Place) (w s : List ℕ) → string p w s q → IsString w s × (q.marks ≡ p.marks)
 unfolding string ◌>>=◌ chars gives

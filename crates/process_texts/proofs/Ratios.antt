@@ -9,7 +9,7 @@ use Rattle.std.specs.Int.{◌∣◌}
 use Rattle.frac_core.specs.Gcd.{gcd, gcd_pos, gcd_lem}
 use Rattle.frac_core.specs.Fraction.{Fraction, fraction, signed, shrunk, is_wide, quotient}
 use Rattle.frac_core.specs.Laws.{fraction_self}
-use Rattle.frac_core.specs.Results.{narrow, from_narrow, narrow_wide_den, narrow_wide_num}
+use Rattle.frac_core.specs.Results.{narrow, from_narrow, narrow_wide_den, narrow_wide_num, wide_where}
 use Rattle.frac_core.specs.declared.fraction.FracFail.{FracFail}
 use Rattle.frac_core.specs.declared.fraction.FracFail.TheVariants as F
 use Rattle.std.proofs.Common.{◌≢◌, min, ◌||◌, List, [], ◌∷◌, length, Option, Some, None, ltb-true, lt-ltb, le-leb}
@@ -18,14 +18,13 @@ use Rattle.std.specs.List.{list_all}
 use Rattle.std.specs.Char.{is_ascii_digit, digit_value}
 use Rattle.std.specs.Str.Parse.{IsNumeral, AllDigits, digits_value}
 use Rattle.std.proofs.lemmas.Bool.Decides.{nat_tests}
+use Rattle.frac_core.proofs.Readings.{digit_is}
+use Rattle.frac_core.proofs.Parts.{shared_pos}
 use Rattle.basics.specs.Booleans.{first_true, second_true}
 use Rattle.op_trees.specs.declared.tree.Value.{Value}
 use Rattle.op_trees.specs.declared.tree.Value.TheVariants as V
 use Rattle.process_texts.specs.Forms.{digits_of, is_numeral}
 use Rattle.process_texts.specs.Given.{IsRatio, is_long, is_wide_value}
-
-pub common_pos : (n d g : ℕ) → 0 < d → g ≡ gcd n d → 0 < g
-common_pos n d g p e = subst (λ k. 0 < k) (sym e) (gcd_pos n d p)
 
 pub size_of : (m : Bool) (n : ℕ) → nat_abs (signed m n) ≡ n
 size_of false n = refl
@@ -41,7 +40,7 @@ pub num_is : (m : Bool) (n d g : ℕ) → 0 < d → g ≡ gcd n d → (fraction 
 unfolding fraction
 num_is m n zero g p e = absurd (omega arith)
 num_is m n (suc d) g p e =
-    ap (λ k. shrunk (signed m n) (gcd k (suc d))) (size_of m n) ∙ ap (shrunk (signed m n)) (sym e) ∙ shrunk_signed m n g (common_pos n (suc d) g p e)
+    ap (λ k. shrunk (signed m n) (gcd k (suc d))) (size_of m n) ∙ ap (shrunk (signed m n)) (sym e) ∙ shrunk_signed m n g (shared_pos n (suc d) g p e)
 
 pub den_is : (m : Bool) (n d g : ℕ) → 0 < d → g ≡ gcd n d → (fraction (signed m n) d).den ≡ d / g
 unfolding fraction
@@ -72,13 +71,6 @@ answered m n d g top below p e t b q =
         by_test false e = e
         by_test true e = let no : pos (suc k) ≡ pos 0 = (Decides-int_eq (pos (suc k)) (pos 0)).0 e in absurd cc
 
-wide_where : (x : Fraction) (f : FracFail) → narrow x ≡ Err f → is_wide x ≡ true
-wide_where x f h = by_test (is_wide x) refl h
-  where
-    by_test : (b : Bool) → b ≡ is_wide x → ◌≡◌ {A = Result Fraction FracFail} (if b then Err F.Wide else Ok x) (Err f) → is_wide x ≡ true
-    by_test true e k = sym e
-    by_test false e k = absurd cc
-
 -- ---- n/m from two texts of digits
 pub record Digits (ds : List ℕ) (n : ℕ) : Type 0 where
   pub numeral : IsNumeral 10 ds
@@ -87,16 +79,13 @@ pub record Digits (ds : List ℕ) (n : ℕ) : Type 0 where
 digit_low : (c : ℕ) → is_ascii_digit c ≡ true → digit_value c < 10
 digit_low c h = grind (arith, nat_tests)
 
-low_digit : (c : ℕ) → digit_value c < 10 → is_ascii_digit c ≡ true
-low_digit c h = grind (arith, nat_tests)
-
 all_digits : (ds : List ℕ) → list_all is_ascii_digit ds ≡ true → AllDigits 10 ds
 all_digits [] h = tt
 all_digits (c ∷ ds) h = (digit_low c (first_true (is_ascii_digit c) _ h), all_digits ds (second_true (is_ascii_digit c) _ h))
 
 digits_all : (ds : List ℕ) → AllDigits 10 ds → list_all is_ascii_digit ds ≡ true
 digits_all [] h = refl
-digits_all (c ∷ ds) h = ap₂ (λ a b. a && b) (low_digit c h.0) (digits_all ds h.1)
+digits_all (c ∷ ds) h = ap₂ (λ a b. a && b) (digit_is c h.0) (digits_all ds h.1)
 
 pub from_some : (ds : List ℕ) (n : ℕ) → digits_of ds ≡ Some n → Digits ds n
 from_some ds n h = by_test (is_numeral ds) refl h
@@ -160,9 +149,3 @@ module _ (m : Bool) (top below : List ℕ) (n d : ℕ) (t : Digits top n) (b : D
     its_ratio h,
     ap (λ x. x || (is_long top || is_long below)) (ap is_wide (sym (exact p q)) ∙ wide_where (fraction (signed m n) d) f k),
   )
-
-quotient_pos' : (d g : ℕ) → 0 < g → g * (d / g) ≡ d → 0 < d → 0 < d / g
-quotient_pos' d g p e q = pos_of_ne-zero (λ z. let t = ap (λ k. g * k) z in omega arith)
-
-pub below_pos : (n d g : ℕ) → 0 < d → g ≡ gcd n d → 0 < d / g
-below_pos n d g p e = quotient_pos' d g (common_pos n d g p e) (mul-div_cancel' g (subst (λ k. k ∣ d) (sym e) (gcd_lem n d).1)) p

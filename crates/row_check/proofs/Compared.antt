@@ -11,6 +11,8 @@ use Rattle.std.specs.BTreeMap.{is_at}
 use Rattle.std.specs.Map.{lookup}
 use Rattle.std.proofs.lemmas.Map.Lookups.{btree_map_from_get, exact_unsigned}
 use Rattle.std.proofs.lemmas.List.{ext_get_or}
+use Rattle.std.proofs.lemmas.Bool.{and_from}
+use Rattle.basics.specs.Booleans.{first_true, second_true}
 use Rattle.frac_core.specs.Fraction.{Fraction, nought, same_number}
 use Rattle.frac_core.specs.Laws.{same_number_is}
 use Rattle.process_core.specs.Ready.{Name, same_label}
@@ -57,25 +59,14 @@ module _ (n : ℕ) (d e : Sums) (m k : MergedChoice) (f : Keeps n d m) (g : Keep
       (λ q. f.sums q ∙ ap (λ l. unless_nought (get_or l q nought)) h ∙ sym (g.sums q)) exact_unsigned
 
 -- ---- the test of sums is equality
-and_left : (a b : Bool) → (a && b) ≡ true → a ≡ true
-and_left true b h = refl
-and_left false b h = h
-
-and_right : (a b : Bool) → (a && b) ≡ true → b ≡ true
-and_right true b h = h
-and_right false b h = cc
-
-and_both : (a b : Bool) → a ≡ true → b ≡ true → (a && b) ≡ true
-and_both true b h k = k
-and_both false b h k = h
 
 pub same_sums : (l m : Option Name) (xs ys : List Fraction) → l ≡ m → xs ≡ ys → ◌≡◌ {A = Sums} (record { label = l; sums = xs }) (record { label = m; sums = ys })
 same_sums l m xs ys e f = cc
 
 pub equal_sums_is : IsEquality equal_sums
 equal_sums_is a b = (
-  λ h. same_sums a.label b.label a.sums b.sums ((same_label_is a.label b.label).0 (and_left (same_label a.label b.label) _ h)) ((pointwise_decides same_number_is a.sums b.sums).0 (and_right (same_label a.label b.label) _ h)),
-  λ e. and_both (same_label a.label b.label) _ ((same_label_is a.label b.label).1 (ap (λ (c : Sums). c.label) e)) ((pointwise_decides same_number_is a.sums b.sums).1 (ap (λ (c : Sums). c.sums) e)),
+  λ h. same_sums a.label b.label a.sums b.sums ((same_label_is a.label b.label).0 (first_true (same_label a.label b.label) _ h)) ((pointwise_decides same_number_is a.sums b.sums).0 (second_true (same_label a.label b.label) _ h)),
+  λ e. and_from (same_label a.label b.label) _ ((same_label_is a.label b.label).1 (ap (λ (c : Sums). c.label) e)) ((pointwise_decides same_number_is a.sums b.sums).1 (ap (λ (c : Sums). c.sums) e)),
 )
 
 -- ---- counts

@@ -5,6 +5,7 @@ use Rattle.std.specs.Str.{IsUtf8, IsAscii}
 use Rattle.std.specs.Str.Parse.{AllDigits}
 use Rattle.std.proofs.lemmas.Str.{is_utf8-from_IsUtf8, IsUtf8-from_is_utf8, IsUtf8-from_ascii}
 use Rattle.std.proofs.lemmas.Str.Parse.{tells_digits}
+use Rattle.basics.specs.Numbers.{nat_eq-self}
 use Rattle.op_trees.specs.declared.tree.Value.{Value}
 use Rattle.op_trees.specs.declared.tree.Value.TheVariants.{Truth, Number}
 use Rattle.process_core.specs.declared.data.State.{State}
@@ -19,8 +20,6 @@ use Rattle.row_check.specs.Lines.{ReadsText}
 use Rattle.row_check.specs.Texts.{IsNumber, IsStateText, IsNameText, IsProbability, begins_with, number_in}
 
 -- ---- numbers
-eq_self : (n : ℕ) → nat_eq n n ≡ true
-eq_self n = grind arith
 
 digit_ascii : (ds : List ℕ) → AllDigits 10 ds → IsAscii ds
 digit_ascii [] d i = omega arith
@@ -45,7 +44,7 @@ plus_number text e n h = no_sign 43 text n (omega arith) e h
 
 not_begun : (b : ℕ) (text : List ℕ) → 0 < b → begins_with b text ≡ false → get_or text 0 0 ≢ b
 not_begun b [] l e h = omega arith
-not_begun b (c ∷ text) l e h = let f : nat_eq c b ≡ true = ap (λ x. nat_eq x b) h ∙ eq_self b in absurd cc
+not_begun b (c ∷ text) l e h = let f : nat_eq c b ≡ true = ap (λ x. nat_eq x b) h ∙ nat_eq-self b in absurd cc
 
 -- ---- states and names
 pub state_read : (text : List ℕ) (o : Option State) → IsUtf8 text → ReadsState text o → ReadsText (IsStateText text) o
@@ -80,7 +79,7 @@ probability_unread text u = λ x k. u (IsUtf8-from_is_utf8 text k.utf8)
 
 module _ (laws : OneValueText) (text : List ℕ) (u : IsUtf8 text) (b : begins_with 45 text ≡ false) where
   bare : (rest : List ℕ) → text ≡ 45 ∷ rest → ⊥
-  bare rest e = let f : begins_with 45 text ≡ true = ap (begins_with 45) e ∙ eq_self 45 in absurd cc
+  bare rest e = let f : begins_with 45 text ≡ true = ap (begins_with 45) e ∙ nat_eq-self 45 in absurd cc
 
   pub probability_good : (v : Value) → given.Answers (IsValue text) (Good v) → ReadsText (IsProbability text) (number_in v)
   probability_good (Truth t) h = λ x k. let e = (laws text (Truth t) (Number x) false false h.0 k.spells).0 in absurd cc

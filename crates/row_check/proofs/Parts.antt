@@ -3,15 +3,13 @@ use Rattle.std.proofs.Common.{◌≡◌, ◌⊎◌, ℕ, List, [], ◌∷◌, �
 use Rattle.std.specs.List.{list_any}
 use Rattle.std.specs.Str.Parse.{AllDigits, digits_value}
 use Rattle.std.proofs.lemmas.Str.Parse.{tells_digits}
+use Rattle.basics.specs.Numbers.{nat_eq-self}
 use Rattle.basics.specs.Booleans.{first_false, second_false}
 use Rattle.row_check.specs.Texts.{IsNumber, IsNumberBefore}
 
-eq_self : (n : ℕ) → nat_eq n n ≡ true
-eq_self n = grind arith
-
 module _ (m : ℕ) where
   mark_at_front : (b : ℕ) (bs : List ℕ) → list_any (nat_eq m) (b ∷ bs) ≡ false → m ≡ b → ⊥
-  mark_at_front b bs h e = let f = first_false (nat_eq m b) (list_any (nat_eq m) bs) h in let g : nat_eq m b ≡ true = ap (nat_eq m) (sym e) ∙ eq_self m in cc
+  mark_at_front b bs h e = let f = first_false (nat_eq m b) (list_any (nat_eq m) bs) h in let g : nat_eq m b ≡ true = ap (nat_eq m) (sym e) ∙ nat_eq-self m in cc
 
   pub front_same : (a b c d : List ℕ) → list_any (nat_eq m) a ≡ false → list_any (nat_eq m) b ≡ false → a ++ m ∷ c ≡ b ++ m ∷ d → (a ≡ b) × (c ≡ d)
   front_same [] [] c d h k e = (refl, cc)
@@ -25,7 +23,7 @@ module _ (m : ℕ) where
   lacks_mark a b c h e = let f = sym h ∙ ap (list_any (nat_eq m)) e ∙ has b in cc
     where
       has : (b : List ℕ) → list_any (nat_eq m) (b ++ m ∷ c) ≡ true
-      has [] = ap (λ z. z || list_any (nat_eq m) c) (eq_self m)
+      has [] = ap (λ z. z || list_any (nat_eq m) c) (nat_eq-self m)
       has (x ∷ b) = ap (λ z. nat_eq m x || z) (has b) ∙ or_true (nat_eq m x)
         where
           or_true : (b : Bool) → (b || true) ≡ true

@@ -4,6 +4,7 @@ use Rattle.std.specs.List.{list_any}
 use Rattle.std.specs.Ordering.{nat_cmp}
 use Rattle.std.specs.BTreeSet.{BTreeSet, contains}
 use Rattle.std.specs.BTreeMap.{is_at}
+use Rattle.basics.specs.Numbers.{nat_eq-self, nat_eq_comm}
 use Rattle.basics.specs.Booleans.{first_true, second_true}
 use Rattle.basics.specs.Members.{any_push, any_agree}
 use Rattle.row_check.specs.declared.data.Row.{Row}
@@ -76,9 +77,6 @@ later_last a (b ∷ rs) r h = later_on a b r (later a b h.0) (later_last b rs r 
 eq_true : (a b : ℕ) → nat_eq a b ≡ true → a ≡ b
 eq_true a b h = grind arith
 
-eq_self : (n : ℕ) → nat_eq n n ≡ true
-eq_self n = grind arith
-
 not_true : (b : Bool) → (b ≡ true → ⊥) → b ≡ false
 not_true true h = absurd (h refl)
 not_true false h = refl
@@ -87,7 +85,7 @@ same_parts : (a b : Row) → same_choice a b ≡ true → (a.source ≡ b.source
 same_parts a b h = (eq_true a.source b.source (first_true (nat_eq a.source b.source) (nat_eq a.choice b.choice) h), eq_true a.choice b.choice (second_true (nat_eq a.source b.source) (nat_eq a.choice b.choice) h))
 
 from_parts : (a b : Row) → a.source ≡ b.source → a.choice ≡ b.choice → same_choice a b ≡ true
-from_parts a b e f = ap₂ (λ x y. x && y) (ap (nat_eq a.source) (sym e) ∙ eq_self a.source) (ap (nat_eq a.choice) (sym f) ∙ eq_self a.choice)
+from_parts a b e f = ap₂ (λ x y. x && y) (ap (nat_eq a.source) (sym e) ∙ nat_eq-self a.source) (ap (nat_eq a.choice) (sym f) ∙ nat_eq-self a.choice)
 
 passed : (q b r : Row) → Later q b → Follows b r → same_choice b r ≡ false → same_choice q r ≡ false
 passed q b r l f n = not_true (same_choice q r) (λ e. let s = same_parts q r e in by_cases s.0 s.1 l f)
@@ -113,11 +111,8 @@ none_before (a ∷ before) b r t o f n = chain a before o.1
     chain a [] h = head a (passed a b r (later a b h.0) f n) _ (ap (λ z. (z && t b) || false) n)
     chain a (c ∷ rs) h = head a (passed a b r (later_last a (c ∷ rs) b h) f n) _ (chain c rs h.1)
 
-eq_turn : (a b : ℕ) → nat_eq a b ≡ nat_eq b a
-eq_turn a b = grind arith
-
 key_is : (a b : ℕ) → is_at (nat_cmp a) b ≡ nat_eq a b
-key_is a b = at_number a b ∙ eq_turn b a
+key_is a b = at_number a b ∙ nat_eq_comm b a
 
 -- ---- one row more
 module _ (old new : BTreeSet ℕ) (before : List Row) (r : Row) (k : KeepsTargets old before) (f : MayFollow before r)

@@ -1,8 +1,9 @@
 use Rattle.std.proofs.Common.{◌∙◌, ap, ℕ, List}
 use Rattle.std.specs.Prelude.{bytes_eq, true, if◌then◌else◌}
 use Rattle.std.specs.Borrow.{Bor}
+use Rattle.gathering.proofs.Once.{once_more}
 use Rattle.name_table.specs.Gathered.{is_in}
-use Rattle.name_table.proofs.Gathering.{once_more, seen_more}
+use Rattle.name_table.proofs.Gathering.{seen_more}
 use Rattle.name_table.proofs.gather.firsts.Goals as goal
 
 pub loop-name-preserved : goal.loop-name-preserved

@@ -1,5 +1,5 @@
 use Rattle.std.specs.Prelude.{ℕ, List, None}
-use Rattle.std.proofs.Common.{◌≡◌}
+use Rattle.std.proofs.Common.{◌≡◌, rules}
 use Rattle.prism_check.specs.Tables.{module_under, new_name}
 use Rattle.name_rules.specs.Names.{under}
 use Rattle.name_rules.proofs.Maps.{at}

@@ -1,8 +1,9 @@
 use Rattle.std.proofs.Common.{◌∙◌, ap, ℕ, List, map}
 use Rattle.std.specs.Prelude.{bytes_eq, ◌||◌}
 use Rattle.std.specs.Borrow.{Bor}
+use Rattle.gathering.proofs.Once.{once_more}
 use Rattle.name_rules.specs.Names.{has_name}
-use Rattle.prism_meaning.proofs.Once.{once_more, seen_more}
+use Rattle.prism_meaning.proofs.Once.{seen_more}
 use Rattle.prism_meaning.proofs.shapes.each_once.Goals as goal
 
 pub loop-name-init : goal.loop-name-init

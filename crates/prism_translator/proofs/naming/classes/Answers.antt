@@ -1,7 +1,7 @@
 use Rattle.std.proofs.Common.{◌≡◌, ◌∙◌, ap, sym, length, take, drop, ℕ}
 use Rattle.std.proofs.lemmas.List.{length-map}
 use Rattle.jani_tree.specs.Syntax.{File, file_of, const_of}
-use Rattle.prism_translator.proofs.Classes.{classes_are}
+use Rattle.prism_translator.proofs.EntryClasses.{classes_are}
 use Rattle.prism_translator.proofs.naming.classes.Goals as goal
 
 pub returns : goal.returns

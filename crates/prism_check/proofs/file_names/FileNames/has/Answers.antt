@@ -7,4 +7,4 @@ use Rattle.prism_check.proofs.file_names.FileNames.has.Goals as goal
 pub returns : goal.returns
 returns c =
     let name = c.args.name.now in
-    c.has.ensures ∙ at c.self.invariant.known name ∙ ap (λ (k : Checked). is_among (values k.file) name) c.self.view_is
+    c.has.ensures ∙ at c.self.invariant.names.known name ∙ ap (λ (k : Checked). is_among (values k.file) name) c.self.view_is

@@ -10,28 +10,28 @@ use prism_targets::Places;
 
 /// The entries of a file by their classes.
 #[derive(Drop)]
-pub(crate) struct Classes<'a> {
-    pub(crate) constants: &'a [Entry],
-    pub(crate) variables: &'a [Entry],
-    pub(crate) locations: &'a [Entry],
-    pub(crate) modules: &'a [Entry],
-    pub(crate) labels: &'a [Entry],
-    pub(crate) rewards: &'a [Entry],
-    pub(crate) actions: &'a [Entry],
+pub struct Classes<'a> {
+    pub constants: &'a [Entry],
+    pub variables: &'a [Entry],
+    pub locations: &'a [Entry],
+    pub modules: &'a [Entry],
+    pub labels: &'a [Entry],
+    pub rewards: &'a [Entry],
+    pub actions: &'a [Entry],
 }
 
 /// What the names of a file become: its entries, and the numbers of its variables that are not transient and of its constants.
 #[derive(Drop)]
-pub(crate) struct Names<'a> {
-    pub(crate) file: &'a JaniFile,
-    pub(crate) entries: Classes<'a>,
-    pub(crate) lasting: Places<'a>,
-    pub(crate) constants: NameMap<'a, usize>,
+pub struct Names<'a> {
+    pub file: &'a JaniFile,
+    pub entries: Classes<'a>,
+    pub lasting: Places<'a>,
+    pub constants: NameMap<'a, usize>,
 }
 
 impl<'a> Names<'a> {
     /// What a name becomes in an expression of an element; a name that stands for nothing becomes the empty one.
-    pub(crate) fn value(&self, element: usize, name: &str) -> &str
+    pub fn value(&self, element: usize, name: &str) -> &str
         ensures { result.now ≡ value_in self.now element name.now }
     {
         match self.lasting.place(element, name) {
@@ -41,7 +41,7 @@ impl<'a> Names<'a> {
     }
 
     /// The number that no element has: outside of elements only global names are known.
-    pub(crate) fn outside(&self) -> usize
+    pub fn outside(&self) -> usize
         ensures { result ≡ outside (file_in self.now) }
     {
         self.file.elements.len()
@@ -59,7 +59,7 @@ impl<'a> Names<'a> {
 }
 
 /// The name of an entry, empty where there is none.
-pub(crate) fn name_at(entries: &[Entry], i: usize) -> &str
+pub fn name_at(entries: &[Entry], i: usize) -> &str
     ensures { result.now ≡ name_at entries.now i }
 {
     match entries.get(i) {
