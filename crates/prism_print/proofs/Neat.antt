@@ -41,28 +41,28 @@ use Rattle.prism_print.proofs.Lexed.{Spaced}
 abbrev pub Sound : List Piece → Type 0
 Sound qs = (ps : List Piece) → Spaced ps → Calm (text ps) → Spaced (qs ++ ps) × Plain (text (qs ++ ps))
 
-accepted_sound : (k : TokenKind) (w : List ℕ) → IsKind w k → accepts (after Start w) ≡ true → Sound (printed k w ∷ [])
+pub accepted_sound : (k : TokenKind) (w : List ℕ) → IsKind w k → accepts (after Start w) ≡ true → Sound (printed k w ∷ [])
 accepted_sound k w h a = λ ps s c. ((accepted_stands k w (text ps) h a c, s), accepted_plain_text w (text ps) a)
 
-name_accepted : (x : List ℕ) → is_name x ≡ true → accepts (after Start x) ≡ true
+pub name_accepted : (x : List ℕ) → is_name x ≡ true → accepts (after Start x) ≡ true
 name_accepted x h = ap accepts (name_state x h)
 
-true_kind : IsKind (codes "true") (K.Word W.True)
+pub true_kind : IsKind (codes "true") (K.Word W.True)
 unfolding words
 true_kind = refl
 
-false_kind : IsKind (codes "false") (K.Word W.False)
+pub false_kind : IsKind (codes "false") (K.Word W.False)
 unfolding words
 false_kind = refl
 
-space_calm : (rest : List ℕ) → Calm (32 ∷ rest)
+pub space_calm : (rest : List ℕ) → Calm (32 ∷ rest)
 space_calm rest = at_byte 32 rest refl refl
 
 -- a symbol that is not open, with anything behind it
-closed_stands : (s : Symbol) (rest : List ℕ) → is_open s ≡ false → Stands (K.Symbol s) (symbol_text s) rest
+pub closed_stands : (s : Symbol) (rest : List ℕ) → is_open s ≡ false → Stands (K.Symbol s) (symbol_text s) rest
 closed_stands s rest h = symbol_stands s rest (λ o. absurd (let k : true ≡ false = sym o ∙ h in cc))
 
-within_sound : (b : Bool) (qs : List Piece) → Sound qs → Sound (within b qs)
+pub within_sound : (b : Bool) (qs : List Piece) → Sound qs → Sound (within b qs)
 within_sound false qs h = h
 within_sound true qs h = λ ps s c.
     let r = h (mark S.RightParenthesis ∷ ps) (closed_stands S.RightParenthesis (text ps) refl, s) (symbol_calm S.RightParenthesis (text ps)) in
@@ -70,7 +70,7 @@ within_sound true qs h = λ ps s c.
     (subst F (sym (append_assoc qs (mark S.RightParenthesis ∷ []) ps)) (closed_stands S.LeftParenthesis _ refl, r.0), refl)
 
 -- the sign of an operator, before what neither a symbol nor, where it is a word, a name goes on into
-sign_stands : (o : PrismOp) (rest : List ℕ) → Plain rest → (is_function o ≡ true → Calm rest) → Stands (operator_kind o) (operator_text o) rest
+pub sign_stands : (o : PrismOp) (rest : List ℕ) → Plain rest → (is_function o ≡ true → Calm rest) → Stands (operator_kind o) (operator_text o) rest
 unfolding words
 sign_stands O.Neg rest p c = symbol_stands S.Minus rest (λ _. p)
 sign_stands O.Mul rest p c = symbol_stands S.Star rest (λ _. p)
@@ -96,14 +96,14 @@ sign_stands O.Ceil rest p c = accepted_stands K.Ident (codes "ceil") rest (refl,
 sign_stands O.Mod rest p c = accepted_stands K.Ident (codes "mod") rest (refl, refl) refl (c refl)
 
 -- Sound pieces, then a token between blanks, then sound pieces.
-spaced_sound : (k : TokenKind) (w : List ℕ) (qs rs : List Piece) → ((rest : List ℕ) → Stands k w (32 ∷ rest)) → Sound qs → Sound rs → Sound (qs ++ spaced (printed k w) rs)
+pub spaced_sound : (k : TokenKind) (w : List ℕ) (qs rs : List Piece) → ((rest : List ℕ) → Stands k w (32 ∷ rest)) → Sound qs → Sound rs → Sound (qs ++ spaced (printed k w) rs)
 spaced_sound k w qs rs h f g = λ ps s c.
     let r = g ps s c in
     let l = f (spaced (printed k w) (rs ++ ps)) (refl, (h (text (rs ++ ps)), (refl, r.0))) (space_calm _) in
     let F : List Piece → Type 0 = λ u. Spaced u × Plain (text u) in
     subst F (sym (append_assoc qs (spaced (printed k w) rs) ps)) l
 
-called_sound : (o : PrismOp) (qs rs : List Piece) → is_function o ≡ true → Sound qs → Sound rs → Sound (called o qs rs)
+pub called_sound : (o : PrismOp) (qs rs : List Piece) → is_function o ≡ true → Sound qs → Sound rs → Sound (called o qs rs)
 called_sound o qs rs e f g = λ ps s c.
     let r = g (mark S.RightParenthesis ∷ ps) (closed_stands S.RightParenthesis (text ps) refl, s) (symbol_calm S.RightParenthesis (text ps)) in
     let back = mark S.Comma ∷ blank (codes " ") ∷ (rs ++ mark S.RightParenthesis ∷ []) in
@@ -123,19 +123,19 @@ called_sound o qs rs e f g = λ ps s c.
     sign_plain o rest h = absurd cc
 
 -- an operator before its operand
-one_sound : (o : PrismOp) (b : Bool) (qs : List Piece) → arity o ≡ 1 → Sound qs → Sound (sign o ∷ within (is_function o || b) qs)
+pub one_sound : (o : PrismOp) (b : Bool) (qs : List Piece) → arity o ≡ 1 → Sound qs → Sound (sign o ∷ within (is_function o || b) qs)
 one_sound O.Neg b qs h f = λ ps s c. let r = within_sound b qs f ps s c in ((sign_stands O.Neg _ r.1 (λ e. absurd cc), r.0), refl)
 one_sound O.Not b qs h f = λ ps s c. let r = within_sound b qs f ps s c in ((sign_stands O.Not _ r.1 (λ e. absurd cc), r.0), refl)
 one_sound O.Floor b qs h f = λ ps s c. let r = within_sound true qs f ps s c in ((sign_stands O.Floor _ r.1 (λ _. symbol_calm S.LeftParenthesis _), r.0), refl)
 one_sound O.Ceil b qs h f = λ ps s c. let r = within_sound true qs f ps s c in ((sign_stands O.Ceil _ r.1 (λ _. symbol_calm S.LeftParenthesis _), r.0), refl)
 one_sound o b qs h f = absurd (omega arith)
 
-two_sound : (o : PrismOp) (x y t : Bool) (qs rs : List Piece) → is_function o ≡ t → Sound qs → Sound rs → Sound (cond t (called o qs rs) (within x qs ++ spaced (sign o) (within y rs)))
+pub two_sound : (o : PrismOp) (x y t : Bool) (qs rs : List Piece) → is_function o ≡ t → Sound qs → Sound rs → Sound (cond t (called o qs rs) (within x qs ++ spaced (sign o) (within y rs)))
 two_sound o x y true qs rs e f g = called_sound o qs rs e f g
 two_sound o x y false qs rs e f g = spaced_sound (operator_kind o) (operator_text o) (within x qs) (within y rs) (λ rest. sign_stands o (32 ∷ rest) refl (λ _. space_calm rest)) (within_sound x qs f) (within_sound y rs g)
 
 -- The canonical text of a literal is a number of its value.
-literal_worth : (d : Decimal) → IsLiteral d → IsWorth (number_text d) d
+pub literal_worth : (d : Decimal) → IsLiteral d → IsWorth (number_text d) d
 literal_worth d h =
     let t = text_back d h.0 in
     let e : number_text d ≡ numeral_text t.numeral = t.text ∙ ap (λ (m : Bool). minus_text m ++ numeral_text t.numeral) h.1 in

@@ -3,7 +3,7 @@ use Rattle.std.proofs.Common.{◌≡◌, ℕ, zero, suc, ◌+◌, ◌≤◌, Boo
 use Rattle.std.specs.Prelude.{codes, max}
 use Rattle.frac_core.specs.declared.decimal.Decimal.{Decimal}
 use Rattle.op_trees.specs.Tree.{Truth, Number, Name, One, Two, Three, bare}
-use Rattle.op_trees.specs.Names.{offset_of}
+use Rattle.op_trees.specs.Names.{offset_of, HasOperands}
 use Rattle.prism_lex.specs.declared.token.TokenKind.{TokenKind}
 use Rattle.prism_lex.specs.declared.token.TokenKind.TheVariants as K
 use Rattle.prism_lex.specs.declared.words.Reserved.{Reserved}
@@ -266,7 +266,7 @@ choice_at : (a : Expression) (m : ℕ) → AtDepth a → depth a + 1 ≤ m → W
 choice_at a zero f h = absurd (omega arith)
 choice_at a (suc k) f h = plainly (expr_at k) (at_level_of (expr_at k) 10 a (operand_at a k f (omega arith)))
 
-both : (e : Expression) → IsPrintableExpression e → AtDepth e
+both : (e : Expression) → HasOperands arity e → AtDepth e
 both (Truth at b) p m h = of_prim (expr_at m) _ (truth_writes (expr_at m) at b)
 both (Number at d) p m h = of_prim (expr_at m) _ (number_writes (expr_at m) at d)
 both (Name at x) p m h = of_prim (expr_at m) _ (name_writes (expr_at m) at x)
@@ -276,6 +276,33 @@ both (Three at o a b c) p m h =
     of_node (expr_at m) _ refl (choice_writes (expr_at m) at o a b c _ _ _ (is_choice o p.0)
     (at_level_of (expr_at m) 10 a (operand_at a m (both a p.1) (omega arith))) (choice_at b m (both b p.2) (omega arith)) (choice_at c m (both c p.3) (omega arith)))
 
-pub expr_writes : (e : Expression) → IsPrintableExpression e → Writes expr (Same e) (pieces e)
+-- The text of a tree whose nodes have their operands spells it where the text of each name is read as a name.
+pub tree_writes : (e : Expression) → HasOperands arity e → Writes expr (Same e) (pieces e)
 unfolding expr
-expr_writes e p = also (λ w x l. (suc (depth e), l)) (both e p (depth e) (omega arith)).whole
+tree_writes e p = also (λ w x l. (suc (depth e), l)) (both e p (depth e) (omega arith)).whole
+
+operands_of : (e : Expression) → IsPrintableExpression e → HasOperands arity e
+operands_of (Truth at b) p = tt
+operands_of (Number at d) p = tt
+operands_of (Name at x) p = tt
+operands_of (One at o a) p = (p.0, operands_of a p.1)
+operands_of (Two at o a b) p = (p.0, operands_of a p.1, operands_of b p.2)
+operands_of (Three at o a b c) p = (p.0, operands_of a p.1, operands_of b p.2, operands_of c p.3)
+
+pub expr_writes : (e : Expression) → IsPrintableExpression e → Writes expr (Same e) (pieces e)
+expr_writes e p = tree_writes e (operands_of e p)
+
+-- ---- where an expression stands inside no other, as an operand does
+
+whole_operand : (e : Expression) → HasOperands arity e → Operand expr e
+whole_operand (Truth at b) p = record { inner = tree_writes (Truth at b) p; bare_text = λ _. truth_writes expr at b }
+whole_operand (Number at d) p = record { inner = tree_writes (Number at d) p; bare_text = λ _. number_writes expr at d }
+whole_operand (Name at x) p = record { inner = tree_writes (Name at x) p; bare_text = λ _. name_writes expr at x }
+whole_operand (One at o a) p = record { inner = tree_writes (One at o a) p; bare_text = λ i. (one_both expr at o a p.0 (whole_operand a p.1)).bare_text i }
+whole_operand (Two at o a b) p =
+    record { inner = tree_writes (Two at o a b) p; bare_text = λ i. (two_both expr at o a b p.0 (whole_operand a p.1) (whole_operand b p.2)).bare_text i }
+whole_operand (Three at o a b c) p = record { inner = tree_writes (Three at o a b c) p; bare_text = λ i. absurd (let k : true ≡ false = i in cc) }
+
+-- in parentheses where it is an operator node
+pub prim_writes : (e : Expression) → HasOperands arity e → Writes (prim expr) (Same e) (within (is_node e) (pieces e))
+prim_writes e p = operand_prim expr e (whole_operand e p)
