@@ -306,3 +306,8 @@ whole_operand (Three at o a b c) p = record { inner = tree_writes (Three at o a 
 -- in parentheses where it is an operator node
 pub prim_writes : (e : Expression) → HasOperands arity e → Writes (prim expr) (Same e) (within (is_node e) (pieces e))
 prim_writes e p = operand_prim expr e (whole_operand e p)
+
+-- the same as an expression
+pub enclosed_writes : (e : Expression) → HasOperands arity e → Writes expr (Same e) (within (is_node e) (pieces e))
+unfolding expr
+enclosed_writes e p = also (λ w x l. (depth e + 1, l)) (choice_at e (depth e + 1) (both e p) (omega arith))
