@@ -2,7 +2,7 @@
 use Rattle.std.proofs.Common.{◌≡◌, ℕ, ◌<◌, refl, sym, subst, List, [], ◌∷◌, length, Option, Some, None, Bool, true, false, if◌then◌else◌, is_some, arith}
 use Rattle.std.specs.Prelude.{IsSomeAnd, bytes_eq, nat_lt}
 use Rattle.std.proofs.lemmas.Bool.Decides.{nat_tests}
-use Rattle.basics.specs.Lists.{append_right}
+use Rattle.basics.specs.Lists.{append_left, append_right}
 use Rattle.bridge_io.specs.declared.reason.Reason.TheVariants.{TooLong, InitialSet}
 use Rattle.bridge_io.specs.declared.reason.Named.{Named}
 use Rattle.op_trees.specs.declared.tree.Ty.{Ty}
@@ -112,7 +112,7 @@ each_read : {A : Type 0} (item : Form) (P : Node → A → Type 0) (R : A → Ty
 each_read item P R h no_nodes [] c n p = tt
 each_read item P R h no_nodes (x ∷ xs) c n p = absurd p
 each_read item P R h (more_nodes v vs) [] c n p = absurd p
-each_read item P R h (more_nodes v vs) (x ∷ xs) c n p = (h v x (laws.append_left (faults item v) (items_faults item vs) c) n.0 p.0, each_read item P R h vs xs (append_right (faults item v) (items_faults item vs) c) n.1 p.1)
+each_read item P R h (more_nodes v vs) (x ∷ xs) c n p = (h v x (append_left (faults item v) (items_faults item vs) c) n.0 p.0, each_read item P R h vs xs (append_right (faults item v) (items_faults item vs) c) n.1 p.1)
 
 items_read : {A : Type 0} (item : Form) (P : Node → A → Type 0) (R : A → Type 0) → ((w : Node) (x : A) → faults item w ≡ [] → NormalNode w → P w x → R x) → (v : Node) (xs : List A) → list_items_faults item v ≡ [] → NormalNode v → IsItems P v xs → OfAll R xs
 items_read item P R h v xs c n p = each_read item P R h (items_in v) xs (items_in_clean item v c) (items_normal v n) p.items
