@@ -4,6 +4,7 @@ use Rattle.std.specs.List.{All, find, filter}
 use Rattle.std.specs.Option.{option_map}
 use Rattle.std.proofs.Common.{refl, sym, ap, subst, ◌∙◌, arith}
 use Rattle.std.proofs.lemmas.List.Elements.{All-filter, Contains-append_right}
+use Rattle.op_trees.specs.TypeLaws.{some_agrees}
 use Rattle.basics.specs.Booleans.{first_true, second_true}
 use Rattle.basics.specs.Texts.{bytes_eq-true}
 use Rattle.basics.specs.Each.{each_with}
@@ -41,7 +42,7 @@ use Rattle.jani_translation_types.proofs.Sources.{IsFineLabel, IsFineItem, bodie
 use Rattle.jani_translation_types.proofs.Writes.{IsFineWrite, no_constant}
 use Rattle.jani_translation_types.proofs.Edges.{IsFineBranch, IsFineCommand, commands_fine}
 use Rattle.jani_translation_meaning.specs.MeaningLaws.{GivesTyped, FlatCommandsAreSound, FlatMarksAreSound, FlatItemsAreSound}
-use Rattle.jani_translation_meaning.proofs.Agreeing.{all_then, some_agrees, AreTyped, sound, value_typed}
+use Rattle.jani_translation_meaning.proofs.Agreeing.{all_then, AreTyped, sound, value_typed}
 use Rattle.jani_translation_meaning.proofs.Constants.{constant_typed}
 
 -- ---- a variable's name is no constant's

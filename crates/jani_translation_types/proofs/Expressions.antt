@@ -3,7 +3,7 @@ use Rattle.std.specs.Prelude.{◌≡◌, ℕ, List, [], ◌∷◌, ◌++◌, map
 use Rattle.std.specs.List.{find, flat_map, list_any}
 use Rattle.std.specs.Option.{option_map}
 use Rattle.std.proofs.Common.{refl, sym, ap, ap₂, subst, ◌∙◌}
-use Rattle.basics.specs.Lists.{append_parts, append_both}
+use Rattle.basics.specs.Lists.{append_parts, append_both, empty_map}
 use Rattle.basics.specs.Each.{each_then, empty_each}
 use Rattle.bridge_io.specs.declared.reason.Named.{Named}
 use Rattle.bridge_io.specs.declared.reason.Reason.TheVariants.{WrongType, NotConstant, Unknown}
@@ -27,7 +27,7 @@ use Rattle.prism_check.specs.NameFaults.{is_among, values, unless_known}
 use Rattle.prism_check.specs.NameFaults as source_some
 use Rattle.prism_check.specs.TypeFaults as source
 use Rattle.prism_check.specs.TypeFaults.{types}
-use Rattle.prism_check.proofs.Each.{empty_map, no_fault}
+use Rattle.prism_check.proofs.Each.{no_fault}
 use Rattle.prism_check.proofs.NamesIn.{listed_names}
 use Rattle.prism_check.proofs.CleanTypes.{IsFree, free_whole}
 use Rattle.prism_places.specs.Flattened.{IsFlat}

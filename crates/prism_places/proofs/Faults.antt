@@ -6,7 +6,7 @@ use Rattle.std.specs.Option.{option_map}
 use Rattle.std.proofs.Common.{refl, ap, ap₂, ◌∙◌, sym}
 use Rattle.std.proofs.lemmas.List.{length-map}
 use Rattle.std.proofs.Math.Path.{fun_ext}
-use Rattle.basics.specs.Lists.{append_parts}
+use Rattle.basics.specs.Lists.{append_parts, empty_map}
 use Rattle.basics.specs.Options.{is_some-map}
 use Rattle.bridge_io.specs.declared.reason.Named.{Named}
 use Rattle.bridge_io.specs.declared.reason.Reason.{Reason}
@@ -41,7 +41,7 @@ use Rattle.prism_check.specs.SizeFaults.{nodes, height, command_count, part_acti
 use Rattle.prism_check.specs.TypeFaults.{part_variables, numbered_variables, variables, variable_called, or_else as or_other, declared_types, types, misfits, is_unwanted, type_faults_of, is_variable, has_variable, Target, own, global, foreign, target_of, target, wanted_at, write_faults, demand_faults, repeated_writes, part_faults, module_faults, numbered_faults, type_faults}
 use Rattle.prism_check.specs.Faults.{or_else, faults}
 use Rattle.prism_check.proofs.CleanFile.{no_either}
-use Rattle.prism_check.proofs.Each.{empty_map, map_same, flat_map_same}
+use Rattle.prism_check.proofs.Each.{map_same, flat_map_same}
 use Rattle.prism_flat.specs.FlatLaws.{found_after}
 use Rattle.prism_places.proofs.Lists.{chosen_mapped, some_mapped, if_some-mapped, kept_mapped, any_mapped, joined, turned, gathered}
 use Rattle.prism_places.proofs.Names.{bare_part, module_name-bare, renaming-bare, is_formula-bare, called-bare, part-bare, parts-bare, bodies-bare}

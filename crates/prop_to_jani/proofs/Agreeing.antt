@@ -5,7 +5,7 @@ use Rattle.std.specs.List.{AllByRecursion as Each, flat_map, zip}
 use Rattle.std.proofs.lemmas.Bool.{not-false}
 use Rattle.std.proofs.lemmas.List.{length-map, length-drop}
 use Rattle.basics.specs.Each.{each_then, each_with, each_parts, each_of, empty_each, each_join}
-use Rattle.basics.specs.Lists.{append_parts}
+use Rattle.basics.specs.Lists.{append_parts, empty_map}
 use Rattle.bridge_io.specs.declared.reason.Named.{Named}
 use Rattle.bridge_io.specs.declared.reason.Reason.TheVariants.{TwiceNamed, Unknown, WrongType}
 use Rattle.name_rules.specs.Least.{fault}
@@ -28,7 +28,7 @@ use Rattle.prism_print.specs.Printable.{IfAny}
 use Rattle.prism_check.specs.NameFaults.{is_among, given_labels, values}
 use Rattle.prism_tree.specs.Grammar.{unquoted}
 use Rattle.name_rules.specs.Doubled.{doubled}
-use Rattle.prism_check.proofs.Each.{empty_map, no_fault}
+use Rattle.prism_check.proofs.Each.{no_fault}
 use Rattle.prism_check.proofs.NamesIn.{listed_names, names_written_out}
 use Rattle.prism_flat.specs.FlatLaws.{is_written_out}
 use Rattle.name_table.specs.declared.entry.Entry.{Entry}
