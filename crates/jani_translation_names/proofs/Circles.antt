@@ -6,7 +6,6 @@ use Rattle.std.proofs.Common.{refl, sym, ap, ap₂, subst, ◌∙◌, append-nil
 use Rattle.std.proofs.Math.Path.{fun_ext}
 use Rattle.std.proofs.lemmas.List.{map-append}
 use Rattle.std.proofs.lemmas.Slice.Eq.{bytes_eq-Decides}
-use Rattle.prism_images.proofs.Form.{one_names}
 use Rattle.basics.specs.Members.{any-map}
 use Rattle.basics.specs.Texts.{bytes_ne, bytes_eq-true}
 use Rattle.basics.specs.Lists.{append_both}
@@ -34,6 +33,7 @@ use Rattle.jani_translation.proofs.Clean.{no_faults, values_distinct}
 use Rattle.jani_translation.proofs.Fresh.{values_agree, agrees_front, Takes, takes_from}
 use Rattle.jani_translation.proofs.Differ.{values_differ}
 use Rattle.jani_translation_names.specs.Laws.{NoCircles}
+use Rattle.jani_translation_names.proofs.Unknown.{one_names}
 use Rattle.jani_translation_names.proofs.Doubled.{names_of, no_fault, each_contained}
 
 -- ---- names of images

@@ -6,7 +6,6 @@ use Rattle.std.proofs.Common.{refl, sym, ap, subst, ◌∙◌, arith, length-app
 use Rattle.std.proofs.lemmas.List.{length-map}
 use Rattle.std.proofs.lemmas.List.Concat.{flat_map-append}
 use Rattle.std.proofs.lemmas.Bool.{or_right}
-use Rattle.prism_images.proofs.Form.{one_names}
 use Rattle.basics.specs.Texts.{bytes_eq-self, bytes_eq-true}
 use Rattle.basics.specs.Lists.{append_both}
 use Rattle.basics.specs.Each.{each_then, each_map, map_each, each_join, each_empty, each_zip, each_filter, each_flat, each_any}
@@ -87,6 +86,9 @@ has_image f a (x ∷ xs) h = by_test (bytes_eq x a) refl h (has_image f a xs)
     by_test false e q r = or_right (bytes_eq (f x) (f a)) (list_any (λ y. bytes_eq y (f a)) (map f xs)) (r q)
 
 -- minus, which takes its operand from 0, has the operand's names
+pub one_names : (at : ℕ) (o : PrismOp) (a : Tree JaniOp) → names_in (image_one at o a) ≡ names_in a
+one_names at P.Neg a = refl
+one_names at o a = refl
 
 module _ (file : prism.File) where
   abbrev globals : List Name
