@@ -11,11 +11,11 @@ use Rattle.process_texts.specs.declared.given.GivenText.{GivenText}
 use Rattle.process_texts.specs.declared.given.GivenText.TheVariants.{Good, Past, NoForm}
 use Rattle.command_words.specs.Numbers.{IsSmall, numbers_of, pairs_text}
 use Rattle.command_words.specs.Given.{Assignment, IsAssignment, IsGivenText}
-use Rattle.command_words.specs.Words.{Job, showing, along, seeded, Walking, Claim, of_path, of_rows, Checking, on_file, walk, check, claim_files, claim_verb, IsCheck, verb_of, lang_word, from_words, job_verb, job_words, IsJob, IsWalk, OneRequest, WordsCount}
+use Rattle.command_words.specs.Words.{Job, showing, along, seeded, Walking, Claim, of_path, of_rows, Checking, on_file, with_properties, walk, check, claim_files, claim_verb, IsCheck, AreWithProperties, verb_of, lang_word, from_words, job_verb, job_words, IsJob, IsWalk, OneRequest, WordsCount}
 use Rattle.command_words.specs.declared.request.Lang.{Lang}
 use Rattle.command_words.specs.declared.request.Lang.TheVariants.{Prism, Jani}
 use Rattle.command_words.specs.declared.request.Task.{Task}
-use Rattle.command_words.specs.declared.request.Task.TheVariants.{ToJani, ToPrism, CheckPrism, CheckJani}
+use Rattle.command_words.specs.declared.request.Task.TheVariants.{ToJani, ToPrism, ToPrismProps, CheckPrism, CheckJani}
 use Rattle.command_words.proofs.Pairs.{partition_of, no_comma_in}
 use Rattle.command_words.proofs.Assignments.{one_split}
 use Rattle.command_words.proofs.Forms.{differ}
@@ -125,18 +125,27 @@ same_job (seeded f n k) (seeded g m l) xs ys a b v e =
 same_task : (s t : Task) (f g : List ℕ) → verb_of s ++ f ∷ [] ≡ verb_of t ++ g ∷ [] → (s ≡ t) × (f ≡ g)
 same_task ToJani ToJani f g e = (refl, heads _ _ _ _ (tails _ _ _ _ e))
 same_task ToJani ToPrism f g e = absurd (differ _ _ refl (heads _ _ _ _ e))
+same_task ToJani ToPrismProps f g e = absurd (differ _ _ refl (heads _ _ _ _ e))
 same_task ToJani CheckPrism f g e = absurd (differ _ _ refl (heads _ _ _ _ e))
 same_task ToJani CheckJani f g e = absurd (differ _ _ refl (heads _ _ _ _ e))
 same_task ToPrism ToJani f g e = absurd (differ _ _ refl (heads _ _ _ _ e))
 same_task ToPrism ToPrism f g e = (refl, heads _ _ _ _ (tails _ _ _ _ e))
+same_task ToPrism ToPrismProps f g e = absurd (differ _ _ refl (heads _ _ _ _ e))
 same_task ToPrism CheckPrism f g e = absurd (differ _ _ refl (heads _ _ _ _ e))
 same_task ToPrism CheckJani f g e = absurd (differ _ _ refl (heads _ _ _ _ e))
+same_task ToPrismProps ToJani f g e = absurd (differ _ _ refl (heads _ _ _ _ e))
+same_task ToPrismProps ToPrism f g e = absurd (differ _ _ refl (heads _ _ _ _ e))
+same_task ToPrismProps ToPrismProps f g e = (refl, heads _ _ _ _ (tails _ _ _ _ e))
+same_task ToPrismProps CheckPrism f g e = absurd (differ _ _ refl (heads _ _ _ _ e))
+same_task ToPrismProps CheckJani f g e = absurd (differ _ _ refl (heads _ _ _ _ e))
 same_task CheckPrism ToJani f g e = absurd (differ _ _ refl (heads _ _ _ _ e))
 same_task CheckPrism ToPrism f g e = absurd (differ _ _ refl (heads _ _ _ _ e))
+same_task CheckPrism ToPrismProps f g e = absurd (differ _ _ refl (heads _ _ _ _ e))
 same_task CheckPrism CheckPrism f g e = (refl, heads _ _ _ _ (tails _ _ _ _ (tails _ _ _ _ e)))
 same_task CheckPrism CheckJani f g e = absurd (differ _ _ refl (heads _ _ _ _ (tails _ _ _ _ e)))
 same_task CheckJani ToJani f g e = absurd (differ _ _ refl (heads _ _ _ _ e))
 same_task CheckJani ToPrism f g e = absurd (differ _ _ refl (heads _ _ _ _ e))
+same_task CheckJani ToPrismProps f g e = absurd (differ _ _ refl (heads _ _ _ _ e))
 same_task CheckJani CheckPrism f g e = absurd (differ _ _ refl (heads _ _ _ _ (tails _ _ _ _ e)))
 same_task CheckJani CheckJani f g e = (refl, heads _ _ _ _ (tails _ _ _ _ (tails _ _ _ _ e)))
 
@@ -144,14 +153,29 @@ same_task CheckJani CheckJani f g e = (refl, heads _ _ _ _ (tails _ _ _ _ (tails
 task_walk : (words : List (List ℕ)) (t : Task) (f : List ℕ) (w : Walking) → words ≡ verb_of t ++ f ∷ [] → IsWalk words w → ⊥
 task_walk words ToJani f w e h = not_walk _ _ w (differ _ _ refl) (differ _ _ refl) (subst (λ ws. IsWalk ws w) e h)
 task_walk words ToPrism f w e h = not_walk _ _ w (differ _ _ refl) (differ _ _ refl) (subst (λ ws. IsWalk ws w) e h)
+task_walk words ToPrismProps f w e h = not_walk _ _ w (differ _ _ refl) (differ _ _ refl) (subst (λ ws. IsWalk ws w) e h)
 task_walk words CheckPrism f w e h = not_walk _ _ w (differ _ _ refl) (differ _ _ refl) (subst (λ ws. IsWalk ws w) e h)
 task_walk words CheckJani f w e h = not_walk _ _ w (differ _ _ refl) (differ _ _ refl) (subst (λ ws. IsWalk ws w) e h)
 
 task_check : (words : List (List ℕ)) (t : Task) (f : List ℕ) (c : Checking) → words ≡ verb_of t ++ f ∷ [] → IsCheck words c → ⊥
 task_check words ToJani f c e h = not_check _ _ c (differ _ _ refl) (differ _ _ refl) (subst (λ ws. IsCheck ws c) e h)
 task_check words ToPrism f c e h = not_check _ _ c (differ _ _ refl) (differ _ _ refl) (subst (λ ws. IsCheck ws c) e h)
+task_check words ToPrismProps f c e h = not_check _ _ c (differ _ _ refl) (differ _ _ refl) (subst (λ ws. IsCheck ws c) e h)
 task_check words CheckPrism f c e h = not_check _ _ c (differ _ _ refl) (differ _ _ refl) (subst (λ ws. IsCheck ws c) e h)
 task_check words CheckJani f c e h = not_check _ _ c (differ _ _ refl) (differ _ _ refl) (subst (λ ws. IsCheck ws c) e h)
+
+task_properties : (words : List (List ℕ)) (t : Task) (f g p : List ℕ) → words ≡ verb_of t ++ f ∷ [] → AreWithProperties words g p → ⊥
+task_properties words ToJani f g p e h = let d = tails _ _ _ _ (tails _ _ _ _ (sym e ∙ h.words_are)) in cc
+task_properties words ToPrism f g p e h = differ _ _ refl (heads _ _ _ _ (sym e ∙ h.words_are))
+task_properties words ToPrismProps f g p e h = differ _ _ refl (heads _ _ _ _ (sym e ∙ h.words_are))
+task_properties words CheckPrism f g p e h = differ _ _ refl (heads _ _ _ _ (sym e ∙ h.words_are))
+task_properties words CheckJani f g p e h = differ _ _ refl (heads _ _ _ _ (sym e ∙ h.words_are))
+
+walk_properties : (words : List (List ℕ)) (w : Walking) (f p : List ℕ) → IsWalk words w → AreWithProperties words f p → ⊥
+walk_properties words w f p h k = not_walk _ _ w (differ _ _ refl) (differ _ _ refl) (subst (λ ws. IsWalk ws w) k.words_are h)
+
+check_properties : (words : List (List ℕ)) (c : Checking) (f p : List ℕ) → IsCheck words c → AreWithProperties words f p → ⊥
+check_properties words c f p h k = not_check _ _ c (differ _ _ refl) (differ _ _ refl) (subst (λ ws. IsCheck ws c) k.words_are h)
 
 walk_check : (words : List (List ℕ)) (w : Walking) (c : Checking) → IsWalk words w → IsCheck words c → ⊥
 walk_check words w c h k = by_claim c.claim (heads _ _ _ _ (sym h.words_are ∙ k.words_are))
@@ -184,6 +208,14 @@ pub one_request : OneValueText → OneRequest
 one_request one words (on_file s f) (on_file t g) h k = let e = same_task s t f g (sym h.1 ∙ k.1) in ap₂ on_file e.0 e.1
 one_request one words (on_file s f) (walk w) h k = absurd (task_walk words s f w h.1 k)
 one_request one words (on_file s f) (check c) h k = absurd (task_check words s f c h.1 k)
+one_request one words (on_file s f) (with_properties g p) h k = absurd (task_properties words s f g p h.1 k)
+one_request one words (with_properties f p) (on_file t g) h k = absurd (task_properties words t g f p k.1 h)
+one_request one words (with_properties f p) (with_properties g q) h k =
+    let e = tails _ _ _ _ (sym h.words_are ∙ k.words_are) in ap₂ with_properties (heads _ _ _ _ e) (heads _ _ _ _ (tails _ _ _ _ e))
+one_request one words (with_properties f p) (walk w) h k = absurd (walk_properties words w f p k h)
+one_request one words (with_properties f p) (check c) h k = absurd (check_properties words c f p k h)
+one_request one words (walk w) (with_properties f p) h k = absurd (walk_properties words w f p h k)
+one_request one words (check c) (with_properties f p) h k = absurd (check_properties words c f p h k)
 one_request one words (walk w) (on_file t g) h k = absurd (task_walk words t g w k.1 h)
 one_request one words (walk w) (check c) h k = absurd (walk_check words w c h k)
 one_request one words (check c) (on_file t g) h k = absurd (task_check words t g c k.1 h)
@@ -216,11 +248,13 @@ length-zip (w ∷ ws) (g ∷ gs) h = let e = length-zip ws gs h.1 in omega arith
 length-task : (t : Task) (f : List ℕ) → length (verb_of t ++ f ∷ []) ≡ length (verb_of t) + 1
 length-task ToJani f = refl
 length-task ToPrism f = refl
+length-task ToPrismProps f = refl
 length-task CheckPrism f = refl
 length-task CheckJani f = refl
 
 pub words_count : WordsCount
 words_count words (on_file t f) h = ap length h.1 ∙ length-task t f
+words_count words (with_properties f p) h = ap length h.words_are
 words_count words (walk w) h =
     let a = length-front words (job_verb w.job) (lang_word w.lang) w.file w.job h.rest h.words_are in
     let b = length-zip h.rest w.given h.given.are in

@@ -1,15 +1,17 @@
 -- Words of all forms, and where words leave them.
-use Rattle.std.proofs.Common.{arith, ◌≡◌, ◌≢◌, ◌⊎◌, ◌∙◌, sym, ap, ap₂, subst, ℕ, ◌+◌, ◌^◌, ◌<◌, ◌≤◌, List, [], ◌∷◌, ◌++◌, length, Option, Some, None, inl, inr, refl, codes, append_assoc}
+use Rattle.std.proofs.Common.{arith, ◌≡◌, ◌≢◌, ◌⊎◌, ◌∙◌, sym, ap, ap₂, subst, ℕ, ◌+◌, ◌^◌, ◌<◌, ◌≤◌, List, [], ◌∷◌, ◌++◌, length, Option, Some, None, inl, inr, refl, codes, append_assoc, false, String}
+use Rattle.std.specs.Global.{Global}
+use Rattle.std.specs.Bool.{◌==◌}
 use Rattle.std.specs.Fmt.{decimal}
 use Rattle.std.specs.List.{AllByRecursion}
 use Rattle.command_words.specs.Numbers.{IsSmall, pairs_text}
 use Rattle.command_words.specs.Given.{Assignment, HasGiven, AreGiven}
-use Rattle.command_words.specs.Words.{Begins, IsWrong, Job, showing, along, seeded, Walking, Claim, of_path, of_rows, Checking, on_file, walk, check, IsNameBehind, AreNamesBehind, claim_files, claim_verb, HasFileWord, verb_of, lang_word, IsStateWord, IsFrom, from_words, job_verb, job_words, IsJob, IsWalk, IsCheck, HasForm, job_count}
-use Rattle.command_words.specs.Fronts.{One, IsFileName, IsPairsWord, IsSeedWord, IsStepsWord, GivenForm, SeedForm, WayForm, WalkForm, StateForm, PathForm, RowsForm, HeadForm, ShowForm, SimulateForm}
+use Rattle.command_words.specs.Words.{texts, Begins, IsWrong, Job, showing, along, seeded, Walking, Claim, of_path, of_rows, Checking, on_file, with_properties, walk, check, IsNameBehind, AreNamesBehind, claim_files, claim_verb, HasFileWord, verb_of, lang_word, IsStateWord, IsFrom, from_words, job_verb, job_words, IsJob, IsWalk, IsCheck, HasForm, job_count}
+use Rattle.command_words.specs.Fronts.{Then, One, IsNameWrong, IsFileName, IsPairsWord, IsSeedWord, IsStepsWord, GivenForm, SeedForm, WayForm, WalkForm, StateForm, PathForm, RowsForm, HeadForm, ShowForm, SimulateForm}
 use Rattle.command_words.specs.declared.request.Lang.{Lang}
 use Rattle.command_words.specs.declared.request.Task.{Task}
-use Rattle.command_words.specs.declared.request.Task.TheVariants.{ToJani, ToPrism, CheckPrism, CheckJani}
-use Rattle.command_words.proofs.Wrong.{wrong_end, wrong_first, wrong_behind, wrong_next, then_next, one_next}
+use Rattle.command_words.specs.declared.request.Task.TheVariants.{ToJani, ToPrism, ToPrismProps, CheckPrism, CheckJani}
+use Rattle.command_words.proofs.Wrong.{wrong_end, wrong_first, wrong_same, wrong_behind, wrong_next, then_begins, then_end, then_first, then_next, one_next}
 use Rattle.command_words.proofs.Forms.{differ, way_given, way_seed, walk_from, walk_way, behind_head, state_begins, walk_begins, path_begins, rows_begins}
 
 pub heads : (x y : List ℕ) (xs ys : List (List ℕ)) → x ∷ xs ≡ y ∷ ys → x ≡ y
@@ -34,11 +36,12 @@ not_check v vs c a b h = by_claim c.claim (heads _ _ _ _ h.words_are)
     by_claim (of_path path) e = a e
     by_claim (of_rows states rows) e = b e
 
-pub not_task : (v : List ℕ) (vs : List (List ℕ)) (task : Task) (name : List ℕ) → v ≢ codes "to-jani" → v ≢ codes "to-prism" → v ≢ codes "check" → v ∷ vs ≡ verb_of task ++ name ∷ [] → ⊥
-not_task v vs ToJani name a b c e = a (heads _ _ _ _ e)
-not_task v vs ToPrism name a b c e = b (heads _ _ _ _ e)
-not_task v vs CheckPrism name a b c e = c (heads _ _ _ _ e)
-not_task v vs CheckJani name a b c e = c (heads _ _ _ _ e)
+pub not_task : (v : List ℕ) (vs : List (List ℕ)) (task : Task) (name : List ℕ) → v ≢ codes "to-jani" → v ≢ codes "to-prism" → v ≢ codes "to-prism-props" → v ≢ codes "check" → v ∷ vs ≡ verb_of task ++ name ∷ [] → ⊥
+not_task v vs ToJani name a b p c e = a (heads _ _ _ _ e)
+not_task v vs ToPrism name a b p c e = b (heads _ _ _ _ e)
+not_task v vs ToPrismProps name a b p c e = p (heads _ _ _ _ e)
+not_task v vs CheckPrism name a b p c e = c (heads _ _ _ _ e)
+not_task v vs CheckJani name a b p c e = c (heads _ _ _ _ e)
 
 -- ---- the file's word
 some_name : HasFileWord ((102 ∷ []) ∷ [])
@@ -53,34 +56,117 @@ no_file_word = wrong_end HasFileWord file_begins (λ form. let e = form.1.1 in c
 pub empty_file_word : (ws : List (List ℕ)) → IsWrong HasFileWord ([] ∷ ws) 1
 empty_file_word ws = wrong_first HasFileWord [] ws file_begins (λ begins. begins.1.1.0 (let e = begins.1.1.1 in cc))
 
--- ---- behind `to-jani` and `to-prism`
-to_jani_form : (ws : List (List ℕ)) → HasFileWord ws → HasForm (codes "to-jani" ∷ ws)
-to_jani_form ws f = (on_file ToJani f.0, (f.1.0, ap (λ v. codes "to-jani" ∷ v) f.1.1))
+-- a list that is counted not to be empty
+pub some_items : {X : Type 0} (xs : List X) → (length xs == 0) ≡ false → xs ≢ []
+some_items [] h = absurd cc
+some_items (x ∷ xs) h = λ e. cc
 
-to_jani_file : (ws : List (List ℕ)) → HasForm (codes "to-jani" ∷ ws) → HasFileWord ws
-to_jani_file ws (on_file ToJani name, f) = (name, (f.0, tails _ _ _ _ f.1))
-to_jani_file ws (on_file ToPrism name, f) = absurd (differ _ _ refl (heads _ _ _ _ f.1))
-to_jani_file ws (on_file CheckPrism name, f) = absurd (differ _ _ refl (heads _ _ _ _ f.1))
-to_jani_file ws (on_file CheckJani name, f) = absurd (differ _ _ refl (heads _ _ _ _ f.1))
-to_jani_file ws (walk w, h) = absurd (not_walk _ ws w (differ _ _ refl) (differ _ _ refl) h)
-to_jani_file ws (check c, h) = absurd (not_check _ ws c (differ _ _ refl) (differ _ _ refl) h)
+pub some_texts : (words : List (String Global)) → (length words == 0) ≡ false → texts words ≢ []
+some_texts [] h = absurd cc
+some_texts (w ∷ words) h = λ e. cc
 
-pub behind_to_jani : (ws : List (List ℕ)) (k : ℕ) → IsWrong HasFileWord ws k → IsWrong HasForm (codes "to-jani" ∷ ws) (k + 1)
-behind_to_jani ws k e = wrong_behind HasFileWord HasForm (codes "to-jani") ws k to_jani_form to_jani_file e
+-- ---- behind `to-jani`
+-- behind the word of the file: nothing, or the word of the file of the properties
+abbrev pub PropertiesForm : List ℕ → List (List ℕ) → Type 0
+PropertiesForm file ws = (ws ≡ []) ⊎ One (IsNameBehind (file ∷ [])) (λ vs. vs ≡ []) ws
 
+abbrev pub ToJaniForm : List (List ℕ) → Type 0
+ToJaniForm ws = HasForm (codes "to-jani" ∷ ws)
+
+to_jani_form : (ws : List (List ℕ)) → Then IsFileName PropertiesForm ws → ToJaniForm ws
+to_jani_form [] h = absurd h
+to_jani_form (f ∷ []) (n, inl e) = (on_file ToJani f, (n, refl))
+to_jani_form (f ∷ []) (n, inr h) = absurd h
+to_jani_form (f ∷ p ∷ ws) (n, inl e) = absurd cc
+to_jani_form (f ∷ p ∷ ws) (n, inr h) = (
+  with_properties f p,
+  record { names = ((n, tt), (h.0, tt)); words_are = ap (λ vs. codes "to-jani" ∷ f ∷ p ∷ vs) h.1 },
+)
+
+to_jani_words : (ws : List (List ℕ)) → ToJaniForm ws → Then IsFileName PropertiesForm ws
+to_jani_words ws (on_file ToJani name, f) = subst (Then IsFileName PropertiesForm) (sym (tails _ _ _ _ f.1)) (f.0, inl refl)
+to_jani_words ws (on_file ToPrism name, f) = absurd (differ _ _ refl (heads _ _ _ _ f.1))
+to_jani_words ws (on_file ToPrismProps name, f) = absurd (differ _ _ refl (heads _ _ _ _ f.1))
+to_jani_words ws (on_file CheckPrism name, f) = absurd (differ _ _ refl (heads _ _ _ _ f.1))
+to_jani_words ws (on_file CheckJani name, f) = absurd (differ _ _ refl (heads _ _ _ _ f.1))
+to_jani_words ws (with_properties f p, h) = subst (Then IsFileName PropertiesForm) (sym (tails _ _ _ _ h.words_are)) (h.names.0.0, inr (h.names.1.0, refl))
+to_jani_words ws (walk w, h) = absurd (not_walk _ ws w (differ _ _ refl) (differ _ _ refl) h)
+to_jani_words ws (check c, h) = absurd (not_check _ ws c (differ _ _ refl) (differ _ _ refl) h)
+
+behind_to_jani_words : (ws : List (List ℕ)) (k : ℕ) → IsWrong (Then IsFileName PropertiesForm) ws k → IsWrong ToJaniForm ws k
+behind_to_jani_words ws k e = wrong_same (Then IsFileName PropertiesForm) ToJaniForm ws k to_jani_form to_jani_words e
+
+to_jani_begins : Begins (Then IsFileName PropertiesForm) []
+to_jani_begins = then_begins IsFileName PropertiesForm (codes "f") (λ e. cc) ([], inl refl)
+
+pub no_model : IsWrong ToJaniForm [] 1
+no_model = behind_to_jani_words [] 1 (then_end IsFileName PropertiesForm to_jani_begins)
+
+pub empty_model : (ws : List (List ℕ)) → IsWrong ToJaniForm ([] ∷ ws) 1
+empty_model ws = behind_to_jani_words ([] ∷ ws) 1 (then_first IsFileName PropertiesForm to_jani_begins [] ws (λ n. n refl))
+
+module _ (f : List ℕ) (n : f ≢ []) where
+  -- a second word that is no further file
+  other_file : (ws : List (List ℕ)) → ws ≢ [] → IsNameWrong (f ∷ []) ws → IsWrong (PropertiesForm f) ws 1
+  other_file [] some h = absurd (some refl)
+  other_file (w ∷ ws) some h = wrong_first (PropertiesForm f) w ws ([], inl refl) none
+    where
+      none : Begins (PropertiesForm f) (w ∷ []) → ⊥
+      none (more, inl e) = cc
+      none (more, inr k) = h k.0
+
+  pub no_properties : (ws : List (List ℕ)) → ws ≢ [] → IsNameWrong (f ∷ []) ws → IsWrong ToJaniForm (f ∷ ws) 2
+  no_properties ws some h = behind_to_jani_words (f ∷ ws) 2 (then_next IsFileName PropertiesForm f ws 1 n (other_file ws some h))
+
+  -- a third word
+  third : (p : List ℕ) (ws : List (List ℕ)) → IsNameBehind (f ∷ []) p → ws ≢ [] → IsWrong (λ vs. PropertiesForm f (p ∷ vs)) ws 1
+  third p [] h some = absurd (some refl)
+  third p (w ∷ ws) h some = wrong_first (λ vs. PropertiesForm f (p ∷ vs)) w ws ([], inr (h, refl)) none
+    where
+      none : Begins (λ vs. PropertiesForm f (p ∷ vs)) (w ∷ []) → ⊥
+      none (more, inl e) = cc
+      none (more, inr k) = let e = k.1 in cc
+
+  pub behind_properties : (p : List ℕ) (ws : List (List ℕ)) → IsNameBehind (f ∷ []) p → ws ≢ [] → IsWrong ToJaniForm (f ∷ p ∷ ws) 3
+  behind_properties p ws h some =
+      behind_to_jani_words (f ∷ p ∷ ws) 3 (then_next IsFileName PropertiesForm f (p ∷ ws) 2 n (wrong_next (PropertiesForm f) p ws 1 (third p ws h some)))
+
+pub behind_to_jani : (ws : List (List ℕ)) (k : ℕ) → IsWrong ToJaniForm ws k → IsWrong HasForm (codes "to-jani" ∷ ws) (k + 1)
+behind_to_jani ws k e = wrong_next HasForm (codes "to-jani") ws k e
+
+-- ---- behind `to-prism`
 to_prism_form : (ws : List (List ℕ)) → HasFileWord ws → HasForm (codes "to-prism" ∷ ws)
 to_prism_form ws f = (on_file ToPrism f.0, (f.1.0, ap (λ v. codes "to-prism" ∷ v) f.1.1))
 
 to_prism_file : (ws : List (List ℕ)) → HasForm (codes "to-prism" ∷ ws) → HasFileWord ws
 to_prism_file ws (on_file ToJani name, f) = absurd (differ _ _ refl (heads _ _ _ _ f.1))
 to_prism_file ws (on_file ToPrism name, f) = (name, (f.0, tails _ _ _ _ f.1))
+to_prism_file ws (on_file ToPrismProps name, f) = absurd (differ _ _ refl (heads _ _ _ _ f.1))
 to_prism_file ws (on_file CheckPrism name, f) = absurd (differ _ _ refl (heads _ _ _ _ f.1))
 to_prism_file ws (on_file CheckJani name, f) = absurd (differ _ _ refl (heads _ _ _ _ f.1))
+to_prism_file ws (with_properties f p, h) = absurd (differ _ _ refl (heads _ _ _ _ h.words_are))
 to_prism_file ws (walk w, h) = absurd (not_walk _ ws w (differ _ _ refl) (differ _ _ refl) h)
 to_prism_file ws (check c, h) = absurd (not_check _ ws c (differ _ _ refl) (differ _ _ refl) h)
 
 pub behind_to_prism : (ws : List (List ℕ)) (k : ℕ) → IsWrong HasFileWord ws k → IsWrong HasForm (codes "to-prism" ∷ ws) (k + 1)
 behind_to_prism ws k e = wrong_behind HasFileWord HasForm (codes "to-prism") ws k to_prism_form to_prism_file e
+
+-- ---- behind `to-prism-props`
+to_prism_props_form : (ws : List (List ℕ)) → HasFileWord ws → HasForm (codes "to-prism-props" ∷ ws)
+to_prism_props_form ws f = (on_file ToPrismProps f.0, (f.1.0, ap (λ v. codes "to-prism-props" ∷ v) f.1.1))
+
+to_prism_props_file : (ws : List (List ℕ)) → HasForm (codes "to-prism-props" ∷ ws) → HasFileWord ws
+to_prism_props_file ws (on_file ToJani name, f) = absurd (differ _ _ refl (heads _ _ _ _ f.1))
+to_prism_props_file ws (on_file ToPrism name, f) = absurd (differ _ _ refl (heads _ _ _ _ f.1))
+to_prism_props_file ws (on_file ToPrismProps name, f) = (name, (f.0, tails _ _ _ _ f.1))
+to_prism_props_file ws (on_file CheckPrism name, f) = absurd (differ _ _ refl (heads _ _ _ _ f.1))
+to_prism_props_file ws (on_file CheckJani name, f) = absurd (differ _ _ refl (heads _ _ _ _ f.1))
+to_prism_props_file ws (with_properties f p, h) = absurd (differ _ _ refl (heads _ _ _ _ h.words_are))
+to_prism_props_file ws (walk w, h) = absurd (not_walk _ ws w (differ _ _ refl) (differ _ _ refl) h)
+to_prism_props_file ws (check c, h) = absurd (not_check _ ws c (differ _ _ refl) (differ _ _ refl) h)
+
+pub behind_to_prism_props : (ws : List (List ℕ)) (k : ℕ) → IsWrong HasFileWord ws k → IsWrong HasForm (codes "to-prism-props" ∷ ws) (k + 1)
+behind_to_prism_props ws k e = wrong_behind HasFileWord HasForm (codes "to-prism-props") ws k to_prism_props_form to_prism_props_file e
 
 -- ---- behind `check`
 abbrev pub CheckForm : List (List ℕ) → Type 0
@@ -92,8 +178,10 @@ prism_form ws f = (on_file CheckPrism f.0, (f.1.0, ap (λ v. codes "check" ∷ c
 prism_file : (ws : List (List ℕ)) → CheckForm (codes "prism" ∷ ws) → HasFileWord ws
 prism_file ws (on_file ToJani name, f) = absurd (differ _ _ refl (heads _ _ _ _ f.1))
 prism_file ws (on_file ToPrism name, f) = absurd (differ _ _ refl (heads _ _ _ _ f.1))
+prism_file ws (on_file ToPrismProps name, f) = absurd (differ _ _ refl (heads _ _ _ _ f.1))
 prism_file ws (on_file CheckPrism name, f) = (name, (f.0, tails _ _ _ _ (tails _ _ _ _ f.1)))
 prism_file ws (on_file CheckJani name, f) = absurd (differ _ _ refl (heads _ _ _ _ (tails _ _ _ _ f.1)))
+prism_file ws (with_properties f p, h) = absurd (differ _ _ refl (heads _ _ _ _ h.words_are))
 prism_file ws (walk w, h) = absurd (not_walk _ _ w (differ _ _ refl) (differ _ _ refl) h)
 prism_file ws (check c, h) = absurd (not_check _ _ c (differ _ _ refl) (differ _ _ refl) h)
 
@@ -103,8 +191,10 @@ jani_form ws f = (on_file CheckJani f.0, (f.1.0, ap (λ v. codes "check" ∷ cod
 jani_file : (ws : List (List ℕ)) → CheckForm (codes "jani" ∷ ws) → HasFileWord ws
 jani_file ws (on_file ToJani name, f) = absurd (differ _ _ refl (heads _ _ _ _ f.1))
 jani_file ws (on_file ToPrism name, f) = absurd (differ _ _ refl (heads _ _ _ _ f.1))
+jani_file ws (on_file ToPrismProps name, f) = absurd (differ _ _ refl (heads _ _ _ _ f.1))
 jani_file ws (on_file CheckPrism name, f) = absurd (differ _ _ refl (heads _ _ _ _ (tails _ _ _ _ f.1)))
 jani_file ws (on_file CheckJani name, f) = (name, (f.0, tails _ _ _ _ (tails _ _ _ _ f.1)))
+jani_file ws (with_properties f p, h) = absurd (differ _ _ refl (heads _ _ _ _ h.words_are))
 jani_file ws (walk w, h) = absurd (not_walk _ _ w (differ _ _ refl) (differ _ _ refl) h)
 jani_file ws (check c, h) = absurd (not_check _ _ c (differ _ _ refl) (differ _ _ refl) h)
 
@@ -123,8 +213,10 @@ check_begins = (codes "prism" ∷ (102 ∷ []) ∷ [], prism_form _ some_name)
 not_check_end : CheckForm [] → ⊥
 not_check_end (on_file ToJani name, f) = differ _ _ refl (heads _ _ _ _ f.1)
 not_check_end (on_file ToPrism name, f) = differ _ _ refl (heads _ _ _ _ f.1)
+not_check_end (on_file ToPrismProps name, f) = differ _ _ refl (heads _ _ _ _ f.1)
 not_check_end (on_file CheckPrism name, f) = let e = tails _ _ _ _ f.1 in cc
 not_check_end (on_file CheckJani name, f) = let e = tails _ _ _ _ f.1 in cc
+not_check_end (with_properties f p, h) = differ _ _ refl (heads _ _ _ _ h.words_are)
 not_check_end (walk w, h) = not_walk _ _ w (differ _ _ refl) (differ _ _ refl) h
 not_check_end (check c, h) = not_check _ _ c (differ _ _ refl) (differ _ _ refl) h
 
@@ -134,8 +226,10 @@ no_language = wrong_end CheckForm check_begins not_check_end
 language : (lang : List ℕ) → Begins CheckForm (lang ∷ []) → (lang ≡ codes "prism") ⊎ (lang ≡ codes "jani")
 language lang (more, (on_file ToJani name, f)) = absurd (differ _ _ refl (heads _ _ _ _ f.1))
 language lang (more, (on_file ToPrism name, f)) = absurd (differ _ _ refl (heads _ _ _ _ f.1))
+language lang (more, (on_file ToPrismProps name, f)) = absurd (differ _ _ refl (heads _ _ _ _ f.1))
 language lang (more, (on_file CheckPrism name, f)) = inl (heads _ _ _ _ (tails _ _ _ _ f.1))
 language lang (more, (on_file CheckJani name, f)) = inr (heads _ _ _ _ (tails _ _ _ _ f.1))
+language lang (more, (with_properties f p, h)) = absurd (differ _ _ refl (heads _ _ _ _ h.words_are))
 language lang (more, (walk w, h)) = absurd (not_walk _ _ w (differ _ _ refl) (differ _ _ refl) h)
 language lang (more, (check c, h)) = absurd (not_check _ _ c (differ _ _ refl) (differ _ _ refl) h)
 
@@ -163,7 +257,8 @@ show_parts ws rest l f (along from ps) given a b g e = absurd (differ _ _ refl (
 show_parts ws rest l f (seeded from n k) given a b g e = absurd (differ _ _ refl (heads _ _ _ _ e))
 
 show_rest : (ws : List (List ℕ)) → HasForm (codes "show" ∷ ws) → ShowForm ws
-show_rest ws (on_file task name, f) = absurd (not_task _ ws task name (differ _ _ refl) (differ _ _ refl) (differ _ _ refl) f.1)
+show_rest ws (on_file task name, f) = absurd (not_task _ ws task name (differ _ _ refl) (differ _ _ refl) (differ _ _ refl) (differ _ _ refl) f.1)
+show_rest ws (with_properties f p, h) = absurd (differ _ _ refl (heads _ _ _ _ h.words_are))
 show_rest ws (walk w, h) = show_parts ws h.rest w.lang w.file w.job w.given h.file h.job h.given h.words_are
 show_rest ws (check c, h) = absurd (not_check _ ws c (differ _ _ refl) (differ _ _ refl) h)
 
@@ -241,7 +336,8 @@ walk_rest rest (seeded None n k) e h g = inl (inr (refl, seed_rest rest n k h.1 
 walk_rest rest (seeded (Some s) n k) e h g = inr (refl, (h.0, inr (refl, seed_rest rest n k h.1 h.2 g)))
 
 simulate_rest : (ws : List (List ℕ)) → HasForm (codes "simulate" ∷ ws) → SimulateForm ws
-simulate_rest ws (on_file task name, f) = absurd (not_task _ ws task name (differ _ _ refl) (differ _ _ refl) (differ _ _ refl) f.1)
+simulate_rest ws (on_file task name, f) = absurd (not_task _ ws task name (differ _ _ refl) (differ _ _ refl) (differ _ _ refl) (differ _ _ refl) f.1)
+simulate_rest ws (with_properties f p, h) = absurd (differ _ _ refl (heads _ _ _ _ h.words_are))
 simulate_rest ws (walk w, h) =
     subst SimulateForm (sym (tails _ _ _ _ h.words_are)) ((w.lang, refl), (h.file, walk_rest h.rest w.job (sym (heads _ _ _ _ h.words_are)) h.job (w.given, h.given)))
 simulate_rest ws (check c, h) = absurd (not_check _ ws c (differ _ _ refl) (differ _ _ refl) h)
@@ -279,12 +375,14 @@ module _ (ws rest : List (List ℕ)) (l : Lang) (f : List ℕ) (given : List Ass
   rows_parts (of_rows s r) a e = subst (HeadForm RowsForm) (sym (tails _ _ _ _ e)) ((l, refl), (a.0.0, (a.1.0, (a.1.1.0, (given, g)))))
 
 path_rest : (ws : List (List ℕ)) → HasForm (codes "check-path" ∷ ws) → HeadForm PathForm ws
-path_rest ws (on_file task name, f) = absurd (not_task _ ws task name (differ _ _ refl) (differ _ _ refl) (differ _ _ refl) f.1)
+path_rest ws (on_file task name, f) = absurd (not_task _ ws task name (differ _ _ refl) (differ _ _ refl) (differ _ _ refl) (differ _ _ refl) f.1)
+path_rest ws (with_properties f p, h) = absurd (differ _ _ refl (heads _ _ _ _ h.words_are))
 path_rest ws (walk w, h) = absurd (not_walk _ ws w (differ _ _ refl) (differ _ _ refl) h)
 path_rest ws (check c, h) = path_parts ws h.rest c.lang c.file c.given h.given c.claim h.names h.words_are
 
 rows_rest : (ws : List (List ℕ)) → HasForm (codes "check-rows" ∷ ws) → HeadForm RowsForm ws
-rows_rest ws (on_file task name, f) = absurd (not_task _ ws task name (differ _ _ refl) (differ _ _ refl) (differ _ _ refl) f.1)
+rows_rest ws (on_file task name, f) = absurd (not_task _ ws task name (differ _ _ refl) (differ _ _ refl) (differ _ _ refl) (differ _ _ refl) f.1)
+rows_rest ws (with_properties f p, h) = absurd (differ _ _ refl (heads _ _ _ _ h.words_are))
 rows_rest ws (walk w, h) = absurd (not_walk _ ws w (differ _ _ refl) (differ _ _ refl) h)
 rows_rest ws (check c, h) = rows_parts ws h.rest c.lang c.file c.given h.given c.claim h.names h.words_are
 
@@ -296,23 +394,26 @@ behind_rows ws k e = wrong_behind (HeadForm RowsForm) HasForm (codes "check-rows
 
 -- ---- the first word
 form_begins : Begins HasForm []
-form_begins = (codes "to-jani" ∷ (102 ∷ []) ∷ [], to_jani_form _ some_name)
+form_begins = (codes "to-prism" ∷ (102 ∷ []) ∷ [], to_prism_form _ some_name)
 
 not_form_end : HasForm [] → ⊥
 not_form_end (on_file ToJani name, f) = let e = f.1 in cc
 not_form_end (on_file ToPrism name, f) = let e = f.1 in cc
+not_form_end (on_file ToPrismProps name, f) = let e = f.1 in cc
 not_form_end (on_file CheckPrism name, f) = let e = f.1 in cc
 not_form_end (on_file CheckJani name, f) = let e = f.1 in cc
+not_form_end (with_properties f p, h) = let e = h.words_are in cc
 not_form_end (walk w, h) = let e = h.words_are in cc
 not_form_end (check c, h) = let e = h.words_are in cc
 
 pub no_verb : IsWrong HasForm [] 1
 no_verb = wrong_end HasForm form_begins not_form_end
 
-module _ (v : List ℕ) (ws : List (List ℕ)) (a : v ≢ codes "to-jani") (b : v ≢ codes "to-prism") (c : v ≢ codes "check") (d : v ≢ codes "show") (e : v ≢ codes "simulate")
+module _ (v : List ℕ) (ws : List (List ℕ)) (a : v ≢ codes "to-jani") (b : v ≢ codes "to-prism") (p : v ≢ codes "to-prism-props") (c : v ≢ codes "check") (d : v ≢ codes "show") (e : v ≢ codes "simulate")
     (f : v ≢ codes "check-path") (g : v ≢ codes "check-rows") where
   not_begun : Begins HasForm (v ∷ []) → ⊥
-  not_begun (more, (on_file task name, h)) = not_task v more task name a b c h.1
+  not_begun (more, (on_file task name, h)) = not_task v more task name a b p c h.1
+  not_begun (more, (with_properties file second, h)) = a (heads _ _ _ _ h.words_are)
   not_begun (more, (walk w, h)) = not_walk v more w d e h
   not_begun (more, (check m, h)) = not_check v more m f g h
 

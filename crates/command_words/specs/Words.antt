@@ -7,7 +7,7 @@ use Rattle.command_words.specs.Numbers.{IsSmall, pairs_text}
 pub use Rattle.command_words.specs.Given.{Assignment, assignments_of}
 use Rattle.command_words.specs.Given.{AreGiven}
 use Rattle.command_words.specs.declared.request.Task.{Task}
-use Rattle.command_words.specs.declared.request.Task.TheVariants.{ToJani, ToPrism, CheckPrism, CheckJani}
+use Rattle.command_words.specs.declared.request.Task.TheVariants.{ToJani, ToPrism, ToPrismProps, CheckPrism, CheckJani}
 use Rattle.command_words.specs.declared.request.Lang.{Lang}
 use Rattle.command_words.specs.declared.request.Lang.TheVariants.{Prism, Jani}
 use Rattle.command_words.specs.declared.request.Job as code_job
@@ -64,6 +64,7 @@ pub record Checking : Type 0 where
 
 pub data Request : Type 0 where
   on_file : (task : Task) (file : List ℕ) → Request
+  with_properties : (file properties : List ℕ) → Request
   walk : (walking : Walking) → Request
   check : (checking : Checking) → Request
 
@@ -75,12 +76,14 @@ claim_files (of_rows states rows) = states ∷ rows ∷ []
 -- the file of the model
 abbrev pub file_of : Request → List ℕ
 file_of (on_file task file) = file
+file_of (with_properties file properties) = file
 file_of (walk w) = w.file
 file_of (check c) = c.file
 
 -- all files, in the order of their words
 abbrev pub files_of : Request → List (List ℕ)
 files_of (on_file task file) = file ∷ []
+files_of (with_properties file properties) = file ∷ properties ∷ []
 files_of (walk w) = w.file ∷ []
 files_of (check c) = c.file ∷ claim_files c.claim
 
@@ -93,7 +96,7 @@ abbrev pub AreNamesBehind : List (List ℕ) → List (List ℕ) → Type 0
 AreNamesBehind before [] = Unit {0}
 AreNamesBehind before (name ∷ names) = IsNameBehind before name × AreNamesBehind (before ++ name ∷ []) names
 
--- ---- the forms with a file alone: `to-jani FILE`, `to-prism FILE`, `check prism FILE`, `check jani FILE`
+-- ---- the forms with a file alone: `to-jani FILE`, `to-prism FILE`, `to-prism-props FILE`, `check prism FILE`, `check jani FILE`
 -- the file's word alone
 abbrev pub IsFileWord : List (List ℕ) → List ℕ → Type 0
 IsFileWord words name = (name ≢ []) × (words ≡ name ∷ [])
@@ -105,8 +108,14 @@ HasFileWord words = (name : List ℕ) × IsFileWord words name
 abbrev pub verb_of : Task → List (List ℕ)
 verb_of ToJani = codes "to-jani" ∷ []
 verb_of ToPrism = codes "to-prism" ∷ []
+verb_of ToPrismProps = codes "to-prism-props" ∷ []
 verb_of CheckPrism = codes "check" ∷ codes "prism" ∷ []
 verb_of CheckJani = codes "check" ∷ codes "jani" ∷ []
+
+-- ---- the form with a model and its properties: `to-jani FILE PROPS`
+pub record AreWithProperties (words : List (List ℕ)) (file properties : List ℕ) : Type 0 where
+  pub names : AreNamesBehind [] (file ∷ properties ∷ [])
+  pub words_are : words ≡ codes "to-jani" ∷ file ∷ properties ∷ []
 
 -- ---- the forms with a process: `show LANG FILE STATE`, `simulate LANG FILE given N,N,..`, `simulate LANG FILE seed N STEPS`,
 -- and `from STATE` before `given` or `seed`; then any number of words NAME=VALUE
@@ -169,6 +178,7 @@ pub record IsCheck (words : List (List ℕ)) (c : Checking) : Type 0 where
 -- ---- all forms
 abbrev pub IsRequest : List (List ℕ) → Request → Type 0
 IsRequest words (on_file task name) = (name ≢ []) × (words ≡ verb_of task ++ name ∷ [])
+IsRequest words (with_properties file properties) = AreWithProperties words file properties
 IsRequest words (walk w) = IsWalk words w
 IsRequest words (check c) = IsCheck words c
 
@@ -196,6 +206,7 @@ words_before_given c = 3 + length (claim_files c.claim)
 -- how many words ask for it
 abbrev pub word_count : Request → ℕ
 word_count (on_file task name) = length (verb_of task) + 1
+word_count (with_properties file properties) = 3
 word_count (walk w) = words_before w + length w.given
 word_count (check c) = words_before_given c + length c.given
 
@@ -224,6 +235,7 @@ checking_of c = record { lang = c.lang; file = c.file.now; claim = claim_of c.cl
 
 abbrev pub request_of : code_request.Request → Request
 request_of (code_request_case.OnFile task file) = on_file task file.now
+request_of (code_request_case.WithProperties file properties) = with_properties file.now properties.now
 request_of (code_request_case.Walk w) = walk (walking_of w)
 request_of (code_request_case.Check c) = check (checking_of c)
 

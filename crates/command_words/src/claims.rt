@@ -60,13 +60,13 @@ pub(crate) fn rows_in(words: &[String]) -> Result<ClaimFront<'_>, usize>
 
 /// The word of a further file, and the words behind.
 #[derive(Clone, Copy)]
-struct NameFront<'a> {
-    name: &'a str,
-    rest: &'a [String],
+pub(crate) struct NameFront<'a> {
+    pub(crate) name: &'a str,
+    pub(crate) rest: &'a [String],
 }
 
 /// What words begin with where a file is named that isn't one of these.
-fn name_in<'a>(words: &'a [String], before: &[&str]) -> Option<NameFront<'a>>
+pub(crate) fn name_in<'a>(words: &'a [String], before: &[&str]) -> Option<NameFront<'a>>
     ensures { ReadsName (map (λ s. s.now) before.now) (texts words.now) result }
 {
     let [first, rest @ ..] = words else {

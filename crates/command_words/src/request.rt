@@ -13,6 +13,8 @@ pub enum Task {
     ToJani,
     /// `to-prism FILE`: the JANI file is translated to PRISM.
     ToPrism,
+    /// `to-prism-props FILE`: the properties of the JANI file are written as those of its translation to PRISM.
+    ToPrismProps,
     /// `check prism FILE`: the PRISM file is judged, and what it consists of is counted.
     CheckPrism,
     /// `check jani FILE`: the JANI file is judged, and what takes part is counted.
@@ -89,6 +91,8 @@ pub struct Checking<'a> {
 pub enum Request<'a> {
     /// A task, and the word of the file that it is for.
     OnFile(Task, &'a str),
+    /// `to-jani FILE PROPS`: the PRISM file of the first word is translated to JANI, with the properties in that of the second.
+    WithProperties(&'a str, &'a str),
     /// A job on the process of a file.
     Walk(Walking<'a>),
     /// A claim about the process of a file.
@@ -102,6 +106,9 @@ impl<'a> Request<'a> {
     {
         let files = match self {
             Request::OnFile(_, file) => Vec::from_slice(alloc, &[*file]),
+            Request::WithProperties(file, properties) => {
+                Vec::from_slice(alloc, &[*file, *properties])
+            }
             Request::Walk(walking) => Vec::from_slice(alloc, &[walking.file]),
             Request::Check(checking) => match checking.claim {
                 Claim::Path(path) => Vec::from_slice(alloc, &[checking.file, path]),

@@ -3,7 +3,7 @@ ghost use Rattle.std.specs.Prelude.{◌∷◌, MatchResult, codes};
 ghost use Rattle.command_words.specs.Words.{AnswersWords, HasFileWord, HasForm, IsFileWord, IsRequest, IsWrong, on_file, request_of, texts};
 ghost use Rattle.command_words.specs.Fronts.{IsClaimFront, IsStart, ShowForm, SimulateForm};
 
-use crate::claims::{ClaimFront, path_in, rows_in};
+use crate::claims::{ClaimFront, name_in, path_in, rows_in};
 use crate::fronts::{Front, head_in, state_in, walk_in};
 use crate::given::assignments_in;
 use crate::request::{Checking, Job, Lang, Request, Task, Walking, WordsFail};
@@ -18,12 +18,16 @@ pub fn request_in(alloc: Global, words: &[String]) -> Result<Request<'_>, WordsF
         return Err(WordsFail::At(1));
     };
     match verb.as_str() {
-        "to-jani" => match file_in(rest) {
-            Ok(name) => Ok(Request::OnFile(Task::ToJani, name)),
+        "to-jani" => match to_jani_in(rest) {
+            Ok(request) => Ok(request),
             Err(k) => Err(WordsFail::At(k + 1)),
         },
         "to-prism" => match file_in(rest) {
             Ok(name) => Ok(Request::OnFile(Task::ToPrism, name)),
+            Err(k) => Err(WordsFail::At(k + 1)),
+        },
+        "to-prism-props" => match file_in(rest) {
+            Ok(name) => Ok(Request::OnFile(Task::ToPrismProps, name)),
             Err(k) => Err(WordsFail::At(k + 1)),
         },
         "check" => match check_in(rest) {
@@ -49,6 +53,31 @@ pub fn request_in(alloc: Global, words: &[String]) -> Result<Request<'_>, WordsF
         },
         _ => Err(WordsFail::At(1)),
     }
+}
+
+// What the words behind `to-jani` ask for, or the position among them at which no form goes on.
+fn to_jani_in(words: &[String]) -> Result<Request<'_>, usize>
+    ensures { MatchResult result
+        (λ r. IsRequest (codes "to-jani" ∷ texts words.now) (request_of r))
+        (λ k. IsWrong (λ ws. HasForm (codes "to-jani" ∷ ws)) (texts words.now) k) }
+{
+    let [name, rest @ ..] = words else {
+        return Err(1);
+    };
+    let file = name.as_str();
+    if file.is_empty() {
+        return Err(1);
+    }
+    if rest.is_empty() {
+        return Ok(Request::OnFile(Task::ToJani, file));
+    }
+    let Some(behind) = name_in(rest, &[file]) else {
+        return Err(2);
+    };
+    if !behind.rest.is_empty() {
+        return Err(3);
+    }
+    Ok(Request::WithProperties(file, behind.name))
 }
 
 // What the words behind `check` ask for, or the position among them at which no form goes on.

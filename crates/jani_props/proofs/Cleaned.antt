@@ -1,6 +1,6 @@
 -- What a value without faults has: its members and items have none, what is required is there, and each kind of value stands only where it
 -- may.
-use Rattle.std.proofs.Common.{◌≡◌, ℕ, ◌+◌, ◌<◌, refl, sym, ap, subst, ◌∙◌, List, [], ◌∷◌, ◌++◌, Option, Some, None, true, false, Bool, ◌||◌, ◌&&◌, not, if◌then◌else◌, is_some, ◌⊎◌, inl, inr, arith, unwrap_or}
+use Rattle.std.proofs.Common.{◌≡◌, ℕ, ◌+◌, ◌<◌, refl, sym, ap, subst, ◌∙◌, List, [], ◌∷◌, ◌++◌, Option, Some, None, true, false, Bool, ◌||◌, ◌&&◌, not, if◌then◌else◌, is_some, inl, inr, arith, unwrap_or}
 use Rattle.std.specs.Prelude.{bytes_eq, IsSomeAnd}
 use Rattle.std.specs.List.{list_any}
 use Rattle.std.proofs.lemmas.Slice.Eq.{bytes_eq-Decides}
@@ -59,10 +59,6 @@ module _ (given : List ℕ → Bool) where
         | inr e ↦ member_clean kind k g rest w f (append_right (by_form (known_form kind n.name) (fault n.at UnknownMember) (λ g. faults given g v)) _ c) e.1
       ]
 
-not_first : (a b : Bool) → a ≡ true → (not a || b) ≡ true → b ≡ true
-not_first true b h e = e
-not_first false b h e = absurd cc
-
 abbrev is_row_for : PropKey → Row → Bool
 is_row_for key r = is_required r.1 && bytes_eq (spelled_key r.0) (spelled_key key)
 
@@ -76,7 +72,7 @@ needed_there ms close (r ∷ rows) key n c =
           let both = and_parts (is_required r.1) (bytes_eq (spelled_key r.0) (spelled_key key)) e in
           let same : spelled_key r.0 ≡ spelled_key key = (bytes_eq-Decides (spelled_key r.0) (spelled_key key)).0 both.1 in
           let there : (not (is_required r.1) || has r.0 ms) ≡ true = unless_clean (not (is_required r.1) || has r.0 ms) close MissingMember (append_left _ (missing_faults ms close rows) c) in
-          ap (λ s. is_some (member_text s ms)) (sym same) ∙ not_first (is_required r.1) (has r.0 ms) both.0 there
+          ap (λ s. is_some (member_text s ms)) (sym same) ∙ (sym (ap (λ b. not b || has r.0 ms) both.0) ∙ there)
       | inr e ↦ needed_there ms close rows key e (append_right (row_faults ms close r) _ c)
     ]
 

@@ -1,11 +1,9 @@
 -- Properties of a judged file, as they are written in it and as properties of its model.
-use Rattle.std.proofs.Common.{◌≡◌, ℕ, ◌<◌, refl, sym, ap, ap₂, subst, ◌∙◌, List, [], ◌∷◌, ◌++◌, map, length, flat_map, Option, Some, None, Bool, true, false, is_some, not, ◌||◌}
+use Rattle.std.proofs.Common.{◌≡◌, ℕ, ◌<◌, refl, sym, ap, subst, ◌∙◌, List, [], ◌∷◌, ◌++◌, map, length, flat_map, Option, Some, None, Bool, true, false, is_some, not}
 use Rattle.std.specs.Prelude.{bytes_eq, codes, IsSomeAnd, IsTrue, max}
-use Rattle.std.specs.List.{AllByRecursion, list_any}
+use Rattle.std.specs.List.{AllByRecursion, IsDistinct}
 use Rattle.std.specs.Option.{option_map}
-use Rattle.std.proofs.lemmas.Slice.Eq.{bytes_eq-Decides}
 use Rattle.basics.specs.Lists.{append_left, append_right}
-use Rattle.basics.specs.Members.{is_some-position}
 use Rattle.bridge_io.specs.declared.reason.Named.{Named}
 use Rattle.bridge_io.specs.declared.reason.Reason.{Reason}
 use Rattle.bridge_io.specs.declared.reason.Reason.TheVariants.{TwiceNamed, Unknown}
@@ -21,18 +19,19 @@ use Rattle.jani_tree.specs.Form.{NormalNode, NormalNodes, HasItems, VarRead}
 use Rattle.jani_tree.specs.Jani.{Each, IsNamed, IsText}
 use Rattle.jani_check.specs.NameFaults as names
 use Rattle.jani_check.specs.NameFaults.{var_names, global_names}
-use Rattle.jani_check.specs.Faults.{IsChecked, or_else}
+use Rattle.jani_check.specs.Faults.{IsChecked}
 use Rattle.jani_check.specs.Things.{global_thing}
-use Rattle.prop_grammar.specs.Property.{Ask, greatest, least, bounded, greatest_reward, least_reward, Path, finally, globally, until, weak_until, finally_within, until_within}
+use Rattle.jani_check.proofs.Profiled.{first_none}
+use Rattle.prop_grammar.specs.Property.{Ask, greatest, least, bounded, greatest_reward, least_reward, Path, finally}
 use Rattle.prop_trees.specs.Trees.{Name, JaniProperty, structure_of, ask_with}
 use Rattle.prop_trees.specs.Form.{AsksWell, JaniForm, IsFinally}
-use Rattle.prop_trees.specs.JaniText.{part, Is, IsValues, IsTitle, IsProperty, IsReached, structure_name}
+use Rattle.prop_trees.specs.JaniText.{part, Is, IsValues, IsTitle, IsProperty, IsReached, structure_name, AreProperties}
+use Rattle.prop_trees.proofs.Single.{AreApart, HasStructure, single_properties}
 use Rattle.jani_props.specs.Syntax.{Written}
 use Rattle.jani_props.specs.Spelled.{IsAsked, IsTitled, IsWritten, AreWritten}
 use Rattle.jani_props.specs.Faults.{shape_faults, name_faults, type_faults, unknown_names, unknown_structure, structures, structures_among, structure_number, numbered, or_nought, filed, titles}
 use Rattle.jani_props.specs.Reading.{AreRead}
-use Rattle.jani_props.proofs.Numbering.{Once, is_structure, among_reward, among_other, named_at, number_is}
-use Rattle.jani_props.proofs.Only.{some_then, asked_is, values_is}
+use Rattle.jani_props.proofs.Numbering.{is_structure, among_reward, among_other, named_at}
 use Rattle.jani_props.proofs.Forms.{part_then, asked_formed}
 
 -- ---- each structure's name stands once, and is not empty
@@ -45,75 +44,48 @@ clash_at : (r : Reason) (n m : Named) (before after : List Named) → flat_map (
 clash_at r n m [] after e = no_fault (bytes_eq m.name n.name) (max m.at n.at) r (append_left (clash r n m) (flat_map (clash r n) after) e)
 clash_at r n m (b ∷ before) after e = clash_at r n m before after (append_right (clash r n b) (flat_map (clash r n) (before ++ m ∷ after)) e)
 
-other_way : (x y : Name) → bytes_eq x y ≡ false → bytes_eq y x ≡ false
-other_way x y e = by_test (bytes_eq y x) refl
-  where
-    by_test : (b : Bool) → bytes_eq y x ≡ b → bytes_eq y x ≡ false
-    by_test false h = h
-    by_test true h = let same : y ≡ x = (bytes_eq-Decides y x).0 h in absurd (cc ((bytes_eq-Decides x y).1 (sym same), e))
+-- what holds of a variable's name holds of the structure's that it is
+among : (P : Name → Type 0) (v : Var) (vs : List Var) (b : Bool) → is_structure v ≡ b → P v.name.name → AllByRecursion P (structures_among vs) → AllByRecursion P (structures_among (v ∷ vs))
+among P v vs true h p r = subst (AllByRecursion P) (sym (among_reward v vs h)) (p, r)
+among P v vs false h p r = subst (AllByRecursion P) (sym (among_other v vs h)) r
 
-later_by : (v : Var) (vs : List Var) (x : Name) (b : Bool) → is_structure v ≡ b → bytes_eq v.name.name x ≡ false → list_any (λ z. bytes_eq z x) (structures_among vs) ≡ false →
-    list_any (λ z. bytes_eq z x) (structures_among (v ∷ vs)) ≡ false
-later_by v vs x false h e r = ap (list_any (λ z. bytes_eq z x)) (among_other v vs h) ∙ r
-later_by v vs x true h e r = ap (list_any (λ z. bytes_eq z x)) (among_reward v vs h) ∙ ap₂ (λ a b. a || b) e r
-
-not_later : (r : Reason) (m : Named) (before after : List Named) (vs : List Var) → doubled_after r (before ++ m ∷ after) (var_names vs) ≡ [] → list_any (λ z. bytes_eq z m.name) (structures_among vs) ≡ false
-not_later r m before after [] e = refl
+not_later : (r : Reason) (m : Named) (before after : List Named) (vs : List Var) → doubled_after r (before ++ m ∷ after) (var_names vs) ≡ [] → AllByRecursion (λ x. bytes_eq m.name x ≡ false) (structures_among vs)
+not_later r m before after [] e = tt
 not_later r m before after (v ∷ vs) e =
-    later_by v vs m.name (is_structure v) refl
-    (other_way m.name v.name.name (clash_at r v.name m before after (append_left _ (doubled_after r (v.name ∷ (before ++ m ∷ after)) (var_names vs)) e)))
+    among (λ x. bytes_eq m.name x ≡ false) v vs (is_structure v) refl
+    (clash_at r v.name m before after (append_left _ (doubled_after r (v.name ∷ (before ++ m ∷ after)) (var_names vs)) e))
     (not_later r m (v.name ∷ before) after vs (append_right (flat_map (clash r v.name) (before ++ m ∷ after)) _ e))
 
-once_by : (v : Var) (vs : List Var) (b : Bool) → is_structure v ≡ b → list_any (λ z. bytes_eq z v.name.name) (structures_among vs) ≡ false → Once (structures_among vs) → Once (structures_among (v ∷ vs))
-once_by v vs false h n o = subst Once (sym (among_other v vs h)) o
-once_by v vs true h n o = subst Once (sym (among_reward v vs h)) (n, o)
+distinct_by : (v : Var) (vs : List Var) (b : Bool) → is_structure v ≡ b → AllByRecursion (λ x. bytes_eq v.name.name x ≡ false) (structures_among vs) → IsDistinct bytes_eq (structures_among vs) →
+    IsDistinct bytes_eq (structures_among (v ∷ vs))
+unfolding IsDistinct
+distinct_by v vs true h n d = subst (IsDistinct bytes_eq) (sym (among_reward v vs h)) (n, d)
+distinct_by v vs false h n d = subst (IsDistinct bytes_eq) (sym (among_other v vs h)) d
 
-once : (r : Reason) (earlier : List Named) (vs : List Var) → doubled_after r earlier (var_names vs) ≡ [] → Once (structures_among vs)
-once r earlier [] e = tt
-once r earlier (v ∷ vs) e =
+distinct : (r : Reason) (earlier : List Named) (vs : List Var) → doubled_after r earlier (var_names vs) ≡ [] → IsDistinct bytes_eq (structures_among vs)
+unfolding IsDistinct
+distinct r earlier [] e = tt
+distinct r earlier (v ∷ vs) e =
     let later : doubled_after r (v.name ∷ earlier) (var_names vs) ≡ [] = append_right (flat_map (clash r v.name) earlier) _ e in
-    once_by v vs (is_structure v) refl (not_later r v.name [] earlier vs later) (once r (v.name ∷ earlier) vs later)
+    distinct_by v vs (is_structure v) refl (not_later r v.name [] earlier vs later) (distinct r (v.name ∷ earlier) vs later)
 
 behind : (r : Reason) (earlier ns ms : List Named) → doubled_after r earlier (ns ++ ms) ≡ [] → (before : List Named) × (doubled_after r before ms ≡ [])
 behind r earlier [] ms e = (earlier, e)
 behind r earlier (n ∷ ns) ms e = behind r (n ∷ earlier) ns ms (append_right (flat_map (clash r n) earlier) _ e)
 
-first_kind : (xs ys : List Fault) → or_else xs ys ≡ [] → xs ≡ []
-first_kind [] ys e = refl
-first_kind (x ∷ xs) ys e = absurd cc
-
-either_none : (a b : Bool) → (a ≡ true → ⊥) → (b ≡ true → ⊥) → (a || b) ≡ true → ⊥
-either_none true b f g e = f refl
-either_none false b f g e = g e
-
-some_by : (v : Var) (vs : List Var) (x : Name) (b : Bool) → is_structure v ≡ b → (v.name.name ≡ x → ⊥) → (list_any (λ y. bytes_eq y x) (structures_among vs) ≡ true → ⊥) →
-    list_any (λ y. bytes_eq y x) (structures_among (v ∷ vs)) ≡ true → ⊥
-some_by v vs x false t f g a = g (ap (list_any (λ y. bytes_eq y x)) (sym (among_other v vs t)) ∙ a)
-some_by v vs x true t f g a =
-    either_none (bytes_eq v.name.name x) (list_any (λ y. bytes_eq y x) (structures_among vs)) (λ e. f ((bytes_eq-Decides v.name.name x).0 e)) g
-    (ap (list_any (λ y. bytes_eq y x)) (sym (among_reward v vs t)) ∙ a)
-
-has_items : (y x : Name) → HasItems y → y ≡ x → x ≡ [] → ⊥
-has_items y x h e n = subst HasItems (e ∙ n) h
-
-structure_some : (vs : List Var) (x : Name) → OfAll (VarRead HasItems) vs → list_any (λ y. bytes_eq y x) (structures_among vs) ≡ true → x ≡ [] → ⊥
-structure_some [] x h a e = cc
-structure_some (v ∷ vs) x h a e = some_by v vs x (is_structure v) refl (λ f. has_items v.name.name x h.0.name f e) (λ b. structure_some vs x h.1 b e) a
+all_some : (vs : List Var) → OfAll (VarRead HasItems) vs → AllByRecursion (λ x. x ≡ [] → ⊥) (structures_among vs)
+all_some [] h = tt
+all_some (v ∷ vs) h = among (λ x. x ≡ [] → ⊥) v vs (is_structure v) refl (λ e. subst HasItems e h.0.name) (all_some vs h.1)
 
 -- ---- pieces
 
-both : (o : Option Node) (P Q : Node → Type 0) → IsSomeAnd o P → IsSomeAnd o Q → (w : Node) × P w × Q w
-both None P Q p q = absurd p
-both (Some w) P Q p q = (w, p, q)
+some_then : {P Q : Node → Type 0} (o : Option Node) → ((w : Node) → P w → Q w) → IsSomeAnd o P → IsSomeAnd o Q
+some_then None h i = i
+some_then (Some w) h i = h w i
 
 title_text : (v : Node) (n : Option Named) → IsTitled v n → IsTitle v (option_map (λ n. n.name) n)
 title_text v None i = i
 title_text v (Some n) i = subst (λ w. IsText w n.name) (sym i) refl
-
-title_only : (v : Node) (n : Option Named) (x : Option Name) → IsTitled v n → IsTitle v x → x ≡ option_map (λ n. n.name) n
-title_only v None x i t = absurd i
-title_only v (Some n) None i t = absurd t
-title_only v (Some n) (Some x) i t = ap Some (sym (subst (λ w. IsText w x) i t))
 
 known_of : (o : Option ℕ) (at : ℕ) (rest : List Fault) → fault_if (not (is_some o)) at Unknown ++ rest ≡ [] → (i : ℕ) × (o ≡ Some i)
 known_of None at rest e = absurd cc
@@ -121,11 +93,7 @@ known_of (Some i) at rest e = (i, refl)
 
 finally_reached : (v : Node) (p : Path Expression) → IsReached v p → IsFinally p
 finally_reached v (finally e) i = tt
-finally_reached v (globally e) i = i
-finally_reached v (until a b) i = i
-finally_reached v (weak_until a b) i = i
-finally_reached v (finally_within k e) i = i
-finally_reached v (until_within k a b) i = i
+finally_reached v p i = absurd i
 
 reached_finally : (o : Option Node) (p : Path Expression) → IsSomeAnd o (λ w. IsReached w p) → IsFinally p
 reached_finally None p i = absurd i
@@ -138,13 +106,13 @@ module _ (file : File) (is_checked : IsChecked file) where
   abbrev own_number : Named → ℕ
   own_number n = numbered (structure_number file) n
 
-  rewards_once : Once rewards
-  rewards_once =
-      let clean : names.name_faults file ≡ [] = first_kind (names.name_faults file) _ is_checked.clean in
+  rewards_apart : AreApart rewards
+  rewards_apart =
+      let clean : names.name_faults file ≡ [] = first_none (names.name_faults file) _ is_checked.clean in
       let twice : names.doubled_names file ≡ [] = append_left (names.doubled_names file) _ clean in
       let global : doubled TwiceNamed (global_names file) ≡ [] = append_left (doubled TwiceNamed (global_names file)) _ twice in
       let b = behind TwiceNamed [] (map (λ c. c.name) file.constants) (var_names file.variables) global in
-      once TwiceNamed b.0 file.variables b.1
+      record { distinct = distinct TwiceNamed b.0 file.variables b.1; some = all_some file.variables is_checked.form.variables }
 
   -- a structure that there is
   abbrev IsThere : Named → Type 0
@@ -155,13 +123,6 @@ module _ (file : File) (is_checked : IsChecked file) where
 
   there_below : (n : Named) (t : IsThere n) → own_number n < length rewards
   there_below n t = subst (λ o. or_nought o < length rewards) (sym t.1) (named_at rewards n.name t.0 t.1).0
-
-  there_some : (n : Named) → IsThere n → n.name ≡ [] → ⊥
-  there_some n t e =
-      structure_some file.variables n.name is_checked.form.variables (sym (is_some-position (λ y. bytes_eq y n.name) rewards) ∙ ap is_some t.1) e
-
-  there_number : (n : Named) (r : ℕ) → IsThere n → structure_name rewards r ≡ n.name → r ≡ own_number n
-  there_number n r t e = sym (ap or_nought (number_is rewards n.name r rewards_once e (there_some n t)))
 
   -- the structure of a query of rewards is there
   abbrev AskThere : Ask Expression Named → Type 0
@@ -213,50 +174,6 @@ module _ (file : File) (is_checked : IsChecked file) where
         (λ f h. some_then {P = AsksOf p} {Q = ValuesOf (filed file p)} (part (codes "values") f) (λ w a. asked_values w p.ask p.path t a) h) i.values;
   }
 
-  -- ---- and as no other
-
-  ask_same : (a : Ask Expression ℕ) (b : Ask Expression Named) → AskThere b → ask_with (λ e. e) (structure_name rewards) a ≡ ask_with (λ e. e) (λ n. n.name) b → a ≡ filed_ask b
-  ask_same greatest greatest t e = refl
-  ask_same least least t e = refl
-  ask_same (bounded c e) (bounded d f) t h = cc
-  ask_same (greatest_reward r) (greatest_reward n) t e = ap greatest_reward (there_number n r t cc)
-  ask_same (least_reward r) (least_reward n) t e = ap least_reward (there_number n r t cc)
-  ask_same greatest least t e = absurd cc
-  ask_same greatest (bounded d f) t e = absurd cc
-  ask_same greatest (greatest_reward n) t e = absurd cc
-  ask_same greatest (least_reward n) t e = absurd cc
-  ask_same least greatest t e = absurd cc
-  ask_same least (bounded d f) t e = absurd cc
-  ask_same least (greatest_reward n) t e = absurd cc
-  ask_same least (least_reward n) t e = absurd cc
-  ask_same (bounded c e) greatest t h = absurd cc
-  ask_same (bounded c e) least t h = absurd cc
-  ask_same (bounded c e) (greatest_reward n) t h = absurd cc
-  ask_same (bounded c e) (least_reward n) t h = absurd cc
-  ask_same (greatest_reward r) greatest t e = absurd cc
-  ask_same (greatest_reward r) least t e = absurd cc
-  ask_same (greatest_reward r) (bounded d f) t e = absurd cc
-  ask_same (greatest_reward r) (least_reward n) t e = absurd cc
-  ask_same (least_reward r) greatest t e = absurd cc
-  ask_same (least_reward r) least t e = absurd cc
-  ask_same (least_reward r) (bounded d f) t e = absurd cc
-  ask_same (least_reward r) (greatest_reward n) t e = absurd cc
-
-  property_same : (q : JaniProperty) (p : Written) → q.name ≡ option_map (λ n. n.name) p.name → q.ask ≡ filed_ask p.ask → q.path ≡ p.path → q ≡ filed file p
-  property_same q p e f g =
-      ap {B = JaniProperty} (λ x. record { name = x; ask = q.ask; path = q.path }) e
-      ∙ (ap {B = JaniProperty} (λ x. record { name = option_map (λ n. n.name) p.name; ask = x; path = q.path }) f
-      ∙ ap {B = JaniProperty} (λ x. record { name = option_map (λ n. n.name) p.name; ask = filed_ask p.ask; path = x }) g)
-
-  written_only : (v : Node) (p : Written) (q : JaniProperty) → AskThere p.ask → IsWritten v p → IsProperty rewards v q → q ≡ filed file p
-  written_only v p q t i j =
-      let n = both (part (codes "name") v) (λ w. IsTitled w p.name) (λ w. IsTitle w q.name) i.name j.name in
-      let f = both (part (codes "expression") v) (λ f. Is (codes "values") f (AsksOf p)) (λ f. Is (codes "values") f (ValuesOf q)) i.values j.values in
-      let w = both (part (codes "values") f.0) (AsksOf p) (ValuesOf q) f.1 f.2 in
-      let a = asked_is w.0 p.ask p.path w.1 in
-      let b = values_is rewards w.0 q.ask q.path w.2 in
-      property_same q p (title_only n.0 p.name q.name n.1 n.2) (ask_same q.ask p.ask t (b.0 ∙ sym a.0)) (b.1 ∙ sym a.1)
-
   -- ---- and it has the form of properties
 
   asks_well : (v : Node) (a : Ask Expression Named) (p : Path Expression) → AskThere a → IsAsked v a p → AsksWell (length rewards) (filed_ask a) p
@@ -288,14 +205,16 @@ module _ (file : File) (is_checked : IsChecked file) where
   each_property (more_nodes v vs) [] e i = absurd i
   each_property (more_nodes v vs) (p ∷ ps) e i = (written_property v p (there p ps e) i.0, each_property vs ps (rest p ps e) i.1)
 
-  each_only : (vs : Nodes) (ps : List Written) (qs : List JaniProperty) → flat_map unknown ps ≡ [] → Each IsWritten vs ps → Each (IsProperty rewards) vs qs → qs ≡ map (filed file) ps
-  each_only no_nodes [] [] e i j = refl
-  each_only no_nodes [] (q ∷ qs) e i j = absurd j
-  each_only no_nodes (p ∷ ps) qs e i j = absurd i
-  each_only (more_nodes v vs) [] qs e i j = absurd i
-  each_only (more_nodes v vs) (p ∷ ps) [] e i j = absurd j
-  each_only (more_nodes v vs) (p ∷ ps) (q ∷ qs) e i j =
-      ap₂ (λ x xs. x ∷ xs) (written_only v p q (there p ps e) i.0 j.0) (each_only vs ps qs (rest p ps e) i.1 j.1)
+  has_structure : (a : Ask Expression Named) → AskThere a → HasStructure rewards (filed_ask a)
+  has_structure (greatest_reward n) t = there_below n t
+  has_structure (least_reward n) t = there_below n t
+  has_structure greatest t = tt
+  has_structure least t = tt
+  has_structure (bounded c e) t = tt
+
+  each_structure : (ps : List Written) → flat_map unknown ps ≡ [] → AllByRecursion (λ q. HasStructure rewards q.ask) (map (filed file) ps)
+  each_structure [] e = tt
+  each_structure (p ∷ ps) e = (has_structure p.ask (there p ps e), each_structure ps (rest p ps e))
 
   each_form : (vs : Nodes) (ps : List Written) → NormalNodes vs → flat_map unknown ps ≡ [] → Each IsWritten vs ps → AllByRecursion (JaniForm (length rewards)) (map (filed file) ps)
   each_form no_nodes [] n e i = tt
@@ -314,10 +233,11 @@ module _ (file : File) (is_checked : IsChecked file) where
   pub all_read : (ps : List Written) → shape_faults file ≡ [] → AreWritten file.properties ps → name_faults file ps ≡ [] → type_faults file ps ≡ [] → AreRead file (map (filed file) ps)
   all_read ps s w n t =
       let u : flat_map unknown ps ≡ [] = append_right (doubled TwiceNamed (titles ps)) (flat_map unknown ps) n in
+      let spelled : AreProperties rewards file.properties (map (filed file) ps) = record { list = w.list; items = each_property (items_in file.properties) ps u w.items } in
       record {
         shape = s;
-        spelled = record { list = w.list; items = each_property (items_in file.properties) ps u w.items };
-        only = λ qs i. each_only (items_in file.properties) ps qs u w.items i.items;
+        spelled = spelled;
+        only = λ qs i. sym (single_properties rewards rewards_apart file.properties (map (filed file) ps) qs (each_structure ps u) spelled i);
         are = record {
           form = each_form (items_in file.properties) ps (items_normal file.properties is_checked.form.properties w.list) u w.items;
           sound = record { written = ps; are = refl; names = n; types = t };

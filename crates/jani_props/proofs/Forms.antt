@@ -1,8 +1,10 @@
 -- The form of what a value spells whose literals are in normal form.
-use Rattle.std.proofs.Common.{◌≡◌, ℕ, refl, subst, List, ◌++◌, Option, Some, None, Bool, true, false, if◌then◌else◌, ◌⊎◌, inl, inr}
+use Rattle.std.proofs.Common.{◌≡◌, ℕ, refl, ap, subst, ◌∙◌, List, ◌++◌, Option, Some, None, inl, inr}
 use Rattle.std.specs.Prelude.{bytes_eq, codes, IsSomeAnd}
 use Rattle.std.specs.List.{AllByRecursion as Each}
+use Rattle.basics.specs.Options.{if_some}
 use Rattle.op_trees.specs.Tree.{Truth, Number, Name as At, One, Two, Three}
+use Rattle.jani_table.specs.declared.table.Kind.{Kind}
 use Rattle.jani_table.specs.declared.table.Kind.TheVariants as O
 use Rattle.jani_table.specs.declared.operator.JaniOp.{JaniOp}
 use Rattle.jani_table.specs.declared.operator.JaniOp.TheVariants.{Ite, Not, Floor, Ceil}
@@ -20,39 +22,30 @@ use Rattle.jani_props.specs.Spelled.{IsAsked}
 
 -- ---- operators have their operands
 
-unary_arity : (o : JaniOp) → op_kind o ≡ O.Unary → arity o ≡ 1
-unary_arity Not h = refl
-unary_arity Floor h = refl
-unary_arity Ceil h = refl
-unary_arity Ite h = absurd cc
-unary_arity o h = absurd cc
+-- how many operands an operator of this kind takes
+abbrev taken : Kind → ℕ
+taken O.Unary = 1
+taken O.Binary = 2
+taken k = 3
 
-binary_arity : (o : JaniOp) → op_kind o ≡ O.Binary → arity o ≡ 2
-binary_arity Not h = absurd cc
-binary_arity Floor h = absurd cc
-binary_arity Ceil h = absurd cc
-binary_arity Ite h = absurd cc
-binary_arity o h = refl
+taken_is : (o : JaniOp) → arity o ≡ taken (op_kind o)
+taken_is Not = refl
+taken_is Floor = refl
+taken_is Ceil = refl
+taken_is Ite = refl
+taken_is o = refl
 
-choice_arity : (o : JaniOp) → op_kind o ≡ O.Choice → arity o ≡ 3
-choice_arity Not h = absurd cc
-choice_arity Floor h = absurd cc
-choice_arity Ceil h = absurd cc
-choice_arity Ite h = refl
-choice_arity o h = absurd cc
+takes : (o : JaniOp) (k : Kind) → op_kind o ≡ k → arity o ≡ taken k
+takes o k e = taken_is o ∙ ap taken e
 
 -- ---- parts of normal values are normal
-
-by_test : {A : Type 0} (b : Bool) (x : A) (o : Option A) (w : A) → (if b then Some x else o) ≡ Some w → (x ≡ w) ⊎ (o ≡ Some w)
-by_test true x o w e = inl cc
-by_test false x o w e = inr e
 
 member_normal : (k : List ℕ) (ms : Fields) (w : Node) → NormalFields ms → member_text k ms ≡ Some w → NormalNode w
 member_normal k no_fields w n m = absurd cc
 member_normal k (field x v rest) w n m =
-    elim (by_test (bytes_eq k x.name) v (member_text k rest) w m) [
-      | inl e ↦ subst NormalNode e n.0
-      | inr e ↦ member_normal k rest w n.1 e
+    elim (if_some (bytes_eq k x.name) v (member_text k rest) w m) [
+      | inl e ↦ subst NormalNode e.1 n.0
+      | inr e ↦ member_normal k rest w n.1 e.1
     ]
 
 part_normal : (k : List ℕ) (v w : Node) → NormalNode v → part k v ≡ Some w → NormalNode w
@@ -63,12 +56,12 @@ part_normal k (number at d) w n m = absurd cc
 part_normal k (text at s) w n m = absurd cc
 part_normal k (array at vs) w n m = absurd cc
 
-some_part : (o : Option Node) (P : Node → Type 0) → IsSomeAnd o P → (w : Node) × (o ≡ Some w) × P w
-some_part None P i = absurd i
-some_part (Some w) P i = (w, refl, i)
-
 pub part_then : (k : List ℕ) (v : Node) (P : Node → Type 0) (R : Type 0) → NormalNode v → Is k v P → ((w : Node) → NormalNode w → P w → R) → R
-part_then k v P R n i h = let s = some_part (part k v) P i in h s.0 (part_normal k v s.0 n s.1) s.2
+part_then k v P R n i h = by_part (part k v) refl i
+  where
+    by_part : (o : Option Node) → part k v ≡ o → IsSomeAnd o P → R
+    by_part None e i = absurd i
+    by_part (Some w) e i = h w (part_normal k v w n e) i
 
 -- ---- expressions, paths and what is asked
 
@@ -77,16 +70,16 @@ formed v (Truth at b) n i = record { literals = tt; operands = tt }
 formed v (Number at d) n i = record { literals = subst NormalNode i n; operands = tt }
 formed v (At at x) n i = record { literals = tt; operands = tt }
 formed v (One at o a) n i =
-    let h = part_then (codes "exp") v (λ w. IsExpression w a) (HasForm arity a) n i.1 (λ w m p. formed w a m p) in record { literals = h.literals; operands = (unary_arity o i.0.takes, h.operands) }
+    let h = part_then (codes "exp") v (λ w. IsExpression w a) (HasForm arity a) n i.1 (λ w m p. formed w a m p) in record { literals = h.literals; operands = (takes o O.Unary i.0.takes, h.operands) }
 formed v (Two at o a b) n i =
     let h = part_then (codes "left") v (λ w. IsExpression w a) (HasForm arity a) n i.1 (λ w m p. formed w a m p) in
     let k = part_then (codes "right") v (λ w. IsExpression w b) (HasForm arity b) n i.2 (λ w m p. formed w b m p) in
-    record { literals = (h.literals, k.literals); operands = (binary_arity o i.0.takes, h.operands, k.operands) }
+    record { literals = (h.literals, k.literals); operands = (takes o O.Binary i.0.takes, h.operands, k.operands) }
 formed v (Three at o a b c) n i =
     let h = part_then (codes "if") v (λ w. IsExpression w a) (HasForm arity a) n i.1 (λ w m p. formed w a m p) in
     let k = part_then (codes "then") v (λ w. IsExpression w b) (HasForm arity b) n i.2 (λ w m p. formed w b m p) in
     let l = part_then (codes "else") v (λ w. IsExpression w c) (HasForm arity c) n i.3 (λ w m p. formed w c m p) in
-    record { literals = (h.literals, k.literals, l.literals); operands = (choice_arity o i.0.takes, h.operands, k.operands, l.operands) }
+    record { literals = (h.literals, k.literals, l.literals); operands = (takes o O.Choice i.0.takes, h.operands, k.operands, l.operands) }
 
 part_formed : (k : List ℕ) (v : Node) (e : Expression) → NormalNode v → Is k v (λ w. IsExpression w e) → HasForm arity e
 part_formed k v e n i = part_then k v (λ w. IsExpression w e) (HasForm arity e) n i (λ w m p. formed w e m p)

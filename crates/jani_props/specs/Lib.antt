@@ -7,3 +7,4 @@ pub mod Spelled
 pub mod Faults
 pub mod Model
 pub mod Reading
+pub mod Laws

@@ -4,6 +4,7 @@
 
 mod access;
 mod build;
+mod laws;
 mod model;
 mod names;
 mod paths;
@@ -15,6 +16,7 @@ mod types;
 mod words;
 mod written;
 
+pub use laws::written_law;
 pub use read::read_jani_props;
 pub use shape::Reading;
 pub use table::{PropForm, PropKey, PropKind, PropRow};

@@ -86,6 +86,29 @@ fn globally(alloc: Global, value: &Json) -> Result<JaniPath, AllocError>
     Ok(JaniPath::Globally(e))
 }
 
+// The two sides of a set of paths.
+#[derive(Drop)]
+struct Sides {
+    left: Je,
+    right: Je,
+}
+
+fn sides_of(alloc: Global, value: &Json) -> Result<Sides, AllocError>
+    requires { IsCleanObject O.TwoPaths (node value.now) }
+    ensures left { IfOk result (λ s. Is (codes "left") (node value.now) (λ w. IsExpression w (tree s.left))) }
+    ensures right { IfOk result (λ s. Is (codes "right") (node value.now) (λ w. IsExpression w (tree s.right))) }
+{
+    let left = expression(
+        alloc,
+        required(PropKind::TwoPaths, PropKey::Of(Key::Left), value),
+    )?;
+    let right = expression(
+        alloc,
+        required(PropKind::TwoPaths, PropKey::Of(Key::Right), value),
+    )?;
+    Ok(Sides { left, right })
+}
+
 // The paths of `U`.
 fn until(alloc: Global, value: &Json) -> Result<JaniPath, AllocError>
     requires op { op_word_at (Some (node value.now)) ≡ W.Property P.Until }
@@ -93,17 +116,10 @@ fn until(alloc: Global, value: &Json) -> Result<JaniPath, AllocError>
     ensures { IfOk result (λ p. IsPath (node value.now) (jani_path_of p)) }
 {
     let bound = step_bound(alloc, PropKind::TwoPaths, value)?;
-    let a = expression(
-        alloc,
-        required(PropKind::TwoPaths, PropKey::Of(Key::Left), value),
-    )?;
-    let b = expression(
-        alloc,
-        required(PropKind::TwoPaths, PropKey::Of(Key::Right), value),
-    )?;
+    let Sides { left, right } = sides_of(alloc, value)?;
     match bound {
-        Some(k) => Ok(JaniPath::UntilWithin(k, a, b)),
-        None => Ok(JaniPath::Until(a, b)),
+        Some(k) => Ok(JaniPath::UntilWithin(k, left, right)),
+        None => Ok(JaniPath::Until(left, right)),
     }
 }
 
@@ -113,15 +129,8 @@ fn weak_until(alloc: Global, value: &Json) -> Result<JaniPath, AllocError>
     requires clean { IsCleanObject O.TwoPaths (node value.now) }
     ensures { IfOk result (λ p. IsPath (node value.now) (jani_path_of p)) }
 {
-    let a = expression(
-        alloc,
-        required(PropKind::TwoPaths, PropKey::Of(Key::Left), value),
-    )?;
-    let b = expression(
-        alloc,
-        required(PropKind::TwoPaths, PropKey::Of(Key::Right), value),
-    )?;
-    Ok(JaniPath::WeakUntil(a, b))
+    let Sides { left, right } = sides_of(alloc, value)?;
+    Ok(JaniPath::WeakUntil(left, right))
 }
 
 // A set of paths with this word.
@@ -158,11 +167,10 @@ fn probability(alloc: Global, op: PropOp, value: &Json) -> Result<JaniPath, Allo
     ensures { IfOk result (λ p. IsProbability (prop_text op) (node value.now) (jani_path_of p)) }
 {
     let _op = op;
-    let paths = path(
+    path(
         alloc,
         required(PropKind::Probability, PropKey::Of(Key::Exp), value),
-    )?;
-    Ok(paths)
+    )
 }
 
 /// What is asked, of which paths.

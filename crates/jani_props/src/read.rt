@@ -3,10 +3,11 @@ ghost use Rattle.std.specs.Prelude.{◌≡◌, [], map, IfErr, IfOk, None};
 ghost use Rattle.jani_table.specs.Least.{soonest};
 ghost use Rattle.name_rules.specs.Least as rules;
 ghost use Rattle.jani_check.specs.Faults.{IsChecked, or_else};
+ghost use Rattle.jani_check.specs.Things.{global_thing};
 ghost use Rattle.jani_tree.specs.Syntax.{file_of};
 ghost use Rattle.prop_trees.specs.Syntax.{jani_ask_of, jani_property_of};
-ghost use Rattle.prop_trees.specs.Trees.{ask_with};
-ghost use Rattle.jani_props.specs.Faults.{filed_by, names_wrong, numbered, shape_faults, types_wrong};
+ghost use Rattle.prop_trees.specs.Trees.{Name, ask_with};
+ghost use Rattle.jani_props.specs.Faults.{filed_by, names_wrong, numbered, shape_faults, structure_number, types_wrong};
 ghost use Rattle.jani_props.specs.Model.{numbers_of, things_of};
 ghost use Rattle.jani_props.specs.Syntax.{ask_of, written_of};
 ghost use Rattle.jani_props.specs.Reading.{AreRead, IsRefusal};
@@ -100,7 +101,32 @@ fn filed_all(
     Ok(list)
 }
 
-// The properties of a judged file whose properties have no fault of shape, or the least fault of the first phase that has any.
+// The properties of a judged file whose properties have no fault of shape, by the names of its model, or the least fault of the first
+// phase that has any.
+fn read_by(
+    alloc: Global,
+    file: &JaniFile,
+    names: &ModelNames,
+) -> Result<List<JaniProperty>, Refused>
+    requires checked { IsChecked (file_of file.now) }
+    requires shape { shape_faults (file_of file.now) ≡ [] }
+    requires things { (x : Name) → things_of names.now x ≡ global_thing (file_of file.now) x }
+    requires numbers { (x : Name) → numbers_of names.now x ≡ structure_number (file_of file.now) x }
+    ensures ok { IfOk result (λ ps. AreRead (file_of file.now) (map jani_property_of ps)) }
+    ensures err { IfErr result (IsRefusal (file_of file.now)) }
+{
+    let written = properties(alloc, &file.properties)?;
+    let least = meaning_fault(alloc, names, &written)?;
+    match least {
+        Some(fault) => Err(Refused::At(fault)),
+        None => {
+            let list = filed_all(alloc, names, written)?;
+            Ok(list)
+        }
+    }
+}
+
+// The same, with the names of its model gathered.
 fn shaped(alloc: Global, file: &JaniFile) -> Result<List<JaniProperty>, Refused>
     requires checked { IsChecked (file_of file.now) }
     requires shape { shape_faults (file_of file.now) ≡ [] }
@@ -108,15 +134,7 @@ fn shaped(alloc: Global, file: &JaniFile) -> Result<List<JaniProperty>, Refused>
     ensures err { IfErr result (IsRefusal (file_of file.now)) }
 {
     let names = ModelNames::of(alloc, file)?;
-    let written = properties(alloc, &file.properties)?;
-    let least = meaning_fault(alloc, &names, &written)?;
-    match least {
-        Some(fault) => Err(Refused::At(fault)),
-        None => {
-            let list = filed_all(alloc, &names, written)?;
-            Ok(list)
-        }
-    }
+    read_by(alloc, file, &names)
 }
 
 /// The properties of a judged file, which its "properties" spell where they have no fault: literals are in normal form, operators have

@@ -448,19 +448,16 @@ pub(crate) fn judge(
         Json::Truth(at, _) => sooner_if(first, *at, plain_fault(form)),
         Json::Number(at, _) => sooner_if(first, *at, plain_fault(form)),
         Json::Str(at, s) => sooner_if(first, *at, word_fault(form, s.as_str())),
-        Json::Array(at, items) => {
-            let slice = items.as_slice();
-            match item_form(form) {
-                Some(item) => {
-                    let mut best = first;
-                    for x in slice {
-                        best = judge(given, item, x, best);
-                    }
-                    best
+        Json::Array(at, items) => match item_form(form) {
+            Some(item) => {
+                let mut best = first;
+                for x in items.as_slice() {
+                    best = judge(given, item, x, best);
                 }
-                None => sooner_if(first, *at, kind_fault(form)),
+                best
             }
-        }
+            None => sooner_if(first, *at, kind_fault(form)),
+        },
         Json::Object(at, members, close) => {
             let slice = members.as_slice();
             match read_as(form, op_word(slice)) {

@@ -1,13 +1,13 @@
 -- From how a request ends to why a run does, and what each status comes of.
-use Rattle.std.proofs.Common.{arith, ◌≡◌, ◌⊎◌, ◌∙◌, refl, ap, subst, ℕ, ◌+◌, List, [], length, Option, inl, inr}
+use Rattle.std.proofs.Common.{arith, ◌≡◌, ◌⊎◌, ◌∙◌, refl, ap, subst, ℕ, ◌+◌, List, [], ◌∷◌, length, Option, inl, inr}
 use Rattle.std.specs.Io.KnownBytes.{Appends}
 use Rattle.bridge_io.specs.Outside.{HasFailed, Lefts}
-use Rattle.command_words.specs.Words.{Request, Walking, Checking, WordsCount, on_file, walk, check, files_of, IsRequest, IsWrongAt}
+use Rattle.command_words.specs.Words.{Request, Walking, Checking, WordsCount, on_file, with_properties, walk, check, files_of, IsRequest, IsWrongAt}
 use Rattle.model_walks.specs.Walks.{EndsOnBytes}
 use Rattle.model_walks.specs.declared.ending.Ending.TheVariants as Ends
 use Rattle.model_command.specs.Outcome.{status_of, line_of, text_of, word_line}
 use Rattle.model_claims.specs.Claims.{EndsOnFiles}
-use Rattle.model_command.specs.Run.{IsCause, IsNext, IsEnd, IsTaskEnd, IsWhole, AreWhole, ComesTo, IsReadEnd, IsCarriedOut, EndsWith, IsTold}
+use Rattle.model_command.specs.Run.{IsCause, IsNext, IsEnd, IsTaskEnd, IsPair, IsPairEnd, IsWhole, AreWhole, ComesTo, IsReadEnd, IsCarriedOut, EndsWith, IsTold}
 use Rattle.model_command.specs.declared.outcome.Outcome.{Outcome}
 use Rattle.model_command.specs.declared.outcome.Outcome.TheVariants.{Done, Ended, Refused, Words, ReadFault, NoMemory}
 use Rattle.model_command.proofs.Several.{alone, walk_read}
@@ -22,6 +22,13 @@ not_other answer n other e work = grind (arith, other, e, work)
 -- the position behind the words of a request
 pub behind : (words : List (List ℕ)) (request : Request) (n : ℕ) → WordsCount → IsRequest words request → n ≡ length words + 1 → IsNext request n
 behind words request n law form e = e ∙ ap (λ k. k + 1) (law words request form)
+
+-- the words of a translation with properties are of a form
+no_word : (file properties name : List ℕ) (k : ℕ) (contents : List (List ℕ)) → IsPair (λ model second. IsPairEnd file properties model second name (Ended (Ends.Word k))) contents → ⊥
+no_word file properties name k [] h = h
+no_word file properties name k (a ∷ []) h = h
+no_word file properties name k (a ∷ b ∷ []) h = h
+no_word file properties name k (a ∷ b ∷ c ∷ contents) h = h
 
 module _ {S : Type 0} (left : S → Option Lefts) (faults : S → ℕ) (steady : S → List ℕ → Type 0) (words : List (List ℕ)) (old new : S) where
   module _ {K E : Type 0} (taken : K → Option (List ℕ)) (fails : K → ℕ) (said : E → Option (List ℕ)) (failures : E → ℕ) (out out' : K) (err err' : E) (answer : ℕ) where
@@ -63,6 +70,7 @@ module _ {S : Type 0} (left : S → Option Lefts) (faults : S → ℕ) (steady :
 
     of_word : (request : Request) (name : List ℕ) (k : ℕ) → IsRequest words request → IsReadEnd request name (left old) (left new) (Ended (Ends.Word k)) → Appends (taken out) (taken out') [] → Appends (said err) (said err') (word_line k) → IsOfWords
     of_word (on_file task file) name k form end text line = absurd (alone (λ bytes. IsTaskEnd task bytes (Ended (Ends.Word k))) (left old) (left new) file end.0 end.1 end.2.1).2
+    of_word (with_properties file properties) name k form end text line = absurd (no_word file properties name k end.0 end.2)
     of_word (walk w) name k form end text line = let r = (walk_read w name (left old) (left new) (Ended (Ends.Word k)) end).1 in (k, text, line, inr (inl (w, r.0, form, r.1, r.2)))
     of_word (check c) name k form end text line = (k, text, line, inr (inr (c, end.0, form, end.1, end.2)))
 

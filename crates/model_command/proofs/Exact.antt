@@ -11,7 +11,7 @@ use Rattle.prism_tree.specs.Syntax.{File}
 use Rattle.name_rules.specs.Least.{IsLeast}
 use Rattle.prism_check.specs.Faults.{faults}
 use Rattle.command_words.specs.declared.request.Task.{Task}
-use Rattle.command_words.specs.declared.request.Task.TheVariants.{ToJani, ToPrism, CheckPrism, CheckJani}
+use Rattle.command_words.specs.declared.request.Task.TheVariants.{ToJani, ToPrism, ToPrismProps, CheckPrism, CheckJani}
 use Rattle.command_words.specs.Words.{Request, IsRequest, HasForm, IsWrongAt}
 use Rattle.model_walks.specs.declared.ending.Ending.{Ending}
 use Rattle.jani_table.specs.Least.{IsLeast as IsLeastOfJani}
@@ -24,6 +24,10 @@ use Rattle.jani_check.specs.Faults.{faults as jani_faults}
 use Rattle.model_files.specs.PrismFile.{IsFaultless, IsPrismFault, of_text, of_tree}
 use Rattle.model_files.specs.JaniFile.{IsFaultlessJani, IsJaniFault, of_json, of_shape, of_model}
 use Rattle.prism_translation.specs.Refused.{refused}
+use Rattle.prop_trees.specs.Trees.{JaniProperty}
+use Rattle.jani_props.specs.Reading.{AreRead, IsFirst}
+use Rattle.jani_props.proofs.Only.{no_first_fault}
+use Rattle.model_translation.specs.JaniProperties.{HoldsProperties, IsPropertiesRefused, of_file as of_jani_file, of_properties}
 use Rattle.model_command.specs.ToPrism.{IsTranslatable, IsRefusedBack, of_file, of_result}
 use Rattle.model_command.specs.Tasks.{IsFit, IsLeastFor}
 use Rattle.model_command.specs.Outcome.{status_of}
@@ -100,9 +104,16 @@ not_translatable bytes f tree (of_file fault) ok = not_faultless_jani bytes f tr
 not_translatable bytes f tree (of_result other read least) ok =
     no_least_of_jani _ f (subst (λ t. refused t ≡ []) (one_tree_of bytes tree other ok.faultless read) ok.accepted) least
 
+-- nor has one whose properties are read
+not_holding : (bytes : List ℕ) (f : Fault) (tree : JaniFile) (ps : List JaniProperty) → IsPropertiesRefused bytes f → HoldsProperties bytes tree ps → ⊥
+not_holding bytes f tree ps (of_jani_file fault) ok = not_faultless_jani bytes f tree fault ok.faultless
+not_holding bytes f tree ps (of_properties other read first) ok =
+    no_first_fault other ps f (subst (λ t. AreRead t ps) (one_tree_of bytes tree other ok.faultless read) ok.read) first
+
 -- bytes that have a fault are not fit for the task
 pub least_not_fit : (task : Task) (bytes : List ℕ) (f : Fault) → IsLeastFor task bytes f → IsFit task bytes → ⊥
 least_not_fit ToJani bytes f fault (tree, ok) = not_faultless bytes f tree fault ok
 least_not_fit ToPrism bytes f fault (tree, ok) = not_translatable bytes f tree fault ok
+least_not_fit ToPrismProps bytes f fault (tree, ps, ok) = not_holding bytes f tree ps fault ok
 least_not_fit CheckPrism bytes f fault (tree, ok) = not_faultless bytes f tree fault ok
 least_not_fit CheckJani bytes f fault (tree, ok) = not_faultless_jani bytes f tree fault ok

@@ -2,9 +2,10 @@ pub mod Causes
 pub mod Exact
 pub mod Fit
 pub mod Halts
-pub mod Judged
+pub mod SeveralTold
+pub mod Paired
 pub mod Place
 pub mod Several
 pub mod ToPrism
 pub mod Told
-pub mod Translations
+pub mod Tasked

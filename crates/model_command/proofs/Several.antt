@@ -10,7 +10,7 @@ use Rattle.bridge_io.specs.declared.reason.Reason.TheVariants.{TooLong}
 use Rattle.bridge_io.specs.declared.place.Place.{Place}
 use Rattle.command_words.specs.declared.request.Task.{Task}
 use Rattle.command_words.specs.Words.{Walking, on_file, walk, AreNamesBehind}
-use Rattle.model_command.specs.Run.{IsWhole, AreWhole, ComesTo, IsAlone, IsTaskEnd, IsWalkEnd, IsReadEnd, names_of}
+use Rattle.model_command.specs.Run.{IsWhole, AreWhole, ComesTo, IsAlone, IsPair, IsTaskEnd, IsWalkEnd, IsReadEnd, names_of}
 use Rattle.model_command.specs.Headline.{AreHeld, AreShort, IsFirstLong}
 use Rattle.model_command.specs.declared.outcome.Outcome.{Outcome}
 use Rattle.model_command.proofs.Exact.{whole_bytes}
@@ -52,6 +52,26 @@ one_file Of file (x ∷ []) d [] e bytes same many is of = absurd (omega (arith,
 one_file Of file (x ∷ []) d (b ∷ []) e bytes same many is of = ((let f : x.now ≡ file = cc in f), subst Of is of)
 one_file Of file (x ∷ []) d (b ∷ c ∷ files) e bytes same many is of = absurd (omega (arith, many))
 one_file Of file (x ∷ y ∷ names) d files e bytes same many is of = absurd cc
+
+-- the first and the second of two names, and of two contents
+pub two_files : (Of : List ℕ → List ℕ → Type 0) (file second : List ℕ) (names : List (Bor (List ℕ))) (files : List (List ℕ)) (d e a b : List ℕ) → names_of names ≡ file ∷ second ∷ [] → length files ≡ length names →
+    a ≡ slice_index_or files 0 d → b ≡ slice_index_or files 1 e → Of a b → IsPair Of files
+two_files Of file second [] files d e a b same many first next of = absurd cc
+two_files Of file second (x ∷ []) files d e a b same many first next of = absurd cc
+two_files Of file second (x ∷ y ∷ []) [] d e a b same many first next of = absurd (omega (arith, many))
+two_files Of file second (x ∷ y ∷ []) (c ∷ []) d e a b same many first next of = absurd (omega (arith, many))
+two_files Of file second (x ∷ y ∷ []) (c ∷ f ∷ []) d e a b same many first next of = subst (λ u. Of c u) next (subst (λ u. Of u b) first of)
+two_files Of file second (x ∷ y ∷ []) (c ∷ f ∷ g ∷ files) d e a b same many first next of = absurd (omega (arith, many))
+two_files Of file second (x ∷ y ∷ z ∷ names) files d e a b same many first next of = absurd cc
+
+pub first_named : (file second : List ℕ) (names : List (Bor (List ℕ))) (d : Bor (List ℕ)) → names_of names ≡ file ∷ second ∷ [] → (slice_index_or names 0 d).now ≡ file
+first_named file second [] d same = absurd cc
+first_named file second (x ∷ names) d same = let f : x.now ≡ file = cc in f
+
+pub second_named : (file second : List ℕ) (names : List (Bor (List ℕ))) (d : Bor (List ℕ)) → names_of names ≡ file ∷ second ∷ [] → (slice_index_or names 1 d).now ≡ second
+second_named file second [] d same = absurd cc
+second_named file second (x ∷ []) d same = absurd cc
+second_named file second (x ∷ y ∷ names) d same = let f : y.now ≡ second = cc in f
 
 -- ---- one after another
 pub one_more_whole : (before mid after : Option Lefts) (names : List (List ℕ)) (name : List ℕ) (contents : List (List ℕ)) (bytes : List ℕ) → AreWhole before mid names contents → IsWhole mid after name bytes →

@@ -15,7 +15,7 @@ use Rattle.bridge_io.specs.declared.reason.Reason.TheVariants.{TooLong}
 use Rattle.bridge_io.specs.declared.reason.Fault.{Fault}
 use Rattle.bridge_io.specs.declared.place.Place.{Place}
 use Rattle.command_words.specs.declared.request.Task.{Task}
-use Rattle.command_words.specs.declared.request.Task.TheVariants.{ToJani, ToPrism, CheckPrism, CheckJani}
+use Rattle.command_words.specs.declared.request.Task.TheVariants.{ToJani, ToPrism, ToPrismProps, CheckPrism, CheckJani}
 use Rattle.command_words.specs.Words.{Request, Walking, on_file, walk, IsRequest, OneRequest}
 use Rattle.model_command.specs.Tasks.{Makes, IsFit, IsLeastFor}
 use Rattle.model_command.specs.Outcome.{status_of, text_of, line_of, place_in, refusal_line}
@@ -35,6 +35,7 @@ appended xs (Some ys) more h = ap Some h
 makes_fit : (task : Task) (bytes text : List ℕ) → Makes task bytes text → IsFit task bytes
 makes_fit ToJani bytes text (tree, model, all) = (tree, all.faultless)
 makes_fit ToPrism bytes text (tree, model, all) = (tree, all.translatable)
+makes_fit ToPrismProps bytes text (tree, ps, all) = (tree, ps, all.holds)
 makes_fit CheckPrism bytes text (tree, all) = (tree, all.faultless)
 makes_fit CheckJani bytes text (tree, all) = (tree, all.faultless)
 

@@ -4,5 +4,4 @@ pub mod Outcome
 pub mod Run
 pub mod Reading
 pub mod Tasks
-pub mod Translation
 pub mod ToPrism

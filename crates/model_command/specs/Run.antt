@@ -1,6 +1,6 @@
 -- How a run ends, why, and what it then wrote.
 -- (This project's own rule.)
-use Rattle.std.specs.Prelude.{◌≡◌, ◌⊎◌, ℕ, ◌+◌, ◌≤◌, List, [], ◌∷◌, ◌++◌, length, map, Option, Some, codes, slice_get}
+use Rattle.std.specs.Prelude.{◌≡◌, ◌⊎◌, ℕ, ◌+◌, ◌≤◌, List, [], ◌∷◌, ◌++◌, length, map, Option, Some, codes, slice_get, Result, Ok, Err}
 use Rattle.std.specs.Borrow.{Bor}
 use Rattle.std.specs.Io.KnownBytes.{Appends}
 use Rattle.bridge_io.specs.Outside.{HasFailed, Lefts, Takes, IsSpent, AppendsFront}
@@ -11,8 +11,12 @@ use Rattle.bridge_io.specs.declared.reason.Reason.TheVariants.{TooLong}
 use Rattle.bridge_io.specs.declared.reason.Fault.{Fault}
 use Rattle.bridge_io.specs.declared.place.Place.{Place}
 use Rattle.command_words.specs.declared.request.Task.{Task}
-use Rattle.command_words.specs.Words.{Request, Walking, Checking, on_file, walk, check, files_of, word_count, IsRequest, IsWrongAt}
+use Rattle.command_words.specs.Words.{Request, Walking, Checking, on_file, with_properties, walk, check, files_of, word_count, IsRequest, IsWrongAt}
 use Rattle.model_command.specs.Tasks.{Makes, IsLeastFor}
+use Rattle.model_files.specs.PrismFile.{IsPrismFault}
+use Rattle.model_translation.specs.WithProperties.{TranslatesWith, IsPropertiesFault}
+use Rattle.model_translation.specs.declared.properties.FilesRefused.{FilesRefused}
+use Rattle.model_translation.specs.declared.properties.FilesRefused.TheVariants as files
 use Rattle.model_walks.specs.Models.{IsModelFault}
 use Rattle.model_walks.specs.Walks.{EndsOnBytes}
 use Rattle.model_claims.specs.Claims.{EndsOnFiles, IsFileFault}
@@ -58,6 +62,34 @@ IsTaskEnd task bytes (Words k) = ⊥
 IsTaskEnd task bytes ReadFault = ⊥
 IsTaskEnd task bytes NoMemory = Unit {0}
 
+-- it is refused at a fault of these bytes
+abbrev pub IsRefusal : List ℕ → Fault → Reason → Place → Type 0
+IsRefusal bytes f reason place = (reason ≡ f.reason) × (place ≡ place_in bytes f.at)
+
+-- how the translation of a model with its properties ends, on the bytes of both files: it is refused at the file of this name
+abbrev pub IsPairEnd : List ℕ → List ℕ → List ℕ → List ℕ → List ℕ → Outcome → Type 0
+IsPairEnd file properties model second name (Done text) = TranslatesWith model second text
+IsPairEnd file properties model second name (Ended e) = ⊥
+IsPairEnd file properties model second name (Refused reason place) =
+    ((name ≡ file) × ((f : Fault) × IsPrismFault model f × IsRefusal model f reason place))
+    ⊎ ((name ≡ properties) × ((f : Fault) × IsPropertiesFault model second f × IsRefusal second f reason place))
+IsPairEnd file properties model second name (Words k) = ⊥
+IsPairEnd file properties model second name ReadFault = ⊥
+IsPairEnd file properties model second name NoMemory = Unit {0}
+
+-- how it ends with this answer, and at which file
+abbrev pub pair_outcome : List ℕ → List ℕ → Result (List ℕ) FilesRefused → Outcome
+pair_outcome model second (Ok text) = Done text
+pair_outcome model second (Err (files.Memory e)) = NoMemory
+pair_outcome model second (Err (files.Model f)) = Refused f.reason (place_in model f.at)
+pair_outcome model second (Err (files.Properties f)) = Refused f.reason (place_in second f.at)
+
+abbrev pub pair_name : List ℕ → List ℕ → Result (List ℕ) FilesRefused → List ℕ
+pair_name file properties (Ok text) = file
+pair_name file properties (Err (files.Memory e)) = file
+pair_name file properties (Err (files.Model f)) = file
+pair_name file properties (Err (files.Properties f)) = properties
+
 -- how a state is shown, or a walk ends
 abbrev pub IsWalkEnd : Walking → List ℕ → Outcome → Type 0
 IsWalkEnd w bytes (Done text) = ⊥
@@ -83,9 +115,17 @@ IsAlone Of [] = ⊥
 IsAlone Of (bytes ∷ []) = Of bytes
 IsAlone Of (bytes ∷ other ∷ contents) = ⊥
 
+-- of two files
+abbrev pub IsPair : (List ℕ → List ℕ → Type 0) → List (List ℕ) → Type 0
+IsPair Of [] = ⊥
+IsPair Of (bytes ∷ []) = ⊥
+IsPair Of (bytes ∷ other ∷ []) = Of bytes other
+IsPair Of (bytes ∷ other ∷ more ∷ contents) = ⊥
+
 -- how a request ends on the contents of its files, at the one of this name
 abbrev pub IsEndOn : Request → List (List ℕ) → List ℕ → Outcome → Type 0
 IsEndOn (on_file task file) contents name o = (name ≡ file) × IsAlone (λ bytes. IsTaskEnd task bytes o) contents
+IsEndOn (with_properties file properties) contents name o = IsPair (λ model second. IsPairEnd file properties model second name o) contents
 IsEndOn (walk w) contents name o = (name ≡ w.file) × IsAlone (λ bytes. IsWalkEnd w bytes o) contents
 IsEndOn (check c) contents name o = IsClaimEnd c contents name o
 

@@ -5,17 +5,19 @@ use Rattle.bridge_io.specs.declared.reason.Fault.{Fault}
 use Rattle.bridge_io.specs.declared.reason.Refused.{Refused}
 use Rattle.bridge_io.specs.declared.reason.Refused.TheVariants as R
 use Rattle.command_words.specs.declared.request.Task.{Task}
-use Rattle.command_words.specs.declared.request.Task.TheVariants.{ToJani, ToPrism, CheckPrism, CheckJani}
+use Rattle.command_words.specs.declared.request.Task.TheVariants.{ToJani, ToPrism, ToPrismProps, CheckPrism, CheckJani}
 use Rattle.model_files.specs.PrismFile.{HasNoFault, IsPrismFault}
 use Rattle.model_files.specs.JaniFile.{HasNoJaniFault, IsJaniFault}
 use Rattle.model_command.specs.Checking.{Checks, ChecksJani}
-use Rattle.model_command.specs.Translation.{Translates}
+use Rattle.model_translation.specs.Translation.{Translates}
+use Rattle.model_translation.specs.JaniProperties.{HasProperties, TranslatesProperties, IsPropertiesRefused}
 use Rattle.model_command.specs.ToPrism.{HasTranslation, TranslatesBack, IsRefusedBack}
 
 -- the text is what the task makes of the bytes
 abbrev pub Makes : Task → List ℕ → List ℕ → Type 0
 Makes ToJani bytes text = Translates bytes text
 Makes ToPrism bytes text = TranslatesBack bytes text
+Makes ToPrismProps bytes text = TranslatesProperties bytes text
 Makes CheckPrism bytes text = Checks bytes text
 Makes CheckJani bytes text = ChecksJani bytes text
 
@@ -23,6 +25,7 @@ Makes CheckJani bytes text = ChecksJani bytes text
 abbrev pub IsFit : Task → List ℕ → Type 0
 IsFit ToJani bytes = HasNoFault bytes
 IsFit ToPrism bytes = HasTranslation bytes
+IsFit ToPrismProps bytes = HasProperties bytes
 IsFit CheckPrism bytes = HasNoFault bytes
 IsFit CheckJani bytes = HasNoJaniFault bytes
 
@@ -30,6 +33,7 @@ IsFit CheckJani bytes = HasNoJaniFault bytes
 abbrev pub IsLeastFor : Task → List ℕ → Fault → Type 0
 IsLeastFor ToJani bytes f = IsPrismFault bytes f
 IsLeastFor ToPrism bytes f = IsRefusedBack bytes f
+IsLeastFor ToPrismProps bytes f = IsPropertiesRefused bytes f
 IsLeastFor CheckPrism bytes f = IsPrismFault bytes f
 IsLeastFor CheckJani bytes f = IsJaniFault bytes f
 

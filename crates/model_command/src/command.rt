@@ -1,25 +1,26 @@
 //! One run of the program, from the words of the command line to what is written.
-ghost use Rattle.std.specs.Prelude.{◌≡◌, ◌≤◌, ◌⊎◌, ◌+◌, ℕ, List, [], Some, length};
+ghost use Rattle.std.specs.Prelude.{◌≡◌, ◌≤◌, ◌⊎◌, ◌+◌, ◌∷◌, ℕ, List, [], Some, length};
 ghost use Rattle.std.specs.Io.KnownBytes.{Appends};
 ghost use Rattle.bridge_io.specs.Outside.{HasFailed, Lefts};
-ghost use Rattle.command_words.specs.Words.{Walking, texts, on_file, walk, check, checking_of, files_of, request_of, IsRequest, IsWrongAt};
+ghost use Rattle.command_words.specs.Words.{Walking, texts, on_file, with_properties, walk, check, checking_of, files_of, request_of, IsRequest, IsWrongAt};
 ghost use Rattle.model_command.specs.Outcome.{halted, status_of, word_line};
 ghost use Rattle.model_walks.specs.Walks.{EndsOnBytes, WalksOn};
 ghost use Rattle.model_walks.specs.declared.ending.Ending.TheVariants as Ending;
 ghost use Rattle.model_claims.specs.Claims.{EndsOnFiles, JudgesOn};
-ghost use Rattle.model_command.specs.Run.{AreWhole, ComesTo, IsCause, IsClaimEnd, IsEnd, IsEndOn, IsNext, IsDelivered, IsTaskEnd, IsTold, IsWalkEnd, IsWhole, EndsWith, IsCarriedOut, names_of};
+ghost use Rattle.model_command.specs.Run.{AreWhole, ComesTo, IsCause, IsClaimEnd, IsEnd, IsEndOn, IsNext, IsDelivered, IsTaskEnd, IsTold, IsWalkEnd, IsWhole, EndsWith, IsCarriedOut, names_of, pair_name, pair_outcome};
 ghost use Rattle.model_command.specs.Tasks.{Makes, IsFit, Judged};
-ghost use Rattle.model_command.specs.Headline.{AreHeld, IsHeadline, IsJudgedAsTold, IsShownAsTold};
+ghost use Rattle.model_command.specs.Headline.{AreHeld, IsHeadline, IsEndedAsTold, IsShownAsTold, IsTranslatedAsTold};
 
 use crate::checking::{count_jani, count_prism};
 use crate::outcome::{Outcome, refusal};
 use crate::reading::read_files;
 use crate::to_prism::translate_back;
-use crate::translation::translate;
 use bridge_io::{List, ReadFail, Reason, Refused, Shelf, Sink, write_whole};
 use command_words::{Checking, Request, Task, WordsFail, request_in, words_law};
 use model_claims::{ClaimRefused, judge_claim};
+use model_translation::{FilesRefused, translate, translate_properties, translate_with_properties};
 use model_walks::{Ending, show_or_walk};
+use prop_check::one_list_of_faults;
 use std::alloc::Global;
 
 // The status where a write failed.
@@ -30,7 +31,9 @@ const WRITE_FAULT: u8 = 5;
 /// | words | what is written to `out` with status 0 |
 /// |---|---|
 /// | `to-jani FILE` | the JANI text of the translated PRISM model, and LF |
+/// | `to-jani FILE PROPS` | the same, with the properties of the model that PROPS holds |
 /// | `to-prism FILE` | the comment lines and the PRISM text of the translated JANI model |
+/// | `to-prism-props FILE` | the properties of the JANI model as those of the PRISM model that it is translated to |
 /// | `check prism FILE` | `ok prism modules M commands C` and LF, C being the number of commands after copies of modules are written out |
 /// | `check jani FILE` | `ok jani elements E edges G` and LF, G being the number of edges of the automata that take part |
 /// | `show LANG FILE STATE NAME=VALUE ..` | the columns, the state, its labels and rewards, and its choices |
@@ -99,6 +102,15 @@ pub fn run<H: Shelf, K: Sink, E: Sink>(
         → (result ≡ 4 → ⊥) → (result ≡ 5 → ⊥) → (result ≡ 6 → ⊥)
         → IsHeadline task bytes name was said (K.taken out.new) (E.taken err.new) result }
 
+    // Likewise where a model is translated with its properties: the status is 0 exactly where both files have no fault and are within the
+    // limits, and then the text of a file that means the same process was written, with properties that agree; else the first file that has a fault
+    // is refused at its least one.
+    ensures with_properties { (left : Lefts) (file properties model second was said : List ℕ) → H.left shelf.old ≡ Some left
+        → left file ≡ Some model → left properties ≡ Some second
+        → K.taken out.old ≡ Some was → E.taken err.old ≡ Some said → IsRequest (texts words.now) (with_properties file properties)
+        → (result ≡ 4 → ⊥) → (result ≡ 5 → ⊥) → (result ≡ 6 → ⊥)
+        → IsTranslatedAsTold file properties model second was said (K.taken out.new) (E.taken err.new) result }
+
     // Likewise where the words ask for a state or a walk: what is answered and written is the end that the file, the constants
     // and the process that the file describes under these make of it, and no other.
     ensures shown { (left : Lefts) (w : _) (bytes was said : List ℕ) → H.left shelf.old ≡ Some left → left w.file ≡ Some bytes
@@ -112,9 +124,10 @@ pub fn run<H: Shelf, K: Sink, E: Sink>(
         → AreHeld left (files_of (check c)) contents
         → K.taken out.old ≡ Some was → E.taken err.old ≡ Some said → IsRequest (texts words.now) (check c)
         → (result ≡ 4 → ⊥) → (result ≡ 5 → ⊥) → (result ≡ 6 → ⊥)
-        → IsJudgedAsTold c contents was said (K.taken out.new) (E.taken err.new) result }
+        → IsEndedAsTold (check c) contents was said (K.taken out.new) (E.taken err.new) result }
 {
     words_law();
+    one_list_of_faults();
     answer(alloc, words, shelf, out, err)
 }
 
@@ -219,6 +232,9 @@ fn end_on<'a>(
                 outcome: told(bytes, perform(alloc, *task, bytes)),
             }
         }
+        Request::WithProperties(file, properties) => {
+            paired(alloc, file, properties, names, files)
+        }
         Request::Walk(walking) => {
             let bytes = files[0].as_slice();
             End {
@@ -240,6 +256,55 @@ fn told(bytes: &[u8], made: Result<List<u8>, Refused>) -> Outcome
     match made {
         Ok(text) => Outcome::Done(text),
         Err(refused) => refusal(bytes, refused),
+    }
+}
+
+// How the translation of a model with its properties ends, on the contents of both files.
+fn paired<'a>(
+    alloc: Global,
+    file: &str,
+    properties: &str,
+    names: &[&'a str],
+    files: &[List<u8>],
+) -> End<'a>
+    requires names { names_of names.now ≡ file.now ∷ properties.now ∷ [] }
+    requires files { length files.now ≡ length names.now }
+    ensures { IsEndOn (with_properties file.now properties.now) files.now result.name.now result.outcome }
+{
+    let model = files[0].as_slice();
+    let second = files[1].as_slice();
+    let made = translate_with_properties(alloc, model, second);
+    told_of_pair(names[0], names[1], model, second, made)
+}
+
+// The same of what was made of them, at the file that is refused, or else at the model's.
+fn told_of_pair<'a>(
+    file: &'a str,
+    properties: &'a str,
+    model: &[u8],
+    second: &[u8],
+    made: Result<List<u8>, FilesRefused>,
+) -> End<'a>
+    ensures name { result.name.now ≡ pair_name file.now properties.now made }
+    ensures outcome { result.outcome ≡ pair_outcome model.now second.now made }
+{
+    match made {
+        Ok(text) => End {
+            name: file,
+            outcome: Outcome::Done(text),
+        },
+        Err(FilesRefused::Model(fault)) => End {
+            name: file,
+            outcome: refusal(model, Refused::At(fault)),
+        },
+        Err(FilesRefused::Properties(fault)) => End {
+            name: properties,
+            outcome: refusal(second, Refused::At(fault)),
+        },
+        Err(FilesRefused::Memory(_)) => End {
+            name: file,
+            outcome: Outcome::NoMemory,
+        },
     }
 }
 
@@ -288,6 +353,7 @@ fn perform(alloc: Global, task: Task, bytes: &[u8]) -> Result<List<u8>, Refused>
     match task {
         Task::ToJani => translate(alloc, bytes),
         Task::ToPrism => translate_back(alloc, bytes),
+        Task::ToPrismProps => translate_properties(alloc, bytes),
         Task::CheckPrism => count_prism(alloc, bytes),
         Task::CheckJani => count_jani(alloc, bytes),
     }

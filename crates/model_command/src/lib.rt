@@ -9,7 +9,6 @@ mod command;
 mod outcome;
 mod reading;
 mod to_prism;
-mod translation;
 
 pub use command::run;
 pub use outcome::Outcome;

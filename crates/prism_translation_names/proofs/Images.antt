@@ -31,12 +31,12 @@ use Rattle.std.proofs.lemmas.Bool.{and_parts}
 use Rattle.basics.specs.Lists.{append_both}
 use Rattle.prism_translation_names.proofs.Good.{Good}
 
-arity_kept : (o : JaniOp) → prism.arity (prism_op o) ≡ jani.arity o
+pub arity_kept : (o : JaniOp) → prism.arity (prism_op o) ≡ jani.arity o
 arity_kept J.Ite = refl
 arity_kept o = refl
 
 -- ---- literals
-unsigned_normal : (d : Decimal) → is_normal d ≡ true → is_normal (unsigned d) ≡ true
+pub unsigned_normal : (d : Decimal) → is_normal d ≡ true → is_normal (unsigned d) ≡ true
 unsigned_normal d h = by_test (nat_eq d.digits 0) h
   where
     by_test : (b : Bool) → (if b then not d.negative && int_eq d.exponent (pos 0) else if d.real then not (nat_eq (d.digits % 10) 0) else int_eq d.exponent (pos 0)) ≡ true →

@@ -17,4 +17,4 @@ loop-m-preserved t c = elim c.match-known_form.branch [
 ]
 
 pub returns-after-loop-m : goal.returns-after-loop-m
-returns-after-loop-m t c = members_done (has_name c.args.given.now) _ _ _ _ _ _ _ _ _ _ (sym (c.read_as.ensures ∙ ap (reading c.args.form) c.op_word.ensures) ∙ c.in-As.is) (c.in-Object.is ∙ ap (λ ms. Object c.in-Object.at ms c.in-Object.close) (sym c.as_slice-slice-in-Object.ensures)) c.loop-m-test.false c.loop-m.invariant c.judge_own.ensures
+returns-after-loop-m t c = members_done (has_name c.args.given.now) _ _ _ _ _ _ _ _ _ _ (sym (c.read_as.ensures ∙ ap (reading c.args.form) c.op_word.ensures) ∙ c.in-As.is) (c.in-Object.is ∙ ap (λ ms. Object c.in-Object.at ms c.in-Object.close) (sym c.as_slice-slice.ensures)) c.loop-m-test.false c.loop-m.invariant c.judge_own.ensures

@@ -7,7 +7,7 @@ use Rattle.jani_props.proofs.shape.+judge.Given as goal
 
 abbrev pub invariant-loop-x : goal.invariant-loop-x
 invariant-loop-x l =
-    soonest l.best (items_faults (has_name l.fn.given) l.item (nodes (drop l.x-index l.slice))) ≡ soonest l.fn.first (items_faults (has_name l.fn.given) l.item (nodes l.slice))
+    soonest l.best (items_faults (has_name l.fn.given) l.item (nodes (drop l.x-index l.x-items))) ≡ soonest l.fn.first (items_faults (has_name l.fn.given) l.item (nodes l.x-items))
 
 abbrev pub invariant-loop-m : goal.invariant-loop-m
 invariant-loop-m l =

@@ -1,9 +1,11 @@
-use Rattle.std.proofs.Common.{rules, ◌≡◌, ◌⊎◌}
+use Rattle.std.proofs.Common.{rules, ◌≡◌, ◌⊎◌, ◌∷◌, []}
+use Rattle.command_words.specs.Words.{with_properties, check}
 use Rattle.model_command.specs.Outcome.{status_of}
 use Rattle.model_command.proofs.Causes.{written, of_words, of_read}
 use Rattle.model_command.proofs.Exact.{exact_words}
 use Rattle.model_command.proofs.Fit.{exact_fit}
-use Rattle.model_command.proofs.Judged.{judged_of}
+use Rattle.model_command.proofs.Paired.{translated_of}
+use Rattle.model_command.proofs.SeveralTold.{ended_of}
 use Rattle.model_command.proofs.Told.{headline_of, shown_of, written_whole}
 use Rattle.model_command.proofs.command.run.Goals as goal
 
@@ -47,5 +49,12 @@ returns-clause-shown g c = λ left w bytes was said told had held heard form no_
 pub returns-clause-judged : goal.returns-clause-judged
 returns-clause-judged g c = λ left k contents was said told held kept heard form no_read no_write no_memory.
     let e = written_whole g.K.Sink.taken g.K.Sink.faults g.E.Sink.taken g.E.Sink.faults _ _ _ _ c.answer.result was said kept heard no_write c.answer.ensures.0 c.answer.ensures.1 c.answer.ensures.3 in
-    judged_of g.H.Shelf.left g.H.Shelf.faults g.H.Shelf.steady _ c.answer.ensures.0 _ _ c.words_law.ensures.one left told contents was said _ _ c.answer.result no_read no_memory
-    k held form c.answer.ensures.1 c.answer.ensures.2 e.0 e.1 e.2
+    ended_of g.H.Shelf.left g.H.Shelf.faults g.H.Shelf.steady _ c.answer.ensures.0 _ _ c.words_law.ensures.one left told contents was said _ _ c.answer.result no_read no_memory
+    (check k) form.names held form c.answer.ensures.1 c.answer.ensures.2 e.0 e.1 e.2
+
+pub returns-clause-with_properties : goal.returns-clause-with_properties
+returns-clause-with_properties g c = λ left file properties model second was said told held held_second kept heard form no_read no_write no_memory.
+    let e = written_whole g.K.Sink.taken g.K.Sink.faults g.E.Sink.taken g.E.Sink.faults _ _ _ _ c.answer.result was said kept heard no_write c.answer.ensures.0 c.answer.ensures.1 c.answer.ensures.3 in
+    translated_of file properties model second was said _ _ c.answer.result c.one_list_of_faults.ensures no_memory
+    (ended_of g.H.Shelf.left g.H.Shelf.faults g.H.Shelf.steady _ c.answer.ensures.0 _ _ c.words_law.ensures.one left told (model ∷ second ∷ []) was said _ _ c.answer.result no_read no_memory
+    (with_properties file properties) form.names (held, (held_second, tt)) form c.answer.ensures.1 c.answer.ensures.2 e.0 e.1 e.2)

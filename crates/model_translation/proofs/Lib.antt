@@ -1,0 +1,3 @@
+mod Translations
+mod Paired
+mod Held

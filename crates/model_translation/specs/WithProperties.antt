@@ -1,0 +1,66 @@
+-- What is written for a PRISM file with its properties: the text of a JANI file that means the same, with properties that agree (this
+-- project's own rule).
+use Rattle.std.specs.Prelude.{◌≡◌, ℕ, List, [], ◌∷◌, ◌++◌, Result, Ok, Err}
+use Rattle.bridge_io.specs.declared.reason.Fault.{Fault}
+use Rattle.prism_tree.specs.Syntax as prism
+use Rattle.prism_check.specs.Checked.{Checked}
+use Rattle.jani_table.specs.Node.{Node}
+use Rattle.jani_tree.specs.Syntax as jani
+use Rattle.jani_tree.specs.Places.{bare_file}
+use Rattle.jani_tree.specs.Back.{SpellsFile}
+use Rattle.jani_translation_meaning.specs.SameMeaning.{MeansTheSame}
+use Rattle.prism_to_jani.specs.Promise.{IsTranslated}
+use Rattle.prop_trees.specs.Trees.{PrismProperty}
+use Rattle.prop_check.specs.Read.{AreProperties, IsLeastOf}
+use Rattle.prop_to_jani.specs.Laws as properties
+use Rattle.model_files.specs.PrismFile.{IsFaultless, IsPrismFault}
+use Rattle.model_translation.specs.Translation.{IsText}
+use Rattle.model_translation.specs.declared.properties.FilesRefused.{FilesRefused}
+use Rattle.model_translation.specs.declared.properties.FilesRefused.TheVariants.{Memory, Model, Properties}
+
+-- a JANI file with this value for its properties
+abbrev pub with_properties : jani.File → Node → jani.File
+with_properties f v = record {
+  actions = f.actions;
+  constants = f.constants;
+  variables = f.variables;
+  automata = f.automata;
+  elements = f.elements;
+  elements_at = f.elements_at;
+  vectors = f.vectors;
+  properties = v;
+}
+
+-- The text spells the JANI file that the PRISM file is translated to, with this value for its properties, and no other. The value is that of the
+-- translated properties, with which they agree; and the file with it means the same process too.
+pub record IsWrittenWith (c : Checked) (ps : List PrismProperty) (text : List ℕ) (model : jani.File) (value : Node) : Type 0 where
+  pub written : IsText text (with_properties model value)
+  pub translated : IsTranslated c.file model
+  pub properties : properties.IsTranslated c ps value
+  pub same : MeansTheSame c.file (with_properties model value)
+
+-- Both files have no fault, and this is written for them.
+pub record IsTranslationWith (model properties text : List ℕ) (c : Checked) (ps : List PrismProperty) : Type 0 where
+  pub faultless : IsFaultless model c.file
+  pub read : AreProperties properties c.file ps
+  pub jani : jani.File
+  pub value : Node
+  pub written : IsWrittenWith c ps text jani value
+
+abbrev pub TranslatesWith : List ℕ → List ℕ → List ℕ → Type 0
+TranslatesWith model properties text = (c : Checked) × (ps : List PrismProperty) × IsTranslationWith model properties text c ps
+
+-- Both files have no fault.
+abbrev pub AreFaultless : List ℕ → List ℕ → Type 0
+AreFaultless model properties = (tree : prism.File) × (ps : List PrismProperty) × IsFaultless model tree × AreProperties properties tree ps
+
+-- The model has no fault, and this is the least fault of the properties.
+abbrev pub IsPropertiesFault : List ℕ → List ℕ → Fault → Type 0
+IsPropertiesFault model properties f = (tree : prism.File) × IsFaultless model tree × IsLeastOf properties tree f
+
+-- It is written for the files, or the first that has faults is refused at its least one; want of memory may come at any time.
+abbrev pub TranslatesFiles : List ℕ → List ℕ → Result (List ℕ) FilesRefused → Type 0
+TranslatesFiles model properties (Ok text) = TranslatesWith model properties text
+TranslatesFiles model properties (Err (Memory e)) = Unit {0}
+TranslatesFiles model properties (Err (Model f)) = IsPrismFault model f
+TranslatesFiles model properties (Err (Properties f)) = IsPropertiesFault model properties f

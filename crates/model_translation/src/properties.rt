@@ -1,0 +1,102 @@
+//! From the bytes of a PRISM file and those of a properties file to the text of a JANI file with properties.
+ghost use Rattle.std.specs.Prelude.{◌≡◌, ℕ, List, IfOk, map};
+ghost use Rattle.jani_table.specs.Node.{Node, node};
+ghost use Rattle.jani_tree.specs.Form.{KeysOnce, NormalNode};
+ghost use Rattle.jani_tree.specs.Syntax.{File, file_of};
+ghost use Rattle.prism_to_jani.specs.Promise.{IsTranslated};
+ghost use Rattle.prop_trees.specs.Form.{AreOfPrism};
+ghost use Rattle.prop_trees.specs.Syntax.{property_of};
+ghost use Rattle.model_translation.specs.WithProperties.{IsWrittenWith, TranslatesFiles, with_properties};
+
+use crate::translation::text_of;
+use bridge_io::{Fault, List, Refused};
+use decimal_json::Json;
+use jani_check::CheckedJani;
+use model_files::read_prism;
+use prism_check::CheckedPrism;
+use prism_to_jani::to_jani;
+use prop_check::read_props;
+use prop_to_jani::props_to_jani;
+use prop_trees::Property;
+use std::alloc::{AllocError, Global};
+
+/// Why a model and its properties aren't translated.
+#[derive(Drop)]
+pub enum FilesRefused {
+    /// Want of memory.
+    Memory(AllocError),
+    /// The file of the model has a fault.
+    Model(Fault),
+    /// It has none, and that of the properties has one.
+    Properties(Fault),
+}
+
+impl From<AllocError> for FilesRefused {
+    ghost use Rattle.model_translation.specs.declared.properties.FilesRefused.TheVariants.{Memory};
+
+    ghost from_gives = { λ e r. r ≡ Memory e };
+
+    fn from(e: AllocError) -> FilesRefused {
+        FilesRefused::Memory(e)
+    }
+}
+
+/// The canonical text of the JANI file that the PRISM file of the first bytes is translated to, with the properties that the second bytes
+/// hold of it, and a line feed. That file means the same process, and its properties agree with those that were read, one by one, in order. An
+/// `Err` is want of memory, or the least fault of the model, or else of the properties.
+pub fn translate_with_properties(
+    alloc: Global,
+    model: &[u8],
+    properties: &[u8],
+) -> Result<List<u8>, FilesRefused>
+    ensures { TranslatesFiles model.now properties.now result }
+{
+    let checked = match read_prism(alloc, model) {
+        Ok(checked) => checked,
+        Err(Refused::At(fault)) => return Err(FilesRefused::Model(fault)),
+        Err(Refused::Memory(e)) => return Err(FilesRefused::Memory(e)),
+    };
+    let props = match read_props(alloc, properties, &checked) {
+        Ok(props) => props,
+        Err(Refused::At(fault)) => return Err(FilesRefused::Properties(fault)),
+        Err(Refused::Memory(e)) => return Err(FilesRefused::Memory(e)),
+    };
+    let text = written(alloc, checked, &props)?;
+    Ok(text)
+}
+
+// The text for a judged file, which is let go once it is translated, and its properties. `Err` is want of memory.
+fn written(
+    alloc: Global,
+    checked: CheckedPrism,
+    props: &List<Property>,
+) -> Result<List<u8>, AllocError>
+    requires { AreOfPrism checked.file (map property_of props.now) }
+    ensures { IfOk result (λ text. (model : File) × (value : Node) × IsWrittenWith checked (map property_of props.now) text model value) }
+{
+    let value = props_to_jani(alloc, props, &checked)?;
+    let model = translated(alloc, checked)?;
+    let full = with_properties(alloc, model, value)?;
+    text_of(alloc, &full)
+}
+
+fn translated(alloc: Global, checked: CheckedPrism) -> Result<CheckedJani, AllocError>
+    ensures { IfOk result (λ j. IsTranslated checked.file (file_of j)) }
+{
+    to_jani(alloc, &checked)
+}
+
+// The file with this value for its properties. `Err` is want of memory.
+fn with_properties(
+    alloc: Global,
+    model: CheckedJani,
+    value: Json,
+) -> Result<CheckedJani, AllocError>
+    requires normal { NormalNode (node value) }
+    requires once { KeysOnce (node value) }
+    ensures { IfOk result (λ j. file_of j ≡ with_properties (file_of model) (node value)) }
+{
+    let mut file = model.into_file();
+    file.properties = value;
+    CheckedJani::without_fault(alloc, file)
+}

@@ -1,0 +1,14 @@
+mod Texts
+mod Entries
+mod NewNames
+mod Loops
+mod Spelled
+mod Readable
+mod Corresponding
+mod Agreeing
+mod Structures
+mod Written
+mod Words
+mod Printing
+mod ReadBack
+mod Numbered

@@ -1,0 +1,3 @@
+pub mod ToPrism
+pub mod Laws
+pub mod Code
