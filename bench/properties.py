@@ -19,7 +19,7 @@ FORMS = (
     'Pmax=? [ F s_%(i)04d=%(k)d & !"busy_%(j)04d" ]',
     'P>=0.%(k)02d [ s_%(i)04d<%(k)d U<=%(k)d far_%(j)04d ]',
     'Pmin=? [ G "busy_%(i)04d" | c_%(j)04d!=%(d)d ]',
-    'P<0.%(k)02d [ F<=2*%(k)d c_%(i)04d=%(d)d ]',
+    'P<0.%(k)02d [ F<=(2*%(k)d) c_%(i)04d=%(d)d ]',
     'R{"work"}min=? [ F s_%(i)04d>=%(k)d => far_%(j)04d ]',
     'Pmax=? [ "busy_%(i)04d" W s_%(j)04d+1>%(k)d ]',
 )
