@@ -1,12 +1,12 @@
 #!/usr/bin/env python3
-"""Times `bridge to-jani` with 5,000, 10,000 and 20,000 properties beside a model of 1 MB, and `bridge to-prism-props` on what that writes.
+"""Times `bridge to-jani` with none, 5,000, 10,000 and 20,000 properties beside a model of 1 MB, and `bridge to-prism-props` on what that writes.
 
     bench/properties.py [--program crates/bridge/out/bridge] [--runs 3]
 
 The properties take all forms in turn, each with its own name, labels and formulas among their operands. For each number: the processor seconds
-of the best run; those of the model alone, translated without properties; the growth of what the properties cost against the number before;
-`check prism` of the model; then the way back, its growth, and `check jani` of the file, which reads its properties as JSON too. What is to be reached:
-a growth of at most 2.2 for each doubling, and in all at most three times the time of reading both files.
+of the best run; those of reading both files (the same with a last property that isn't typed, which is refused once both are read); the growth of
+what the properties cost against the number before; then the way back, beside `check jani` of the file, which reads its properties as JSON, and its
+growth. What is to be reached: a growth of at most 2.2 for each doubling, and at most three times the time of reading both files.
 """
 
 import os
@@ -51,22 +51,27 @@ def properties(count):
 
 def main():
     program, runs = words("crates/bridge/out/bridge")
-    best = lambda command: min((timed(command) for _ in range(runs)), key=lambda t: t[0])[0]
+    best = lambda command, status=0: min((timed(command, status) for _ in range(runs)), key=lambda t: t[0])[0]
     with tempfile.TemporaryDirectory() as room:
         os.chdir(room)
         with open("f", "w") as f:
             f.write(model(1000000))
-        alone, check = best([program, "to-jani", "f"]), best([program, "check", "prism", "f"])
         before, back_before = 0, 0
-        for count in (5000, 10000, 20000):
+        for count in (0, 5000, 10000, 20000):
+            with open("q", "w") as f:
+                f.write(properties(count) + "Pmax=? [ F 1 ];\n")
+            read = best([program, "to-jani", "f", "q"], 2)
             with open("q", "w") as f:
                 f.write(properties(count))
             seconds = best([program, "to-jani", "f", "q"])
             timed([program, "to-jani", "f", "q"], out="j")
-            back, read = best([program, "to-prism-props", "j"]), best([program, "check", "jani", "j"])
-            print("%6d properties of %.1f MB: %.3f s, %.3f without them, growth %4s; check prism %.3f; back %.3f, growth %4s; check jani %.3f" % (
-                count, os.path.getsize("q") / 1e6, seconds, alone, growth(seconds - alone, before), check, back, growth(back - read, back_before), read), flush=True)
-            before, back_before = seconds - alone, back - read
+            back, back_read = best([program, "to-prism-props", "j"]), best([program, "check", "jani", "j"])
+            if count == 0:
+                alone, back_alone = seconds, back
+            print("%6d properties of %.1f MB: %.3f s, read in %.3f, times %.1f, growth %4s; back %.3f s, check jani %.3f, times %.1f, growth %4s" % (
+                count, os.path.getsize("q") / 1e6, seconds, read, seconds / read, growth(seconds - alone, before),
+                back, back_read, back / back_read, growth(back - back_alone, back_before)), flush=True)
+            before, back_before = seconds - alone, back - back_alone
 
 
 if __name__ == "__main__":
