@@ -1,9 +1,10 @@
 -- A fact of each member of a list, as a walk over it: `AllByRecursion` of std, which computes. `List.Elements` of std's lemmas
 -- goes between it and `All`.
-use Rattle.std.proofs.Common.{◌≡◌, ℕ, zero, suc, Bool, true, false, ◌||◌, List, [], ◌∷◌, ◌++◌, map, take, drop, zip, filter, flat_map, slice_get, Some, if◌then◌else◌, refl, ap₂}
+use Rattle.std.proofs.Common.{◌≡◌, ℕ, zero, suc, Bool, true, false, ◌||◌, List, [], ◌∷◌, ◌++◌, map, take, drop, zip, filter, flat_map, slice_get, find, option_map, cond, Option, Some, None, if◌then◌else◌, refl, ap₂}
 use Rattle.std.specs.List.{list_any, AllByRecursion as Each}
 use Rattle.std.proofs.lemmas.Bool.{or_parts}
 use Rattle.basics.specs.Lists.{append_parts, append_both}
+use Rattle.basics.specs.Options.{IfAny}
 
 pub each_then : {A : Type 0} (P Q : A → Type 0) → ((x : A) → P x → Q x) → (xs : List A) → Each P xs → Each Q xs
 each_then P Q h [] p = tt
@@ -94,3 +95,18 @@ none_each p (x ∷ xs) e = let r = or_parts (p x) (list_any p xs) e in (r.0, non
 pub each_none : {A : Type 0} (p : A → Bool) (xs : List A) → Each (λ x. p x ≡ false) xs → list_any p xs ≡ false
 each_none p [] h = refl
 each_none p (x ∷ xs) h = ap₂ (λ a b. a || b) h.0 (each_none p xs h.1)
+
+-- ---- of what may be missing
+
+-- what is found in a list, where something is
+pub each_found : {A : Type 0} (P : A → Type 0) (test : A → Bool) (xs : List A) → Each P xs → IfAny P (find test xs)
+each_found P test [] p = tt
+each_found {A = A} P test (x ∷ xs) p = by_test (test x) (each_found P test xs p.1)
+  where
+    by_test : (b : Bool) → IfAny P (find test xs) → IfAny P (cond b (Some x) (find test xs))
+    by_test true r = p.0
+    by_test false r = r
+
+pub any_map : {A B : Type 0} (P : A → Type 0) (Q : B → Type 0) (f : A → B) → ((x : A) → P x → Q (f x)) → (o : Option A) → IfAny P o → IfAny Q (option_map f o)
+any_map P Q f h None p = tt
+any_map P Q f h (Some x) p = h x p

@@ -3,5 +3,6 @@ pub mod Numbers
 pub mod Options
 pub mod Lists
 pub mod Each
+pub mod Mapped
 pub mod Members
 pub mod Texts

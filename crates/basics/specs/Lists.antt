@@ -8,6 +8,10 @@ cons_same x y xs ys e f = ap₂ (λ u us. u ∷ us) e f
 
 -- ---- empty
 
+abbrev pub IsNotEmpty : {A : Type 0} → List A → Type 0
+IsNotEmpty [] = ⊥
+IsNotEmpty (x ∷ xs) = Unit {0}
+
 pub append_left : {A : Type 0} (xs ys : List A) → xs ++ ys ≡ [] → xs ≡ []
 append_left [] ys e = refl
 append_left (x ∷ xs) ys e = absurd cc
@@ -71,6 +75,10 @@ map_agree f g h (x ∷ xs) = ap₂ (λ u us. u ∷ us) (h x) (map_agree f g h xs
 
 pub flat_map_of : {A B C : Type 0} (f : B → List C) (g : A → B) (xs ys : List A) → xs ≡ ys → flat_map (λ x. f (g x)) xs ≡ flat_map f (map g ys)
 flat_map_of f g xs ys e = ap (flat_map (λ x. f (g x))) e ∙ sym (flat_map-map f g ys)
+
+pub each_one : {A B : Type 0} (f : A → B) (xs : List A) → flat_map (λ x. f x ∷ []) xs ≡ map f xs
+each_one f [] = refl
+each_one f (x ∷ xs) = ap (λ l. f x ∷ l) (each_one f xs)
 
 pub zip_none : {A B Z : Type 0} (f : A → B → Z) (xs : List A) → map (λ p. f p.0 p.1) (zip xs []) ≡ []
 zip_none f [] = refl

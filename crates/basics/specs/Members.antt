@@ -1,6 +1,6 @@
 -- What holds of some member of a list, or of all; filters, and the place of the first that passes.
-use Rattle.std.proofs.Common.{◌≡◌, ℕ, suc, ◌+◌, Bool, true, false, cond, not, ◌||◌, nat_lt, List, [], ◌∷◌, ◌++◌, map, length, filter, find, position, All, Some, None, is_some, option_map, slice_index_or, inl, inr, refl, ap, ◌∙◌, arith, lt-ltb}
-use Rattle.std.specs.List.{list_any, position_or_len}
+use Rattle.std.proofs.Common.{◌≡◌, ℕ, zero, suc, ◌+◌, Bool, true, false, cond, not, ◌||◌, nat_lt, List, [], ◌∷◌, ◌++◌, map, length, filter, find, position, All, Some, None, is_some, option_map, slice_index_or, slice_get, inl, inr, refl, sym, subst, ap, ◌∙◌, arith, lt-ltb}
+use Rattle.std.specs.List.{list_any, position_or_len, AllZip}
 use Rattle.std.proofs.lemmas.Bool.{or_left, or_right, or_cases}
 use Rattle.std.proofs.lemmas.List.Elements.{All-nil, All-cons, All-head, All-tail}
 use Rattle.std.proofs.lemmas.List.Folds.{list_any-append}
@@ -17,6 +17,17 @@ all_each P h xs k d l = h (slice_index_or xs k d)
 pub All-unmap : {A B : Type 0} (P : B → Type 0) (f : A → B) (xs : List A) → All P (map f xs) → All (λ x. P (f x)) xs
 All-unmap P f [] h = All-nil (λ x. P (f x))
 All-unmap P f (x ∷ xs) h = All-cons (λ x. P (f x)) x xs (All-head P (f x) (map f xs) h) (All-unmap P f xs (All-tail P (f x) (map f xs) h))
+
+pub all_get : {A : Type 0} (P : A → Type 0) (xs : List A) (i : ℕ) (x : A) → All P xs → slice_get xs i ≡ Some x → P x
+all_get P [] i x h e = absurd cc
+all_get P (y ∷ ys) zero x h e = subst P (let f : y ≡ x = cc in f) (All-head P y ys h)
+all_get P (y ∷ ys) (suc i) x h e = all_get P ys i x (All-tail P y ys h) e
+
+pub length_zip : {A B : Type 0} (R : A → B → Type 0) (xs : List A) (ys : List B) → AllZip R xs ys → length xs ≡ length ys
+length_zip R [] [] h = refl
+length_zip R [] (y ∷ ys) h = absurd h
+length_zip R (x ∷ xs) [] h = absurd h
+length_zip R (x ∷ xs) (y ∷ ys) h = ap suc (length_zip R xs ys h.1)
 
 -- ---- some member passes
 
@@ -49,14 +60,6 @@ any_never (x ∷ xs) = any_never xs
 pub none_passes : {A : Type 0} (p : A → Bool) (xs : List A) → list_any p xs ≡ false → All (λ x. p x ≡ false) xs
 none_passes p [] h = All-nil (λ x. p x ≡ false)
 none_passes p (x ∷ xs) h = All-cons (λ x. p x ≡ false) x xs (first_false (p x) (list_any p xs) h) (none_passes p xs (second_false (p x) (list_any p xs) h))
-
-pub none_found : {A : Type 0} (p : A → Bool) (xs : List A) → find p xs ≡ None → list_any p xs ≡ false
-none_found p [] e = refl
-none_found p (x ∷ xs) e = by_test (p x) e (none_found p xs)
-  where
-    by_test : (b : Bool) → cond b (Some x) (find p xs) ≡ None → (find p xs ≡ None → list_any p xs ≡ false) → (b || list_any p xs) ≡ false
-    by_test true g r = absurd cc
-    by_test false g r = r g
 
 -- ---- filters
 
@@ -101,3 +104,19 @@ is_some-position p (x ∷ xs) = ap is_some (position_cons p x xs) ∙ by_test (p
     by_test : (b : Bool) → is_some (position p xs) ≡ list_any p xs → is_some (cond b (Some 0) (option_map suc (position p xs))) ≡ (b || list_any p xs)
     by_test true e = refl
     by_test false e = is_some-map suc (position p xs) ∙ e
+
+pub none_at_end : {A : Type 0} (p : A → Bool) (xs : List A) → list_any p xs ≡ false → position_or_len p xs ≡ length xs
+none_at_end p [] h = refl
+none_at_end p (x ∷ xs) h = by_test (p x) h (none_at_end p xs)
+  where
+    by_test : (b : Bool) → (b || list_any p xs) ≡ false → (list_any p xs ≡ false → position_or_len p xs ≡ length xs) → cond (not b) (1 + position_or_len p xs) 0 ≡ suc (length xs)
+    by_test true g r = absurd cc
+    by_test false g r = let e = r g in omega arith
+
+pub found_passes : {A : Type 0} (p : A → Bool) (xs : List A) (x : A) → find p xs ≡ Some x → p x ≡ true
+found_passes p [] x e = absurd cc
+found_passes p (y ∷ ys) x e = by_test (p y) refl e (λ k. found_passes p ys x k)
+  where
+    by_test : (b : Bool) → p y ≡ b → cond b (Some y) (find p ys) ≡ Some x → (find p ys ≡ Some x → p x ≡ true) → p x ≡ true
+    by_test true h k ih = let same : y ≡ x = cc in ap p (sym same) ∙ h
+    by_test false h k ih = ih k

@@ -1,5 +1,5 @@
 -- Tests of natural numbers.
-use Rattle.std.proofs.Common.{◌≡◌, ℕ, zero, suc, ◌<◌, nat_eq, nat_lt, true, false, sym, refl, arith, eq-eqb, eqb-true, ltb-true, lt-ltb}
+use Rattle.std.proofs.Common.{◌≡◌, ℕ, suc, nat_eq, nat_lt, true, sym, refl, arith, eq-eqb, eqb-true, ltb-true, lt-ltb}
 use Rattle.basics.specs.Booleans.{same_test}
 
 pub nat_eq-self : (n : ℕ) → nat_eq n n ≡ true
@@ -12,7 +12,3 @@ pub nat_lt-suc : (n m : ℕ) → nat_lt (suc n) (suc m) ≡ nat_lt n m
 nat_lt-suc n m = same_test (nat_lt (suc n) (suc m)) (nat_lt n m)
     (λ h. lt-ltb n m (let l = ltb-true (suc n) (suc m) h in omega arith))
     (λ h. lt-ltb (suc n) (suc m) (let l = ltb-true n m h in omega arith))
-
-pub not_zero : (n : ℕ) → nat_eq n 0 ≡ false → 0 < n
-not_zero zero h = absurd cc
-not_zero (suc n) h = omega arith

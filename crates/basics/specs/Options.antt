@@ -1,7 +1,17 @@
 -- Options.
-use Rattle.std.proofs.Common.{◌≡◌, ◌⊎◌, Bool, true, false, ◌||◌, Option, Some, None, is_some, is_none, option_map, if◌then◌else◌, refl, inl, inr}
+use Rattle.std.proofs.Common.{◌≡◌, ◌⊎◌, Bool, true, false, ◌||◌, List, [], ◌∷◌, Option, Some, None, is_some, is_none, option_map, if◌then◌else◌, refl, inl, inr}
 use Rattle.std.specs.Prelude.{IsTrue}
 use Rattle.std.specs.Option.{option_or}
+
+-- an option as the list of what it holds
+abbrev pub if_some : {A : Type 0} → Option A → List A
+if_some None = []
+if_some (Some x) = x ∷ []
+
+-- this holds of what is there, if something is
+abbrev pub IfAny : {A : Type 0} → (A → Type 0) → Option A → Type 0
+IfAny P None = Unit {0}
+IfAny P (Some x) = P x
 
 pub none_of : {A : Type 0} (o : Option A) → is_some o ≡ false → o ≡ None
 none_of None e = refl
@@ -32,6 +42,6 @@ option_map-if f true x o = refl
 option_map-if f false x o = refl
 
 -- where one or the other is some
-pub if_some : {A : Type 0} (b : Bool) (x : A) (o : Option A) (w : A) → (if b then Some x else o) ≡ Some w → ((b ≡ true) × (x ≡ w)) ⊎ ((b ≡ false) × (o ≡ Some w))
-if_some true x o w e = inl (refl, cc)
-if_some false x o w e = inr (refl, e)
+pub if_then_some : {A : Type 0} (b : Bool) (x : A) (o : Option A) (w : A) → (if b then Some x else o) ≡ Some w → ((b ≡ true) × (x ≡ w)) ⊎ ((b ≡ false) × (o ≡ Some w))
+if_then_some true x o w e = inl (refl, cc)
+if_then_some false x o w e = inr (refl, e)

@@ -1,15 +1,15 @@
 -- Choices of combinations with false guards, and with rewards that their participants assign.
-use Rattle.std.specs.Prelude.{◌≡◌, List, [], ◌∷◌, ◌++◌, map, Bool, true, false, not, ◌||◌, Option, Some, None, is_none, if◌then◌else◌, slice_set, unwrap_or}
+use Rattle.std.specs.Prelude.{◌≡◌, List, [], ◌∷◌, ◌++◌, map, true, false, not, ◌||◌, Option, Some, None, is_none, if◌then◌else◌, slice_set, unwrap_or}
 use Rattle.std.specs.List.{flat_map, filter, list_any, All}
 use Rattle.std.proofs.Common.{refl, sym, ap, ap₂, ◌∙◌}
 use Rattle.std.proofs.lemmas.List.Folds.{flat_map-map, list_any-append}
 use Rattle.std.proofs.lemmas.List.Elements.{All-nil, All-cons, All-head, All-tail, All-weaker}
 use Rattle.std.proofs.Math.Bool.{or-false, not-not, or_assoc}
-use Rattle.process_core.specs.Idle.{same_branch}
+use Rattle.process_core.specs.Idle.{same_branch, same_kinds}
 use Rattle.basics.specs.Members.{any-map, any_agree, any_two}
 use Rattle.frac_core.specs.Fraction.{Fraction, nought}
 use Rattle.frac_core.specs.Sums.{product}
-use Rattle.process_core.specs.Process.{Kinds, Branch}
+use Rattle.process_core.specs.Process.{Branch}
 use Rattle.process_core.specs.Product.{one_of_each, one_of_each-map, map-map, map_agree_in}
 use Rattle.process_core.specs.Ready.{Values, Name, Reward, Update, Ready, Sum, together}
 use Rattle.process_core.specs.Choices.{is_false, number_of, all_defined, guard_of, weights_of, weighs_wrong, has_undef, has_outside, kinds_of, weight_of, written, assigned, own_rewards, branch_of, ways, outcome_of, choice_from, choice_of, choices}
@@ -50,9 +50,6 @@ undef_apart u =
     let b = list_any (λ w. is_none w.value.value) u.writes in
     let c = assigns_undef u in
     sym (or_assoc a b c) ∙ ap (λ x. (a || x) || c) (sym (or-false b))
-
-same_kinds : (a b c d e f : Bool) → a ≡ b → c ≡ d → e ≡ f → ◌≡◌ {A = Kinds} (record { undef = a; range = c; weight = e }) (record { undef = b; range = d; weight = f })
-same_kinds a b c d e f p q r = cc
 
 guards_bare : (rs : List Ready) → guard_of (map bare_ready rs) ≡ guard_of rs
 guards_bare rs = ap₂ (λ x y. if x then Some false else (if y then None else Some true)) (any-map (λ r. is_false r.guard.value) bare_ready rs) (any-map (λ r. is_none r.guard.value) bare_ready rs)

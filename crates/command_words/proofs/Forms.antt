@@ -45,9 +45,6 @@ seed_form_begins = one_begins IsSeedWord (One IsStepsWord HasGiven) (decimal 0) 
 pub way_begins : Begins WayForm []
 way_begins = (codes "given" ∷ given_form_begins.0, inl (refl, given_form_begins.1))
 
-pub from_begins : Begins FromForm []
-from_begins = one_begins IsStateWord WayForm (codes "()") some_state way_begins
-
 pub walk_begins : Begins WalkForm []
 walk_begins = (way_begins.0, inl way_begins.1)
 

@@ -73,19 +73,6 @@ pub record AreRead (text : List ℕ) (done : List (ℕ × ℕ)) (rest : List ℕ
   pub on : (ps : List (ℕ × ℕ)) → IsPairs rest ps → IsPairs text (done ++ ps)
   pub back : (ps : List (ℕ × ℕ)) → IsPairs text ps → (qs : List (ℕ × ℕ)) × IsPairs rest qs
 
-pub none_read : (text : List ℕ) → AreRead text [] text
-none_read text = record { on = λ ps h. h; back = λ ps h. (ps, h) }
-
-pub not_read : (text : List ℕ) (done : List (ℕ × ℕ)) (rest : List ℕ) → AreRead text done rest → ((ps : List (ℕ × ℕ)) → IsPairs rest ps → ⊥) → (ps : List (ℕ × ℕ)) → IsPairs text ps → ⊥
-not_read text done rest a none ps h = let k = a.back ps h in none k.0 k.1
-
-pub all_read : (text : List ℕ) (done : List (ℕ × ℕ)) (rest : List ℕ) (p : ℕ × ℕ) → AreRead text done rest → IsFront rest p None → IsPairs text (done ++ p ∷ [])
-all_read text done rest p a f = a.on (p ∷ []) (record {
-  some = λ e. cc;
-  small = (f.0, tt);
-  text = f.1 ∙ ap (λ t. decimal p.0 ++ 44 ∷ t) (sym (append-nil (decimal p.1)));
-})
-
 more_pairs : (rest more : List ℕ) (p : ℕ × ℕ) → IsFront rest p (Some more) → (ps : List (ℕ × ℕ)) → IsPairs more ps → IsPairs rest (p ∷ ps)
 more_pairs rest more p f [] h = absurd (h.some refl)
 more_pairs rest more p f (q ∷ qs) h = record {

@@ -1,32 +1,19 @@
 -- The members of an object, found by their keys.
-use Rattle.std.proofs.Common.{◌≡◌, ℕ, zero, suc, ◌<◌, ◌≤◌, Bool, true, false, ◌||◌, List, [], ◌∷◌, ◌++◌, map, take, drop, length, String, string_bytes, refl, sym, ap, ◌∙◌, arith}
+use Rattle.std.proofs.Common.{◌≡◌, ℕ, zero, suc, ◌<◌, ◌≤◌, Bool, true, false, List, [], ◌∷◌, ◌++◌, map, drop, length, String, string_bytes, refl, sym, ap, ◌∙◌, arith}
 use Rattle.std.specs.Prelude.{Option, Some, None, is_some, bytes_eq, nat_lt, if◌then◌else◌}
 use Rattle.std.proofs.lemmas.Bool.Decides.{nat_tests}
 use Rattle.std.specs.Global.{Box, Global}
 use Rattle.std.specs.Map.{lookup}
-use Rattle.std.proofs.lemmas.List.{take-append-drop, length-append, drop_all, map-append}
+use Rattle.std.proofs.lemmas.List.{length-append, drop_all, map-append}
 use Rattle.basics.specs.Options.{none_of}
 use Rattle.indexmap.specs.IndexMap.{IndexMap, get_by}
 use Rattle.decimal_json.specs.declared.tree.Member.{Member}
 use Rattle.decimal_json.specs.Grammar.{is_among, names}
 use Rattle.decimal_json.specs.Kept.{late_names}
 
--- ---- among names
-
-pub among_append : (xs ys : List (List ℕ)) (s : List ℕ) → is_among (xs ++ ys) s ≡ is_among xs s || is_among ys s
-among_append [] ys s = refl
-among_append (x ∷ xs) ys s = go (bytes_eq s x) (among_append xs ys s)
-  where
-    go : (b : Bool) → is_among (xs ++ ys) s ≡ is_among xs s || is_among ys s → b || is_among (xs ++ ys) s ≡ (b || is_among xs s) || is_among ys s
-    go true h = refl
-    go false h = h
-
 -- ---- the first few, and the later ones
 
 module _ (list : List Member) (n : ℕ) where
-  parted : (s : List ℕ) → is_among (names list) s ≡ is_among (names (take n list)) s || is_among (names (drop n list)) s
-  parted s = ap (λ (u : List Member). is_among (names u) s) (sym (take-append-drop n list)) ∙ ap (λ (u : List (List ℕ)). is_among u s) (map-append (λ m. m.key.name) (take n list) (drop n list)) ∙ among_append (names (take n list)) (names (drop n list)) s
-
   -- a further member among the first few
   pub none_later : (m : Member) (more : List Member) (late : List (List ℕ)) → more ≡ list ++ m ∷ [] → length list < n → late ≡ names (drop n list) → late ≡ names (drop n more)
   none_later m more late e l f =

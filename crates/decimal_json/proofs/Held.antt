@@ -33,7 +33,7 @@ use Rattle.decimal_json.specs.declared.number.Digits.{Digits}
 use Rattle.frac_core.specs.Numeral.{is_beyond}
 use Rattle.decimal_json.specs.Number.{first, onward, is_end, RunsOn}
 use Rattle.decimal_json.specs.States.{AllSpaces, verdict}
-use Rattle.decimal_json.proofs.Glue.{number_steps, number_stuck, verdict_end, closes_is, closes_not, key_breaks}
+use Rattle.decimal_json.proofs.StepLemmas.{number_steps, number_stuck, verdict_end, closes_is, closes_not, key_breaks}
 use Rattle.decimal_json.proofs.Chains.{tail_is, key_along, key_ends, spaces_on, spelling, Spelt, number_along}
 use Rattle.decimal_json.proofs.Whole.{along_word, along_take, along_more, get_along, steps_over, take_head, text_in, text_shuts, behind_quote, drop_twice, colon_step, room_more, trailed_out, no_more}
 

@@ -4,7 +4,7 @@ pub mod Turning
 pub mod Limits
 pub mod Values
 pub mod Steps
-pub mod Glue
+pub mod StepLemmas
 pub mod Found
 pub mod Growth
 pub mod Reach

@@ -20,7 +20,7 @@ use Rattle.decimal_json.specs.States.{goes_on, Goes, Quiet, Steps, rest, closes,
 use Rattle.decimal_json.specs.Whole.{HasRoom, IsWhole, Skips, IsNaming}
 use Rattle.decimal_json.proofs.Values.{past_space}
 use Rattle.decimal_json.proofs.Steps as s
-use Rattle.decimal_json.proofs.Glue.{plain, with_mark, bracket_fine, by_mode, goes_by, pushed, popped, word_over, open_object_close}
+use Rattle.decimal_json.proofs.StepLemmas.{plain, with_mark, bracket_fine, by_mode, goes_by, pushed, popped, word_over, open_object_close}
 use Rattle.decimal_json.specs.declared.machine.Mode.{Mode}
 use Rattle.decimal_json.specs.declared.machine.Stop.TheVariants.{Memory, Here, At, TooFar}
 use Rattle.decimal_json.specs.Lang.{Barred}
@@ -173,9 +173,6 @@ room_here : (depth : ℕ) (fs : List Frame) → HasRoom (depth + 1) fs → lengt
 room_here depth fs r = let a = r (omega arith) in omega (arith, a)
 
 module _ (w : List ℕ) (at depth : ℕ) where
-  value_in : List Frame → State
-  value_in fs = record { mode = modes.Value; frames = fs }
-
   -- ---- an array
 
   -- an item or spaces before the end are to come at an offset, behind these items

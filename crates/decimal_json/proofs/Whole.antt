@@ -23,7 +23,7 @@ use Rattle.decimal_json.specs.Strings.{is_between, Passes}
 use Rattle.decimal_json.specs.States.{Goes, Quiet, Steps, closes, begin_value, begin_key, begin_colon, waits, AllSpaces, Along, Advances, Behind}
 use Rattle.decimal_json.specs.Whole.{HasRoom, IsWhole, Skips, IsNaming, Looks, AfterValue, BeforeValue}
 use Rattle.decimal_json.proofs.Steps as s
-use Rattle.decimal_json.proofs.Glue.{plain, by_mode, pushed, open_array_comma, open_array_close, open_object_comma, after_space}
+use Rattle.decimal_json.proofs.StepLemmas.{plain, by_mode, pushed, open_array_comma, open_array_close, open_object_comma, after_space}
 use Rattle.decimal_json.proofs.Chains.{along_join, one, tail_is, advances_behind, advances_front, advances_memory, quote_step, spaces_on, text_along, text_ends}
 
 -- ---- along the bytes

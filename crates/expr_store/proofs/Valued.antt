@@ -1,6 +1,8 @@
 -- What a node comes out as follows from what its operands come out as.
 use Rattle.std.proofs.Common.{◌≡◌, ℕ, List, Bool, true, false, ◌||◌, Option, Some, None, Result, Ok, Err, if◌then◌else◌, refl, sym, ap, subst, ◌∙◌}
 use Rattle.std.proofs.Math.Bool.{or-false, or-true}
+use Rattle.std.proofs.lemmas.Bool.{or_left}
+use Rattle.basics.specs.Booleans.{or_absorbs}
 use Rattle.op_trees.specs.declared.tree.Value.{Value}
 use Rattle.op_trees.specs.declared.tree.Next.{Next}
 use Rattle.op_trees.specs.declared.tree.Next.TheVariants.{Done, Second, Third, All}
@@ -21,14 +23,6 @@ use Rattle.expr_store.specs.declared.answers.Rest.{Rest}
 -- what is wide itself is counted as wide
 pub record IsCounted (s : Seen) : Type 0 where
   pub counts : is_wide_value s.value ≡ true → s.wide ≡ true
-
-or_left : (a b : Bool) → a ≡ true → (a || b) ≡ true
-or_left true b h = refl
-or_left false b h = absurd (cc)
-
-or_absorbs : (a b : Bool) → (a ≡ true → b ≡ true) → (a || b) ≡ b
-or_absorbs true b h = sym (h refl)
-or_absorbs false b h = refl
 
 node_counted : (v : Option Value) (w : Bool) → IsCounted (node v w)
 node_counted v w = record { counts = or_left (is_wide_value v) w }

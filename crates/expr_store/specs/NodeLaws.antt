@@ -6,6 +6,7 @@ use Rattle.std.proofs.lemmas.Bool.{ltb-true}
 use Rattle.std.proofs.lemmas.List.{length-append, append_assoc, append-nil}
 use Rattle.std.proofs.lemmas.Option.{slice_get_past, slice_get_within}
 use Rattle.basics.specs.Booleans.{first_true, second_true}
+use Rattle.basics.specs.Lists.{slice_get-front}
 use Rattle.op_trees.specs.Meaning.{Meaning}
 use Rattle.op_trees.specs.Seen.{Seen, known, one_node, two_node, lazy_node}
 use Rattle.op_trees.specs.Tree.{Tree}
@@ -25,11 +26,6 @@ grown_then {a = a} g h = record { later = g.later ++ h.later; is = h.is ∙ ap (
 pub grown_length : {O : Type 0} {a b : List (Node O)} → IsGrown a b → length a ≤ length b
 grown_length {a = a} g = let e = ap length g.is ∙ length-append a g.later in omega (arith, e)
 
-get_left : {A : Type 0} (xs ys : List A) (i : ℕ) → i < length xs → slice_get (xs ++ ys) i ≡ slice_get xs i
-get_left [] ys i h = absurd (omega arith)
-get_left (x ∷ xs) ys zero h = refl
-get_left (x ∷ xs) ys (suc i) h = get_left xs ys i (omega arith)
-
 get_last : {A : Type 0} (xs : List A) (x : A) → slice_get (xs ++ x ∷ []) (length xs) ≡ Some x
 get_last [] x = refl
 get_last (y ∷ xs) x = get_last xs x
@@ -46,7 +42,7 @@ module _ {O : Type 0} (m : Meaning O) (at : Option Place → Option Value) where
   keeps before (n ∷ ns) j h =
       let s : Seen = seen_some m at (seen_of before) (behind (length before) (Some n)) in
       keeps (before ++ s ∷ []) ns j (omega (arith, length-append before (s ∷ [])))
-      ∙ ap (λ o. unwrap_or o (known None)) (get_left before (s ∷ []) j h)
+      ∙ ap (λ o. unwrap_or o (known None)) (slice_get-front before (s ∷ []) j h)
 
   count : (before : List Seen) (ns : List (Node O)) → length (seen_behind m at before ns) ≡ length before + length ns
   count before [] = omega arith
@@ -93,7 +89,7 @@ module _ {O : Type 0} (m : Meaning O) (at : Option Place → Option Value) where
       ap (seen_of all) same
       ∙ keeps (before ++ s ∷ []) ns (length before) (omega (arith, more))
       ∙ ap (λ o. unwrap_or o (known None)) (get_last before s)
-      ∙ some_agree (length before) (seen_of before) (seen_of all) (λ j l. sym (keeps (before ++ s ∷ []) ns j (omega (arith, more)) ∙ ap (λ o. unwrap_or o (known None)) (get_left before (s ∷ []) j l))) x
+      ∙ some_agree (length before) (seen_of before) (seen_of all) (λ j l. sym (keeps (before ++ s ∷ []) ns j (omega (arith, more)) ∙ ap (λ o. unwrap_or o (known None)) (slice_get-front before (s ∷ []) j l))) x
       ∙ ap₂ (λ l y. seen_some m at (seen_of all) (behind l (Some y))) (sym same) is
   at_index before (x ∷ ns) (suc i) k n e h =
       let s : Seen = seen_some m at (seen_of before) (behind (length before) (Some x)) in
@@ -121,7 +117,7 @@ module _ {O : Type 0} (m : Meaning O) (at : Option Place → Option Value) where
 -- ---- what stands
 pub held_later : {O : Type 0} {ns new : List (Node O)} {i : ℕ} {n : Node O} → IsGrown ns new → Holds ns i n → Holds new i n
 held_later {ns = ns} {i = i} {n = n} g h = record {
-  is = ap (λ all. slice_get all i) g.is ∙ get_left ns g.later i (slice_get_within ns i n h.is) ∙ h.is;
+  is = ap (λ all. slice_get all i) g.is ∙ slice_get-front ns g.later i (slice_get_within ns i n h.is) ∙ h.is;
   behind = h.behind;
 }
 

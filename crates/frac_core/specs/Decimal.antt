@@ -1,6 +1,6 @@
 -- Decimal literals, which stand for their digits times a power of ten (PRISM manual, expressions; RFC 8259, section 6):
 -- their normal form and their values.
-use Rattle.std.specs.Prelude.{◌≡◌, ℕ, suc, ◌*◌, ◌%◌, ◌^◌, ◌<◌, ℤ, pos, negsuc, ◌*ℤ◌, nat_eq, Bool, not, ◌&&◌, if◌then◌else◌}
+use Rattle.std.specs.Prelude.{◌≡◌, ℕ, suc, ◌*◌, ◌%◌, ◌^◌, ◌<◌, ℤ, pos, negsuc, ◌*ℤ◌, nat_eq, Bool, true, false, not, ◌&&◌, if◌then◌else◌}
 use Rattle.std.specs.Ordering.{int_eq}
 use Rattle.std.proofs.Common.{arith, refl, ap, ◌∙◌}
 use Rattle.std.proofs.Math.Nat.{one-le-pow}
@@ -17,6 +17,10 @@ is_normal d =
     if nat_eq d.digits 0 then not d.negative && int_eq d.exponent (pos 0)
     else if d.real then not (nat_eq (d.digits % 10) 0)
     else int_eq d.exponent (pos 0)
+
+-- in normal form and not negative
+abbrev pub IsLiteral : Decimal → Type 0
+IsLiteral d = (is_normal d ≡ true) × (d.negative ≡ false)
 
 -- 10 to a power
 unfoldable pub ten_to : ℤ → Fraction

@@ -1,10 +1,8 @@
 -- Lists under numbers and under names: room for one list more, one value more, one list fewer.
 use Rattle.std.proofs.Common.{◌≡◌, ℕ, suc, zero, ◌<◌, List, [], ◌∷◌, ◌++◌, map, length, get_or, refl, sym, ap, ◌∙◌, append-nil, arith, tests}
 use Rattle.std.specs.Prelude.{Bool, true, false, Option, Some, None, nat_eq, bytes_eq, slice_get, slice_set, unwrap_or, if◌then◌else◌}
-use Rattle.std.specs.List.{flat_map}
 use Rattle.std.proofs.lemmas.Slice.Eq.{bytes_eq-Decides}
 use Rattle.std.proofs.lemmas.List.{map-append}
-use Rattle.std.proofs.lemmas.List.Concat.{flat_map-append}
 use Rattle.process_core.specs.Instance.{only_if}
 
 -- ---- a list under a number
@@ -57,14 +55,3 @@ mapped_if f b v old new e = ap (map f) e ∙ map-append f old (only_if b v) ∙ 
     one : (b : Bool) → map f (only_if b v) ≡ only_if b (f v)
     one true = refl
     one false = refl
-
-pub flat_if : {X Y : Type 0} (f : X → List Y) (b : Bool) (v : X) (old new : List X) → new ≡ old ++ only_if b v → flat_map f new ≡ flat_map f old ++ (if b then f v else [])
-flat_if f b v old new e = ap (flat_map f) e ∙ flat_map-append f old (only_if b v) ∙ ap (λ l. flat_map f old ++ l) (one b)
-  where
-    one : (b : Bool) → flat_map f (only_if b v) ≡ (if b then f v else [])
-    one true = append-nil (f v)
-    one false = refl
-
-pub map_unless : {X Y : Type 0} (f : X → Y) (b : Bool) (old new : List X) → new ≡ (if b then [] else old) → map f new ≡ (if b then [] else map f old)
-map_unless f true old new e = ap (map f) e
-map_unless f false old new e = ap (map f) e

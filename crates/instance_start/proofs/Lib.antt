@@ -1,2 +1,3 @@
 mod Places
 mod Settled
+pub mod Givens

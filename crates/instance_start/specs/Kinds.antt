@@ -7,13 +7,14 @@ use Rattle.std.proofs.Common.{refl, ap, ap₂, ◌∙◌, arith}
 use Rattle.std.proofs.lemmas.List.{map-append}
 use Rattle.op_trees.specs.Seen.{Seen}
 use Rattle.op_trees.specs.declared.tree.Value.{Value}
-use Rattle.process_core.specs.Ready.{Name, if_some}
-use Rattle.process_core.specs.Instance.{Domain, Truths, Between, Column, Range, Scene, range_from, is_empty, is_outside, fault_of, numbered, only_if, constant_faults, range_faults, domain_faults, first_faults, column_faults}
+use Rattle.basics.specs.Options.{if_some}
+use Rattle.process_core.specs.Ready.{Name}
+use Rattle.process_core.specs.Instance.{Domain, Truths, Between, Column, Range, Scene, range_from, is_empty, is_outside, fault_of, numbered, only_if, constant_faults, range_faults, domain_faults, first_faults, column_faults, is_of_constant}
 use Rattle.process_core.specs.declared.data.FaultKind.{FaultKind}
 use Rattle.process_core.specs.declared.data.FaultKind.TheVariants.{ConstUndef, BoundUndef, EmptyRange, InitUndef, InitOutside}
 use Rattle.process_core.specs.declared.data.InstanceFault.{InstanceFault}
 use Rattle.instance_start.specs.Description.{Constant}
-use Rattle.instance_start.specs.Started.{is_of_constant, place_name, named_fault, named_faults}
+use Rattle.instance_start.specs.Started.{place_name, named_fault, named_faults}
 
 -- ---- kinds
 abbrev pub kind_if : Bool → FaultKind → Option FaultKind

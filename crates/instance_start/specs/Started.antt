@@ -2,10 +2,8 @@
 -- instance's faults, each exactly; else the process that the model describes under them. (The order is this project's own rule.)
 use Rattle.std.specs.Prelude.{◌≡◌, ◌≢◌, List, [], map, Bool, true, false, Some, None, Result, Ok, Err, slice_get, unwrap_or}
 use Rattle.process_core.specs.Ready.{Name}
-use Rattle.process_core.specs.Instance.{Scene, Fault, is_wide_instance, instance_faults}
+use Rattle.process_core.specs.Instance.{Scene, Fault, is_wide_instance, instance_faults, is_of_constant}
 use Rattle.process_core.specs.Steps.{Process}
-use Rattle.process_core.specs.declared.data.FaultKind.{FaultKind}
-use Rattle.process_core.specs.declared.data.FaultKind.TheVariants.{ConstUndef, BoundUndef, EmptyRange, InitUndef, InitOutside}
 use Rattle.process_core.specs.declared.data.InstanceFault.{InstanceFault}
 use Rattle.process_core.specs.declared.data.StartFail.{StartFail}
 use Rattle.process_core.specs.declared.data.StartFail.TheVariants.{Memory, Wide, Faults, Word}
@@ -14,12 +12,6 @@ use Rattle.instance_start.specs.Description.{Constant, Description}
 use Rattle.instance_start.specs.Given.{given_by, misfit}
 
 -- ---- faults by name
-abbrev pub is_of_constant : FaultKind → Bool
-is_of_constant ConstUndef = true
-is_of_constant BoundUndef = false
-is_of_constant EmptyRange = false
-is_of_constant InitUndef = false
-is_of_constant InitOutside = false
 
 -- the name that the constant or the variable of the fault has
 abbrev pub place_name : List Name → List Name → Bool → Fault → Name

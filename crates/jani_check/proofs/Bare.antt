@@ -1,76 +1,54 @@
 -- The faults of a JANI file without its places are its faults without theirs.
-use Rattle.std.specs.Prelude.{◌≡◌, ℕ, zero, suc, max, List, [], ◌∷◌, ◌++◌, map, length, Bool, true, false, not, ◌&&◌, ◌||◌, Option, Some, None, is_some, nat_eq, bytes_eq, if◌then◌else◌}
+use Rattle.std.specs.Prelude.{◌≡◌, ℕ, zero, suc, List, [], ◌∷◌, map, length, Bool, true, false, not, ◌&&◌, ◌||◌, Option, Some, None, is_some, nat_eq, bytes_eq, if◌then◌else◌}
 use Rattle.std.specs.List.{flat_map, filter, find, list_any}
-use Rattle.std.specs.Option.{option_map}
+use Rattle.std.specs.Option.{option_map, option_or as or_else}
 use Rattle.std.proofs.Common.{refl, sym, ap, ap₂, subst, ◌∙◌}
 use Rattle.std.proofs.lemmas.List.{length-map}
 use Rattle.std.proofs.Math.Path.{fun_ext}
 use Rattle.basics.specs.Members.{any_agree}
 use Rattle.bridge_io.specs.declared.reason.Named.{Named}
 use Rattle.bridge_io.specs.declared.reason.Reason.{Reason}
-use Rattle.bridge_io.specs.declared.reason.Reason.TheVariants.{TwiceNamed, Unknown, RepeatedAutomaton, WrongType, WrittenTwice, NotConstant, ForeignWrite, TransientRead, TransientTwoAutomata, LabelOnEdge, TransientInitial, Cycle, BadVector, Nothing, BranchReward, TwoRewardWriters}
+use Rattle.bridge_io.specs.declared.reason.Reason.TheVariants.{TwiceNamed, RepeatedAutomaton, WrongType, WrittenTwice, NotConstant, ForeignWrite, TransientRead, TransientTwoAutomata, LabelOnEdge, TransientInitial, Cycle, BadVector, Nothing, BranchReward, TwoRewardWriters}
 use Rattle.bridge_io.specs.declared.reason.Fault.{Fault}
 use Rattle.op_trees.specs.declared.tree.Ty.{Ty}
 use Rattle.op_trees.specs.declared.tree.Ty.TheVariants as T
 use Rattle.op_trees.specs.Tree.{Truth, Number, Name as At, One, Two, Three, bare}
-use Rattle.op_trees.specs.Types.{Types, type_in, misfits, misfit_at}
-use Rattle.op_trees.specs.TypeLaws.{type-bare}
-use Rattle.op_trees.specs.Names.{names_of, offset_of}
+use Rattle.op_trees.specs.Types.{Types, type_in, misfits}
+use Rattle.op_trees.specs.TypeLaws.{type-bare, noughts, misfit-bare}
+use Rattle.op_trees.specs.Names.{names_of, offset_of, bare_name, is_called}
 use Rattle.op_trees.specs.NameLaws.{offset-bare, some_name-bare, names-bare}
 use Rattle.jani_table.specs.Operators.{jani_meaning, op_text}
 use Rattle.jani_tree.specs.Syntax.{Expression, Const, VarKind, boolean, integer, number, real_bounded, one_sided, bounded, Var, Write, Location, Destination, Edge, Automaton, Vector, File}
-use Rattle.jani_tree.specs.Places.{bare_name, bare_const, bare_kind, bare_var, bare_write, bare_location, bare_destination, bare_edge, bare_automaton, bare_part, bare_vector, bare_file}
-use Rattle.jani_tree.proofs.Mapped.{mapped, walked, found_mapped, kept_mapped, any_mapped, joined, turned, gathered}
+use Rattle.jani_tree.specs.Places.{bare_const, bare_kind, bare_var, bare_write, bare_location, bare_destination, bare_edge, bare_automaton, bare_part, bare_vector, bare_file}
+use Rattle.basics.specs.Mapped.{mapped, walked, found_mapped, kept_mapped, any_mapped, joined, turned, gathered}
 use Rattle.jani_check.specs.declared.things.Thing.{Thing}
 use Rattle.jani_check.specs.declared.things.Thing.TheVariants.{Variable, Transient}
-use Rattle.jani_check.specs.declared.demands.Wanted.{Wanted}
-use Rattle.jani_check.specs.declared.demands.Wanted.TheVariants as W
+use Rattle.op_trees.specs.declared.wanted.Wanted.{Wanted}
+use Rattle.op_trees.specs.declared.wanted.Wanted.TheVariants as W
+use Rattle.name_rules.specs.Least as least
 use Rattle.name_rules.specs.Least.{fault, fault_if}
-use Rattle.jani_check.specs.Things.{kind_type, const_thing, var_thing, const_called, var_called, automaton_called, or_else, global_thing, beside, types_by, is_constant, is_lasting, is_transient, is_label, is_reward}
-use Rattle.name_rules.specs.Names.{Name, is_called, is_among}
-use Rattle.jani_check.specs.Demands.{Demand, fixed, varying, assigned, given, wanted_by, if_some, const_demands, bound_demands, var_demands, location_demands, destination_demands, edge_demands, automaton_demands, outer_demands}
+use Rattle.jani_check.specs.Things.{kind_type, const_thing, var_thing, const_called, var_called, automaton_called, global_thing, beside, types_by, is_constant, is_lasting, is_transient, is_label, is_reward}
+use Rattle.name_rules.specs.Names.{Name, is_among}
+use Rattle.basics.specs.Options.{if_some}
+use Rattle.jani_check.specs.Demands.{Demand, fixed, varying, assigned, given, const_demands, bound_demands, var_demands, location_demands, destination_demands, edge_demands, automaton_demands, outer_demands}
 use Rattle.jani_check.specs.NameFaults.{var_names, global_names, location_names, automaton_names, doubled_in, doubled_names, names_used, unless_known, unknown_by, edge_locations, locations_used, actions_used, unknown_in, vector_actions, unknown_names, uses, uses_of, leads_to, is_circular, circular, circles, repeated_elements, no_element, bad_vector, composition_faults, name_faults}
-use Rattle.name_rules.specs.Doubled.{clash, doubled_after, doubled}
-use Rattle.jani_check.specs.TypeFaults.{kind_fault, var_faults, is_unwanted, type_faults_of, is_variable, has_variable, wanted_at, demand_faults, targets, repeated, edge_repeats, repeated_writes, automaton_faults, has_action, edge_writes, with_automaton, taken_part, participants, assigned_by, edge_shared, shared_by, meet, clashing_writes, type_faults}
+use Rattle.name_rules.specs.Doubled.{doubled_after, doubled}
+use Rattle.name_rules.proofs.Placeless.{placeless, at_nought, tested, after-bare, doubled-bare, among-bare, unknown-bare}
+use Rattle.op_trees.specs.Wanted.{is_unwanted, wanted_by}
+use Rattle.jani_check.specs.TypeFaults.{kind_fault, var_faults, type_faults_of, is_variable, has_variable, wanted_at, demand_faults, targets, repeated, edge_repeats, repeated_writes, automaton_faults, has_action, edge_writes, with_automaton, taken_part, participants, assigned_by, edge_shared, shared_by, meet, clashing_writes, type_faults}
 use Rattle.jani_check.specs.ProfileFaults.{read_fault, reads, demand_profile, is_first, first_fault, start_faults, given_by, given_again, given_after, same_number, same_tree, value_for, rewards_by, lacks, differ, some_differ, branch_rewards, automaton_profile, assigns_reward, rewards_with, two_hold, two_writers, profile_faults}
-use Rattle.jani_check.specs.Faults as checked
 use Rattle.jani_check.specs.Faults.{faults}
-
--- ---- faults without their places
-abbrev pub placeless : Fault → Fault
-placeless f = record { reason = f.reason; at = 0 }
-
-at_nought : (b : Bool) (at : ℕ) (r : Reason) → fault_if b 0 r ≡ map placeless (fault_if b at r)
-at_nought true at r = refl
-at_nought false at r = refl
-
--- a fault that comes where another test holds, which is the same
-tested : (b c : Bool) (at : ℕ) (r : Reason) → b ≡ c → fault_if b 0 r ≡ map placeless (fault_if c at r)
-tested b c at r e = ap (λ x. fault_if x 0 r) e ∙ at_nought c at r
 
 if_some-mapped : {A B : Type 0} (f : A → B) (o : Option A) → if_some (option_map f o) ≡ map f (if_some o)
 if_some-mapped f None = refl
 if_some-mapped f (Some x) = refl
 
 -- ---- names that are declared twice
-after-bare : (r : Reason) (earlier ns : List Named) → doubled_after r (map bare_name earlier) (map bare_name ns) ≡ map placeless (doubled_after r earlier ns)
-after-bare r earlier [] = refl
-after-bare r earlier (n ∷ ns) =
-    joined placeless (flat_map (clash r (bare_name n)) (map bare_name earlier)) (doubled_after r (map bare_name (n ∷ earlier)) (map bare_name ns)) (flat_map (clash r n) earlier) (doubled_after r (n ∷ earlier) ns)
-    (gathered placeless bare_name (clash r (bare_name n)) (clash r n) (λ m. at_nought (bytes_eq m.name n.name) (max m.at n.at) r) earlier)
-    (after-bare r (n ∷ earlier) ns)
-
-doubled-bare : (r : Reason) (us ns : List Named) → us ≡ map bare_name ns → doubled r us ≡ map placeless (doubled r ns)
-doubled-bare r us ns e = ap (doubled r) e ∙ after-bare r [] ns
-
 vars-bare : (xs : List Var) → var_names (map bare_var xs) ≡ map bare_name (var_names xs)
 vars-bare xs = turned bare_name bare_var (λ x. x.name) (λ x. x.name) (λ x. refl) xs
 
 locations-bare : (a : Automaton) → location_names (bare_automaton a) ≡ map bare_name (location_names a)
 locations-bare a = turned bare_name bare_location (λ l. l.name) (λ l. l.name) (λ l. refl) a.locations
-
-among-bare : (us ns : List Named) → us ≡ map bare_name ns → is_among us ≡ is_among ns
-among-bare us ns e = ap is_among e ∙ fun_ext (λ x. any_mapped bare_name (is_called x) (is_called x) (λ n. refl) ns)
 
 module _ (file : File) where
   globals-bare : global_names (bare_file file) ≡ map bare_name (global_names file)
@@ -171,10 +149,6 @@ used-bare (fixed w e) = names-bare e
 used-bare (varying w e) = names-bare e
 used-bare (assigned w) = ap (λ ns. bare_name w.target ∷ ns) (names-bare w.value)
 used-bare (given w) = ap (λ ns. bare_name w.target ∷ ns) (names-bare w.value)
-
--- what each name gives
-unknown-bare : (known : Name → Bool) (us ns : List Named) → us ≡ map bare_name ns → flat_map (unless_known known) us ≡ map placeless (flat_map (unless_known known) ns)
-unknown-bare known us ns e = ap (flat_map (unless_known known)) e ∙ gathered placeless bare_name (unless_known known) (unless_known known) (λ n. at_nought (not (known n.name)) n.at Unknown) ns
 
 unknown_by-bare : (known : Name → Bool) (d : Demand) → unknown_by known (bare_demand d) ≡ map placeless (unknown_by known d)
 unknown_by-bare known d = unknown-bare known (names_used (bare_demand d)) (names_used d) (used-bare d)
@@ -332,19 +306,6 @@ var_faults-bare x = ap (λ o. map (fault 0) (if_some o)) (kind_fault-bare x.tran
     of_reason : (o : Option Reason) → map (fault 0) (if_some o) ≡ map placeless (map (fault x.kind_at) (if_some o))
     of_reason None = refl
     of_reason (Some r) = refl
-
--- every offset is 0
-abbrev noughts : List ℕ → List ℕ
-noughts ns = map (λ n. 0) ns
-
-misfit-bare : (at : ℕ) (b c : Bool) (o p : Option Ty) → b ≡ c → o ≡ p → misfit_at 0 b o ≡ noughts (misfit_at at c p)
-misfit-bare at b c o p e h = ap₂ (misfit_at 0) e h ∙ same c p
-  where
-    same : (c : Bool) (p : Option Ty) → misfit_at 0 c p ≡ noughts (misfit_at at c p)
-    same true None = refl
-    same true (Some t) = refl
-    same false None = refl
-    same false (Some t) = refl
 
 module _ (ty : Types) where
   some_type-bare : (e : Expression) → is_some (type_in jani_meaning ty (bare e)) ≡ is_some (type_in jani_meaning ty e)
@@ -652,10 +613,10 @@ profile_faults-bare file =
     (gathered placeless bare_vector (two_writers (bare_file file)) (two_writers file) (two_writers-bare file) file.vectors))))
 
 -- ---- all of them
-or_else-mapped : (us vs xs ys : List Fault) → us ≡ map placeless xs → vs ≡ map placeless ys → checked.or_else us vs ≡ map placeless (checked.or_else xs ys)
-or_else-mapped us vs xs ys e h = ap₂ checked.or_else e h ∙ of_first xs
+or_else-mapped : (us vs xs ys : List Fault) → us ≡ map placeless xs → vs ≡ map placeless ys → least.or_else us vs ≡ map placeless (least.or_else xs ys)
+or_else-mapped us vs xs ys e h = ap₂ least.or_else e h ∙ of_first xs
   where
-    of_first : (xs : List Fault) → checked.or_else (map placeless xs) (map placeless ys) ≡ map placeless (checked.or_else xs ys)
+    of_first : (xs : List Fault) → least.or_else (map placeless xs) (map placeless ys) ≡ map placeless (least.or_else xs ys)
     of_first [] = refl
     of_first (x ∷ xs) = refl
 

@@ -3,7 +3,7 @@ use Rattle.std.specs.Prelude.{ℕ, List, Bool, true, false, Option, Some, None, 
 use Rattle.std.proofs.Common.{◌≡◌, refl, sym, ap, ◌∙◌}
 use Rattle.std.proofs.lemmas.Slice.Eq.{bytes_eq-Decides}
 use Rattle.basics.specs.Options.{none_of}
-use Rattle.jani_check.specs.Things.{or_else}
+use Rattle.std.specs.Option.{option_or as or_else}
 
 pub none_after : {X : Type 0} (o : Option X) → o ≡ or_else o None
 none_after None = refl

@@ -6,7 +6,7 @@ use Rattle.std.proofs.lemmas.List.{at_drop_more}
 use Rattle.bridge_io.specs.declared.reason.Named.{Named}
 use Rattle.bridge_io.specs.declared.reason.Fault.{Fault}
 use Rattle.name_rules.specs.Least.{soonest}
-use Rattle.name_rules.proofs.Soonest.{soonest-append}
+use Rattle.name_rules.proofs.Soonest.{soonest_append}
 use Rattle.jani_tree.specs.declared.syntax.JaniAutomaton.{JaniAutomaton}
 use Rattle.jani_tree.specs.Syntax.{automaton_of}
 use Rattle.name_rules.specs.Names.{Name, is_among}
@@ -22,7 +22,7 @@ one_given global earlier new automata i a given best next whole h is gives judge
     let after = given_after global (λ x. earlier x || is_among (given_by (automaton_of a)) x) rest in
     ap₂ (λ b k. soonest b (given_after global k rest)) (judged ∙ ap (λ ns. soonest best (flat_map (given_again global earlier) ns)) gives)
     (more ∙ ap (λ ns x. earlier x || is_among ns x) gives)
-    ∙ sym (soonest-append best (flat_map (given_again global earlier) (given_by (automaton_of a))) after)
+    ∙ sym (soonest_append best (flat_map (given_again global earlier) (given_by (automaton_of a))) after)
     ∙ sym (at_drop_more (λ ys. soonest best (given_after global earlier (map automaton_of ys))) automata i a h
     ∙ ap (λ y. soonest best (given_after global earlier (map automaton_of (y ∷ drop (i + 1) automata)))) (sym is))
     ∙ so_far

@@ -1,16 +1,17 @@
 -- Names that are known, by what names stand for.
 use Rattle.std.specs.Prelude.{List, [], ◌∷◌, ◌++◌, map, Bool, true, false, ◌||◌, Option, Some, None, is_some, if◌then◌else◌}
 use Rattle.std.specs.List.{find, flat_map, list_any}
-use Rattle.std.specs.Option.{option_map}
+use Rattle.std.specs.Option.{option_map, option_or as or_else}
 use Rattle.std.proofs.Common.{◌≡◌, refl, sym, ap, ap₂, ◌∙◌}
 use Rattle.std.proofs.Math.Path.{fun_ext}
 use Rattle.std.proofs.lemmas.List.Folds.{list_any-append}
 use Rattle.basics.specs.Options.{is_some-map}
 use Rattle.jani_tree.specs.Syntax.{Var, Automaton, File}
-use Rattle.jani_tree.proofs.Mapped.{any_mapped}
+use Rattle.basics.specs.Mapped.{any_mapped}
 use Rattle.jani_check.specs.Demands.{automaton_demands, outer_demands}
-use Rattle.jani_check.specs.Things.{or_else, const_thing, var_thing, var_called, const_called, global_thing, beside}
-use Rattle.name_rules.specs.Names.{Name, is_called, is_among}
+use Rattle.jani_check.specs.Things.{const_thing, var_thing, var_called, const_called, global_thing, beside}
+use Rattle.op_trees.specs.Names.{is_called}
+use Rattle.name_rules.specs.Names.{Name, is_among}
 use Rattle.jani_check.specs.declared.things.Thing.{Thing}
 use Rattle.jani_check.specs.NameFaults.{var_names, global_names, unknown_by, unknown_in, unknown_within}
 use Rattle.jani_check.specs.Phases.{automaton_by, file_by}

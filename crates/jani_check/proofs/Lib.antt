@@ -10,7 +10,6 @@ pub mod Growing
 pub mod Givens
 pub mod Taking
 pub mod SameCircles
-pub mod Leasts
 pub mod Phases
 pub mod Few
 pub mod Bare

@@ -1,25 +1,26 @@
 -- What files of the profile have: places mean nothing, and such a file may be written.
 use Rattle.std.specs.Prelude.{◌≡◌, List, [], ◌∷◌, ◌++◌, map, Bool, true, false, Option, Some, None}
-use Rattle.std.specs.List.{flat_map}
+use Rattle.std.specs.List.{flat_map, AllByRecursion as OfAll}
 use Rattle.std.proofs.Common.{refl, sym, ap, subst, ◌∙◌}
 use Rattle.basics.specs.Each.{empty_each, each_with, each_then}
-use Rattle.basics.specs.Lists.{append_right, append_left}
+use Rattle.basics.specs.Lists.{append_right, append_left, IsNotEmpty as HasItems}
 use Rattle.bridge_io.specs.declared.reason.Reason.{Reason}
 use Rattle.bridge_io.specs.declared.reason.Fault.{Fault}
 use Rattle.op_trees.specs.Tree.{Truth, Number, Name, One, Two, Three}
 use Rattle.jani_tree.specs.Syntax.{Expression, Const, VarKind, boolean, integer, number, real_bounded, one_sided, bounded, Var, Write, Location, Destination, Edge, Automaton, File}
-use Rattle.jani_tree.specs.Canonical.{OfSome, OfAll, HasOperands, HasBounds, VarForm, WriteForm, DestinationForm, EdgeForm, ConstForm, LocationForm, AutomatonForm, FileForm}
-use Rattle.jani_tree.specs.Form.{HasItems, ExprForm, KindForm, ConstRead, VarRead, WriteRead, LocationRead, DestinationRead, EdgeRead, AutomatonRead}
+use Rattle.jani_tree.specs.Canonical.{HasOperands, HasBounds, VarForm, WriteForm, DestinationForm, EdgeForm, ConstForm, LocationForm, AutomatonForm, FileForm}
+use Rattle.jani_tree.specs.Form.{ExprForm, KindForm, ConstRead, VarRead, WriteRead, LocationRead, DestinationRead, EdgeRead, AutomatonRead}
 use Rattle.jani_tree.specs.Back.{IsWritable}
 use Rattle.jani_tree.proofs.BareForm.{form_too, once_too}
-use Rattle.name_rules.specs.Least.{fault}
+use Rattle.name_rules.specs.Least.{fault, or_else}
 use Rattle.jani_tree.proofs.Wider.{some_wider}
 use Rattle.jani_check.specs.Things.{global_thing}
-use Rattle.jani_check.specs.Demands.{if_some, outer_demands, automaton_demands}
+use Rattle.basics.specs.Options.{if_some, IfAny as OfSome}
+use Rattle.jani_check.specs.Demands.{outer_demands, automaton_demands}
 use Rattle.jani_check.specs.NameFaults.{name_faults}
 use Rattle.jani_check.specs.TypeFaults.{kind_fault, var_faults, demand_faults, repeated_writes, automaton_faults, clashing_writes, type_faults}
 use Rattle.jani_check.specs.ProfileFaults.{profile_faults}
-use Rattle.jani_check.specs.Faults.{or_else, faults, IsChecked}
+use Rattle.jani_check.specs.Faults.{faults, IsChecked}
 use Rattle.jani_check.specs.Laws.{PlacesAside, CheckedIsWritable}
 use Rattle.jani_check.proofs.Bare.{none_too}
 

@@ -7,10 +7,11 @@ use Rattle.std.proofs.lemmas.List.{length-map}
 use Rattle.std.proofs.lemmas.List.Folds.{flat_map-map}
 use Rattle.bridge_io.specs.declared.reason.Reason.TheVariants.{Cycle}
 use Rattle.name_rules.specs.Least.{fault_if}
-use Rattle.name_rules.specs.Names.{Name, is_called}
+use Rattle.op_trees.specs.Names.{is_called}
+use Rattle.name_rules.specs.Names.{Name}
 use Rattle.name_rules.specs.Circles as C
 use Rattle.jani_tree.specs.Syntax.{Const}
-use Rattle.jani_tree.proofs.Mapped.{kept_mapped}
+use Rattle.basics.specs.Mapped.{kept_mapped}
 use Rattle.jani_check.specs.Circles.{const_declared}
 use Rattle.jani_check.specs.NameFaults.{uses, uses_of, leads_to, circular}
 

@@ -18,9 +18,10 @@ use Rattle.jani_table.specs.Operators.{op_of, op_text}
 use Rattle.jani_tree.specs.Syntax.{Expression, Write, Destination}
 use Rattle.jani_tree.proofs.Again.{op_again}
 use Rattle.jani_check.specs.Things.{is_reward}
-use Rattle.name_rules.specs.Names.{Name, is_called}
+use Rattle.op_trees.specs.Names.{is_called}
+use Rattle.name_rules.specs.Names.{Name}
 use Rattle.jani_check.specs.declared.things.Thing.{Thing}
-use Rattle.jani_check.specs.Demands.{if_some}
+use Rattle.basics.specs.Options.{if_some}
 use Rattle.jani_check.specs.ProfileFaults.{same_number, same_tree, value_for, rewards_by, lacks, differ, some_differ}
 
 -- ---- equal trees

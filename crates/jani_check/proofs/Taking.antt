@@ -7,7 +7,8 @@ use Rattle.bridge_io.specs.declared.reason.Named.{Named}
 use Rattle.bridge_io.specs.declared.reason.Reason.TheVariants.{WrittenTwice, TwoRewardWriters}
 use Rattle.jani_tree.specs.Syntax.{Automaton, File}
 use Rattle.name_rules.specs.Least.{fault_if}
-use Rattle.jani_check.specs.Things.{or_else, global_thing, automaton_called}
+use Rattle.std.specs.Option.{option_or as or_else}
+use Rattle.jani_check.specs.Things.{global_thing, automaton_called}
 use Rattle.name_rules.specs.Names.{Name}
 use Rattle.jani_check.specs.declared.things.Thing.{Thing}
 use Rattle.jani_check.specs.TypeFaults.{with_automaton, participants, meet, shared_by, clashing_writes}

@@ -1,13 +1,13 @@
 -- The expressions of a JANI file with what each has to be, and what its edges and locations assign (jani-model
 -- specification, version 1: "Constants", "Variables", "Automata").
-use Rattle.std.specs.Prelude.{List, [], ◌∷◌, ◌++◌, map, Option, Some, None}
+use Rattle.std.specs.Prelude.{List, [], ◌∷◌, ◌++◌, map}
 use Rattle.std.specs.List.{flat_map}
-use Rattle.op_trees.specs.declared.tree.Ty.{Ty}
-use Rattle.op_trees.specs.declared.tree.Ty.TheVariants as T
+use Rattle.basics.specs.Options.{if_some}
 use Rattle.jani_tree.specs.Syntax.{Expression, Const, VarKind, boolean, integer, number, real_bounded, one_sided, bounded, Var, Write, Location, Destination, Edge, Automaton, File}
 use Rattle.jani_check.specs.Things.{kind_type}
-use Rattle.jani_check.specs.declared.demands.Wanted.{Wanted}
-use Rattle.jani_check.specs.declared.demands.Wanted.TheVariants as W
+use Rattle.op_trees.specs.declared.wanted.Wanted.{Wanted}
+use Rattle.op_trees.specs.declared.wanted.Wanted.TheVariants as W
+use Rattle.op_trees.specs.Wanted.{wanted_by}
 
 -- an expression in which no variable may occur, one in which variables may, an assignment of an edge, or a value that a
 -- location gives to a transient variable
@@ -16,16 +16,6 @@ pub data Demand : Type 0 where
   varying : Wanted → Expression → Demand
   assigned : Write → Demand
   given : Write → Demand
-
--- what is given to a thing of this type
-abbrev pub wanted_by : Ty → Wanted
-wanted_by T.Bool = W.Bool
-wanted_by T.Int = W.Int
-wanted_by T.Real = W.Number
-
-abbrev pub if_some : {X : Type 0} → Option X → List X
-if_some None = []
-if_some (Some x) = x ∷ []
 
 -- ---- constants and variables: both bounds are ints
 abbrev pub const_demands : Const → List Demand

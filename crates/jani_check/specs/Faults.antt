@@ -1,20 +1,16 @@
 -- All faults of a JANI file of the first kind that it has any of: those of names, then those of types, then those of the
 -- profile.
-use Rattle.std.specs.Prelude.{◌≡◌, ℕ, List, [], ◌∷◌, length}
+use Rattle.std.specs.Prelude.{◌≡◌, ℕ, List, [], length}
 use Rattle.std.specs.List.{sum_by}
 use Rattle.bridge_io.specs.declared.reason.Named.{Named}
 use Rattle.bridge_io.specs.declared.reason.Fault.{Fault}
+use Rattle.name_rules.specs.Least.{or_else}
 use Rattle.jani_tree.specs.Syntax.{Edge, File}
 use Rattle.jani_tree.specs.Form.{FileRead, KeysOnce}
 use Rattle.jani_check.specs.Things.{automaton_called}
 use Rattle.jani_check.specs.NameFaults.{name_faults}
 use Rattle.jani_check.specs.TypeFaults.{with_automaton, type_faults}
 use Rattle.jani_check.specs.ProfileFaults.{profile_faults}
-
--- these faults, or the others where there are none of these
-abbrev pub or_else : List Fault → List Fault → List Fault
-or_else [] others = others
-or_else (f ∷ fs) others = f ∷ fs
 
 abbrev pub faults : File → List Fault
 faults file = or_else (name_faults file) (or_else (type_faults file) (profile_faults file))

@@ -1,4 +1,3 @@
-pub mod Least
 pub mod Things
 pub mod Demands
 pub mod NameFaults

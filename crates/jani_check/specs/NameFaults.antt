@@ -7,12 +7,13 @@ use Rattle.bridge_io.specs.declared.reason.Reason.TheVariants.{TwiceNamed, Cycle
 use Rattle.bridge_io.specs.declared.reason.Fault.{Fault}
 use Rattle.jani_tree.specs.Syntax.{Const, Var, Edge, Automaton, Vector, File}
 use Rattle.name_rules.specs.Least.{fault_if}
-use Rattle.name_rules.specs.Names.{Name, is_called}
+use Rattle.name_rules.specs.Names.{Name}
 pub use Rattle.name_rules.specs.Names.{is_among}
 pub use Rattle.name_rules.specs.Unknown.{unless_known}
 pub use Rattle.name_rules.specs.Doubled.{clash, doubled_after, doubled}
-use Rattle.op_trees.specs.Names.{names_of}
-use Rattle.jani_check.specs.Demands.{Demand, fixed, varying, assigned, given, if_some, automaton_demands, outer_demands}
+use Rattle.op_trees.specs.Names.{names_of, is_called}
+use Rattle.basics.specs.Options.{if_some}
+use Rattle.jani_check.specs.Demands.{Demand, fixed, varying, assigned, given, automaton_demands, outer_demands}
 
 -- ---- names that are declared twice
 

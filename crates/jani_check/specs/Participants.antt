@@ -9,7 +9,8 @@ use Rattle.jani_tree.specs.Syntax.{Automaton, Vector, File, automaton_of}
 use Rattle.name_rules.specs.Least.{fault_if}
 use Rattle.jani_check.specs.Tables.{under}
 use Rattle.jani_check.specs.Things.{automaton_called, global_thing}
-use Rattle.name_rules.specs.Names.{Name, is_called}
+use Rattle.op_trees.specs.Names.{is_called}
+use Rattle.name_rules.specs.Names.{Name}
 use Rattle.jani_check.specs.declared.elements.Automata.{Automata}
 use Rattle.jani_check.specs.TypeFaults.{meet, shared_by, with_automaton}
 

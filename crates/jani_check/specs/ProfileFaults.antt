@@ -12,14 +12,15 @@ use Rattle.op_trees.specs.declared.tree.Ty.{Ty}
 use Rattle.op_trees.specs.declared.tree.Ty.TheVariants as T
 use Rattle.op_trees.specs.Tree.{Truth, Number, Name as At, One, Two, Three}
 use Rattle.op_trees.specs.Standard.{same_truth}
-use Rattle.op_trees.specs.Names.{names_of, offset_of}
+use Rattle.op_trees.specs.Names.{names_of, offset_of, is_called}
 use Rattle.jani_table.specs.Operators.{op_text}
 use Rattle.jani_tree.specs.Syntax.{Expression, Var, Write, Destination, Edge, Automaton, Vector, File}
 use Rattle.name_rules.specs.Least.{fault_if}
 use Rattle.jani_check.specs.Things.{kind_type, global_thing, beside, is_label, is_reward, is_transient}
-use Rattle.name_rules.specs.Names.{Name, is_called, is_among}
+use Rattle.name_rules.specs.Names.{Name, is_among}
 use Rattle.jani_check.specs.declared.things.Thing.{Thing}
-use Rattle.jani_check.specs.Demands.{Demand, fixed, varying, assigned, given, if_some, automaton_demands, outer_demands}
+use Rattle.basics.specs.Options.{if_some}
+use Rattle.jani_check.specs.Demands.{Demand, fixed, varying, assigned, given, automaton_demands, outer_demands}
 use Rattle.jani_check.specs.TypeFaults.{targets, has_action, edge_writes, participants}
 
 -- ---- transient variables are not read, and labels are given their values by locations alone

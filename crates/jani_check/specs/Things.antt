@@ -1,9 +1,10 @@
 -- What the names of a JANI file stand for (jani-model specification, version 1: "Constants", "Variables", "Types",
 -- "Automata").
-use Rattle.std.specs.Prelude.{List, Bool, true, false, Option, Some, None, if◌then◌else◌}
+use Rattle.std.specs.Prelude.{List, Bool, true, false, Option, Some, if◌then◌else◌}
 use Rattle.std.specs.List.{find}
-use Rattle.std.specs.Option.{option_map}
-pub use Rattle.name_rules.specs.Names.{Name, is_called}
+use Rattle.std.specs.Option.{option_map, option_or as or_else}
+pub use Rattle.op_trees.specs.Names.{is_called}
+pub use Rattle.name_rules.specs.Names.{Name}
 use Rattle.op_trees.specs.declared.tree.Ty.{Ty}
 use Rattle.op_trees.specs.declared.tree.Ty.TheVariants as T
 use Rattle.op_trees.specs.Types.{Types}
@@ -34,11 +35,6 @@ var_called vars x = find (λ v. is_called x v.name) vars
 
 abbrev pub automaton_called : File → Name → Option Automaton
 automaton_called file x = find (λ a. is_called x a.name) file.automata
-
--- the first, or else the second
-abbrev pub or_else : {A : Type 0} → Option A → Option A → Option A
-or_else None o = o
-or_else (Some x) o = Some x
 
 -- what a name stands for outside of automata: a constant or a global variable
 abbrev pub global_thing : File → Name → Option Thing

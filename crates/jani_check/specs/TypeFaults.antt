@@ -6,19 +6,19 @@ use Rattle.bridge_io.specs.declared.reason.Named.{Named}
 use Rattle.bridge_io.specs.declared.reason.Reason.{Reason}
 use Rattle.bridge_io.specs.declared.reason.Reason.TheVariants.{LeftOut, WrongType, NotConstant, ForeignWrite, WrittenTwice, UnboundedVariable, RealVariable}
 use Rattle.bridge_io.specs.declared.reason.Fault.{Fault}
-use Rattle.op_trees.specs.declared.tree.Ty.{Ty}
-use Rattle.op_trees.specs.declared.tree.Ty.TheVariants as T
 use Rattle.op_trees.specs.Types.{Types, type_in, misfits}
-use Rattle.op_trees.specs.Names.{some_name, offset_of}
+use Rattle.op_trees.specs.Names.{some_name, offset_of, is_called}
 use Rattle.jani_table.specs.Operators.{jani_meaning}
 use Rattle.jani_tree.specs.Syntax.{Expression, VarKind, integer, number, real_bounded, one_sided, bounded, Var, Write, Edge, Automaton, Vector, File}
 use Rattle.name_rules.specs.Least.{fault, fault_if}
 use Rattle.jani_check.specs.Things.{automaton_called, global_thing, beside, thing_type, types_by, is_constant, is_lasting, is_transient}
-use Rattle.name_rules.specs.Names.{Name, is_called}
+use Rattle.name_rules.specs.Names.{Name}
 use Rattle.jani_check.specs.declared.things.Thing.{Thing}
-use Rattle.jani_check.specs.declared.demands.Wanted.{Wanted}
-use Rattle.jani_check.specs.declared.demands.Wanted.TheVariants as W
-use Rattle.jani_check.specs.Demands.{Demand, fixed, varying, assigned, given, if_some, wanted_by, automaton_demands, outer_demands}
+use Rattle.op_trees.specs.declared.wanted.Wanted.{Wanted}
+use Rattle.op_trees.specs.declared.wanted.Wanted.TheVariants as W
+use Rattle.basics.specs.Options.{if_some}
+use Rattle.op_trees.specs.Wanted.{wanted_by, is_unwanted}
+use Rattle.jani_check.specs.Demands.{Demand, fixed, varying, assigned, given, automaton_demands, outer_demands}
 use Rattle.name_rules.specs.Doubled.{doubled}
 
 -- ---- kinds of variables: a variable that is not transient is a bool or an int with both bounds, a transient one has no
@@ -38,19 +38,6 @@ abbrev pub var_faults : Var → List Fault
 var_faults x = map (fault x.kind_at) (if_some (kind_fault x.transient x.kind))
 
 -- ---- types of expressions
-
-abbrev pub is_wanted : Wanted → Ty → Bool
-is_wanted W.Anything t = true
-is_wanted W.Bool T.Bool = true
-is_wanted W.Int T.Int = true
-is_wanted W.Number T.Int = true
-is_wanted W.Number T.Real = true
-is_wanted w t = false
-
--- an expression without a type has its fault at a node
-abbrev pub is_unwanted : Wanted → Option Ty → Bool
-is_unwanted w None = false
-is_unwanted w (Some t) = not (is_wanted w t)
 
 -- at each node whose operands have types and which has none, and at an expression whose type is not the wanted one
 abbrev pub type_faults_of : Types → Wanted → Expression → List Fault

@@ -5,10 +5,10 @@ ghost use Rattle.jani_tree.specs.Syntax.{file_of};
 ghost use Rattle.jani_tree.specs.Form.{FileRead, KeysOnce};
 ghost use Rattle.jani_table.specs.Node.{node};
 ghost use Rattle.jani_tree.specs.Faults.{FailsFor};
-ghost use Rattle.jani_check.specs.Faults.{IsChecked, edge_count, faults, or_else};
+ghost use Rattle.jani_check.specs.Faults.{IsChecked, edge_count, faults};
 ghost use Rattle.jani_check.specs.TypeFaults.{type_faults};
 ghost use Rattle.jani_check.specs.ProfileFaults.{profile_faults};
-ghost use Rattle.name_rules.specs.Least.{soonest};
+ghost use Rattle.name_rules.specs.Least.{soonest, or_else};
 
 use crate::elements::count_edges;
 use crate::names::judge_names;

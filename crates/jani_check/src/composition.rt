@@ -6,7 +6,7 @@ ghost use Rattle.name_rules.specs.Least.{soonest};
 ghost use Rattle.jani_tree.specs.Syntax.{file_of};
 ghost use Rattle.jani_check.specs.NameFaults.{composition_faults};
 
-use crate::twice::judge_names_of;
+use crate::doubled::judge_names_of;
 use bridge_io::{Fault, Named, Reason};
 use jani_tree::{JaniFile, JaniVector};
 use name_rules::{Judged, Rule, judge_each, sooner_if};

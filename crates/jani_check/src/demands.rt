@@ -6,31 +6,24 @@ ghost use Rattle.std.specs.Option.{option_map};
 ghost use Rattle.op_trees.specs.Tree.{tree};
 ghost use Rattle.jani_tree.specs.Syntax.{automaton_of, file_of, kind_of, write_of};
 ghost use Rattle.jani_check.specs.Views.{demand_by};
-ghost use Rattle.jani_check.specs.Demands.{Demand as Asked, assigned, automaton_demands, bound_demands, given, if_some, outer_demands, varying, wanted_by};
+ghost use Rattle.basics.specs.Options.{if_some};
+ghost use Rattle.op_trees.specs.Wanted.{wanted_by};
+ghost use Rattle.jani_check.specs.Demands.{Demand as Asked, assigned, automaton_demands, bound_demands, given, outer_demands, varying};
 
 use crate::things::kind_type;
 use jani_tree::{
-    JaniAutomaton, JaniConst, JaniDestination, JaniEdge, JaniFile, JaniKind, JaniLocation, JaniVar,
-    JaniWrite, Je,
+    JaniAutomaton, JaniConst, JaniDestination, JaniEdge, JaniExpr, JaniFile, JaniKind,
+    JaniLocation, JaniVar, JaniWrite,
 };
-use op_trees::Ty;
+use op_trees::{Wanted, wanted_by};
 use std::alloc::{AllocError, Global};
-
-/// What the type of an expression has to be; an int is a number too.
-#[derive(Clone, Copy)]
-pub enum Wanted {
-    Bool,
-    Int,
-    Number,
-    Anything,
-}
 
 /// An expression in which no variable may occur, one in which variables may, an assignment of an edge, or a value that a
 /// location gives to a transient variable.
 #[derive(Clone, Copy)]
 pub(crate) enum Demand<'a> {
-    Fixed(Wanted, &'a Je),
-    Varying(Wanted, &'a Je),
+    Fixed(Wanted, &'a JaniExpr),
+    Varying(Wanted, &'a JaniExpr),
     Assigned(&'a JaniWrite),
     Given(&'a JaniWrite),
 }
@@ -57,17 +50,6 @@ pub(crate) fn add_all<'a, T: Demanding>(
     Ok(())
 }
 
-/// What is given to a thing of this type.
-pub(crate) fn wanted_by(ty: Ty) -> Wanted
-    ensures { result ≡ wanted_by ty }
-{
-    match ty {
-        Ty::Bool => Wanted::Bool,
-        Ty::Int => Wanted::Int,
-        Ty::Real => Wanted::Number,
-    }
-}
-
 impl Demanding for JaniConst {
     ghost use Rattle.jani_tree.specs.Syntax.{const_of};
     ghost use Rattle.jani_check.specs.Demands.{const_demands};
@@ -85,7 +67,7 @@ impl Demanding for JaniConst {
 // Adds an expression in which variables may occur, if there is one.
 fn add_varying<'a>(
     wanted: Wanted,
-    e: &'a Option<Je>,
+    e: &'a Option<JaniExpr>,
     list: &mut Vec<Demand<'a>>,
 ) -> Result<(), AllocError>
     ensures { OnOk result

@@ -7,8 +7,8 @@ ghost use Rattle.jani_check.specs.NameFaults.{name_faults};
 
 use crate::circles::judge_constants;
 use crate::composition::judge_composition;
+use crate::doubled::judge_twice;
 use crate::naming::global_names;
-use crate::twice::judge_twice;
 use crate::unknown::judge_unknown_names;
 use bridge_io::Fault;
 use jani_tree::JaniFile;

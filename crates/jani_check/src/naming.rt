@@ -5,7 +5,7 @@ ghost use Rattle.std.specs.List.{flat_map};
 ghost use Rattle.bridge_io.specs.declared.reason.Named.{Named as Name};
 ghost use Rattle.jani_tree.specs.Syntax.{edge_of, file_of};
 ghost use Rattle.jani_check.specs.NameFaults.{global_names};
-ghost use Rattle.jani_check.specs.Demands.{if_some};
+ghost use Rattle.basics.specs.Options.{if_some};
 ghost use Rattle.name_rules.specs.Names.{named_by};
 
 use bridge_io::Named;
@@ -96,7 +96,7 @@ impl Naming for Named {
 }
 
 impl Naming for Option<Named> {
-    ghost use Rattle.jani_check.specs.Demands.{if_some};
+    ghost use Rattle.basics.specs.Options.{if_some};
 
     ghost names = { λ n. if_some n };
 

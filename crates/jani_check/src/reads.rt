@@ -16,7 +16,7 @@ use crate::demands::Demand;
 use crate::things::{Scope, Thing};
 use crate::typing::is_transient;
 use bridge_io::{Fault, Reason};
-use jani_tree::{JaniWrite, Je};
+use jani_tree::{JaniExpr, JaniWrite};
 use name_rules::sooner_if;
 use op_trees::{Expr, Ty};
 
@@ -48,7 +48,7 @@ pub fn is_label(thing: Option<Thing>) -> bool
 }
 
 #[tactic(auto, using(name_rules::proofs::Append::soonest_both, name_rules::proofs::Append::soonest_three))]
-fn judge_expression(scope: &Scope, e: &Je, best: Option<Fault>) -> Option<Fault>
+fn judge_expression(scope: &Scope, e: &JaniExpr, best: Option<Fault>) -> Option<Fault>
     ensures { result ≡ soonest best (flat_map (read_fault (scope_thing scope.now)) (names_of (tree e.now))) }
 {
     match e {

@@ -12,7 +12,7 @@ ghost use Rattle.jani_check.specs.Assigned.{value_under};
 use crate::things::{Scope, Thing, add_first};
 use bridge_io::{Fault, Reason};
 use indexmap::IndexMap;
-use jani_tree::{JaniDestination, JaniEdge, JaniWrite, Je};
+use jani_tree::{JaniDestination, JaniEdge, JaniExpr, JaniWrite};
 use name_rules::{Judged, Rule, sooner_if};
 use op_trees::{Ty, same};
 use std::alloc::{AllocError, Global};
@@ -113,7 +113,7 @@ pub fn is_reward(thing: Option<Thing>) -> bool
 /// What is assigned, by the names; the first of one name counts.
 #[derive(Drop)]
 struct Values<'a> {
-    first: IndexMap<&'a str, &'a Je>,
+    first: IndexMap<&'a str, &'a JaniExpr>,
 }
 
 impl<'a> Values<'a> {
@@ -139,7 +139,7 @@ impl<'a> Values<'a> {
     }
 }
 
-fn same_tree(a: &Je, b: &Je) -> bool
+fn same_tree(a: &JaniExpr, b: &JaniExpr) -> bool
     ensures { result ≡ same_tree (tree a.now) (tree b.now) }
 {
     same(a, b)

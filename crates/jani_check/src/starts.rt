@@ -10,7 +10,7 @@ ghost use Rattle.jani_check.specs.ProfileFaults.{first_fault, is_first, start_fa
 use crate::things::kind_type;
 use crate::typing::offset;
 use bridge_io::{Fault, Reason};
-use jani_tree::{JaniVar, Je};
+use jani_tree::{JaniExpr, JaniVar};
 use name_rules::sooner_if;
 use op_trees::{Expr, Ty};
 
@@ -27,14 +27,14 @@ pub(crate) fn judge_start(var: &JaniVar, best: Option<Fault>) -> Option<Fault>
     }
 }
 
-fn judge_first(ty: Ty, e: &Je, best: Option<Fault>) -> Option<Fault>
+fn judge_first(ty: Ty, e: &JaniExpr, best: Option<Fault>) -> Option<Fault>
     ensures { result ≡ soonest best (first_fault ty (tree e.now)) }
 {
     sooner_if(!is_first(ty, e), offset(e), Reason::TransientInitial, best)
 }
 
 // Whether it is true or false, or a literal of value 0, as the type wants.
-fn is_first(ty: Ty, e: &Je) -> bool
+fn is_first(ty: Ty, e: &JaniExpr) -> bool
     ensures { result ≡ is_first ty (tree e.now) }
 {
     match ty {
@@ -44,7 +44,7 @@ fn is_first(ty: Ty, e: &Je) -> bool
     }
 }
 
-fn is_zero(e: &Je) -> bool
+fn is_zero(e: &JaniExpr) -> bool
     ensures { result ≡ is_first Int (tree e.now) }
 {
     match e {

@@ -1,9 +1,9 @@
 // What the names of a file stand for.
 
 ghost use Rattle.std.specs.Prelude.{◌≡◌, List, ℕ, map, IfOk, OnOk, Some, None, bytes_eq, if◌then◌else◌};
-ghost use Rattle.std.specs.Option.{option_map};
+ghost use Rattle.std.specs.Option.{option_map, option_or as or_else};
 ghost use Rattle.jani_tree.specs.Syntax.{const_of, file_of, kind_of, var_of};
-ghost use Rattle.jani_check.specs.Things.{beside, const_thing, global_thing, kind_type, or_else, thing_type, var_thing, var_called};
+ghost use Rattle.jani_check.specs.Things.{beside, const_thing, global_thing, kind_type, thing_type, var_thing, var_called};
 ghost use Rattle.jani_check.specs.Scopes.{const_in, scope_thing, thing_under};
 ghost use Rattle.jani_check.specs.Tables.{under};
 

@@ -8,15 +8,16 @@ ghost use Rattle.jani_tree.specs.Syntax.{write_of};
 ghost use Rattle.jani_check.specs.Demands.{assigned, fixed, given};
 ghost use Rattle.jani_check.specs.Scopes.{scope_thing};
 ghost use Rattle.jani_check.specs.Things.{is_constant, is_lasting, is_transient};
-ghost use Rattle.jani_check.specs.TypeFaults.{demand_faults, has_variable, is_variable, is_wanted, type_faults_of, wanted_at};
+ghost use Rattle.op_trees.specs.Wanted.{is_wanted};
+ghost use Rattle.jani_check.specs.TypeFaults.{demand_faults, has_variable, is_variable, type_faults_of, wanted_at};
 ghost use Rattle.jani_check.specs.Views.{demand_by};
 
-use crate::demands::{Demand, Wanted, wanted_by};
+use crate::demands::Demand;
 use crate::things::{Scope, Thing, thing_type};
 use bridge_io::{Fault, Reason};
-use jani_tree::{JaniWrite, Je};
+use jani_tree::{JaniExpr, JaniWrite};
 use name_rules::{sooner, sooner_if};
-use op_trees::{Expr, Names, Ty, type_of};
+use op_trees::{Expr, Names, Wanted, is_wanted, type_of, wanted_by};
 
 /// The least of a fault that was found before and those of the type of an expression and of what is assigned.
 pub(crate) fn judge_type_of(scope: &Scope, demand: &Demand, best: Option<Fault>) -> Option<Fault>
@@ -30,7 +31,7 @@ pub(crate) fn judge_type_of(scope: &Scope, demand: &Demand, best: Option<Fault>)
     }
 }
 
-fn judge_fixed(scope: &Scope, wanted: Wanted, e: &Je, best: Option<Fault>) -> Option<Fault>
+fn judge_fixed(scope: &Scope, wanted: Wanted, e: &JaniExpr, best: Option<Fault>) -> Option<Fault>
     ensures { result ≡ soonest best (demand_faults (scope_thing scope.now) (fixed wanted (tree e.now))) }
 {
     let typed = judge_type(scope, wanted, e, best);
@@ -91,21 +92,14 @@ fn wanted_at(thing: Option<Thing>) -> Wanted
     }
 }
 
-/// Whether the type of an expression is what it has to be.
-pub fn is_wanted(wanted: Wanted, ty: Ty) -> bool
-    ensures { result ≡ is_wanted wanted ty }
-{
-    match wanted {
-        Wanted::Anything => true,
-        Wanted::Bool => matches!(ty, Ty::Bool),
-        Wanted::Int => matches!(ty, Ty::Int),
-        Wanted::Number => matches!(ty, Ty::Int | Ty::Real),
-    }
-}
-
 /// The least of a fault that was found before and those of the type of an expression, which has to be what is wanted, by the types of
 /// names.
-pub fn judge_type<N: Names>(names: &N, wanted: Wanted, e: &Je, best: Option<Fault>) -> Option<Fault>
+pub fn judge_type<N: Names>(
+    names: &N,
+    wanted: Wanted,
+    e: &JaniExpr,
+    best: Option<Fault>,
+) -> Option<Fault>
     ensures { result ≡ soonest best (type_faults_of (N.types names.now) wanted (tree e.now)) }
 {
     match type_of(e, names) {
@@ -115,7 +109,7 @@ pub fn judge_type<N: Names>(names: &N, wanted: Wanted, e: &Je, best: Option<Faul
 }
 
 /// The offset of an expression. It takes no memory.
-pub fn offset(e: &Je) -> usize
+pub fn offset(e: &JaniExpr) -> usize
     ensures { result ≡ offset_of (tree e.now) }
 {
     match e {
@@ -129,7 +123,7 @@ pub fn offset(e: &Je) -> usize
 }
 
 // Whether some name in an expression is a variable.
-fn names_variable(scope: &Scope, e: &Je) -> bool
+fn names_variable(scope: &Scope, e: &JaniExpr) -> bool
     ensures { result ≡ has_variable (scope_thing scope.now) (tree e.now) }
 {
     match e {

@@ -5,7 +5,7 @@ ghost use Rattle.std.specs.List.{flat_map};
 ghost use Rattle.op_trees.specs.Tree.{tree};
 ghost use Rattle.name_rules.specs.Least.{soonest};
 ghost use Rattle.jani_tree.specs.Syntax.{automaton_of, edge_of, file_of};
-ghost use Rattle.jani_check.specs.Demands.{if_some};
+ghost use Rattle.basics.specs.Options.{if_some};
 ghost use Rattle.jani_check.specs.NameFaults.{unknown_by, unknown_names, unknown_within, unless_known};
 ghost use Rattle.name_rules.specs.Names.{is_among};
 ghost use Rattle.op_trees.specs.Names.{names_of};

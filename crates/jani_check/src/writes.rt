@@ -5,7 +5,7 @@ ghost use Rattle.name_rules.specs.Least.{soonest};
 ghost use Rattle.jani_tree.specs.Syntax.{automaton_of, write_of};
 ghost use Rattle.jani_check.specs.TypeFaults.{repeated, repeated_writes};
 
-use crate::twice::judge_names_of;
+use crate::doubled::judge_names_of;
 use bridge_io::{Fault, Reason};
 use jani_tree::{JaniAutomaton, JaniDestination, JaniEdge, JaniLocation, JaniWrite};
 use name_rules::{Judged, Rule, judge_each};

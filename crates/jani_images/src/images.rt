@@ -8,15 +8,15 @@ ghost use Rattle.jani_images.specs.Image.{image, literal, prism_op};
 use bridge_io::Text;
 use frac_core::Decimal;
 use jani_table::JaniOp;
-use jani_tree::Je;
+use jani_tree::JaniExpr;
 use op_trees::{Expr, OpMap, Shape, map_ops};
 use prism_images::NewNames;
-use prism_tree::{Pe, PrismOp};
+use prism_tree::{PrismExpr, PrismOp};
 use std::alloc::{AllocError, Global};
 
 /// The image of an expression under new names: a negative literal is minus of its unsigned one, every operator is PRISM's of the same
 /// meaning, and names become their new names. `Err` is want of memory.
-pub fn image<N: NewNames>(alloc: Global, e: &Je, names: &N) -> Result<Pe, AllocError>
+pub fn image<N: NewNames>(alloc: Global, e: &JaniExpr, names: &N) -> Result<PrismExpr, AllocError>
     ensures { IfOk result (λ r. tree r ≡ image (N.new names.now) (tree e.now)) }
 {
     map_ops(alloc, e, &Images { names })
@@ -36,7 +36,7 @@ impl<'a, N: NewNames> OpMap<JaniOp, PrismOp> for Images<'a, N> {
 
     ghost rebuilt = { λ m. image_node (N.new m.names.now) };
 
-    fn rebuild(&self, alloc: Global, node: Shape<JaniOp, PrismOp>) -> Result<Pe, AllocError>
+    fn rebuild(&self, alloc: Global, node: Shape<JaniOp, PrismOp>) -> Result<PrismExpr, AllocError>
         ensures { IfOk result (λ r. tree r ≡ image_node (N.new self.now.names.now) (shape node)) }
     {
         match node {
@@ -54,7 +54,7 @@ impl<'a, N: NewNames> OpMap<JaniOp, PrismOp> for Images<'a, N> {
 }
 
 /// A literal; a negative one is minus its unsigned one.
-fn literal(alloc: Global, at: usize, d: Decimal) -> Result<Pe, AllocError>
+fn literal(alloc: Global, at: usize, d: Decimal) -> Result<PrismExpr, AllocError>
     ensures { IfOk result (λ r. tree r ≡ literal at d) }
 {
     if !d.negative {

@@ -9,15 +9,17 @@ use Rattle.std.proofs.lemmas.Option.{slice_get-map}
 use Rattle.op_trees.specs.Seen.{Seen}
 use Rattle.op_trees.specs.declared.tree.EvalFail.{EvalFail}
 use Rattle.op_trees.specs.declared.tree.Value.{Value}
-use Rattle.process_core.specs.Ready.{Name, if_some}
+use Rattle.basics.specs.Options.{if_some}
+use Rattle.process_core.specs.Ready.{Name}
 use Rattle.process_core.specs.Instance.{Valuation, numbered}
 use Rattle.process_core.specs.Product.{map-map}
 use Rattle.state_choices.specs.Trimmed.{computed}
-use Rattle.jani_tree.proofs.Mapped.{walked}
+use Rattle.basics.specs.Mapped.{walked}
 use Rattle.jani_tree.specs.Syntax as syntax
 use Rattle.jani_tree.specs.Syntax.{Automaton, Expression, File, Location}
 use Rattle.jani_check.specs.Faults.{IsChecked}
-use Rattle.jani_meaning.specs.Elements.{Owned, elements, is_called, labels, structures}
+use Rattle.op_trees.specs.Names.{is_called}
+use Rattle.jani_meaning.specs.Elements.{Owned, elements, labels, structures}
 use Rattle.jani_meaning.specs.Moment.{given_in, may_give}
 use Rattle.jani_meaning.specs.Scene.{constant_names, see}
 use Rattle.jani_instance.specs.Built.{IsNamedTransientOf, given_from, location_from}

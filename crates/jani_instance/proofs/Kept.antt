@@ -16,17 +16,20 @@ use Rattle.op_trees.specs.Seen.{Seen}
 use Rattle.op_trees.specs.declared.tree.Value.{Value}
 use Rattle.op_trees.specs.declared.tree.Value.TheVariants as V
 use Rattle.name_rules.specs.Names.{first_some, under}
-use Rattle.process_core.specs.Ready.{Name, Write, Reward, Update, Ready, has_action, if_some, same_label}
+use Rattle.basics.specs.Options.{if_some}
+use Rattle.process_core.specs.Ready.{Name, Write, Reward, Update, Ready, has_action, same_label}
 use Rattle.process_core.proofs.Targets.{any_firsts}
 use Rattle.process_core.specs.Choices.{is_false}
 use Rattle.process_core.specs.Instance.{Column, write_to}
 use Rattle.state_choices.specs.Trimmed.{computed, trimmed, trimmed_reward, trimmed_seen, trimmed_update, trimmed_write}
 use Rattle.state_choices.specs.Views.{seen_of}
 use Rattle.state_choices.proofs.ComputedLaws.{computed_laws}
+use Rattle.state_choices.proofs.ComputedParts.{same_update}
 use Rattle.jani_tree.specs.Syntax as syntax
 use Rattle.jani_tree.specs.Syntax.{Automaton, Expression, File}
-use Rattle.jani_tree.proofs.Mapped.{mapped, turned}
-use Rattle.jani_meaning.specs.Elements.{column_number, elements, is_called, is_global, is_own, lasting, location_number, place_of, structure_number, structures}
+use Rattle.basics.specs.Mapped.{mapped, turned}
+use Rattle.op_trees.specs.Names.{is_called}
+use Rattle.jani_meaning.specs.Elements.{column_number, elements, is_global, is_own, lasting, location_number, place_of, structure_number, structures}
 use Rattle.jani_meaning.specs.Scene.{counted, see}
 use Rattle.jani_meaning.specs.Moment.{column_write, guard_seen, location_write, reward_of, weight_seen}
 use Rattle.instance_start.specs.declared.data.Place.TheVariants.{Constant, Variable}
@@ -43,7 +46,9 @@ use Rattle.jani_instance.specs.declared.data.Located as code_located
 use Rattle.jani_instance.specs.declared.data.Vector as code_vector
 use Rattle.jani_instance.specs.declared.parts.Part.{Part}
 use Rattle.jani_instance.proofs.Numbering.{names_equal, number_is}
-use Rattle.jani_instance.proofs.Trimming.{same_member, same_update}
+
+same_member : (s t : List Ready) (m n : List (List Ready)) → s ≡ t → m ≡ n → ◌≡◌ {A = Member} (record { silent = s; parts = m }) (record { silent = t; parts = n })
+same_member s t m n e f = cc
 
 -- ---- the places of names
 by_columns : (n : ℕ) (p q r : Option ℕ) →

@@ -1,5 +1,4 @@
 pub mod Values
-pub mod Trimming
 pub mod Places
 pub mod Whole
 pub mod Texts

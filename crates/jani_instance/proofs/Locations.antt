@@ -13,12 +13,14 @@ use Rattle.bridge_io.specs.declared.reason.Reason.TheVariants.{TwiceNamed}
 use Rattle.name_rules.specs.Doubled.{clash, doubled, doubled_after}
 use Rattle.instance_start.specs.Firsts.{none_if}
 use Rattle.jani_tree.specs.Syntax.{Automaton, File, Location}
-use Rattle.jani_check.specs.Faults.{IsChecked, or_else}
+use Rattle.name_rules.specs.Least.{or_else}
+use Rattle.jani_check.specs.Faults.{IsChecked}
 use Rattle.jani_check.specs.NameFaults.{automaton_names, circles, composition_faults, doubled_in, doubled_names, global_names, location_names, name_faults, unknown_names, var_names}
 use Rattle.jani_check.specs.TypeFaults.{type_faults}
 use Rattle.jani_check.specs.ProfileFaults.{profile_faults}
 use Rattle.bridge_io.specs.declared.reason.Fault.{Fault}
-use Rattle.jani_meaning.specs.Elements.{automaton_called, elements, is_called, location_number, nothing_called}
+use Rattle.op_trees.specs.Names.{is_called}
+use Rattle.jani_meaning.specs.Elements.{automaton_called, elements, location_number, nothing_called}
 use Rattle.jani_instance.specs.Built.{location_from}
 
 -- ---- names of which none stands twice

@@ -12,12 +12,12 @@ use Rattle.std.specs.List.{All}
 use Rattle.basics.specs.Booleans.{same_test}
 use Rattle.basics.specs.Members.{is_some-position, position_cons}
 use Rattle.basics.specs.Numbers.{nat_eq-self}
-use Rattle.basics.specs.Options.{none_of}
+use Rattle.basics.specs.Options.{none_of, if_some}
 use Rattle.basics.specs.Texts.{bytes_eq-self, bytes_eq-true, bytes_eq_comm}
 use Rattle.gathering.proofs.Loops.{range_more, taken}
 use Rattle.name_rules.specs.Names.{first_some, put, under}
 use Rattle.process_core.specs.Equal.{IsEquality}
-use Rattle.process_core.specs.Ready.{Name, firsts, if_some, same_label}
+use Rattle.process_core.specs.Ready.{Name, firsts, same_label}
 use Rattle.process_core.proofs.Targets.{Distinct, firsts_distinct, firsts_more}
 use Rattle.jani_tree.specs.declared.syntax.JaniEdge.{JaniEdge}
 use Rattle.jani_tree.specs.Syntax.{Edge, edge_of}
@@ -103,12 +103,6 @@ pub zip_more : {A B C : Type 0} (R : B → C → Type 0) (s : A → B) (xs : Lis
 zip_more R s xs i x old new y h e so_far pushed here =
     subst (λ l. AllZip R (map s l) new) (sym (taken xs i x h e))
     (subst (λ l. AllZip R l new) (sym (map-append s (take i xs) (x ∷ []))) (subst (AllZip R (map s (take i xs) ++ s x ∷ [])) (sym pushed) (zip_push R (map s (take i xs)) old (s x) y so_far here)))
-
-pub zip_length : {A B : Type 0} (R : A → B → Type 0) (xs : List A) (ys : List B) → AllZip R xs ys → length xs ≡ length ys
-zip_length R [] [] h = refl
-zip_length R [] (y ∷ ys) h = absurd h
-zip_length R (x ∷ xs) [] h = absurd h
-zip_length R (x ∷ xs) (y ∷ ys) h = ap suc (zip_length R xs ys h.1)
 
 pub zip_at : {A B : Type 0} (R : A → B → Type 0) (xs : List A) (ys : List B) (i : ℕ) (x : A) (y : B) → AllZip R xs ys → slice_get xs i ≡ Some x → slice_get ys i ≡ Some y → R x y
 zip_at R [] [] i x y h e g = absurd cc

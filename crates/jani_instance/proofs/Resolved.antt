@@ -13,7 +13,7 @@ use Rattle.instance_start.specs.declared.data.Place.{Place}
 use Rattle.jani_check.specs.Faults.{IsChecked}
 use Rattle.jani_meaning.specs.Elements.{Owned, elements, labels, structures}
 use Rattle.jani_table.specs.declared.operator.JaniOp.{JaniOp}
-use Rattle.jani_tree.proofs.Mapped.{mapped, walked}
+use Rattle.basics.specs.Mapped.{mapped, walked}
 use Rattle.jani_tree.specs.Syntax.{Automaton, File}
 use Rattle.name_rules.specs.Names.{first_some, under}
 use Rattle.name_rules.specs.declared.map.NameMap.{NameMap}

@@ -5,6 +5,7 @@ use Rattle.std.specs.Option.{option_map}
 use Rattle.std.proofs.Common.{refl, sym, ap, ap₂, subst, ◌∙◌, arith, inl, inr, ◌⊎◌}
 use Rattle.std.proofs.Math.Path.{fun_ext}
 use Rattle.std.proofs.lemmas.Slice.Eq.{bytes_eq-Decides}
+use Rattle.std.proofs.lemmas.Bool.{or_left}
 use Rattle.basics.specs.Members.{position_cons}
 use Rattle.op_trees.specs.Tree.{Tree, Truth, Number, Name, One, Two, Three}
 use Rattle.op_trees.specs.Meaning.{Meaning, is_wide_value, of_one, of_both, of_lazy, chosen}
@@ -16,7 +17,7 @@ use Rattle.process_core.specs.Ready as ready
 use Rattle.process_core.specs.Instance.{Valuation}
 use Rattle.jani_table.specs.Operators.{jani_meaning}
 use Rattle.jani_tree.specs.Syntax.{Const, Expression, File}
-use Rattle.jani_meaning.specs.Elements.{is_called}
+use Rattle.op_trees.specs.Names.{is_called}
 use Rattle.jani_meaning.specs.Scene.{constant, constant_called, constant_names, constant_seen, constant_value, constant_within, scene, see}
 use Rattle.process_core.specs.Product.{map-map}
 use Rattle.state_choices.specs.Trimmed.{computed}
@@ -30,10 +31,6 @@ use Rattle.jani_instance.specs.Constants.{names_by, round_of}
 pub record Below (s t : Seen) : Type 0 where
   pub value : (v : Value) → s.value ≡ Some v → t.value ≡ Some v
   pub wide : s.wide ≡ true → t.wide ≡ true
-
-or_left : (a b : Bool) → a ≡ true → (a || b) ≡ true
-or_left true b h = refl
-or_left false b h = absurd cc
 
 or_right : (a b : Bool) → b ≡ true → (a || b) ≡ true
 or_right true b h = refl

@@ -11,19 +11,14 @@ use Rattle.name_rules.specs.declared.map.NameMap.{NameMap}
 use Rattle.process_core.specs.Ready.{Name}
 use Rattle.process_core.specs.Instance.{Valuation}
 use Rattle.process_core.specs.Product.{map-map}
-use Rattle.process_core.specs.declared.data.Given.{Given}
-use Rattle.process_core.specs.declared.data.StartFail.{StartFail}
-use Rattle.process_core.specs.declared.data.StartFail.TheVariants.{Memory, Wide, Faults, Word}
 use Rattle.state_choices.specs.Trimmed.{computed, trimmed_seen}
 use Rattle.state_choices.specs.Views.{seen_of}
 use Rattle.state_choices.proofs.ComputedLaws.{computed_laws}
 use Rattle.jani_tree.specs.Syntax.{Automaton, Const, File}
-use Rattle.jani_meaning.specs.Elements.{Owned, is_called}
+use Rattle.op_trees.specs.Names.{is_called}
+use Rattle.jani_meaning.specs.Elements.{Owned}
 use Rattle.jani_meaning.specs.Scene.{column, constant_names, constant_seen, location_column, scene}
 use Rattle.instance_start.specs.Columns.{trimmed_column, value_at}
-use Rattle.instance_start.specs.Description.{Description}
-use Rattle.instance_start.specs.Given.{given_by, misfit}
-use Rattle.instance_start.specs.Started.{FailsIn, FailsToStart}
 use Rattle.instance_start.specs.declared.data.Place.{Place}
 use Rattle.instance_start.specs.declared.data.Place.TheVariants.{Constant}
 use Rattle.jani_instance.specs.Built.{value_from}
@@ -63,10 +58,3 @@ same_transients as_ bs m n os ps qs rs a b c d =
     ∙ ap (λ (k : Name → Seen). map (transient_by bs k) os ++ map (transient_by bs k) qs) b
     ∙ ap (λ l. map (transient_by bs n) l ++ map (transient_by bs n) qs) c
     ∙ ap (λ l. map (transient_by bs n) ps ++ map (transient_by bs n) l) d
-
--- ---- a start that fails after the constants fitted
-pub fails_start : (d : Description) (given : List Given) (e : StartFail) → misfit d.constants given ≡ None → FailsIn d.constants (d.scene (given_by given)) e → FailsToStart d given e
-fails_start d given (Memory e) m h = tt
-fails_start d given (Word i) m h = absurd h
-fails_start d given Wide m h = (m, h)
-fails_start d given (Faults fs) m h = (m, h)

@@ -1,68 +1,53 @@
 -- The values of constants have their types, so a boolean variable that lasts begins with a truth value.
-use Rattle.std.proofs.Common.{◌≡◌, ℕ, zero, suc, ◌+◌, List, [], ◌∷◌, ◌++◌, map, length, Bool, true, false, not, ◌||◌, Option, Some, None, is_some, is_none, IsTrue, unwrap_or, cond, refl, sym, ap, subst, ◌∙◌}
+use Rattle.std.proofs.Common.{◌≡◌, ℕ, zero, suc, ◌+◌, List, [], ◌∷◌, ◌++◌, map, length, Bool, true, false, not, Option, Some, None, is_some, is_none, IsTrue, unwrap_or, cond, refl, sym, ap, subst, ◌∙◌}
 use Rattle.std.specs.Prelude.{bytes_eq, if◌then◌else◌}
-use Rattle.std.specs.List.{AllByRecursion as Each, find, filter, flat_map, list_any, position_or_len}
-use Rattle.std.specs.Option.{option_map}
+use Rattle.std.specs.List.{find, filter, flat_map, AllByRecursion as Each}
+use Rattle.std.specs.Option.{option_map, option_or}
 use Rattle.std.proofs.lemmas.Bool.{not-false}
 use Rattle.std.proofs.lemmas.List.Elements.{All-map, All-append, All-from_recursion}
-use Rattle.std.proofs.lemmas.Slice.Eq.{bytes_eq-Decides}
-use Rattle.basics.specs.Options.{has_some}
-use Rattle.basics.specs.Booleans.{second_true}
-use Rattle.basics.specs.Lists.{append_parts, empty_map}
-use Rattle.basics.specs.Each.{each_then, each_with, each_any, each_map, each_join, each_parts, each_of, empty_each}
+use Rattle.basics.specs.Options.{has_some, if_some, IfAny as OfSome}
+use Rattle.basics.specs.Lists.{append_parts, empty_map, IsNotEmpty as HasItems}
+use Rattle.basics.specs.Each.{each_then, each_with, each_any, each_map, each_join, each_parts, each_of, empty_each, each_found}
 use Rattle.bridge_io.specs.declared.reason.Fault.{Fault}
 use Rattle.bridge_io.specs.declared.reason.Reason.TheVariants.{WrongType, NotConstant}
 use Rattle.frac_core.specs.Decimal.{is_normal}
 use Rattle.op_trees.specs.declared.tree.Ty.{Ty}
 use Rattle.op_trees.specs.declared.tree.Ty.TheVariants as T
 use Rattle.op_trees.specs.declared.tree.Value.{Value}
-use Rattle.op_trees.specs.declared.tree.Value.TheVariants as V
 use Rattle.op_trees.specs.Meaning.{Environment, value_of}
 use Rattle.op_trees.specs.Seen.{known_names}
 use Rattle.op_trees.specs.SeenLaws.{names_all, seen_is}
-use Rattle.op_trees.specs.Names.{offset_of}
+use Rattle.op_trees.specs.Names.{offset_of, is_called}
 use Rattle.op_trees.specs.Tree.{Truth, Number, Name as At, One, Two, Three, AllNumbers}
 use Rattle.op_trees.specs.Types.{Types, AgreesWith, has_type, type_in, misfits}
 use Rattle.op_trees.specs.TypeLaws.{misfits_none, value_agrees}
-use Rattle.name_rules.specs.Least.{fault, fault_if}
+use Rattle.name_rules.specs.Least.{fault, fault_if, or_else}
+use Rattle.name_rules.proofs.Plain.{no_fault}
 use Rattle.process_core.specs.Ready.{Name}
 use Rattle.process_core.specs.Instance.{Truths, Column, numbered}
 use Rattle.process_core.specs.declared.data.Given.{Given}
 use Rattle.instance_start.specs.Description.{Constant}
 use Rattle.instance_start.specs.Firsts.{BeginRight, begins_right}
-use Rattle.instance_start.specs.Given as given_specs
-use Rattle.instance_start.specs.Given.{given_by, misfit, fits, takes, is_missing}
+use Rattle.instance_start.proofs.Givens.{none_misfits, given_typed, bool_right}
+use Rattle.instance_start.specs.Given.{given_by, misfit}
 use Rattle.jani_table.specs.Operators.{jani_meaning}
 use Rattle.jani_table.specs.OperatorLaws.{jani_lawful}
 use Rattle.jani_tree.specs.Syntax.{Expression, Const, VarKind, boolean, integer, number, real_bounded, one_sided, bounded, Var, Automaton, File}
-use Rattle.jani_tree.specs.Canonical.{OfSome, OfAll}
-use Rattle.jani_tree.specs.Form.{HasItems, ExprForm, ConstRead, VarRead, AutomatonRead}
-use Rattle.jani_tree.proofs.Mapped.{found_mapped}
-use Rattle.jani_check.specs.Things as things
+use Rattle.jani_tree.specs.Form.{ExprForm, ConstRead, VarRead, AutomatonRead}
+use Rattle.basics.specs.Mapped.{found_mapped}
+use Rattle.op_trees.specs.Wanted.{wider, is_wanted, is_unwanted, wanted_by}
 use Rattle.jani_check.specs.Things.{kind_type, const_thing, var_thing, var_called, global_thing, beside, thing_type, types_by}
-use Rattle.jani_check.specs.Demands.{Demand, fixed, if_some, wanted_by, const_demands, bound_demands, var_demands, automaton_demands, outer_demands}
+use Rattle.jani_check.specs.Demands.{Demand, fixed, const_demands, bound_demands, var_demands, automaton_demands, outer_demands}
 use Rattle.jani_check.specs.NameFaults.{name_faults}
-use Rattle.jani_check.specs.TypeFaults.{var_faults, kind_fault, is_wanted, is_unwanted, type_faults_of, has_variable, demand_faults, automaton_faults, clashing_writes, type_faults}
+use Rattle.jani_check.specs.TypeFaults.{var_faults, kind_fault, type_faults_of, has_variable, demand_faults, automaton_faults, clashing_writes, type_faults}
 use Rattle.jani_check.specs.ProfileFaults.{profile_faults}
-use Rattle.jani_check.specs.Faults.{or_else, IsChecked}
+use Rattle.jani_check.specs.Faults.{IsChecked}
 use Rattle.jani_check.proofs.Profiled.{first_none, rest_none}
-use Rattle.jani_meaning.specs.Elements.{is_called, nothing_called, automaton_called, elements, owned_by, variables, is_lasting, lasting}
+use Rattle.jani_meaning.specs.Elements.{nothing_called, automaton_called, elements, owned_by, variables, is_lasting, lasting}
 use Rattle.jani_meaning.specs.Scene.{see, constant_called, constant_seen, constant_value, constant_within, constant, constant_names, location_column, domain_of, start_of, column, columns_of}
 use Rattle.jani_instance.specs.Described.{jani_description}
 
 -- ---- facts of each member of a list
-each_of_all : {A : Type 0} (P : A → Type 0) (xs : List A) → OfAll P xs → Each P xs
-each_of_all P [] h = tt
-each_of_all P (x ∷ xs) h = (h.0, each_of_all P xs h.1)
-
--- what is found has what all have
-each_found : {A : Type 0} (P : A → Type 0) (test : A → Bool) (xs : List A) → Each P xs → OfSome P (find test xs)
-each_found P test [] h = tt
-each_found {A = A} P test (x ∷ xs) h = by_test (test x) (each_found P test xs h.1)
-  where
-    by_test : (b : Bool) → OfSome P (find test xs) → OfSome P (cond b (Some x) (find test xs))
-    by_test true r = h.0
-    by_test false r = r
 
 some_else : {A : Type 0} (P : A → Type 0) (o : Option A) (d : A) → OfSome P o → P d → P (unwrap_or o d)
 some_else P None d h k = k
@@ -91,66 +76,6 @@ normal_numbers (Two at o a b) h = (normal_numbers a h.1, normal_numbers b h.2)
 normal_numbers (Three at o a b c) h = (normal_numbers a h.1, normal_numbers b h.2, normal_numbers c h.3)
 
 -- ---- a value of a type that is wanted
-wider : (w s : Ty) (v : Value) → is_wanted (wanted_by w) s ≡ true → IsTrue (has_type s v) → IsTrue (has_type w v)
-wider T.Bool T.Bool v h k = k
-wider T.Bool T.Int v h k = absurd cc
-wider T.Bool T.Real v h k = absurd cc
-wider T.Int T.Int v h k = k
-wider T.Int T.Bool v h k = absurd cc
-wider T.Int T.Real v h k = absurd cc
-wider T.Real T.Bool v h k = absurd cc
-wider T.Real T.Int (V.Number q) h k = refl
-wider T.Real T.Int (V.Truth b) h k = k
-wider T.Real T.Real v h k = k
-
-no_fault : (b : Bool) (at : ℕ) → fault_if b at WrongType ≡ [] → b ≡ false
-no_fault true at e = absurd cc
-no_fault false at e = refl
-
--- ---- given values
-taken_typed : (t : Ty) (v : Value) → takes t v ≡ true → IsTrue (has_type t v)
-taken_typed T.Bool (V.Truth b) h = refl
-taken_typed T.Bool (V.Number q) h = absurd cc
-taken_typed T.Int (V.Truth b) h = absurd cc
-taken_typed T.Int (V.Number q) h = h
-taken_typed T.Real (V.Truth b) h = absurd cc
-taken_typed T.Real (V.Number q) h = refl
-
-no_misfit : {A : Type 0} (b c : Bool) (i : A) (j : Option A) → (if b then Some i else (if c then j else None)) ≡ None → b ≡ false
-no_misfit true c i j h = absurd cc
-no_misfit false c i j h = refl
-
-none_misfits : (cs : List Constant) (given : List Given) → misfit cs given ≡ None → list_any (λ g. not (fits cs g)) given ≡ false
-none_misfits cs given m =
-    no_misfit (list_any (λ g. not (fits cs g)) given) (list_any (is_missing given) cs) (position_or_len (λ g. not (fits cs g)) given) (Some (length given)) m
-
-given_typed : (cs : List Constant) (given : List Given) → list_any (λ g. not (fits cs g)) given ≡ false →
-    (x : Name) (c : Constant) → given_specs.constant_called cs x ≡ Some c → (v : Value) → given_by given x ≡ Some v → IsTrue (has_type c.ty v)
-given_typed cs [] h x c f v e = absurd cc
-given_typed cs (g ∷ gs) h x c f v e = by_name (bytes_eq g.name x) refl (λ r k. given_typed cs gs r x c f v k) e
-  where
-    first : (b r : Bool) → (not b || r) ≡ false → b ≡ true
-    first true r k = refl
-    first false r k = absurd cc
-
-    rest : (b r : Bool) → (not b || r) ≡ false → r ≡ false
-    rest true r k = k
-    rest false r k = absurd cc
-
-    by_name : (b : Bool) → bytes_eq g.name x ≡ b →
-        (list_any (λ d. not (fits cs d)) gs ≡ false → given_by gs x ≡ Some v → IsTrue (has_type c.ty v)) → (if b then Some g.value else given_by gs x) ≡ Some v → IsTrue (has_type c.ty v)
-    by_name true n r k =
-        let same : g.name ≡ x = (bytes_eq-Decides g.name x).0 n in
-        let found : given_specs.constant_called cs g.name ≡ Some c = ap (given_specs.constant_called cs) same ∙ f in
-        let taken = sym (ap (λ o. given_specs.is_taken o g.value) found) ∙ first (fits cs g) (list_any (λ d. not (fits cs d)) gs) h in
-        subst (λ w. IsTrue (has_type c.ty w)) (let z : g.value ≡ v = cc in z) (taken_typed c.ty g.value (second_true c.is_open (takes c.ty g.value) taken))
-    by_name false n r k = r (rest (fits cs g) (list_any (λ d. not (fits cs d)) gs) h) k
-
--- ---- first values
-bool_right : (o : Option Value) → ((v : Value) → o ≡ Some v → IsTrue (has_type T.Bool v)) → begins_right Truths o ≡ true
-bool_right None h = refl
-bool_right (Some (V.Truth b)) h = refl
-bool_right (Some (V.Number q)) h = h (V.Number q) refl
 
 seen_value : (e : Expression) (env : Environment) → (see e (known_names env)).value ≡ value_of jani_meaning e env
 unfolding see
@@ -170,7 +95,7 @@ fine_value types env agree w e h v k =
     let t = type_in jani_meaning types e in
     let r = append_parts (map (λ at. fault at WrongType) (misfits jani_meaning types e)) (fault_if (is_unwanted (wanted_by w) t) (offset_of e) WrongType) h.clean in
     let s = has_some t ((misfits_none jani_meaning types e).0 (empty_map (λ at. fault at WrongType) (misfits jani_meaning types e) r.0)) in
-    let wanted = not-false (is_wanted (wanted_by w) s.0) (sym (ap (is_unwanted (wanted_by w)) s.1) ∙ no_fault (is_unwanted (wanted_by w) t) (offset_of e) r.1) in
+    let wanted = not-false (is_wanted (wanted_by w) s.0) (sym (ap (is_unwanted (wanted_by w)) s.1) ∙ no_fault (is_unwanted (wanted_by w) t) (offset_of e) WrongType r.1) in
     wider w s.0 v wanted
     ((value_agrees jani_meaning jani_lawful types env e (normal_numbers e h.form) (names_all (λ x. AgreesWith (types x) (env x)) agree e)).agrees s.0 v s.1 k)
 
@@ -213,11 +138,11 @@ module _ (file : File) where
   faults_beside own = demand_faults (beside (global_thing file) own)
 
   global_constants : HasConstants global_types
-  global_constants x c e = ap (λ o. option_map thing_type (things.or_else (option_map const_thing o) (option_map var_thing (var_called file.variables x)))) e
+  global_constants x c e = ap (λ o. option_map thing_type (option_or (option_map const_thing o) (option_map var_thing (var_called file.variables x)))) e
 
   beside_constants : (own : List Var) → HasConstants (types_beside own)
   beside_constants own x c e =
-      ap (λ o. option_map thing_type (things.or_else (things.or_else (option_map const_thing o) (option_map var_thing (var_called file.variables x))) (option_map var_thing (var_called own x)))) e
+      ap (λ o. option_map thing_type (option_or (option_or (option_map const_thing o) (option_map var_thing (var_called file.variables x))) (option_map var_thing (var_called own x)))) e
 
   global_judges : Judges global_types global_faults
   global_judges w e h = (append_parts (type_faults_of global_types (wanted_by w) e) (fault_if (has_variable (global_thing file) e) (offset_of e) NotConstant) h).0
@@ -264,7 +189,7 @@ module _ (file : File) where
     consts_fine : Each (λ c. OfSome (IsFine global_types c.ty) c.value) file.constants
     consts_fine =
         each_with (ConstRead HasItems) (λ c. Each (HasNone global_faults) (const_demands c)) (λ c. OfSome (IsFine global_types c.ty) c.value)
-        (λ c f h. some_fine global_types global_faults global_judges c.ty c.value f.value h) file.constants (each_of_all (ConstRead HasItems) file.constants checked.form.constants)
+        (λ c f h. some_fine global_types global_faults global_judges c.ty c.value f.value h) file.constants (checked.form.constants)
         (each_of (HasNone global_faults) const_demands file.constants
         (each_parts (HasNone global_faults) (flat_map const_demands file.constants) (flat_map var_demands file.variables) outer_none).0)
 
@@ -309,7 +234,7 @@ module _ (file : File) where
       start_typed types has w None f = tt
       start_typed types has w (Some e) f = λ v k. fine_value types values (values_agree types has) w e f v k
 
-      vars_typed : (types : Types) (judged : Demand → List Fault) → HasConstants types → Judges types judged → (xs : List Var) → OfAll (VarRead HasItems) xs → flat_map var_faults xs ≡ [] →
+      vars_typed : (types : Types) (judged : Demand → List Fault) → HasConstants types → Judges types judged → (xs : List Var) → Each (VarRead HasItems) xs → flat_map var_faults xs ≡ [] →
           Each (HasNone judged) (flat_map var_demands xs) → Each (BeginsTyped values) xs
       vars_typed types judged has j xs f k h =
           each_with (λ x. VarRead HasItems x × (var_faults x ≡ [])) (λ x. Each (HasNone judged) (var_demands x)) (BeginsTyped values)
@@ -319,7 +244,7 @@ module _ (file : File) where
                 (some_fine types judged j (kind_type x.kind) x.start p.0.start (each_parts (HasNone judged) (bound_demands x.kind) (map (fixed (wanted_by (kind_type x.kind))) (if_some x.start)) d).1);
           }) xs
           (each_with (VarRead HasItems) (λ x. var_faults x ≡ []) (λ x. VarRead HasItems x × (var_faults x ≡ [])) (λ x p q. (p, q)) xs
-          (each_of_all (VarRead HasItems) xs f) (empty_each var_faults xs k))
+          (f) (empty_each var_faults xs k))
           (each_of (HasNone judged) var_demands xs h)
 
       globals_typed : Each (BeginsTyped values) file.variables
@@ -341,7 +266,7 @@ module _ (file : File) where
           (λ n. some_else (λ a. Each (BeginsTyped values) a.variables) (find (λ a. is_called n.name a.name) file.automata) (nothing_called n)
           (each_found (λ a. Each (BeginsTyped values) a.variables) (λ a. is_called n.name a.name) file.automata
           (each_with (AutomatonRead HasItems) (λ a. automaton_faults (global_thing file) a ≡ []) (λ a. Each (BeginsTyped values) a.variables) own_typed file.automata
-          (each_of_all (AutomatonRead HasItems) file.automata checked.form.automata) automata_none)) tt)
+          (checked.form.automata) automata_none)) tt)
           file.elements
 
       owned_typed : (owner : Option ℕ) (xs : List Var) → Each (BeginsTyped values) xs → Each (λ o. BeginsTyped values o.var) (owned_by owner xs)

@@ -6,6 +6,7 @@ use Rattle.std.proofs.Common.{refl, sym, ap, ap₂, subst, ◌∙◌, arith}
 use Rattle.std.proofs.Math.Path.{fun_ext}
 use Rattle.std.proofs.lemmas.List.{map-append, length-map}
 use Rattle.std.proofs.lemmas.Slice.Eq.{bytes_eq-Decides}
+use Rattle.std.proofs.lemmas.Bool.{or_parts}
 use Rattle.bridge_io.specs.declared.reason.Named.{Named}
 use Rattle.op_trees.specs.Seen.{Seen, known}
 use Rattle.op_trees.specs.declared.tree.Value.{Value}
@@ -14,15 +15,18 @@ use Rattle.expr_store.specs.declared.node.ExprId.{ExprId}
 use Rattle.expr_store.specs.declared.store.ExprStore.{ExprStore}
 use Rattle.jani_table.specs.declared.operator.JaniOp.{JaniOp}
 use Rattle.name_rules.specs.Names.{first_some}
-use Rattle.process_core.specs.Ready.{Name, Ready, Sum, Values, has_action, if_some, taking}
+use Rattle.basics.specs.Options.{if_some}
+use Rattle.process_core.specs.Ready.{Name, Ready, Sum, Values, has_action, taking}
 use Rattle.process_core.specs.Instance.{Valuation, is_state, numbered}
 use Rattle.process_core.specs.Product.{map-map}
 use Rattle.state_choices.specs.Groups.{Group}
 use Rattle.state_choices.specs.Groups as core
 use Rattle.state_choices.specs.Trimmed.{computed, trimmed, trimmed_group, trimmed_sum}
+use Rattle.state_choices.proofs.ComputedParts.{same_group}
 use Rattle.jani_tree.specs.Syntax as syntax
 use Rattle.jani_tree.specs.Syntax.{Automaton, Edge, File, Location}
-use Rattle.jani_meaning.specs.Elements.{Owned, column_number, elements, is_called, is_global, is_own, lasting, labels, location_number, structures}
+use Rattle.op_trees.specs.Names.{is_called}
+use Rattle.jani_meaning.specs.Elements.{Owned, column_number, elements, is_global, is_own, lasting, labels, location_number, structures}
 use Rattle.jani_meaning.specs.Scene.{column, columns_of, constant, constant_names, see, start_of}
 use Rattle.jani_meaning.specs.Moment.{edge_at, element_at, first_or, given_in, given_to, is_current, is_number, may_give, moment, names_in, transient_at, value_in, vector_of}
 use Rattle.jani_meaning.specs.Process.{no_reward}
@@ -37,7 +41,6 @@ use Rattle.jani_instance.specs.declared.data.Element as code
 use Rattle.jani_instance.specs.declared.data.Transient.{Transient}
 use Rattle.jani_instance.specs.declared.data.Vector as code_vector
 use Rattle.jani_instance.proofs.Places.{IsAt, at_place, same_count}
-use Rattle.jani_instance.proofs.Trimming.{same_group}
 
 -- ---- lists
 numbered_both : {X Y Z : Type 0} (f : ℕ → X → Z) (g : ℕ → Y → Z) (i : ℕ) (xs : List X) (ys : List Y) → length xs ≡ length ys →
@@ -85,13 +88,9 @@ later all i x xs h k = ap (slice_get all) (let d : i + 1 + k ≡ i + suc k = ome
 first_at : {X : Type 0} (all : List X) (i : ℕ) (x : X) (xs : List X) → ((k : ℕ) → slice_get all (i + k) ≡ slice_get (x ∷ xs) k) → slice_get all i ≡ Some x
 first_at all i x xs h = ap (slice_get all) (let d : i ≡ i + 0 = omega arith in d) ∙ h 0
 
-neither : (b c : Bool) → (b || c) ≡ false → (b ≡ false) × (c ≡ false)
-neither true c h = absurd cc
-neither false c h = (refl, h)
-
 none_left : (p q : Edge → Bool) (l : List Edge) → list_any p l ≡ false → list_any p (filter q l) ≡ false
 none_left p q [] h = refl
-none_left p q (e ∷ l) h = by_test (q e) (neither (p e) (list_any p l) h).0 (none_left p q l (neither (p e) (list_any p l) h).1)
+none_left p q (e ∷ l) h = by_test (q e) (or_parts (p e) (list_any p l) h).0 (none_left p q l (or_parts (p e) (list_any p l) h).1)
   where
     by_test : (b : Bool) → p e ≡ false → list_any p (filter q l) ≡ false → list_any p (if b then e ∷ filter q l else filter q l) ≡ false
     by_test true g k = ap₂ (λ a c. a || c) g k
@@ -196,8 +195,8 @@ module _ (file : File) (v : Valuation) (acts : Automaton → List Name) (store :
   none_acts : (x : Name) (i : ℕ) (a : Automaton) (l : List Edge) → list_any (acts_with x) l ≡ false → filter (has_action (Some x)) (map (edge_at file v s i a) l) ≡ []
   none_acts x i a [] h = refl
   none_acts x i a (e ∷ l) h =
-      ap (λ b. if b then edge_at file v s i a e ∷ filter (has_action (Some x)) (map (edge_at file v s i a) l) else filter (has_action (Some x)) (map (edge_at file v s i a) l)) (neither (acts_with x e) (list_any (acts_with x) l) h).0
-      ∙ none_acts x i a l (neither (acts_with x e) (list_any (acts_with x) l) h).1
+      ap (λ b. if b then edge_at file v s i a e ∷ filter (has_action (Some x)) (map (edge_at file v s i a) l) else filter (has_action (Some x)) (map (edge_at file v s i a) l)) (or_parts (acts_with x e) (list_any (acts_with x) l) h).0
+      ∙ none_acts x i a l (or_parts (acts_with x e) (list_any (acts_with x) l) h).1
 
   -- ---- vectors
   none_of : (x : Name) (i : ℕ) (a : Automaton) → list_any (acts_with x) a.edges ≡ false → map trimmed (filter (has_action (Some x)) (element_at file v s i a)) ≡ []

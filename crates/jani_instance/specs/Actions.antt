@@ -8,11 +8,13 @@ use Rattle.bridge_io.specs.declared.reason.Named.{Named}
 use Rattle.expr_store.specs.declared.node.Node.{Node}
 use Rattle.jani_table.specs.declared.operator.JaniOp.{JaniOp}
 use Rattle.name_rules.specs.Names.{under}
-use Rattle.process_core.specs.Ready.{Name, firsts, if_some, same_label}
+use Rattle.basics.specs.Options.{if_some}
+use Rattle.process_core.specs.Ready.{Name, firsts, same_label}
 use Rattle.jani_tree.specs.declared.syntax.JaniEdge.{JaniEdge}
 use Rattle.jani_tree.specs.Syntax as syntax
 use Rattle.jani_tree.specs.Syntax.{Automaton, Expression, File, file_of}
-use Rattle.jani_meaning.specs.Elements.{elements, is_called, lasting, structures}
+use Rattle.op_trees.specs.Names.{is_called}
+use Rattle.jani_meaning.specs.Elements.{elements, lasting, structures}
 use Rattle.jani_instance.specs.Built.{IsElementOf, IsNamedElementOf, acts_with, global_place}
 use Rattle.jani_instance.specs.Parts.{automaton_at, owned_at}
 use Rattle.jani_instance.specs.Shapes.{Located, edge_by, location_in}

@@ -8,12 +8,14 @@ use Rattle.op_trees.specs.Seen.{Seen}
 use Rattle.op_trees.specs.declared.tree.Value.{Value}
 use Rattle.op_trees.specs.declared.tree.EvalFail.{EvalFail}
 use Rattle.name_rules.specs.Names.{first_some, under}
-use Rattle.process_core.specs.Ready.{Name, Write, Reward, Update, Ready, has_action, if_some, same_label}
+use Rattle.basics.specs.Options.{if_some}
+use Rattle.process_core.specs.Ready.{Name, Write, Reward, Update, Ready, has_action, same_label}
 use Rattle.process_core.specs.Instance.{Column, Valuation, numbered}
 use Rattle.state_choices.specs.Trimmed.{computed, trimmed}
 use Rattle.jani_tree.specs.Syntax as syntax
 use Rattle.jani_tree.specs.Syntax.{Automaton, Destination, Edge, File, Location}
-use Rattle.jani_meaning.specs.Elements.{Owned, column_number, elements, is_called, is_global, is_own, lasting, location_number, structure_number}
+use Rattle.op_trees.specs.Names.{is_called}
+use Rattle.jani_meaning.specs.Elements.{Owned, column_number, elements, is_global, is_own, lasting, location_number, structure_number}
 use Rattle.jani_meaning.specs.Scene.{constant_names, see, start_of}
 use Rattle.jani_meaning.specs.Moment.{column_write, given_in, guard_seen, location_write, may_give, reward_of, weight_seen}
 use Rattle.instance_start.specs.declared.data.Place.{Place}

@@ -1,7 +1,6 @@
 pub mod Described
 pub mod Views
 pub mod Prepared
-pub mod Codes
 pub mod Built
 pub mod Constants
 pub mod Parts

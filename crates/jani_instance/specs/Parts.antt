@@ -5,7 +5,8 @@ use Rattle.std.specs.Option.{option_map}
 use Rattle.bridge_io.specs.declared.reason.Named.{Named}
 use Rattle.jani_tree.specs.Syntax.{Automaton, automaton_of, var_of}
 use Rattle.jani_meaning.specs.Elements as meaning
-use Rattle.jani_meaning.specs.Elements.{is_called, nothing_called}
+use Rattle.op_trees.specs.Names.{is_called}
+use Rattle.jani_meaning.specs.Elements.{nothing_called}
 use Rattle.jani_instance.specs.declared.parts.Part.{Part}
 use Rattle.jani_instance.specs.declared.parts.Owned.{Owned}
 

@@ -19,7 +19,7 @@ use Rattle.instance_start.specs.Given.{given_by}
 use Rattle.instance_start.specs.Columns.{column_of}
 use Rattle.instance_start.specs.Firsts.{BeginRight}
 use Rattle.instance_start.specs.declared.data.Column.{Column}
-use Rattle.jani_instance.specs.Codes.{one_answers, one_columns, one_faults, one_groups, one_names, one_number, one_truth}
+use Rattle.state_choices.specs.Codes.{one_answers, one_columns, one_faults, one_groups, one_names, one_number, one_truth}
 use Rattle.jani_instance.specs.Described.{mark_names}
 use Rattle.jani_instance.specs.Views.{Setting, members_seen, groups_of, transient_value}
 use Rattle.jani_instance.specs.declared.data.Element.{Element}

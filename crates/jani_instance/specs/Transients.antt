@@ -8,7 +8,8 @@ use Rattle.process_core.specs.Instance.{numbered}
 use Rattle.state_choices.specs.Trimmed.{computed}
 use Rattle.jani_tree.specs.Syntax.{Automaton, Expression, Location}
 use Rattle.std.specs.List.{find}
-use Rattle.jani_meaning.specs.Elements.{Owned, is_called}
+use Rattle.op_trees.specs.Names.{is_called}
+use Rattle.jani_meaning.specs.Elements.{Owned}
 use Rattle.jani_meaning.specs.Scene.{start_of}
 use Rattle.jani_instance.specs.Shapes.{Giver, Transient}
 

@@ -3,7 +3,7 @@ ghost use Rattle.std.specs.Prelude.{◌≡◌, ◌+◌, ◌-◌, ◌<◌, ◌≤
 ghost use Rattle.std.specs.List.{AllZip, position};
 ghost use Rattle.name_rules.specs.Names.{under};
 ghost use Rattle.jani_tree.specs.Syntax.{edge_of, location_of};
-ghost use Rattle.jani_meaning.specs.Elements.{is_called};
+ghost use Rattle.op_trees.specs.Names.{is_called};
 ghost use Rattle.jani_instance.specs.Actions.{AreNumbered, IsNumbered, actions_among, number_in, with_action};
 ghost use Rattle.jani_instance.specs.Parts.{automaton_at};
 

@@ -12,7 +12,7 @@ use crate::columns::counted;
 use crate::data::{Assignment, Destination, Edge};
 use crate::parts::{Owned, Part, is_owner, is_unowned};
 use instance_start::Place;
-use jani_tree::{JaniDestination, JaniEdge, JaniWrite, Je};
+use jani_tree::{JaniDestination, JaniEdge, JaniExpr, JaniWrite};
 use name_rules::NameMap;
 use std::alloc::{AllocError, Global};
 
@@ -105,7 +105,7 @@ fn writes<'a>(
     alloc: Global,
     writes: &'a [JaniWrite],
     site: &Site,
-) -> Result<Vec<Assignment<&'a Je>>, AllocError>
+) -> Result<Vec<Assignment<&'a JaniExpr>>, AllocError>
     ensures { IfOk result (λ ws. map assigned_of ws.items ≡ flat_map (assigned_by (column_in site.now)) (map syntax.write_of writes.entry.now)) }
 {
     let mut all = Vec::new(alloc);
@@ -118,7 +118,7 @@ fn writes<'a>(
     Ok(all)
 }
 
-fn assignment<'a>(place: usize, write: &'a JaniWrite) -> Assignment<&'a Je>
+fn assignment<'a>(place: usize, write: &'a JaniWrite) -> Assignment<&'a JaniExpr>
     ensures { assigned_of result ≡ record { place = place; value = (syntax.write_of write.entry.now).value } }
 {
     Assignment {
@@ -132,7 +132,7 @@ fn rewards<'a>(
     alloc: Global,
     writes: &'a [JaniWrite],
     site: &Site,
-) -> Result<Vec<Assignment<&'a Je>>, AllocError>
+) -> Result<Vec<Assignment<&'a JaniExpr>>, AllocError>
     ensures { IfOk result (λ ws. map assigned_of ws.items ≡ flat_map (assigned_by (structure_in site.now)) (map syntax.write_of writes.entry.now)) }
 {
     let mut all = Vec::new(alloc);
@@ -146,7 +146,7 @@ fn rewards<'a>(
 }
 
 /// An expression, if there is one.
-fn lent<'a>(e: &'a Option<Je>) -> Option<&'a Je>
+fn lent<'a>(e: &'a Option<JaniExpr>) -> Option<&'a JaniExpr>
     ensures { option_map (λ e. tree e.now) result ≡ option_map tree e.entry.now }
 {
     match e {
@@ -160,7 +160,7 @@ fn destination<'a>(
     alloc: Global,
     d: &'a JaniDestination,
     site: &Site,
-) -> Result<Destination<&'a Je>, AllocError>
+) -> Result<Destination<&'a JaniExpr>, AllocError>
     ensures { IfOk result (λ r. destination_of r ≡ destination_by site.now (syntax.destination_of d.entry.now)) }
 {
     let to_columns = writes(alloc, d.writes.as_slice(), site)?;
@@ -177,7 +177,7 @@ fn destinations<'a>(
     alloc: Global,
     ds: &'a [JaniDestination],
     site: &Site,
-) -> Result<Vec<Destination<&'a Je>>, AllocError>
+) -> Result<Vec<Destination<&'a JaniExpr>>, AllocError>
     ensures { IfOk result (λ rs. map destination_of rs.items ≡ map (destination_by site.now) (map syntax.destination_of ds.entry.now)) }
 {
     let mut all = Vec::with_capacity(alloc, ds.len())?;
@@ -192,7 +192,7 @@ pub(crate) fn edge<'a>(
     alloc: Global,
     e: &'a JaniEdge,
     site: &Site,
-) -> Result<Edge<&'a Je>, AllocError>
+) -> Result<Edge<&'a JaniExpr>, AllocError>
     ensures { IfOk result (λ r. edge_of r ≡ edge_by site.now (syntax.edge_of e.entry.now)) }
 {
     let destinations = destinations(alloc, e.destinations.as_slice(), site)?;

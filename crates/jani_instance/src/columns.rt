@@ -18,7 +18,7 @@ use crate::run::{Run, value_of};
 use bridge_io::{List, Text};
 use frac_core::{Frac, FracFail};
 use instance_start::{Bounds, Variable};
-use jani_tree::{JaniKind, JaniLocation, JaniVar, Je};
+use jani_tree::{JaniExpr, JaniKind, JaniLocation, JaniVar};
 use op_trees::{EvalFail, Value};
 use std::alloc::{AllocError, Global};
 
@@ -120,7 +120,7 @@ fn bounds(kind: &JaniKind, run: &Run) -> Option<Bounds>
 }
 
 /// The value that a variable begins with.
-pub(crate) fn start_of(e: &Option<Je>, run: &Run) -> Result<Value, EvalFail>
+pub(crate) fn start_of(e: &Option<JaniExpr>, run: &Run) -> Result<Value, EvalFail>
     ensures { result ≡ computed (start_of (seen_in run.now) (option_map tree e.now)) }
 {
     match e {

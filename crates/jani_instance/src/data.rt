@@ -3,7 +3,7 @@
 use bridge_io::{List, Text};
 use expr_store::ExprId;
 use instance_start::Place;
-use jani_tree::Je;
+use jani_tree::JaniExpr;
 use name_rules::NameMap;
 use op_trees::{EvalFail, Value};
 use state_choices::Command;
@@ -50,7 +50,7 @@ pub struct Element {
 #[derive(Drop)]
 pub struct NamedElement<'a> {
     pub own: NameMap<'a, Place>,
-    pub locations: Vec<Located<&'a Je>>,
+    pub locations: Vec<Located<&'a JaniExpr>>,
 }
 
 /// An element that takes part in a vector, and the number of the action that it does so with.

@@ -16,7 +16,7 @@ use crate::data::{Edge, Located, NamedElement};
 use crate::parts::{Part, edges, locations, own_places};
 use gathering::NumberLists;
 use instance_start::Place;
-use jani_tree::{JaniEdge, Je};
+use jani_tree::{JaniEdge, JaniExpr};
 use name_rules::NameMap;
 use std::alloc::{AllocError, Global};
 
@@ -84,7 +84,7 @@ fn all_located<'a>(
     these: &'a [JaniEdge],
     actions: &ActionTable,
     site: Site,
-) -> Result<Vec<Located<&'a Je>>, AllocError>
+) -> Result<Vec<Located<&'a JaniExpr>>, AllocError>
     requires { AreNumbered (actions_of (automaton_at site.part)) actions.now }
     ensures { IfOk result (λ ls. map located_of ls.items
         ≡ map (located_at site.entry (map syntax.edge_of these.entry.now)) (range_with_len 0 (length (automaton_at site.entry.part).locations - 1 + 1))) }
@@ -98,7 +98,7 @@ fn each_located<'a>(
     starting: &NumberLists<&'a JaniEdge>,
     actions: &ActionTable,
     site: &Site,
-) -> Result<Vec<Located<&'a Je>>, AllocError>
+) -> Result<Vec<Located<&'a JaniExpr>>, AllocError>
     requires { AreNumbered (actions_of (automaton_at site.now.part)) actions.now }
     ensures { IfOk result (λ ls. map located_of ls.items
         ≡ map (λ n. located_among site.now (map lent_edge (list_for starting.now n))) (range_with_len 0 (length (automaton_at site.now.part).locations - 1 + 1))) }
@@ -141,7 +141,7 @@ fn located<'a>(
     these: &[&'a JaniEdge],
     actions: &ActionTable,
     site: &Site,
-) -> Result<Located<&'a Je>, AllocError>
+) -> Result<Located<&'a JaniExpr>, AllocError>
     requires { AreNumbered (actions_of (automaton_at site.now.part)) actions.now }
     ensures { IfOk result (λ l. located_of l ≡ located_among site.now (map lent_edge these.now)) }
 {
@@ -189,7 +189,7 @@ fn parts<'a>(
     lists: &NumberLists<&'a JaniEdge>,
     count: usize,
     site: &Site,
-) -> Result<Vec<Vec<Edge<&'a Je>>>, AllocError>
+) -> Result<Vec<Vec<Edge<&'a JaniExpr>>>, AllocError>
     ensures { IfOk result (λ ps. map (λ es. map edge_of es.items) ps.items ≡ map (λ k. map (edge_by site.now) (map lent_edge (list_for lists.now k))) (range_with_len 0 count)) }
 {
     let mut all = Vec::with_capacity(alloc, count)?;
@@ -204,7 +204,7 @@ fn kept<'a>(
     alloc: Global,
     these: &[&'a JaniEdge],
     site: &Site,
-) -> Result<Vec<Edge<&'a Je>>, AllocError>
+) -> Result<Vec<Edge<&'a JaniExpr>>, AllocError>
     ensures { IfOk result (λ es. map edge_of es.items ≡ map (edge_by site.now) (map lent_edge these.now)) }
 {
     let mut all = Vec::with_capacity(alloc, these.len())?;
@@ -219,7 +219,7 @@ fn silent<'a>(
     alloc: Global,
     these: &[&'a JaniEdge],
     site: &Site,
-) -> Result<Vec<Edge<&'a Je>>, AllocError>
+) -> Result<Vec<Edge<&'a JaniExpr>>, AllocError>
     ensures { IfOk result (λ es. map edge_of es.items ≡ map (edge_by site.now) (filter is_silent (map lent_edge these.now))) }
 {
     let mut all = Vec::new(alloc);

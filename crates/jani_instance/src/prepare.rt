@@ -11,7 +11,7 @@ use crate::data::{
 use expr_store::{ExprId, ExprStore, Scope};
 use instance_start::Place;
 use jani_table::JaniOp;
-use jani_tree::Je;
+use jani_tree::JaniExpr;
 use name_rules::NameMap;
 use std::alloc::{AllocError, Global};
 
@@ -39,7 +39,7 @@ impl<'s, 'a> Scope for Inside<'s, 'a> {
 
 /// An expression, if there is one.
 fn expression(
-    e: Option<&Je>,
+    e: Option<&JaniExpr>,
     scope: &Inside,
     store: &mut ExprStore<JaniOp>,
 ) -> Result<Option<ExprId>, AllocError>
@@ -53,7 +53,7 @@ fn expression(
 
 fn assignments(
     alloc: Global,
-    these: &[Assignment<&Je>],
+    these: &[Assignment<&JaniExpr>],
     scope: &Inside,
     store: &mut ExprStore<JaniOp>,
 ) -> Result<Vec<Assignment<ExprId>>, AllocError>
@@ -72,7 +72,7 @@ fn assignments(
 
 fn destination(
     alloc: Global,
-    one: &Destination<&Je>,
+    one: &Destination<&JaniExpr>,
     scope: &Inside,
     store: &mut ExprStore<JaniOp>,
 ) -> Result<Destination<ExprId>, AllocError>
@@ -91,7 +91,7 @@ fn destination(
 
 fn destinations(
     alloc: Global,
-    these: &[Destination<&Je>],
+    these: &[Destination<&JaniExpr>],
     scope: &Inside,
     store: &mut ExprStore<JaniOp>,
 ) -> Result<Vec<Destination<ExprId>>, AllocError>
@@ -106,7 +106,7 @@ fn destinations(
 
 fn edge(
     alloc: Global,
-    one: &Edge<&Je>,
+    one: &Edge<&JaniExpr>,
     scope: &Inside,
     store: &mut ExprStore<JaniOp>,
 ) -> Result<Edge<ExprId>, AllocError>
@@ -122,7 +122,7 @@ fn edge(
 
 fn edges(
     alloc: Global,
-    these: &[Edge<&Je>],
+    these: &[Edge<&JaniExpr>],
     scope: &Inside,
     store: &mut ExprStore<JaniOp>,
 ) -> Result<Vec<Edge<ExprId>>, AllocError>
@@ -140,7 +140,7 @@ fn edges(
 /// The edges with each action.
 fn parts(
     alloc: Global,
-    these: &[Vec<Edge<&Je>>],
+    these: &[Vec<Edge<&JaniExpr>>],
     scope: &Inside,
     store: &mut ExprStore<JaniOp>,
 ) -> Result<Vec<Vec<Edge<ExprId>>>, AllocError>
@@ -155,7 +155,7 @@ fn parts(
 
 fn located(
     alloc: Global,
-    one: &Located<&Je>,
+    one: &Located<&JaniExpr>,
     scope: &Inside,
     store: &mut ExprStore<JaniOp>,
 ) -> Result<Located<ExprId>, AllocError>
@@ -168,7 +168,7 @@ fn located(
 
 fn locations(
     alloc: Global,
-    these: &[Located<&Je>],
+    these: &[Located<&JaniExpr>],
     scope: &Inside,
     store: &mut ExprStore<JaniOp>,
 ) -> Result<Vec<Located<ExprId>>, AllocError>
@@ -208,7 +208,7 @@ pub(crate) fn elements<'a>(
 /// What each location gives.
 fn values(
     alloc: Global,
-    these: &[Option<&Je>],
+    these: &[Option<&JaniExpr>],
     scope: &Inside,
     store: &mut ExprStore<JaniOp>,
 ) -> Result<Vec<Option<ExprId>>, AllocError>
@@ -244,7 +244,7 @@ fn scope_at<'s, 'a>(
 
 fn giver<'a>(
     alloc: Global,
-    one: &Giver<&Je>,
+    one: &Giver<&JaniExpr>,
     elements: &[NamedElement<'a>],
     places: &NameMap<'a, Place>,
     store: &mut ExprStore<JaniOp>,
@@ -261,7 +261,7 @@ fn giver<'a>(
 
 fn givers<'a>(
     alloc: Global,
-    these: &[Giver<&Je>],
+    these: &[Giver<&JaniExpr>],
     elements: &[NamedElement<'a>],
     places: &NameMap<'a, Place>,
     store: &mut ExprStore<JaniOp>,
@@ -277,7 +277,7 @@ fn givers<'a>(
 
 fn transient<'a>(
     alloc: Global,
-    one: &Transient<'a, &Je>,
+    one: &Transient<'a, &JaniExpr>,
     elements: &[NamedElement<'a>],
     places: &NameMap<'a, Place>,
     store: &mut ExprStore<JaniOp>,
@@ -295,7 +295,7 @@ fn transient<'a>(
 /// The transient variables.
 pub(crate) fn transients<'a>(
     alloc: Global,
-    these: &[Transient<'a, &Je>],
+    these: &[Transient<'a, &JaniExpr>],
     elements: &[NamedElement<'a>],
     places: &NameMap<'a, Place>,
     store: &mut ExprStore<JaniOp>,

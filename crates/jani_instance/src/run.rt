@@ -10,7 +10,7 @@ use crate::data::Element;
 use expr_store::{Evaluation, ExprId, ExprStore};
 use instance_start::{Column, Place, type_of, value_at};
 use jani_table::JaniOp;
-use jani_tree::Je;
+use jani_tree::JaniExpr;
 use name_rules::NameMap;
 use op_trees::{EvalFail, Names, Ty, Value, eval};
 
@@ -40,7 +40,7 @@ impl<'a> Names for Run<'a> {
 }
 
 /// The value of an expression: `Wide` exactly where something is that it needs, else `Undef` exactly where it is undefined.
-pub(crate) fn value_of(e: &Je, run: &Run) -> Result<Value, EvalFail>
+pub(crate) fn value_of(e: &JaniExpr, run: &Run) -> Result<Value, EvalFail>
     ensures { result ≡ computed (see (tree e.now) (seen_in run.now)) }
 {
     eval(e, run)

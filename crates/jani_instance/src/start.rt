@@ -37,7 +37,7 @@ use expr_store::{ExprId, ExprStore};
 use instance_start::{Column, Constant, Place, columns, misfit};
 use jani_check::CheckedJani;
 use jani_table::JaniOp;
-use jani_tree::{JaniConst, JaniFile, Je};
+use jani_tree::{JaniConst, JaniExpr, JaniFile};
 use name_rules::NameMap;
 use op_trees::Value;
 use process_core::{Given, StartFail};
@@ -376,7 +376,7 @@ fn what_is_built<'a>(
 fn what_is_prepared<'a>(
     alloc: Global,
     these: &[NamedElement<'a>],
-    variables: &[Transient<'a, &Je>],
+    variables: &[Transient<'a, &JaniExpr>],
     places: &NameMap<'a, Place>,
 ) -> Result<Prepared<'a>, AllocError>
     ensures { IfOk result (IsPreparedOf places.now these.now variables.now) }
@@ -397,7 +397,7 @@ fn known_transients<'a>(
     file: &'a JaniFile,
     listed: &Listed<'a>,
     table: &[Option<Value>],
-) -> Result<Vec<Transient<'a, &'a Je>>, AllocError>
+) -> Result<Vec<Transient<'a, &'a JaniExpr>>, AllocError>
     requires { IsListed (file_of file.now) listed.now }
     ensures { (v : Valuation) → Tabled (file_of file.now) v (Some table.now) → IfOk result (λ ts. AreNamed (file_of file.now) v ts.items) }
 {

@@ -5,7 +5,7 @@ ghost use Rattle.std.specs.Option.{option_map};
 ghost use Rattle.op_trees.specs.Tree.{tree};
 ghost use Rattle.process_core.specs.Instance.{numbered};
 ghost use Rattle.jani_tree.specs.Syntax.{location_of, write_of};
-ghost use Rattle.jani_meaning.specs.Elements.{is_called};
+ghost use Rattle.op_trees.specs.Names.{is_called};
 ghost use Rattle.jani_instance.specs.Parts.{automaton_at, owned_at};
 ghost use Rattle.jani_instance.specs.Transients.{given_by_location, giver_by, takes_from, transient_by};
 ghost use Rattle.jani_instance.specs.Shapes.{giver_at, transient_at};
@@ -15,7 +15,7 @@ use crate::columns::start_of;
 use crate::data::{Giver, Transient};
 use crate::parts::{Owned, Part, locations};
 use crate::run::Run;
-use jani_tree::{JaniLocation, JaniWrite, Je};
+use jani_tree::{JaniExpr, JaniLocation, JaniWrite};
 use std::alloc::{AllocError, Global};
 
 /// The labels, then the reward structures.
@@ -25,7 +25,7 @@ pub(crate) fn transients<'a>(
     labels: &[Owned<'a>],
     structures: &[Owned<'a>],
     run: &Run,
-) -> Result<Vec<Transient<'a, &'a Je>>, AllocError>
+) -> Result<Vec<Transient<'a, &'a JaniExpr>>, AllocError>
     ensures { IfOk result (λ ts. map transient_at ts.items
         ≡ map (transient_by (map automaton_at parts.now) (seen_in run.now)) (map owned_at labels.now)
         ++ map (transient_by (map automaton_at parts.now) (seen_in run.now)) (map owned_at structures.now)) }
@@ -38,7 +38,7 @@ pub(crate) fn transients<'a>(
 
 fn add_transients<'a>(
     alloc: Global,
-    all: &mut Vec<Transient<'a, &'a Je>>,
+    all: &mut Vec<Transient<'a, &'a JaniExpr>>,
     parts: &[Part<'a>],
     vars: &[Owned<'a>],
     run: &Run,
@@ -58,7 +58,7 @@ fn transient<'a>(
     o: Owned<'a>,
     parts: &[Part<'a>],
     run: &Run,
-) -> Result<Transient<'a, &'a Je>, AllocError>
+) -> Result<Transient<'a, &'a JaniExpr>, AllocError>
     ensures { IfOk result (λ t. transient_at t ≡ transient_by (map automaton_at parts.now) (seen_in run.now) (owned_at o.entry)) }
 {
     let givers = givers(alloc, parts, o)?;
@@ -74,7 +74,7 @@ fn givers<'a>(
     alloc: Global,
     parts: &[Part<'a>],
     o: Owned<'a>,
-) -> Result<Vec<Giver<&'a Je>>, AllocError>
+) -> Result<Vec<Giver<&'a JaniExpr>>, AllocError>
     ensures { IfOk result (λ gs. map giver_at gs.items ≡ numbered (giver_by (owned_at o.entry).owner (owned_at o.entry).var.name.name) 0 (map automaton_at parts.now)) }
 {
     let mut all = Vec::new(alloc);
@@ -86,7 +86,7 @@ fn givers<'a>(
 
 fn push_giver<'a>(
     alloc: Global,
-    all: &mut Vec<Giver<&'a Je>>,
+    all: &mut Vec<Giver<&'a JaniExpr>>,
     owner: Option<usize>,
     name: &str,
     i: usize,
@@ -116,7 +116,7 @@ fn given_values<'a>(
     alloc: Global,
     locations: &'a [JaniLocation],
     name: &str,
-) -> Result<Vec<Option<&'a Je>>, AllocError>
+) -> Result<Vec<Option<&'a JaniExpr>>, AllocError>
     ensures { IfOk result (λ vs. map (option_map (λ e. tree e.now)) vs.items ≡ map (given_by_location name.now) (map location_of locations.entry.now)) }
 {
     let mut all = Vec::with_capacity(alloc, locations.len())?;
@@ -127,7 +127,7 @@ fn given_values<'a>(
 }
 
 /// The first value that is given to the variable of this name.
-fn given_value<'a>(values: &'a [JaniWrite], name: &str) -> Option<&'a Je>
+fn given_value<'a>(values: &'a [JaniWrite], name: &str) -> Option<&'a JaniExpr>
     ensures { option_map (λ e. tree e.now) result ≡ option_map (λ w. w.value) (find (λ w. is_called name.now w.target) (map write_of values.entry.now)) }
 {
     for value in values {

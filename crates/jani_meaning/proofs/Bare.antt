@@ -13,14 +13,16 @@ use Rattle.op_trees.specs.SeenLaws.{seen-bare}
 use Rattle.op_trees.specs.Tree.{bare}
 use Rattle.op_trees.specs.declared.tree.Value.{Value}
 use Rattle.process_core.specs.Product.{map-map, flat_map_agree}
-use Rattle.process_core.specs.Ready.{Values, Name, Write, Reward, Update, Ready, Vector, if_some}
+use Rattle.basics.specs.Options.{if_some}
+use Rattle.process_core.specs.Ready.{Values, Name, Write, Reward, Update, Ready, Vector}
 use Rattle.jani_table.specs.Operators.{jani_meaning}
 use Rattle.jani_tree.specs.Syntax.{Expression, Const, VarKind, boolean, integer, number, real_bounded, one_sided, bounded, Var, Location, Destination, Edge, Automaton, File}
 use Rattle.jani_tree.specs.Syntax as syntax
-use Rattle.jani_tree.specs.Places.{bare_name, bare_const, bare_kind, bare_var, bare_write, bare_location, bare_destination, bare_edge, bare_automaton, bare_vector, bare_part, bare_file}
+use Rattle.op_trees.specs.Names.{bare_name, is_called}
+use Rattle.jani_tree.specs.Places.{bare_const, bare_kind, bare_var, bare_write, bare_location, bare_destination, bare_edge, bare_automaton, bare_vector, bare_part, bare_file}
 use Rattle.process_core.specs.Instance.{Valuation, Between, numbered, models_alike}
-use Rattle.jani_tree.proofs.Mapped.{found_mapped, kept_mapped, position_mapped}
-use Rattle.jani_meaning.specs.Elements.{is_called, nothing_called, automaton_called, elements, location_number, first_number, initial_number, Owned, owned_by, variables, is_boolean, is_lasting, lasting, is_label, labels, is_structure, structures, is_own, is_global, place_of, column_number, structure_number}
+use Rattle.basics.specs.Mapped.{found_mapped, kept_mapped, position_mapped}
+use Rattle.jani_meaning.specs.Elements.{nothing_called, automaton_called, elements, location_number, first_number, initial_number, Owned, owned_by, variables, is_boolean, is_lasting, lasting, is_label, labels, is_structure, structures, is_own, is_global, place_of, column_number, structure_number}
 use Rattle.jani_meaning.specs.Scene.{see, counted, constant_called, constant_seen, constant_value, constant_within, constant, constant_names, location_column, domain_of, start_of, column, columns_of, scene}
 use Rattle.jani_meaning.specs.Moment.{Moment, value_in, names_in, is_number, is_current, current_location, guard_seen, weight_seen, location_write, column_write, reward_of, write_at, reward_at, update_at, edge_at, element_at, given_in, given_at, may_give, given_to, first_or, transient_at, vector_of, moment}
 use Rattle.jani_meaning.specs.Process.{choices, marks, model}

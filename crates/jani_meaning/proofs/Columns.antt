@@ -7,12 +7,12 @@ use Rattle.std.specs.declared.cmp.Ordering.TheVariants as C
 use Rattle.std.proofs.Common.{refl, sym, ap, ap₂, subst, ◌∙◌, arith, ltb-true, length-append, append_assoc}
 use Rattle.std.proofs.lemmas.Int.{ints}
 use Rattle.std.proofs.lemmas.List.{length-map}
-use Rattle.std.proofs.lemmas.Bool.{and_from}
+use Rattle.std.proofs.lemmas.Bool.{and_from, and_parts}
 use Rattle.process_core.specs.States.{state_set, fits_value, keeps_write_to}
 use Rattle.basics.specs.Booleans.{first_true, second_true, both_not}
 use Rattle.bridge_io.specs.declared.reason.Named.{Named}
-use Rattle.frac_core.specs.Fraction.{Fraction, whole, compare}
-use Rattle.frac_core.specs.Order.{AtMost, AtMost-whole, Below, Below_not-AtMost, compare_ranks}
+use Rattle.frac_core.specs.Fraction.{Fraction, nought, whole, compare, is_whole}
+use Rattle.frac_core.specs.Order.{AtMost, AtMost-whole, Below, Below_not-AtMost, compare_ranks, compare_is}
 use Rattle.op_trees.specs.Seen.{Seen}
 use Rattle.op_trees.specs.declared.tree.Value.{Value}
 use Rattle.op_trees.specs.declared.tree.Value.TheVariants as V
@@ -20,7 +20,8 @@ use Rattle.process_core.specs.Ready.{Values, Name}
 use Rattle.process_core.specs.Distribution.{KeepsStates}
 use Rattle.jani_tree.specs.Syntax.{Automaton, File}
 use Rattle.process_core.specs.Instance.{Domain, Between, Column, is_in, is_state, is_above, is_greater, numbered, column_faults, constant_faults, only_if, domain_at, fits_in, write_to}
-use Rattle.jani_meaning.specs.Elements.{is_called, automaton_called, elements, location_number, first_number, initial_number, lasting}
+use Rattle.op_trees.specs.Names.{is_called}
+use Rattle.jani_meaning.specs.Elements.{automaton_called, elements, location_number, first_number, initial_number, lasting}
 use Rattle.jani_meaning.specs.Scene.{counted, location_column, column, constant_names, columns_of, scene}
 use Rattle.jani_meaning.specs.Moment.{location_write}
 use Rattle.jani_meaning.specs.Laws.{StatesHaveColumns, LocationsHaveNoFault}
@@ -105,6 +106,9 @@ numbered-append f i (x ∷ xs) ys =
     ap (λ l. f i x ++ l) (numbered-append f (i + 1) xs ys ∙ ap (λ n. numbered f (i + 1) xs ++ numbered f n ys) (omega arith))
     ∙ sym (append_assoc (f i x) (numbered f (i + 1) xs) (numbered f (i + suc (length xs)) ys))
 
+pub numbered_at : {X Y : Type 0} (f : ℕ → X → List Y) (i n : ℕ) (xs ys : List X) → i + length xs ≡ n → numbered f i (xs ++ ys) ≡ numbered f i xs ++ numbered f n ys
+numbered_at f i n xs ys e = numbered-append f i xs ys ∙ ap (λ m. numbered f i xs ++ numbered f m ys) e
+
 pub locations_have_no_fault : (file : File) → LocationsHaveNoFault file
 locations_have_no_fault file v =
     let places = map location_column (elements file) in
@@ -113,3 +117,21 @@ locations_have_no_fault file v =
     (numbered-append column_faults 0 places vars
     ∙ ap₂ (λ p n. p ++ numbered column_faults n vars) (all_locations 0 (elements file))
     (let e = length-map (elements file) location_column in let f = length-map file.elements (automaton_called file) in omega arith))
+
+-- ---- the only value of the location of an automaton with one location
+not_greater : (o : Ordering) → not (is_greater o) ≡ true → C.Greater ≡ o → ⊥
+not_greater C.Less h e = absurd cc
+not_greater C.Equal h e = absurd cc
+not_greater C.Greater h e = absurd cc
+
+by_order : (q : Fraction) (o : Ordering) → MatchOrdering o (Below q nought) (q ≡ nought) (Below nought q) → not (is_greater o) ≡ true → not (is_above nought q) ≡ true → q ≡ nought
+by_order q C.Less m h k = absurd (not_greater (compare nought q) k (compare_is nought q C.Greater m))
+by_order q C.Equal m h k = m
+by_order q C.Greater m h k = absurd cc
+
+pub only_nought : (u : Value) → is_in (Between (counted 0) (counted 0)) u ≡ true → u ≡ V.Number nought
+only_nought (V.Truth b) h = absurd cc
+only_nought (V.Number q) h =
+    let p = and_parts (is_whole q) (not (is_above nought q) && not (is_above q nought)) h in
+    let r = and_parts (not (is_above nought q)) (not (is_above q nought)) p.1 in
+    ap V.Number (by_order q (compare q nought) (compare_ranks q nought) r.1 r.0)

@@ -2,16 +2,14 @@
 -- (jani-model specification, version 1: "Models", "Automata", "Composition", "Transient variables", "Types"). That boolean
 -- transient variables are labels, that all other transient ones are reward structures, and the order of each, are rules of
 -- this project.
-use Rattle.std.specs.Prelude.{ℕ, ◌+◌, List, [], ◌∷◌, ◌++◌, map, length, Bool, true, false, not, ◌&&◌, Option, Some, None, is_none, nat_eq, bytes_eq, unwrap_or}
+use Rattle.std.specs.Prelude.{ℕ, ◌+◌, List, [], ◌∷◌, ◌++◌, map, length, Bool, true, false, not, ◌&&◌, Option, Some, None, is_none, nat_eq, unwrap_or}
 use Rattle.std.specs.List.{find, filter, position}
 use Rattle.std.specs.Option.{option_map, option_or}
 use Rattle.bridge_io.specs.declared.reason.Named.{Named}
+use Rattle.op_trees.specs.Names.{is_called}
 use Rattle.process_core.specs.Ready.{Name}
 use Rattle.jani_tree.specs.Syntax.{VarKind, boolean, integer, number, real_bounded, one_sided, bounded, Var, Automaton, File}
 use Rattle.process_core.specs.Instance.{numbered}
-
-abbrev pub is_called : Name → Named → Bool
-is_called x n = bytes_eq n.name x
 
 -- ---- elements
 -- an automaton of this name that has nothing

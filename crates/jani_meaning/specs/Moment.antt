@@ -10,11 +10,13 @@ use Rattle.op_trees.specs.Seen.{Seen, known}
 use Rattle.op_trees.specs.declared.tree.Value.{Value}
 use Rattle.op_trees.specs.declared.tree.Value.TheVariants as V
 use Rattle.process_core.specs.Equal.{equal_values}
-use Rattle.process_core.specs.Ready.{Values, Name, Write, Reward, Update, Ready, Vector, if_some}
+use Rattle.basics.specs.Options.{if_some}
+use Rattle.process_core.specs.Ready.{Values, Name, Write, Reward, Update, Ready, Vector}
 use Rattle.jani_tree.specs.Syntax.{Expression, Location, Destination, Edge, Automaton, File}
 use Rattle.jani_tree.specs.Syntax as syntax
 use Rattle.process_core.specs.Instance.{Valuation, Column, numbered, write_to}
-use Rattle.jani_meaning.specs.Elements.{is_called, elements, location_number, Owned, labels, structures, column_number, structure_number}
+use Rattle.op_trees.specs.Names.{is_called}
+use Rattle.jani_meaning.specs.Elements.{elements, location_number, Owned, labels, structures, column_number, structure_number}
 use Rattle.jani_meaning.specs.Scene.{see, constant, constant_names, counted, start_of, columns_of}
 
 -- a file at a state: the edges of each element at its current location, the vectors, the labels and the rewards

@@ -11,7 +11,8 @@ use Rattle.process_core.specs.Ready.{Name}
 use Rattle.jani_table.specs.Operators.{jani_meaning}
 use Rattle.jani_tree.specs.Syntax.{Expression, Const, VarKind, boolean, integer, number, real_bounded, one_sided, bounded, Var, Automaton, File}
 use Rattle.process_core.specs.Instance.{Valuation, Domain, Truths, Between, Column, Scene}
-use Rattle.jani_meaning.specs.Elements.{is_called, elements, initial_number, lasting}
+use Rattle.op_trees.specs.Names.{is_called}
+use Rattle.jani_meaning.specs.Elements.{elements, initial_number, lasting}
 
 -- ---- what is seen of expressions
 unfoldable pub see : Expression → (Name → Seen) → Seen

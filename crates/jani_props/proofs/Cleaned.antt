@@ -5,7 +5,7 @@ use Rattle.std.specs.Prelude.{bytes_eq, IsSomeAnd}
 use Rattle.std.specs.List.{list_any}
 use Rattle.std.proofs.lemmas.Slice.Eq.{bytes_eq-Decides}
 use Rattle.std.proofs.lemmas.Bool.{or_cases, and_parts}
-use Rattle.basics.specs.Options.{if_some}
+use Rattle.basics.specs.Options.{if_then_some}
 use Rattle.basics.specs.Lists.{append_left, append_right}
 use Rattle.bridge_io.specs.declared.reason.Reason.{Reason}
 use Rattle.bridge_io.specs.declared.reason.Reason.TheVariants.{UnknownMember, MissingMember, PropertyLeftOut, LeftOut, WrongShape}
@@ -14,14 +14,14 @@ use Rattle.jani_table.specs.declared.key.Key.TheVariants as Key
 use Rattle.jani_table.specs.declared.table.Form.TheVariants as Table
 use Rattle.jani_table.specs.declared.table.Kind.TheVariants as Kind
 use Rattle.jani_table.specs.declared.operator.JaniOp.{JaniOp}
-use Rattle.jani_table.specs.Node.{Node, null, truth, number, text, array, object, Fields, no_fields, field, at_of, size, size_fields}
+use Rattle.jani_table.specs.Node.{Node, null, truth, number, text, array, object, Fields, no_fields, field, at_of, size}
 use Rattle.jani_table.specs.Table.{is_required}
 use Rattle.jani_table.specs.Words as table
 use Rattle.jani_table.specs.Operators.{op_of, op_text}
 use Rattle.jani_tree.specs.Jani.{IsText}
 use Rattle.jani_table.specs.Faults.{fault, fault_if, fault_unless, member, member_text}
 use Rattle.jani_table.specs.Faults as table_faults
-use Rattle.jani_table.specs.Laws.{unless_clean}
+use Rattle.jani_table.specs.Laws.{unless_clean, member_smaller, fault_if_some}
 use Rattle.prop_trees.specs.Names.{meant, initial_name, deadlock_name}
 use Rattle.prop_trees.specs.JaniText.{HasOp, IsName}
 use Rattle.jani_props.specs.declared.words.PropOp.{PropOp}
@@ -50,7 +50,7 @@ module _ (given : List ℕ → Bool) where
   member_clean : (kind : PropKind) (k : List ℕ) (g : PropForm) (ms : Fields) (w : Node) → known_form kind k ≡ Some g → members_faults given kind ms ≡ [] → member_text k ms ≡ Some w → faults given g w ≡ []
   member_clean kind k g no_fields w f c m = absurd cc
   member_clean kind k g (field n v rest) w f c m =
-      elim (if_some (bytes_eq k n.name) v (member_text k rest) w m) [
+      elim (if_then_some (bytes_eq k n.name) v (member_text k rest) w m) [
         | inl e ↦
             let same : k ≡ n.name = (bytes_eq-Decides k n.name).0 e.0 in
             let here : by_form (known_form kind n.name) (fault n.at UnknownMember) (λ g. faults given g v) ≡ [] = append_left _ (members_faults given kind rest) c in
@@ -108,15 +108,6 @@ object_in : (kind : PropKind) (at : ℕ) (ms : Fields) (close : ℕ) (c : IsClea
 object_in kind at ms close c =
     unless_clean (is_in c.given kind ms) at PropertyLeftOut (append_right (missing_faults ms close (rows_of kind)) _ (append_right (members_faults c.given kind ms) _ c.clean))
 
--- a part is smaller than the whole
-member_smaller : (k : List ℕ) (ms : Fields) (w : Node) → member_text k ms ≡ Some w → size w < size_fields ms
-member_smaller k no_fields w m = absurd cc
-member_smaller k (field n v rest) w m =
-    elim (if_some (bytes_eq k n.name) v (member_text k rest) w m) [
-      | inl e ↦ subst (λ x. size x < size v + size_fields rest + 1) e.1 (omega arith)
-      | inr e ↦ let h = member_smaller k rest w e.1 in omega arith
-    ]
-
 pub part_smaller : (key : PropKey) (v w : Node) → part key v ≡ Some w → size w < size v
 part_smaller key (object at ms close) w m = let h = member_smaller (spelled_key key) ms w m in omega arith
 part_smaller key (null at) w m = absurd cc
@@ -126,10 +117,6 @@ part_smaller key (text at s) w m = absurd cc
 part_smaller key (array at vs) w m = absurd cc
 
 -- ---- what stands where one kind of value alone may
-
-fault_if_some : (at : ℕ) (o : Option Reason) → is_some o ≡ true → fault_if at o ≡ [] → ⊥
-fault_if_some at None s e = cc
-fault_if_some at (Some r) s e = cc
 
 fault_if_none : (at : ℕ) (o : Option Reason) → fault_if at o ≡ [] → o ≡ None
 fault_if_none at None e = refl
@@ -212,9 +199,6 @@ narrow_another f (array at vs) n c e = no_item (item_form f) at (kind_fault f) (
 narrow : (f : PropForm) → is_some (kind_fault f) ≡ true → is_some (plain_fault f) ≡ true → ((s : List ℕ) → is_some (word_fault f s) ≡ true) → item_form f ≡ None → IsNarrow f
 narrow f a b c d = record { kind = a; plain = b; word = c; item = d }
 
-property_narrow : IsNarrow F.Property
-property_narrow = narrow F.Property refl refl (λ s. refl) refl
-
 filter_narrow : IsNarrow F.Filter
 filter_narrow = narrow F.Filter refl refl (λ s. refl) refl
 
@@ -223,15 +207,6 @@ values_narrow = narrow F.Values refl refl (λ s. refl) refl
 
 path_narrow : IsNarrow F.Path
 path_narrow = narrow F.Path refl refl (λ s. refl) refl
-
-steps_narrow : IsNarrow F.Steps
-steps_narrow = narrow F.Steps refl refl (λ s. refl) refl
-
-pub property_as : (v : Node) → IsClean F.Property v → IsCleanObject O.Property v
-property_as v c = narrow_as F.Property O.Property v property_narrow c refl
-
-pub steps_as : (v : Node) → IsClean F.Steps v → IsCleanObject O.StepBound v
-steps_as v c = narrow_as F.Steps O.StepBound v steps_narrow c refl
 
 pub filter_as : (v : Node) → IsClean F.Filter v → IsCleanObject O.Filter v
 filter_as v c = by_word (op_word_at (Some v)) refl
@@ -244,12 +219,6 @@ filter_as v c = by_word (op_word_at (Some v)) refl
     by_word (Property p) h = other (Property p) h refl
     by_word (Operator o) h = other (Operator o) h refl
     by_word Other h = other Other h refl
-
-pub path_as : (k : PropKind) (v : Node) → IsClean F.Path v → reading F.Path (op_word_at (Some v)) ≡ As k → IsCleanObject k v
-path_as k v c e = narrow_as F.Path k v path_narrow c e
-
-pub values_as : (k : PropKind) (v : Node) → IsClean F.Values v → reading F.Values (op_word_at (Some v)) ≡ As k → IsCleanObject k v
-values_as k v c e = narrow_as F.Values k v values_narrow c e
 
 pub path_operator : (v : Node) (o : JaniOp) → op_word_at (Some v) ≡ Operator o → IsClean F.Path v → ⊥
 path_operator v o h c = narrow_another F.Path v path_narrow c (ap (reading F.Path) h ∙ sym (ap or_another h))
@@ -375,14 +344,6 @@ has_operator (truth at b) o e = absurd cc
 has_operator (number at d) o e = absurd cc
 has_operator (text at s) o e = absurd cc
 has_operator (array at vs) o e = absurd cc
-
-pub operator_of : (v : Node) (o : JaniOp) → op_word_at (Some v) ≡ Operator o → table_faults.op_in (table_faults.part Key.Op v) ≡ Some o
-operator_of (object at ms close) o e = let i = operator_in (member Key.Op ms) o e in ap table_faults.op_in i.2 ∙ i.3
-operator_of (null at) o e = absurd cc
-operator_of (truth at b) o e = absurd cc
-operator_of (number at d) o e = absurd cc
-operator_of (text at s) o e = absurd cc
-operator_of (array at vs) o e = absurd cc
 
 -- ---- labels that every model has
 

@@ -1,21 +1,21 @@
 -- Properties of a judged file, as they are written in it and as properties of its model.
 use Rattle.std.proofs.Common.{◌≡◌, ℕ, ◌<◌, refl, sym, ap, subst, ◌∙◌, List, [], ◌∷◌, ◌++◌, map, length, flat_map, Option, Some, None, Bool, true, false, is_some, not}
 use Rattle.std.specs.Prelude.{bytes_eq, codes, IsSomeAnd, IsTrue, max}
-use Rattle.std.specs.List.{AllByRecursion, IsDistinct}
+use Rattle.std.specs.List.{IsDistinct, AllByRecursion as OfAll}
 use Rattle.std.specs.Option.{option_map}
-use Rattle.basics.specs.Lists.{append_left, append_right}
+use Rattle.basics.specs.Lists.{append_left, append_right, IsNotEmpty as HasItems}
 use Rattle.bridge_io.specs.declared.reason.Named.{Named}
 use Rattle.bridge_io.specs.declared.reason.Reason.{Reason}
 use Rattle.bridge_io.specs.declared.reason.Reason.TheVariants.{TwiceNamed, Unknown}
 use Rattle.bridge_io.specs.declared.reason.Fault.{Fault}
-use Rattle.process_core.specs.Ready.{if_some}
+use Rattle.basics.specs.Options.{if_some}
 use Rattle.name_rules.specs.Least.{fault_if}
 use Rattle.name_rules.specs.Doubled.{clash, doubled_after, doubled}
+use Rattle.name_rules.proofs.Plain.{no_fault}
 use Rattle.jani_table.specs.Node.{Node, null, truth, number, text, array, object, Nodes, no_nodes, more_nodes}
 use Rattle.jani_table.specs.Faults.{items_in, is_array}
 use Rattle.jani_tree.specs.Syntax.{Expression, Var, File}
-use Rattle.jani_tree.specs.Canonical.{OfAll}
-use Rattle.jani_tree.specs.Form.{NormalNode, NormalNodes, HasItems, VarRead}
+use Rattle.jani_tree.specs.Form.{NormalNode, NormalNodes, VarRead}
 use Rattle.jani_tree.specs.Jani.{Each, IsNamed, IsText}
 use Rattle.jani_check.specs.NameFaults as names
 use Rattle.jani_check.specs.NameFaults.{var_names, global_names}
@@ -36,27 +36,23 @@ use Rattle.jani_props.proofs.Forms.{part_then, asked_formed}
 
 -- ---- each structure's name stands once, and is not empty
 
-no_fault : (b : Bool) (at : ℕ) (r : Reason) → fault_if b at r ≡ [] → b ≡ false
-no_fault true at r e = absurd cc
-no_fault false at r e = refl
-
 clash_at : (r : Reason) (n m : Named) (before after : List Named) → flat_map (clash r n) (before ++ m ∷ after) ≡ [] → bytes_eq m.name n.name ≡ false
 clash_at r n m [] after e = no_fault (bytes_eq m.name n.name) (max m.at n.at) r (append_left (clash r n m) (flat_map (clash r n) after) e)
 clash_at r n m (b ∷ before) after e = clash_at r n m before after (append_right (clash r n b) (flat_map (clash r n) (before ++ m ∷ after)) e)
 
 -- what holds of a variable's name holds of the structure's that it is
-among : (P : Name → Type 0) (v : Var) (vs : List Var) (b : Bool) → is_structure v ≡ b → P v.name.name → AllByRecursion P (structures_among vs) → AllByRecursion P (structures_among (v ∷ vs))
-among P v vs true h p r = subst (AllByRecursion P) (sym (among_reward v vs h)) (p, r)
-among P v vs false h p r = subst (AllByRecursion P) (sym (among_other v vs h)) r
+among : (P : Name → Type 0) (v : Var) (vs : List Var) (b : Bool) → is_structure v ≡ b → P v.name.name → OfAll P (structures_among vs) → OfAll P (structures_among (v ∷ vs))
+among P v vs true h p r = subst (OfAll P) (sym (among_reward v vs h)) (p, r)
+among P v vs false h p r = subst (OfAll P) (sym (among_other v vs h)) r
 
-not_later : (r : Reason) (m : Named) (before after : List Named) (vs : List Var) → doubled_after r (before ++ m ∷ after) (var_names vs) ≡ [] → AllByRecursion (λ x. bytes_eq m.name x ≡ false) (structures_among vs)
+not_later : (r : Reason) (m : Named) (before after : List Named) (vs : List Var) → doubled_after r (before ++ m ∷ after) (var_names vs) ≡ [] → OfAll (λ x. bytes_eq m.name x ≡ false) (structures_among vs)
 not_later r m before after [] e = tt
 not_later r m before after (v ∷ vs) e =
     among (λ x. bytes_eq m.name x ≡ false) v vs (is_structure v) refl
     (clash_at r v.name m before after (append_left _ (doubled_after r (v.name ∷ (before ++ m ∷ after)) (var_names vs)) e))
     (not_later r m (v.name ∷ before) after vs (append_right (flat_map (clash r v.name) (before ++ m ∷ after)) _ e))
 
-distinct_by : (v : Var) (vs : List Var) (b : Bool) → is_structure v ≡ b → AllByRecursion (λ x. bytes_eq v.name.name x ≡ false) (structures_among vs) → IsDistinct bytes_eq (structures_among vs) →
+distinct_by : (v : Var) (vs : List Var) (b : Bool) → is_structure v ≡ b → OfAll (λ x. bytes_eq v.name.name x ≡ false) (structures_among vs) → IsDistinct bytes_eq (structures_among vs) →
     IsDistinct bytes_eq (structures_among (v ∷ vs))
 unfolding IsDistinct
 distinct_by v vs true h n d = subst (IsDistinct bytes_eq) (sym (among_reward v vs h)) (n, d)
@@ -73,7 +69,7 @@ behind : (r : Reason) (earlier ns ms : List Named) → doubled_after r earlier (
 behind r earlier [] ms e = (earlier, e)
 behind r earlier (n ∷ ns) ms e = behind r (n ∷ earlier) ns ms (append_right (flat_map (clash r n) earlier) _ e)
 
-all_some : (vs : List Var) → OfAll (VarRead HasItems) vs → AllByRecursion (λ x. x ≡ [] → ⊥) (structures_among vs)
+all_some : (vs : List Var) → OfAll (VarRead HasItems) vs → OfAll (λ x. x ≡ [] → ⊥) (structures_among vs)
 all_some [] h = tt
 all_some (v ∷ vs) h = among (λ x. x ≡ [] → ⊥) v vs (is_structure v) refl (λ e. subst HasItems e h.0.name) (all_some vs h.1)
 
@@ -212,11 +208,11 @@ module _ (file : File) (is_checked : IsChecked file) where
   has_structure least t = tt
   has_structure (bounded c e) t = tt
 
-  each_structure : (ps : List Written) → flat_map unknown ps ≡ [] → AllByRecursion (λ q. HasStructure rewards q.ask) (map (filed file) ps)
+  each_structure : (ps : List Written) → flat_map unknown ps ≡ [] → OfAll (λ q. HasStructure rewards q.ask) (map (filed file) ps)
   each_structure [] e = tt
   each_structure (p ∷ ps) e = (has_structure p.ask (there p ps e), each_structure ps (rest p ps e))
 
-  each_form : (vs : Nodes) (ps : List Written) → NormalNodes vs → flat_map unknown ps ≡ [] → Each IsWritten vs ps → AllByRecursion (JaniForm (length rewards)) (map (filed file) ps)
+  each_form : (vs : Nodes) (ps : List Written) → NormalNodes vs → flat_map unknown ps ≡ [] → Each IsWritten vs ps → OfAll (JaniForm (length rewards)) (map (filed file) ps)
   each_form no_nodes [] n e i = tt
   each_form no_nodes (p ∷ ps) n e i = absurd i
   each_form (more_nodes v vs) [] n e i = absurd i

@@ -2,7 +2,7 @@
 use Rattle.std.proofs.Common.{◌≡◌, ℕ, refl, ap, subst, ◌∙◌, List, ◌++◌, Option, Some, None, inl, inr}
 use Rattle.std.specs.Prelude.{bytes_eq, codes, IsSomeAnd}
 use Rattle.std.specs.List.{AllByRecursion as Each}
-use Rattle.basics.specs.Options.{if_some}
+use Rattle.basics.specs.Options.{if_then_some}
 use Rattle.op_trees.specs.Tree.{Truth, Number, Name as At, One, Two, Three}
 use Rattle.jani_table.specs.declared.table.Kind.{Kind}
 use Rattle.jani_table.specs.declared.table.Kind.TheVariants as O
@@ -43,7 +43,7 @@ takes o k e = taken_is o ∙ ap taken e
 member_normal : (k : List ℕ) (ms : Fields) (w : Node) → NormalFields ms → member_text k ms ≡ Some w → NormalNode w
 member_normal k no_fields w n m = absurd cc
 member_normal k (field x v rest) w n m =
-    elim (if_some (bytes_eq k x.name) v (member_text k rest) w m) [
+    elim (if_then_some (bytes_eq k x.name) v (member_text k rest) w m) [
       | inl e ↦ subst NormalNode e.1 n.0
       | inr e ↦ member_normal k rest w n.1 e.1
     ]

@@ -4,7 +4,6 @@ use Rattle.std.specs.Prelude.{bytes_eq}
 use Rattle.std.specs.Option.{option_map}
 use Rattle.std.proofs.lemmas.Slice.Eq.{bytes_eq-Decides}
 use Rattle.std.proofs.lemmas.List.Quantifiers.{position-Some}
-use Rattle.std.proofs.lemmas.List.{at_drop_all}
 use Rattle.basics.specs.Lists.{drop_item}
 use Rattle.basics.specs.Members.{position_cons}
 use Rattle.jani_tree.specs.declared.syntax.JaniVar.{JaniVar}
@@ -91,13 +90,6 @@ module _ (vars : List JaniVar) (i : ℕ) (v : JaniVar) (old new whole : Name →
         ∙ (counted_other vars i v old count x inside is r ∙ so_far.0 x),
     let low = so_far.1 in omega arith,
   )
-
-first_alone : (o : Option ℕ) → first_some o None ≡ o
-first_alone None = refl
-first_alone (Some n) = refl
-
-pub counted_all : (vars : List JaniVar) (i : ℕ) (old : Name → Option ℕ) (count : ℕ) (x : Name) (whole : Option ℕ) → length vars ≤ i → counted old count (map var_of (drop i vars)) x ≡ whole → old x ≡ whole
-counted_all vars i old count x whole h e = sym (first_alone (old x)) ∙ (sym (at_drop_all (λ vs. counted old count (map var_of vs) x) vars i h) ∙ e)
 
 -- ---- a structure's name and its number
 

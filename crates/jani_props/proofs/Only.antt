@@ -1,13 +1,13 @@
 -- A value spells one list of written properties, the places of their names included; and a file whose properties are read has no first
 -- fault.
-use Rattle.std.proofs.Common.{◌≡◌, ℕ, refl, sym, ap, ap₂, subst, ◌∙◌, List, [], ◌∷◌, Some, None, if◌then◌else◌}
+use Rattle.std.proofs.Common.{◌≡◌, ℕ, refl, sym, ap, ap₂, ◌∙◌, List, [], ◌∷◌, Some, None, if◌then◌else◌}
 use Rattle.std.specs.Prelude.{bytes_eq, codes}
 use Rattle.bridge_io.specs.declared.reason.Named.{Named}
-use Rattle.bridge_io.specs.declared.reason.Fault.{Fault}
 use Rattle.jani_table.specs.declared.operator.JaniOp.TheVariants as J
 use Rattle.jani_table.specs.Node.{Node, text, Nodes, no_nodes, more_nodes, at_of}
 use Rattle.jani_table.specs.Operators.{op_text}
-use Rattle.jani_table.specs.Least.{IsIn, IsLeast}
+use Rattle.name_rules.specs.Least.{IsAmong}
+use Rattle.name_rules.proofs.Plain.{no_least}
 use Rattle.jani_table.specs.Faults.{items_in}
 use Rattle.jani_tree.specs.Syntax.{Expression}
 use Rattle.jani_tree.specs.Jani.{Each, IsText, IsNamed}
@@ -155,12 +155,9 @@ one_written v ps qs i j = same_each (items_in v) ps qs i.items j.items
 
 -- ---- no first fault
 
-none_least : (fs : List Fault) (f : Fault) → fs ≡ [] → IsLeast fs f → ⊥
-none_least fs f e l = subst (IsIn f) e l.among
-
 pub no_first_fault : ReadHaveNoFault
-no_first_fault file ps f r (of_shape l) = none_least _ f r.shape l
+no_first_fault file ps f r (of_shape l) = no_least _ f r.shape l
 no_first_fault file ps f r (of_names qs s w l) =
-    none_least (name_faults file qs) f (ap (name_faults file) (one_written file.properties qs r.are.sound.written w r.written) ∙ r.are.sound.names) l
+    no_least (name_faults file qs) f (ap (name_faults file) (one_written file.properties qs r.are.sound.written w r.written) ∙ r.are.sound.names) l
 no_first_fault file ps f r (of_types qs s w n l) =
-    none_least (type_faults file qs) f (ap (type_faults file) (one_written file.properties qs r.are.sound.written w r.written) ∙ r.are.sound.types) l
+    no_least (type_faults file qs) f (ap (type_faults file) (one_written file.properties qs r.are.sound.written w r.written) ∙ r.are.sound.types) l

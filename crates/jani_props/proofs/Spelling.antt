@@ -1,20 +1,13 @@
 -- Words and what they are.
-use Rattle.std.proofs.Common.{◌≡◌, ℕ, refl, sym, ap, ◌∙◌, List, [], ◌∷◌, Option, Some, None, Bool, true, false, cond, find}
+use Rattle.std.proofs.Common.{◌≡◌, ℕ, refl, ap, List, [], Option, Some, None}
 use Rattle.std.specs.Prelude.{bytes_eq}
 use Rattle.std.proofs.lemmas.Slice.Eq.{bytes_eq-Decides}
+use Rattle.basics.specs.Members.{found_passes}
 use Rattle.jani_table.specs.declared.operator.JaniOp.{JaniOp}
 use Rattle.jani_table.specs.Operators.{op_of, op_text, ops}
 use Rattle.jani_props.specs.declared.words.PropOp.{PropOp}
 use Rattle.jani_props.specs.declared.words.OpWord.TheVariants.{Property, Operator, Other}
 use Rattle.jani_props.specs.Words.{prop_op_of, prop_ops, prop_text, or_operator}
-
-pub found_passes : {A : Type 0} (p : A → Bool) (xs : List A) (x : A) → find p xs ≡ Some x → p x ≡ true
-found_passes p [] x e = absurd cc
-found_passes p (y ∷ ys) x e = by_test (p y) refl e (found_passes p ys x)
-  where
-    by_test : (b : Bool) → p y ≡ b → cond b (Some y) (find p ys) ≡ Some x → (find p ys ≡ Some x → p x ≡ true) → p x ≡ true
-    by_test true t f h = let same : y ≡ x = cc f in ap p (sym same) ∙ t
-    by_test false t f h = h f
 
 pub prop_spelled : (s : List ℕ) (p : PropOp) → prop_op_of s ≡ Some p → prop_text p ≡ s
 unfolding prop_op_of

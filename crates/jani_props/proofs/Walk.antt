@@ -4,21 +4,20 @@ use Rattle.std.proofs.lemmas.List.{drop_more}
 use Rattle.basics.specs.Lists.{drop_item}
 use Rattle.bridge_io.specs.declared.reason.Fault.{Fault}
 use Rattle.bridge_io.specs.declared.reason.Named.{Named}
-use Rattle.bridge_io.specs.declared.reason.Reason.TheVariants.{UnknownMember, PropertyLeftOut}
+use Rattle.bridge_io.specs.declared.reason.Reason.TheVariants.{UnknownMember}
 use Rattle.decimal_json.specs.declared.tree.Json.{Json}
-use Rattle.decimal_json.specs.declared.tree.Json.TheVariants.{Array, Object}
+use Rattle.decimal_json.specs.declared.tree.Json.TheVariants.{Object}
 use Rattle.decimal_json.specs.declared.tree.Member.{Member}
 use Rattle.jani_table.specs.Node.{Node, Fields, node, nodes, fields}
-use Rattle.jani_table.specs.NodeLaws.{node_array, node_object, node_named, drop_all}
-use Rattle.jani_table.specs.Least.{soonest, sooner}
-use Rattle.jani_table.specs.Faults.{fault, fault_if}
-use Rattle.jani_table.proofs.Soonest.{soonest_append}
+use Rattle.jani_table.specs.NodeLaws.{node_object, node_named, drop_all}
+use Rattle.name_rules.specs.Least.{soonest, sooner}
+use Rattle.jani_table.specs.Faults.{fault}
+use Rattle.name_rules.proofs.Soonest.{soonest_append}
 use Rattle.jani_props.specs.declared.table.PropForm.{PropForm}
 use Rattle.jani_props.specs.declared.table.PropKind.{PropKind}
 use Rattle.jani_props.specs.declared.shape.Reading.{Reading}
-use Rattle.jani_props.specs.declared.shape.Reading.TheVariants.{As, Another, Told, Wrong}
-use Rattle.jani_props.specs.Table.{Row, item_form, known_form}
-use Rattle.jani_props.specs.Words.{kind_fault}
+use Rattle.jani_props.specs.declared.shape.Reading.TheVariants.{As}
+use Rattle.jani_props.specs.Table.{Row, known_form}
 use Rattle.jani_props.specs.Shape.{faults, items_faults, members_faults, own_faults, reading, op_word, by_form, by_reading, row_faults, missing_faults}
 
 -- rows, which may each be seen as a row of properties
@@ -44,14 +43,6 @@ module _ (given : List ℕ → Bool) where
       ap (λ b. soonest b (items_faults given g (nodes (drop (i + 1) vs)))) n
       ∙ (sym (soonest_append best (faults given g (node x)) (items_faults given g (nodes (drop (i + 1) vs))))
       ∙ (sym (ap (λ ys. soonest best (items_faults given g (nodes ys))) (drop_item vs i x h e)) ∙ inv))
-
-  pub items_done : (form item : PropForm) (v : Json) (at : ℕ) (vs : List Json) (i : ℕ) (best first : Option Fault) → item_form form ≡ Some item → v ≡ Array at vs → length vs ≤ i →
-      soonest best (items_faults given item (nodes (drop i vs))) ≡ soonest first (items_faults given item (nodes vs)) → best ≡ soonest first (faults given form (node v))
-  items_done form item v at vs i best first f e h inv =
-      sym (ap (λ ys. soonest best (items_faults given item (nodes ys))) (drop_all vs i h))
-      ∙ (inv
-      ∙ sym (ap (λ w. soonest first (faults given form (node w))) e ∙ (ap (λ w. soonest first (faults given form w)) (node_array at vs)
-      ∙ ap (λ o. soonest first (by_form o (fault_if at (kind_fault form)) (λ g. items_faults given g (nodes vs)))) f)))
 
   abbrev pub member_part : PropKind → Named × Node → List Fault
   member_part kind p = by_form (known_form kind p.0.name) (fault p.0.at UnknownMember) (λ g. faults given g p.1)
@@ -89,14 +80,3 @@ module _ (given : List ℕ → Bool) where
       let b : best ≡ soonest first (members_faults given kind (fields ms)) = sym (ap (λ ys. soonest best (members_faults given kind (fields ys))) (drop_all ms i h)) ∙ inv in
       l ∙ (ap (λ b. soonest b own) b
       ∙ (sym (soonest_append first (members_faults given kind (fields ms)) own) ∙ object_by form (As kind) v at close ms first k e))
-
-  pub another_done : (form : PropForm) (v : Json) (at close : ℕ) (ms : List Member) (first last : Option Fault) → reading form (op_word (fields ms)) ≡ Another → v ≡ Object at ms close →
-      last ≡ sooner first (record { reason = PropertyLeftOut; at = at }) → last ≡ soonest first (faults given form (node v))
-  another_done form v at close ms first last k e l = l ∙ object_by form Another v at close ms first k e
-
-  pub told_done : (form : PropForm) (v : Json) (at close : ℕ) (ms : List Member) (first : Option Fault) → reading form (op_word (fields ms)) ≡ Told → v ≡ Object at ms close → first ≡ soonest first (faults given form (node v))
-  told_done form v at close ms first k e = object_by form Told v at close ms first k e
-
-  pub wrong_done : (form : PropForm) (v : Json) (at close : ℕ) (ms : List Member) (first last : Option Fault) → reading form (op_word (fields ms)) ≡ Wrong → v ≡ Object at ms close →
-      last ≡ soonest first (fault_if at (kind_fault form)) → last ≡ soonest first (faults given form (node v))
-  wrong_done form v at close ms first last k e l = l ∙ object_by form Wrong v at close ms first k e

@@ -10,19 +10,18 @@ use Rattle.op_trees.specs.declared.tree.Ty.{Ty}
 use Rattle.op_trees.specs.declared.tree.Ty.TheVariants as T
 use Rattle.op_trees.specs.Types.{Types}
 use Rattle.op_trees.specs.Names.{names_of, offset_of, some_name}
-use Rattle.process_core.specs.Ready.{if_some}
+use Rattle.basics.specs.Options.{if_some}
 use Rattle.name_rules.specs.Least.{fault_if}
 use Rattle.name_rules.specs.Names.{is_among}
 use Rattle.name_rules.specs.Unknown.{unless_known}
 use Rattle.name_rules.specs.Doubled.{doubled}
 use Rattle.jani_tree.specs.Syntax.{Expression, Var, Location, File}
-use Rattle.jani_check.specs.declared.demands.Wanted.{Wanted}
-use Rattle.jani_check.specs.declared.demands.Wanted.TheVariants as W
 use Rattle.jani_check.specs.declared.things.Thing.{Thing}
 use Rattle.jani_check.specs.Things.{global_thing, thing_type, is_constant, is_lasting, is_label, is_reward, var_thing}
 use Rattle.jani_check.specs.TypeFaults.{type_faults_of}
 use Rattle.prop_trees.specs.Trees.{Name, Role, state, steps, probability, parts, structure_of, ask_with, JaniProperty}
 use Rattle.prop_trees.specs.Names.{Meant, of_model, is_initial, is_deadlock, meant}
+use Rattle.prop_trees.specs.PrismFaults.{wanted_of}
 use Rattle.jani_props.specs.declared.model.Meaning.{Meaning}
 use Rattle.jani_props.specs.declared.model.Meaning.TheVariants.{OfModel, BuiltIn, Nothing}
 use Rattle.jani_props.specs.declared.table.PropForm.TheVariants as F
@@ -81,12 +80,6 @@ type_of Nothing = None
 abbrev pub may_vary : Meaning → Bool
 may_vary (OfModel t) = not (is_constant t)
 may_vary m = true
-
--- a state formula is a bool, a bound of steps an int, a bound of probability a number
-abbrev pub wanted_of : Role → Wanted
-wanted_of state = W.Bool
-wanted_of steps = W.Int
-wanted_of probability = W.Number
 
 module _ (things : Name → Option Thing) where
   abbrev pub meaning : Name → Meaning

@@ -5,7 +5,7 @@ use Rattle.std.specs.List.{AllByRecursion as Each}
 use Rattle.bridge_io.specs.declared.reason.Fault.{Fault}
 use Rattle.bridge_io.specs.declared.reason.Refused.{Refused}
 use Rattle.bridge_io.specs.declared.reason.Refused.TheVariants.{Memory, At}
-use Rattle.jani_table.specs.Least.{IsLeast}
+use Rattle.name_rules.specs.Least.{IsLeast}
 use Rattle.jani_tree.specs.Syntax.{File}
 use Rattle.prop_trees.specs.Trees.{JaniProperty}
 use Rattle.prop_trees.specs.Form.{JaniForm}

@@ -19,7 +19,7 @@ use crate::words::{OpWord, label_name};
 use bridge_io::Text;
 use decimal_json::Json;
 use jani_table::{JaniOp, Key, Kind, Operands, operand_count};
-use jani_tree::Je;
+use jani_tree::JaniExpr;
 use op_trees::Expr;
 use std::alloc::{AllocError, Global};
 
@@ -34,7 +34,7 @@ fn marked(alloc: Global, name: &str) -> Result<Text, AllocError>
 
 /// The operand that is the member with this key.
 #[cycle(expression)]
-fn operand(alloc: Global, kind: Kind, key: Key, value: &Json) -> Result<Box<Je>, AllocError>
+fn operand(alloc: Global, kind: Kind, key: Key, value: &Json) -> Result<Box<JaniExpr>, AllocError>
     requires known { IsTrue (is_known (O.Operation kind) (K.Of key)) }
     requires needed { IsTrue (is_needed (O.Operation kind) (K.Of key)) }
     requires form { part_form (O.Operation kind) (K.Of key) ≡ F.Expression }
@@ -48,7 +48,7 @@ fn operand(alloc: Global, kind: Kind, key: Key, value: &Json) -> Result<Box<Je>,
 
 /// The tree of an operator's object.
 #[cycle(expression)]
-fn operation(alloc: Global, at: usize, op: JaniOp, value: &Json) -> Result<Je, AllocError>
+fn operation(alloc: Global, at: usize, op: JaniOp, value: &Json) -> Result<JaniExpr, AllocError>
     requires offset { at_of (node value.now) ≡ at }
     requires op { op_word_at (Some (node value.now)) ≡ Operator op }
     requires clean { IsCleanObject (O.Operation (op_kind op)) (node value.now) }
@@ -75,7 +75,7 @@ fn operation(alloc: Global, at: usize, op: JaniOp, value: &Json) -> Result<Je, A
 
 /// The tree of an expression.
 #[cycle(expression)]
-pub(crate) fn expression(alloc: Global, value: &Json) -> Result<Je, AllocError>
+pub(crate) fn expression(alloc: Global, value: &Json) -> Result<JaniExpr, AllocError>
     requires { IsClean F.Expression (node value.now) }
     ensures { IfOk result (λ e. IsExpression (node value.now) (tree e)) }
 {

@@ -1,7 +1,7 @@
 // The faults of the names of properties.
 ghost use Rattle.std.specs.Prelude.{◌≡◌, map, IfOk, None};
 ghost use Rattle.std.specs.List.{flat_map};
-ghost use Rattle.process_core.specs.Ready.{if_some};
+ghost use Rattle.basics.specs.Options.{if_some};
 ghost use Rattle.name_rules.specs.Least.{soonest};
 ghost use Rattle.name_rules.specs.Names.{named_by};
 ghost use Rattle.prop_trees.specs.Trees.{structure_of};
@@ -13,7 +13,7 @@ use crate::model::ModelNames;
 use crate::roles::{PartRule, Role, judge_parts};
 use crate::written::{Written, WrittenAsk};
 use bridge_io::{Fault, Named, Reason};
-use jani_tree::Je;
+use jani_tree::JaniExpr;
 use name_rules::{Entry, Judged, Rule, judge_doubled, judge_each, judge_expression, sooner};
 use std::alloc::{AllocError, Global};
 
@@ -67,7 +67,7 @@ impl<'n, 'a> PartRule for UnknownNames<'n, 'a> {
 
     ghost part_faults = { λ r. unknown_in (things_of r.names.now) };
 
-    fn judge_part(&self, _role: Role, e: &Je, best: Option<Fault>) -> Option<Fault> {
+    fn judge_part(&self, _role: Role, e: &JaniExpr, best: Option<Fault>) -> Option<Fault> {
         judge_expression(self.names, e, best)
     }
 }

@@ -27,7 +27,7 @@ use crate::written::{Written, WrittenAsk};
 use bridge_io::Named;
 use decimal_json::Json;
 use jani_table::Key;
-use jani_tree::Je;
+use jani_tree::JaniExpr;
 use prop_trees::{Compare, JaniPath};
 use std::alloc::{AllocError, Global};
 
@@ -42,7 +42,7 @@ fn op_of(value: &Json) -> OpWord
 }
 
 // The bound of steps of a set of paths, if it has one.
-fn step_bound(alloc: Global, kind: PropKind, value: &Json) -> Result<Option<Je>, AllocError>
+fn step_bound(alloc: Global, kind: PropKind, value: &Json) -> Result<Option<JaniExpr>, AllocError>
     requires known { IsTrue (is_known kind K.StepBounds) }
     requires form { part_form kind K.StepBounds ≡ F.Steps }
     requires clean { IsCleanObject kind (node value.now) }
@@ -89,8 +89,8 @@ fn globally(alloc: Global, value: &Json) -> Result<JaniPath, AllocError>
 // The two sides of a set of paths.
 #[derive(Drop)]
 struct Sides {
-    left: Je,
-    right: Je,
+    left: JaniExpr,
+    right: JaniExpr,
 }
 
 fn sides_of(alloc: Global, value: &Json) -> Result<Sides, AllocError>
@@ -184,7 +184,7 @@ pub(crate) struct Asked {
 #[derive(Drop)]
 struct Earned {
     structure: Named,
-    reach: Je,
+    reach: JaniExpr,
 }
 
 fn earned_of(alloc: Global, value: &Json) -> Result<Earned, AllocError>

@@ -1,8 +1,7 @@
 // The properties of a file, or the least fault of the first phase that has any.
 ghost use Rattle.std.specs.Prelude.{◌≡◌, [], map, IfErr, IfOk, None};
-ghost use Rattle.jani_table.specs.Least.{soonest};
-ghost use Rattle.name_rules.specs.Least as rules;
-ghost use Rattle.jani_check.specs.Faults.{IsChecked, or_else};
+ghost use Rattle.name_rules.specs.Least.{soonest, or_else};
+ghost use Rattle.jani_check.specs.Faults.{IsChecked};
 ghost use Rattle.jani_check.specs.Things.{global_thing};
 ghost use Rattle.jani_tree.specs.Syntax.{file_of};
 ghost use Rattle.prop_trees.specs.Syntax.{jani_ask_of, jani_property_of};
@@ -38,7 +37,7 @@ fn shape_fault(alloc: Global, file: &JaniFile) -> Judged
 #[tactic(auto, using(jani_check::proofs::Phases::none_first, crate::proofs::Refusing::some_first))]
 fn meaning_fault(alloc: Global, names: &ModelNames, written: &[Written]) -> Judged
     ensures { IfOk result
-        (λ best. best ≡ rules.soonest None (or_else (names_wrong (things_of names.now) (numbers_of names.now) (map written_of written.now)) (types_wrong (things_of names.now) (map written_of written.now)))) }
+        (λ best. best ≡ soonest None (or_else (names_wrong (things_of names.now) (numbers_of names.now) (map written_of written.now)) (types_wrong (things_of names.now) (map written_of written.now)))) }
 {
     let wrong = judge_names(alloc, names, written)?;
     match wrong {

@@ -11,7 +11,7 @@ ghost use Rattle.jani_props.specs.Syntax.{ask_of, role_of, written_of};
 
 use crate::written::{Written, WrittenAsk};
 use bridge_io::Fault;
-use jani_tree::Je;
+use jani_tree::JaniExpr;
 use prop_trees::JaniPath;
 
 /// What an expression stands for in a property.
@@ -30,7 +30,7 @@ pub(crate) trait PartRule {
     ghost part_faults: { Self → SpecRole × Expression → List OneFault };
 
     /// The least of a fault that was found before and those of an expression.
-    fn judge_part(&self, role: Role, e: &Je, best: Option<Fault>) -> Option<Fault>
+    fn judge_part(&self, role: Role, e: &JaniExpr, best: Option<Fault>) -> Option<Fault>
         ensures { result ≡ soonest best (part_faults self.now (role_of role, tree e.now)) };
 }
 
@@ -48,7 +48,12 @@ fn judge_ask<R: PartRule>(rule: &R, ask: &WrittenAsk, best: Option<Fault>) -> Op
 }
 
 #[tactic(auto, using(crate::proofs::Judging::two_parts))]
-fn judge_both<R: PartRule>(rule: &R, a: &Je, b: &Je, best: Option<Fault>) -> Option<Fault>
+fn judge_both<R: PartRule>(
+    rule: &R,
+    a: &JaniExpr,
+    b: &JaniExpr,
+    best: Option<Fault>,
+) -> Option<Fault>
     ensures { result
         ≡ soonest best (flat_map (R.part_faults rule.now) ((state, tree a.now) ∷ (state, tree b.now) ∷ [])) }
 {

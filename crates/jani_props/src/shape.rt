@@ -3,7 +3,7 @@ ghost use Rattle.std.specs.Prelude.{◌≡◌, ◌||◌, not, map, Some};
 ghost use Rattle.std.specs.Option.{option_copied, option_map};
 ghost use Rattle.jani_table.specs.Node.{fields, node, nodes};
 ghost use Rattle.jani_table.specs.Table.{rows_of as table_rows_of};
-ghost use Rattle.jani_table.specs.Least.{soonest};
+ghost use Rattle.name_rules.specs.Least.{soonest};
 ghost use Rattle.jani_table.specs.Faults.{is_word};
 ghost use Rattle.name_rules.specs.Names.{has_name};
 ghost use Rattle.jani_props.specs.Words.{goes_with, is_extreme, is_for_all};
@@ -17,8 +17,8 @@ use crate::table::{
 use crate::words::{Fun, OpWord, PropOp, Side, bound_side, kind_fault, plain_fault, word_fault};
 use bridge_io::{Fault, Reason};
 use decimal_json::{Json, Member};
-use jani_table::{Key, Kind, Need, Row, member, op_kind, rows, sooner, sooner_if};
-use name_rules::NameSet;
+use jani_table::{Key, Kind, Need, Row, member, op_kind, rows, sooner_if};
+use name_rules::{NameSet, sooner};
 
 /// The value of a member; none where there is no member with this key.
 pub(crate) fn prop_member(key: PropKey, members: &[Member]) -> Option<&Json>
@@ -414,7 +414,7 @@ fn is_in(given: &NameSet, kind: PropKind, members: &[Member]) -> bool
     }
 }
 
-#[tactic(auto, using(jani_table::proofs::Soonest::soonest_append))]
+#[tactic(auto, using(name_rules::proofs::Soonest::soonest_append))]
 fn judge_own(
     given: &NameSet,
     kind: PropKind,

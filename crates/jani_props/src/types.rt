@@ -4,7 +4,8 @@ ghost use Rattle.bridge_io.specs.declared.reason.Reason.TheVariants.{NotConstant
 ghost use Rattle.op_trees.specs.Tree.{tree};
 ghost use Rattle.op_trees.specs.Names.{offset_of, some_name};
 ghost use Rattle.name_rules.specs.Least.{fault_if, soonest};
-ghost use Rattle.jani_props.specs.Faults.{types_wrong, varies, wanted_of};
+ghost use Rattle.prop_trees.specs.PrismFaults.{wanted_of};
+ghost use Rattle.jani_props.specs.Faults.{types_wrong, varies};
 ghost use Rattle.jani_props.specs.Model.{things_of};
 ghost use Rattle.jani_props.specs.Syntax.{role_of, written_of};
 
@@ -12,10 +13,10 @@ use crate::model::ModelNames;
 use crate::roles::{PartRule, Role, judge_parts};
 use crate::written::Written;
 use bridge_io::{Fault, Reason};
-use jani_check::{Wanted, judge_type, offset};
-use jani_tree::Je;
+use jani_check::{judge_type, offset};
+use jani_tree::JaniExpr;
 use name_rules::{Judged, Rule, judge_each, sooner_if};
-use op_trees::Expr;
+use op_trees::{Expr, Wanted};
 use std::alloc::Global;
 
 // What an expression has to be.
@@ -30,7 +31,7 @@ fn wanted_of(role: Role) -> Wanted
 }
 
 // Whether some name in an expression is something that varies.
-fn names_variable(names: &ModelNames, e: &Je) -> bool
+fn names_variable(names: &ModelNames, e: &JaniExpr) -> bool
     ensures { result ≡ some_name (varies (things_of names.now)) (tree e.now) }
 {
     match e {
@@ -51,7 +52,7 @@ pub(crate) struct WrongTypes<'n, 'a> {
     pub(crate) names: &'n ModelNames<'a>,
 }
 
-fn judge_bound(names: &ModelNames, e: &Je, best: Option<Fault>) -> Option<Fault>
+fn judge_bound(names: &ModelNames, e: &JaniExpr, best: Option<Fault>) -> Option<Fault>
     ensures { result
         ≡ soonest best (fault_if (some_name (varies (things_of names.now)) (tree e.now)) (offset_of (tree e.now)) NotConstant) }
 {
@@ -70,7 +71,7 @@ impl<'n, 'a> PartRule for WrongTypes<'n, 'a> {
     ghost part_faults = { λ r. wrong_in (things_of r.names.now) };
 
     #[tactic(auto, using(name_rules::proofs::Append::soonest_then))]
-    fn judge_part(&self, role: Role, e: &Je, best: Option<Fault>) -> Option<Fault> {
+    fn judge_part(&self, role: Role, e: &JaniExpr, best: Option<Fault>) -> Option<Fault> {
         let typed = judge_type(self.names, wanted_of(role), e, best);
         match role {
             Role::State => typed,

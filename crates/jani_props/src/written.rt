@@ -1,7 +1,7 @@
 // A property as it is written in a JANI file (jani-model specification, version 1, "Properties").
 
 use bridge_io::Named;
-use jani_tree::Je;
+use jani_tree::JaniExpr;
 use prop_trees::{Compare, JaniPath};
 
 /// What is asked; a reward structure is the name of a transient variable.
@@ -12,7 +12,7 @@ pub enum WrittenAsk {
     /// The least probability.
     PMin,
     /// Whether the probability is within a bound.
-    PBound(Compare, Je),
+    PBound(Compare, JaniExpr),
     /// The greatest reward until the paths reach their end.
     RMax(Named),
     /// The least reward until the paths reach their end.

@@ -1,3 +1,2 @@
-pub mod Soonest
 pub mod Values
 pub mod Walk

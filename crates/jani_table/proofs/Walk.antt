@@ -14,9 +14,9 @@ use Rattle.jani_table.specs.Node.{Node, Fields, node, nodes, fields}
 use Rattle.jani_table.specs.NodeLaws.{node_array, node_object, node_named, drop_all}
 use Rattle.jani_table.specs.Table.{Row, item_form, known_form}
 use Rattle.jani_table.specs.Words.{kind_fault}
-use Rattle.jani_table.specs.Least.{soonest, sooner}
+use Rattle.name_rules.specs.Least.{soonest, sooner}
 use Rattle.jani_table.specs.Faults.{faults, items_faults, members_faults, list_faults, own_faults, object_kind, by_form, by_kind, fault, fault_if, row_faults, missing_faults}
-use Rattle.jani_table.proofs.Soonest.{soonest_append}
+use Rattle.name_rules.proofs.Soonest.{soonest_append}
 
 pub items_next : (g : Form) (vs : List Json) (i : ℕ) (x : Json) (best new all : Option Fault) → i < length vs → x ≡ get_or vs i x → new ≡ soonest best (faults g (node x)) →
     soonest best (items_faults g (nodes (drop i vs))) ≡ all → soonest new (items_faults g (nodes (drop (i + 1) vs))) ≡ all

@@ -5,7 +5,7 @@ use Rattle.std.specs.Prelude.{bytes_eq}
 use Rattle.std.specs.List.{list_any}
 use Rattle.std.proofs.lemmas.Slice.Eq.{bytes_eq-Decides}
 use Rattle.std.proofs.lemmas.Bool.{or_cases, and_parts}
-use Rattle.basics.specs.Options.{if_some}
+use Rattle.basics.specs.Options.{if_then_some}
 use Rattle.basics.specs.Lists.{append_right, append_left}
 use Rattle.bridge_io.specs.declared.reason.Reason.{Reason}
 use Rattle.bridge_io.specs.declared.reason.Reason.TheVariants.{UnknownMember, MissingMember, LeftOut, WrongShape}
@@ -22,7 +22,7 @@ use Rattle.jani_table.specs.Node.{Node, null, truth, number, text, array, object
 use Rattle.jani_table.specs.Table.{Row, spelled, known_form, rows_of, is_required, item_form}
 use Rattle.jani_table.specs.Words.{kind_fault, null_fault, truth_fault, number_fault, word_fault, refused_of}
 use Rattle.jani_table.specs.Operators.{op_of}
-use Rattle.jani_table.specs.Faults.{fault, fault_if, fault_unless, faults, items_faults, members_faults, own_faults, other_faults, missing_faults, row_faults, list_faults, object_faults, list_items_faults, member, member_text, has, items_in, part, is_needed, is_known, part_form, or_left_out, by_form, by_kind, object_kind, op_in, op_kind, or_unclear, is_text, is_array}
+use Rattle.jani_table.specs.Faults.{fault, fault_if, fault_unless, faults, items_faults, members_faults, own_faults, other_faults, missing_faults, row_faults, list_faults, object_faults, list_items_faults, member, member_text, has, items_in, part, is_needed, is_known, part_form, or_left_out, by_form, by_kind, object_kind, op_in, op_kind, or_unclear, is_text}
 use Rattle.jani_table.specs.Parts.{is_plain, kind_of, is_list_form, item_of, is_text_form}
 
 -- ---- members
@@ -31,7 +31,7 @@ use Rattle.jani_table.specs.Parts.{is_plain, kind_of, is_list_form, item_of, is_
 pub member_clean : (kind : Kind) (key : Key) (g : Form) (ms : Fields) (w : Node) → known_form kind (spelled key) ≡ Some g → members_faults kind ms ≡ [] → member key ms ≡ Some w → faults g w ≡ []
 member_clean kind key g no_fields w k c m = absurd cc
 member_clean kind key g (field n v rest) w k c m =
-    elim (if_some (bytes_eq (spelled key) n.name) v (member key rest) w m) [
+    elim (if_then_some (bytes_eq (spelled key) n.name) v (member key rest) w m) [
       | inl e ↦
           let same : spelled key ≡ n.name = (bytes_eq-Decides (spelled key) n.name).0 e.0 in
           let here : by_form (known_form kind n.name) (fault n.at UnknownMember) (λ g. faults g v) ≡ [] = append_left _ (members_faults kind rest) c in
@@ -86,10 +86,10 @@ part_there kind key (text at s) n c = absurd cc
 part_there kind key (array at vs) n c = absurd cc
 
 -- a part is smaller than the whole
-member_smaller : (k : List ℕ) (ms : Fields) (w : Node) → member_text k ms ≡ Some w → size w < size_fields ms
+pub member_smaller : (k : List ℕ) (ms : Fields) (w : Node) → member_text k ms ≡ Some w → size w < size_fields ms
 member_smaller k no_fields w m = absurd cc
 member_smaller k (field n v rest) w m =
-    elim (if_some (bytes_eq k n.name) v (member_text k rest) w m) [
+    elim (if_then_some (bytes_eq k n.name) v (member_text k rest) w m) [
       | inl e ↦ subst (λ x. size x < size v + size_fields rest + 1) e.1 (omega arith)
       | inr e ↦ let h = member_smaller k rest w e.1 in omega arith
     ]
@@ -104,7 +104,7 @@ part_smaller key (array at vs) w m = absurd cc
 
 -- ---- what stands where one kind of value alone may
 
-fault_if_some : (at : ℕ) (o : Option Reason) → is_some o ≡ true → fault_if at o ≡ [] → ⊥
+pub fault_if_some : (at : ℕ) (o : Option Reason) → is_some o ≡ true → fault_if at o ≡ [] → ⊥
 fault_if_some at None s e = cc
 fault_if_some at (Some r) s e = cc
 
@@ -201,14 +201,6 @@ pub plain_part_there : (form : Form) (key : Key) (v : Node) → is_plain form �
 plain_part_there form key v p n c = part_there (kind_of form) key v n (object_clean form v p c)
 
 -- ---- lists
-
-pub items_array : (item : Form) (v : Node) → list_items_faults item v ≡ [] → is_array v ≡ true
-items_array item (array at vs) c = refl
-items_array item (null at) c = absurd cc
-items_array item (truth at b) c = absurd cc
-items_array item (number at d) c = absurd cc
-items_array item (text at s) c = absurd cc
-items_array item (object at ms close) c = absurd cc
 
 pub items_in_clean : (item : Form) (v : Node) → list_items_faults item v ≡ [] → items_faults item (items_in v) ≡ []
 items_in_clean item (array at vs) c = c

@@ -5,6 +5,5 @@ pub mod OperatorLaws
 pub mod Table
 pub mod Words
 pub mod Faults
-pub mod Least
 pub mod Parts
 pub mod Laws

@@ -1,28 +1,12 @@
-// The least fault, fault by fault.
+// The least of the faults so far.
 ghost use Rattle.std.specs.Prelude.{◌≡◌};
 ghost use Rattle.jani_table.specs.Faults.{fault_if};
-ghost use Rattle.jani_table.specs.Least.{sooner as spec_sooner, soonest};
+ghost use Rattle.name_rules.specs.Least.{soonest};
 
 use bridge_io::{Fault, Reason};
+use name_rules::sooner;
 
-/// The sooner of a fault found before and another: the one with the lower offset, or with the lower number at one offset.
-pub fn sooner(best: Option<Fault>, at: usize, reason: Reason) -> Option<Fault>
-    ensures { result ≡ spec_sooner best (record { reason = reason; at = at }) }
-{
-    let new = Fault { reason, at };
-    match best {
-        None => Some(new),
-        Some(f) => {
-            if at < f.at || (at == f.at && reason.number() < f.reason.number()) {
-                Some(new)
-            } else {
-                Some(f)
-            }
-        }
-    }
-}
-
-/// The same where there may be no other.
+/// The lesser of a fault that was found before, if one was, and one of this reason at this offset, if there is a reason.
 pub fn sooner_if(best: Option<Fault>, at: usize, reason: Option<Reason>) -> Option<Fault>
     ensures { result ≡ soonest best (fault_if at reason) }
 {

@@ -12,7 +12,7 @@ mod table;
 mod words;
 
 pub use access::{items_of, optional_of, optional_part, part, required_of, required_part, text_of};
-pub use fault::{sooner, sooner_if};
+pub use fault::sooner_if;
 pub use key::Key;
 pub use operator::JaniOp;
 pub use shape::{

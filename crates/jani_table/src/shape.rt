@@ -3,19 +3,20 @@ ghost use Rattle.std.specs.Prelude.{◌≡◌, [], true, IfSome};
 ghost use Rattle.std.specs.Option.{IfNone, option_copied, option_map};
 ghost use Rattle.jani_table.specs.Node.{at_of, fields, node, nodes};
 ghost use Rattle.jani_table.specs.Table.{rows_of};
-ghost use Rattle.jani_table.specs.Least.{IsLeast, soonest};
+ghost use Rattle.name_rules.specs.Least.{IsLeast, soonest};
 ghost use Rattle.jani_table.specs.Faults.{bound_faults, fault_unless, faults, first_of, has, is_true, is_word, list_faults, member, missing_faults, object_kind, op_in, op_kind, operand_count, other_faults, own_faults, row_faults, second_of};
 ghost use Rattle.jani_table.specs.declared.key.Key.TheVariants as K;
 ghost use Rattle.jani_table.specs.declared.table.Form.TheVariants as F;
 ghost use Rattle.jani_table.specs.declared.table.Kind.TheVariants as O;
 
-use crate::fault::{sooner, sooner_if};
+use crate::fault::sooner_if;
 use crate::key::Key;
 use crate::operator::JaniOp;
 use crate::table::{Form, Kind, Need, Row, item_form, known_form, rows};
 use crate::words::{kind_fault, null_fault, number_fault, truth_fault, word_fault};
 use bridge_io::{Fault, List, Reason};
 use decimal_json::{Json, Member};
+use name_rules::sooner;
 
 /// The value of a member; none where there is no member with this key.
 pub fn member(key: Key, members: &[Member]) -> Option<&Json>
@@ -241,7 +242,7 @@ fn judge_other(
     }
 }
 
-#[tactic(auto, using(crate::proofs::Soonest::soonest_append))]
+#[tactic(auto, using(name_rules::proofs::Soonest::soonest_append))]
 fn judge_own(
     kind: Kind,
     members: &[Member],
@@ -285,7 +286,7 @@ fn judge_enabled(at: usize, items: &List<Json>, best: Option<Fault>) -> Option<F
     }
 }
 
-#[tactic(auto, using(crate::proofs::Soonest::soonest_append))]
+#[tactic(auto, using(name_rules::proofs::Soonest::soonest_append))]
 fn judge_initial(at: usize, items: &List<Json>, found: Option<Fault>) -> Option<Fault>
     ensures { result ≡ soonest found (list_faults F.InitialLocations at (nodes items.now)) }
 {
@@ -367,7 +368,7 @@ pub fn judge(form: Form, value: &Json, first: Option<Fault>) -> Option<Fault>
 }
 
 /// The least fault of a value that has to be of this form; none exactly where it has none. It takes no memory.
-#[tactic(auto, using(crate::proofs::Soonest::soonest_some, crate::proofs::Soonest::soonest_none))]
+#[tactic(auto, using(name_rules::proofs::Soonest::soonest_some, name_rules::proofs::Soonest::soonest_none))]
 pub fn least_fault(form: Form, value: &Json) -> Option<Fault>
     ensures least { IfSome result (λ f. IsLeast (faults form (node value.now)) f) }
     ensures none { IfNone result (faults form (node value.now) ≡ []) }

@@ -23,7 +23,8 @@ use Rattle.prism_flat.specs.Moment.{adds_of, item_at}
 use Rattle.prism_flat.specs.Process.{is_for_choices, choice_rewards, sum_for}
 use Rattle.jani_tree.specs.Syntax.{File, Var}
 use Rattle.jani_tree.specs.Syntax as jani
-use Rattle.jani_meaning.specs.Elements.{Owned, is_called, owned_by, place_of as place_in, column_number, structure_number}
+use Rattle.op_trees.specs.Names.{is_called}
+use Rattle.jani_meaning.specs.Elements.{Owned, owned_by, place_of as place_in, column_number, structure_number}
 use Rattle.jani_meaning.specs.Scene as jani_scene
 use Rattle.jani_meaning.specs.Moment as jani_moment
 use Rattle.jani_meaning.specs.Process.{no_reward}

@@ -16,9 +16,10 @@ use Rattle.prism_tree.specs.Syntax.{Body, Command, Branch, Label, Item, Rewards}
 use Rattle.prism_print.specs.Same.{bare_body, bare_branch, bare_command, bare_const, bare_item, bare_label, bare_on, bare_range, bare_rewards}
 use Rattle.prism_print.specs.Same as source
 use Rattle.process_core.specs.Instance.{numbered, only_if}
-use Rattle.prism_places.proofs.Lists.{chosen_mapped, kept_mapped, any_mapped, joined, turned, gathered, some_turned}
+use Rattle.basics.specs.Mapped.{chosen_mapped, kept_mapped, any_mapped, joined, turned, gathered, some_turned}
 use Rattle.jani_table.specs.declared.operator.JaniOp.TheVariants.{Add, Ite}
-use Rattle.jani_tree.specs.Places.{bare_name, bare_kind, bare_var, bare_write, bare_destination, bare_edge, bare_automaton, bare_vector}
+use Rattle.op_trees.specs.Names.{bare_name}
+use Rattle.jani_tree.specs.Places.{bare_kind, bare_var, bare_write, bare_destination, bare_edge, bare_automaton, bare_vector}
 use Rattle.jani_tree.specs.Places as target
 use Rattle.jani_tree.specs.Syntax.{Expression, number, bounded, Write}
 use Rattle.jani_meaning.proofs.Bare.{numbered_mapped, mapped_numbered}
@@ -58,7 +59,7 @@ part_turned : (b c : Bool) (x : Name) → b ≡ c → part_if b (made x) ≡ opt
 part_turned b c x e = ap (λ t. part_if t (made x)) e ∙ chosen_mapped (option_map bare_name) c (Some (made x)) None
 
 -- ---- constants, variables, labels and reward structures
-instead_if-bare : (n : Option Named) (x : Name) → instead_if (option_map source.bare_name n) x ≡ bare_name (instead_if n x)
+instead_if-bare : (n : Option Named) (x : Name) → instead_if (option_map bare_name n) x ≡ bare_name (instead_if n x)
 instead_if-bare None x = refl
 instead_if-bare (Some n) x = refl
 
@@ -107,7 +108,7 @@ action_placeless x On.InState = refl
 action_placeless x On.Silent = refl
 action_placeless x (On.Action a) = refl
 
-none-bare : (a : Option Named) → is_none (option_map source.bare_name a) ≡ is_none a
+none-bare : (a : Option Named) → is_none (option_map bare_name a) ≡ is_none a
 none-bare None = refl
 none-bare (Some a) = refl
 
@@ -162,7 +163,7 @@ module _ (names : NewNames) where
   destination-bare : (b : Branch) → destination names (bare_branch b) ≡ bare_destination (destination names b)
   destination-bare b = ap₂ (λ w ws. record { location = loc; weight = w; writes = ws }) (optional-bare names.value b.weight) (turned bare_write source.bare_write _ _ write-bare b.writes)
 
-  edge_action-bare : (silently : Bool) (a : Option Named) → edge_action names silently (option_map source.bare_name a) ≡ option_map bare_name (edge_action names silently a)
+  edge_action-bare : (silently : Bool) (a : Option Named) → edge_action names silently (option_map bare_name a) ≡ option_map bare_name (edge_action names silently a)
   edge_action-bare silently None = chosen_mapped (option_map bare_name) silently (Some zz_silent) None
   edge_action-bare silently (Some a) = refl
 

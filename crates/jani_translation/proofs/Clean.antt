@@ -1,7 +1,7 @@
 -- What a PRISM file without faults has, written out: no two of its constants and variables have one name, and its types are those that are
 -- declared.
 use Rattle.std.specs.Prelude.{◌≡◌, ℕ, ◌+◌, List, [], ◌∷◌, ◌++◌, map, max, Bool, true, false, cond, Option, Some, None, bytes_eq}
-use Rattle.std.specs.List.{AllByRecursion, IsDistinct, find, flat_map, list_all}
+use Rattle.std.specs.List.{IsDistinct, find, flat_map, list_all, AllByRecursion as Each}
 use Rattle.std.specs.Option.{option_map}
 use Rattle.std.proofs.Common.{refl, sym, ap, ap₂, subst, ◌∙◌}
 use Rattle.std.proofs.lemmas.List.{map-append}
@@ -11,21 +11,21 @@ use Rattle.bridge_io.specs.declared.reason.Named.{Named}
 use Rattle.bridge_io.specs.declared.reason.Reason.{Reason}
 use Rattle.bridge_io.specs.declared.reason.Reason.TheVariants.{TwiceNamed}
 use Rattle.op_trees.specs.declared.tree.Ty.{Ty}
+use Rattle.name_rules.proofs.Plain.{no_fault}
 use Rattle.process_core.specs.Product.{map-map}
 use Rattle.process_core.specs.Ready.{Name}
 use Rattle.prism_tree.specs.Operators.{prism_meaning}
 use Rattle.prism_tree.specs.Syntax as prism
 use Rattle.prism_tree.specs.Syntax.{Module, plain, copied}
-use Rattle.prism_names.specs.Names.{is_called, formula_body, part_of}
+use Rattle.op_trees.specs.Names.{is_called}
+use Rattle.prism_names.specs.Names.{formula_body, part_of}
 use Rattle.prism_flat.specs.Kept.{is_plain, IsWrittenOut}
-use Rattle.prism_print.specs.Printable.{Each}
 use Rattle.prism_check.specs.Demands.{var_type}
 use Rattle.prism_check.specs.NameFaults.{clash, doubled_after, doubled, module_vars, values, doubled_names, unknown_names, circles, copy_faults, no_module, name_faults}
 use Rattle.prism_check.specs.SizeFaults.{size_faults}
 use Rattle.prism_check.specs.TypeFaults.{Variable, numbered_variables, declared_types, types, type_faults}
 use Rattle.prism_check.specs.TypeFaults as source
-use Rattle.prism_check.specs.Faults.{or_else}
-use Rattle.prism_check.proofs.Each.{no_fault}
+use Rattle.name_rules.specs.Least.{or_else}
 use Rattle.prism_check.proofs.TypeOrder.{types_of_plain}
 use Rattle.prism_check.proofs.CleanFile.{no_either}
 use Rattle.prism_places.specs.Flattened.{IsFlat}
@@ -55,7 +55,7 @@ no_faults file flat =
 
 -- ---- names that stand once
 abbrev pub DiffersFrom : List Named → Named → Type 0
-DiffersFrom ns m = AllByRecursion (λ y. bytes_eq m.name y ≡ false) (map (λ n. n.name) ns)
+DiffersFrom ns m = Each (λ y. bytes_eq m.name y ≡ false) (map (λ n. n.name) ns)
 
 all_differ : (reason : Reason) (earlier ns : List Named) → doubled_after reason earlier ns ≡ [] → Each (DiffersFrom ns) earlier
 all_differ reason earlier [] e = each_unit earlier

@@ -2,7 +2,7 @@
 use Rattle.std.specs.Prelude.{◌≡◌, ℕ, zero, suc, ◌+◌, ◌<◌, ◌≤◌, List, [], ◌∷◌, ◌++◌, map, length, drop, Bool, true, false, not, ◌&&◌, cond, Option, Some, None, if◌then◌else◌, slice_get, get_or, bytes_eq, IfSome, Contains}
 use Rattle.std.specs.List.{All, filter, flat_map, zip, position}
 use Rattle.std.specs.Option.{option_map}
-use Rattle.std.proofs.Common.{refl, sym, ap, ap₂, ◌∙◌, arith, append-nil, append_assoc, length-append}
+use Rattle.std.proofs.Common.{refl, sym, ap, ap₂, ◌∙◌, arith, append-nil, length-append}
 use Rattle.std.proofs.lemmas.List.{length-map}
 use Rattle.std.proofs.lemmas.List.Elements.{All-head, All-tail}
 use Rattle.basics.specs.Members.{position_cons}
@@ -19,10 +19,12 @@ use Rattle.prism_flat.specs.Scene as prism_scene
 use Rattle.prism_flat.specs.Moment as prism_moment
 use Rattle.jani_tree.specs.Syntax.{Automaton, Var, File}
 use Rattle.jani_tree.specs.Syntax as jani
-use Rattle.jani_meaning.specs.Elements.{is_called, owned_by, place_of as place_in, is_structure, structures, is_boolean, column_number, structure_number, location_number}
+use Rattle.op_trees.specs.Names.{is_called}
+use Rattle.jani_meaning.specs.Elements.{owned_by, place_of as place_in, is_structure, structures, is_boolean, column_number, structure_number, location_number}
 use Rattle.jani_meaning.specs.Scene as jani_scene
 use Rattle.jani_meaning.specs.Scene.{location_column}
 use Rattle.jani_meaning.specs.Moment as jani_moment
+use Rattle.jani_meaning.proofs.Columns.{numbered_at}
 use Rattle.name_table.specs.declared.entry.Entry.{Entry}
 use Rattle.prism_images.specs.Image.{image}
 use Rattle.name_table.specs.Asks.{bodies, variables, entries, rewards_at, NewNames, new_names}
@@ -175,10 +177,6 @@ label_same silently names (Some a) = refl
 label_same true names None = refl
 label_same false names None = refl
 
-numbered-append : {X Y : Type 0} (f : ℕ → X → List Y) (i n : ℕ) (xs ys : List X) → i + length xs ≡ n → numbered f i (xs ++ ys) ≡ numbered f i xs ++ numbered f n ys
-numbered-append f i n [] ys e = let same : i ≡ n = omega arith in ap (λ k. numbered f k ys) same
-numbered-append f i n (x ∷ xs) ys e = ap (λ r. f i x ++ r) (numbered-append f (i + 1) n xs ys (omega arith)) ∙ sym (append_assoc (f i x) (numbered f (i + 1) xs) (numbered f n ys))
-
 module _ (file : prism.File) (v w : Valuation) (sound : IsSoundUnder file v) (alike : GivesAlike file v w) (s : Values) (long : length s ≡ length (variables file)) where
   abbrev g : File
   g = translated file
@@ -318,7 +316,7 @@ edges_watched file v w sound alike s h =
     let b = length-map g.automata (λ a. a.name) in
     let c = length-append mods (monitor names file) in
     ap (numbered (λ i a. at_element i a ∷ []) 0) (elements_are file)
-    ∙ numbered-append (λ i a. at_element i a ∷ []) 0 (length file.modules) mods (monitor names file) (omega arith)
+    ∙ numbered_at (λ i a. at_element i a ∷ []) 0 (length file.modules) mods (monitor names file) (omega arith)
     ∙ ap₂ (λ x y. x ++ y)
     (modules_here file v w sound alike s h.values silently (location_values names file) 0 (bodies file) names.modules (for_modules file) (omega arith) h.commands
     ∙ ap (λ ps. shifted (edge_label silently names.action) (length g.elements) (map (prism_moment.part_at file v s) ps)) (sym (written_parts file sound.written.modules)))

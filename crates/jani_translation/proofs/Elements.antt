@@ -7,7 +7,8 @@ use Rattle.bridge_io.specs.declared.reason.Named.{Named}
 use Rattle.prism_tree.specs.Syntax as prism
 use Rattle.process_core.specs.Instance.{only_if}
 use Rattle.jani_tree.specs.Syntax.{Automaton, Write}
-use Rattle.jani_meaning.specs.Elements.{is_called, nothing_called, elements}
+use Rattle.op_trees.specs.Names.{is_called}
+use Rattle.jani_meaning.specs.Elements.{nothing_called, elements}
 use Rattle.name_table.specs.declared.class.NameClass.{NameClass}
 use Rattle.name_table.specs.declared.class.NameClass.TheVariants.{Module as OfModule}
 use Rattle.name_table.specs.declared.class.Target.TheVariants.{Jani}

@@ -17,7 +17,7 @@ pub mod Filed
 pub mod Statements
 pub mod Monitored
 pub mod Places
-pub mod Gathering2
+pub mod Kept
 pub mod Listed
 pub mod RewardSums
 pub mod Marks

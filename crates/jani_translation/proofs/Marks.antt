@@ -8,7 +8,8 @@ use Rattle.basics.specs.Texts.{bytes_eq-self}
 use Rattle.basics.specs.Lists.{slice_get-drop, slice_get-take}
 use Rattle.bridge_io.specs.declared.reason.Named.{Named}
 use Rattle.op_trees.specs.Seen.{Seen}
-use Rattle.process_core.specs.Ready.{Values, Name, if_some}
+use Rattle.basics.specs.Options.{if_some}
+use Rattle.process_core.specs.Ready.{Values, Name}
 use Rattle.process_core.specs.Choices.{number_of, truth_of}
 use Rattle.process_core.specs.declared.data.Mark.TheVariants as M
 use Rattle.prism_tree.specs.Syntax as prism
@@ -20,7 +21,8 @@ use Rattle.prism_flat.specs.Process.{state_reward}
 use Rattle.process_core.specs.Bounds.{summed}
 use Rattle.jani_tree.specs.Syntax.{Automaton, Location, Var, File}
 use Rattle.jani_tree.specs.Syntax as jani
-use Rattle.jani_meaning.specs.Elements.{is_called, owned_by, is_label, labels, is_boolean}
+use Rattle.op_trees.specs.Names.{is_called}
+use Rattle.jani_meaning.specs.Elements.{owned_by, is_label, labels, is_boolean}
 use Rattle.jani_meaning.specs.Scene as jani_scene
 use Rattle.jani_meaning.specs.Moment as jani_moment
 use Rattle.name_table.specs.declared.entry.Entry.{Entry}

@@ -1,21 +1,16 @@
 -- The new names of a file by their classes, taken from what the classes before leave.
-use Rattle.std.proofs.Common.{◌≡◌, ℕ, ◌+◌, List, length, take, drop, ap, ◌∙◌, drop-drop}
+use Rattle.std.proofs.Common.{◌≡◌, ℕ, List, length, take, drop, ap, ◌∙◌}
 use Rattle.process_core.specs.Ready.{Name}
 use Rattle.prism_tree.specs.Syntax.{File}
 use Rattle.name_table.specs.declared.entry.Entry.{Entry}
 use Rattle.name_table.specs.Asks.{variables, actions, new_name, value_names, NewNames, some_from, labels_at, rewards_at, modules_at, actions_at, names_by}
+use Rattle.name_table.proofs.EntryLemmas.{further, part}
 
 pub dropped : (es r : List Entry) (m n : ℕ) → r ≡ drop m es → m ≡ n → r ≡ drop n es
 dropped es r m n h e = h ∙ ap (λ (k : ℕ). drop k es) e
 
 pub first : (es r : List Entry) (m n : ℕ) → r ≡ take m es → m ≡ n → r ≡ take n es
 first es r m n h e = h ∙ ap (λ (k : ℕ). take k es) e
-
-further : (es xs ys : List Entry) (a n : ℕ) → xs ≡ drop a es → ys ≡ drop n xs → ys ≡ drop (a + n) es
-further es xs ys a n h k = k ∙ ap (λ (l : List Entry). drop n l) h ∙ drop-drop n a es
-
-part : (es xs r : List Entry) (a n : ℕ) → xs ≡ drop a es → r ≡ take n xs → r ≡ some_from a n es
-part es xs r a n h k = k ∙ ap (λ (l : List Entry). take n l) h
 
 abbrev pub made : List Entry → List Entry → List Entry → List Entry → List Entry → (Name → Name) → (Name → Name) → NewNames
 made cs vs ls rs ms f g = record { constants = cs; variables = vs; labels = ls; rewards = rs; modules = ms; value = f; action = g }

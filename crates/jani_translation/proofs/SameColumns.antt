@@ -16,7 +16,8 @@ use Rattle.process_core.specs.Instance.{Valuation, Domain, Between, Column, numb
 use Rattle.prism_flat.specs.Kept.{is_plain}
 use Rattle.prism_flat.specs.Scene as prism_scene
 use Rattle.jani_tree.specs.Syntax.{Automaton, Var, Write, File}
-use Rattle.jani_meaning.specs.Elements.{is_called, automaton_called, nothing_called, elements, Owned, owned_by, is_lasting, lasting}
+use Rattle.op_trees.specs.Names.{is_called}
+use Rattle.jani_meaning.specs.Elements.{automaton_called, nothing_called, elements, Owned, owned_by, is_lasting, lasting}
 use Rattle.jani_meaning.specs.Scene as jani_scene
 use Rattle.jani_meaning.specs.Scene.{location_column}
 use Rattle.jani_meaning.proofs.Columns.{locations_have_no_fault}

@@ -18,7 +18,7 @@ use Rattle.process_core.specs.Instance.{Valuation}
 use Rattle.prism_flat.specs.Scene as prism_scene
 use Rattle.jani_tree.specs.Syntax as jani
 use Rattle.jani_tree.specs.Syntax.{Automaton, Var, File}
-use Rattle.jani_meaning.specs.Elements.{is_called}
+use Rattle.op_trees.specs.Names.{is_called}
 use Rattle.jani_meaning.specs.Scene as jani_scene
 use Rattle.jani_meaning.specs.Scene.{location_column}
 use Rattle.name_table.specs.declared.entry.Entry.{Entry}
@@ -66,7 +66,7 @@ found_alike false false k d f o p e v r = r
 
 find_alike : (new : Name → Name) (x z : Name) (cs : List prism.Const) (es : List Entry) → Agrees x z (map (λ c. c.name.name) cs) es →
     option_map (λ k. k.value) (find (λ k. is_called z k.name) (map (λ p. constant new p.0 p.1) (zip cs es)))
-    ≡ option_map (λ d. option_map (image new) d.value) (find (λ d. names.is_called x d.name) cs)
+    ≡ option_map (λ d. option_map (image new) d.value) (find (λ d. is_called x d.name) cs)
 find_alike new x z [] es h = refl
 find_alike new x z (c ∷ cs) [] h = absurd h
 find_alike new x z (c ∷ cs) (e ∷ es) h =
@@ -84,7 +84,7 @@ found_first P x d c true o e p r h =
     subst (IsFound P x) s (record { name = bytes_eq-true d.name.name x e; has = p })
 found_first P x d c false o e p r h = r h
 
-found : (P : prism.Const → Type 0) (x : Name) (cs : List prism.Const) (c : prism.Const) → All P cs → find (λ d. names.is_called x d.name) cs ≡ Some c → IsFound P x c
+found : (P : prism.Const → Type 0) (x : Name) (cs : List prism.Const) (c : prism.Const) → All P cs → find (λ d. is_called x d.name) cs ≡ Some c → IsFound P x c
 found P x [] c a h = absurd cc
 found P x (d ∷ cs) c a h = found_first P x d c (bytes_eq d.name.name x) _ refl (All-head P d cs a) (found P x cs c (All-tail P d cs a)) h
 

@@ -14,7 +14,8 @@ use Rattle.process_core.specs.Instance.{numbered}
 use Rattle.prism_flat.specs.Scene as prism_scene
 use Rattle.prism_flat.specs.Moment as prism_moment
 use Rattle.jani_tree.specs.Syntax.{Automaton, Var}
-use Rattle.jani_meaning.specs.Elements.{is_called, elements, owned_by, is_lasting, is_own, is_global, lasting, place_of, column_number}
+use Rattle.op_trees.specs.Names.{is_called}
+use Rattle.jani_meaning.specs.Elements.{elements, owned_by, is_lasting, is_own, is_global, lasting, place_of, column_number}
 use Rattle.jani_meaning.specs.Scene as jani_scene
 use Rattle.jani_meaning.specs.Moment as jani_moment
 use Rattle.name_table.specs.declared.entry.Entry.{Entry}

@@ -1,23 +1,18 @@
 -- The states of a translated file: each element is at its one location.
-use Rattle.std.specs.Prelude.{◌≡◌, List, [], ◌∷◌, ◌++◌, map, true, not, ◌&&◌}
-use Rattle.std.specs.Ordering.{MatchOrdering}
+use Rattle.std.specs.Prelude.{◌≡◌, List, [], ◌∷◌, ◌++◌, map, true, ◌&&◌}
 use Rattle.std.specs.List.{AllByRecursion}
 use Rattle.std.proofs.Common.{refl, sym, ap, ap₂, ◌∙◌}
-use Rattle.std.specs.declared.cmp.Ordering.{Ordering}
-use Rattle.std.specs.declared.cmp.Ordering.TheVariants as C
 use Rattle.std.proofs.lemmas.Bool.{and_parts}
 use Rattle.std.proofs.lemmas.List.{append_cancel_left}
-use Rattle.frac_core.specs.Fraction.{Fraction, nought, compare, is_whole}
-use Rattle.frac_core.specs.Order.{Below, compare_ranks, compare_is}
 use Rattle.op_trees.specs.declared.tree.Value.{Value}
-use Rattle.op_trees.specs.declared.tree.Value.TheVariants as V
 use Rattle.process_core.specs.Ready.{Values, Name}
 use Rattle.prism_tree.specs.Syntax as prism
-use Rattle.process_core.specs.Instance.{Valuation, Between, Column, is_greater, is_above, is_in, is_first, is_state, is_initial}
+use Rattle.process_core.specs.Instance.{Valuation, Between, Column, is_in, is_first, is_state, is_initial}
 use Rattle.prism_flat.specs.Scene as prism_scene
 use Rattle.jani_tree.specs.Syntax.{Automaton}
 use Rattle.jani_meaning.specs.Scene as jani_scene
 use Rattle.jani_meaning.specs.Scene.{counted, location_column}
+use Rattle.jani_meaning.proofs.Columns.{only_nought}
 use Rattle.name_table.specs.Asks.{NewNames, new_names}
 use Rattle.jani_translation.specs.Translated.{translated}
 use Rattle.jani_translation.specs.SeenLaws.{IsSoundUnder, GivesAlike, renamed_column}
@@ -72,23 +67,9 @@ initial_alike file v w sound alike s =
     ∙ renamed_initial (new_names file).value (prism_scene.columns_of file v) s
 
 -- ---- the states of the translated file
--- the only value of a location's column
-not_greater : (o : Ordering) → not (is_greater o) ≡ true → C.Greater ≡ o → ⊥
-not_greater C.Less h e = absurd cc
-not_greater C.Equal h e = absurd cc
-not_greater C.Greater h e = absurd cc
-
-by_order : (q : Fraction) (o : Ordering) → MatchOrdering o (Below q nought) (q ≡ nought) (Below nought q) → not (is_greater o) ≡ true → not (is_above nought q) ≡ true → q ≡ nought
-by_order q C.Less m h k = absurd (not_greater (compare nought q) k (compare_is nought q C.Greater m))
-by_order q C.Equal m h k = m
-by_order q C.Greater m h k = absurd cc
 
 home_only : (u : Value) → is_in (Between (counted 0) (counted 0)) u ≡ true → at_home ≡ u
-home_only (V.Truth b) h = absurd cc
-home_only (V.Number q) h =
-    let p = and_parts (is_whole q) (not (is_above nought q) && not (is_above q nought)) h in
-    let r = and_parts (not (is_above nought q)) (not (is_above q nought)) p.1 in
-    ap V.Number (sym (by_order q (compare q nought) (compare_ranks q nought) r.1 r.0))
+home_only u h = sym (only_nought u h)
 
 behind : (names : NewNames) (cs : List Column) (as_ : List Automaton) → AllByRecursion (IsOne names) as_ → (u : Values) → is_state (map location_column as_ ++ cs) u ≡ true →
     (s : Values) × (is_state cs s ≡ true) × (map (λ n. at_home) (map (λ a. a.name) as_) ++ s ≡ u)

@@ -7,7 +7,8 @@ use Rattle.std.proofs.lemmas.List.{map-append}
 use Rattle.basics.specs.Booleans.{first_true, second_true}
 use Rattle.basics.specs.Lists.{map_agree}
 use Rattle.process_core.specs.Product.{map-map}
-use Rattle.process_core.specs.Ready.{Values, Name, Ready, Vector, firsts, if_some, has_action, same_label, vector_of}
+use Rattle.basics.specs.Options.{if_some}
+use Rattle.process_core.specs.Ready.{Values, Name, Ready, Vector, firsts, has_action, same_label, vector_of}
 use Rattle.prism_tree.specs.Syntax as prism
 use Rattle.prism_tree.specs.Syntax.{Command, Module, plain, copied}
 use Rattle.prism_names.specs.Names.{part_of}

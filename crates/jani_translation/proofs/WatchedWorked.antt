@@ -16,7 +16,7 @@ use Rattle.process_core.specs.Instance.{Valuation}
 use Rattle.prism_flat.specs.Process as prism_process
 use Rattle.jani_meaning.specs.Scene as jani_scene
 use Rattle.jani_meaning.specs.Process as jani_process
-use Rattle.name_table.specs.Rule.{digits}
+use Rattle.frac_core.specs.Text.{digits}
 use Rattle.name_table.specs.Asks.{new_names}
 use Rattle.jani_translation.specs.Automata.{for_states}
 use Rattle.jani_translation.specs.Translated.{translated}

@@ -13,7 +13,7 @@ use Rattle.prism_images.specs.Image.{nought_literal}
 use Rattle.jani_table.specs.declared.operator.JaniOp.TheVariants as J
 use Rattle.jani_tree.specs.Syntax as jani
 use Rattle.jani_tree.specs.Syntax.{boolean}
-use Rattle.name_table.specs.Rule.{digits}
+use Rattle.frac_core.specs.Text.{digits}
 use Rattle.prism_names.specs.Flat.{flat}
 use Rattle.jani_translation.specs.Translated.{translated}
 use Rattle.jani_translation.proofs.Sources as p

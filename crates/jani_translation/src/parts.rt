@@ -13,11 +13,11 @@ ghost use Rattle.jani_translation.specs.Code.{name_in};
 use crate::new_names::{NameMap, Names, shorter};
 use bridge_io::{List, Named, Text};
 use frac_core::Decimal;
-use jani_tree::{JaniConst, JaniKind, JaniVar, Je};
+use jani_tree::{JaniConst, JaniExpr, JaniKind, JaniVar};
 use name_table::Entry;
 use op_trees::Expr;
 use prism_images::image;
-use prism_tree::{Pe, PrismConst, PrismLabel, PrismRange, PrismRewards, PrismVar};
+use prism_tree::{PrismConst, PrismExpr, PrismLabel, PrismRange, PrismRewards, PrismVar};
 use std::alloc::{AllocError, Global};
 
 // ---- names
@@ -98,7 +98,7 @@ fn note_if(
 // ---- expressions
 
 /// The number 0.
-pub(crate) fn nought() -> Je
+pub(crate) fn nought() -> JaniExpr
     ensures { tree result ≡ nought }
 {
     Expr::Number(
@@ -113,7 +113,7 @@ pub(crate) fn nought() -> Je
 }
 
 /// The truth value false.
-fn falsehood() -> Je
+fn falsehood() -> JaniExpr
     ensures { tree result ≡ falsehood }
 {
     Expr::Truth(0, false)
@@ -122,9 +122,9 @@ fn falsehood() -> Je
 /// The image of an expression, where there is one.
 pub(crate) fn image_if(
     alloc: Global,
-    e: &Option<Pe>,
+    e: &Option<PrismExpr>,
     names: &NameMap,
-) -> Result<Option<Je>, AllocError>
+) -> Result<Option<JaniExpr>, AllocError>
     ensures { IfOk result (λ r. option_map tree r ≡ option_map (image (name_in names.now)) (option_map tree e.now)) }
 {
     match e {
@@ -171,7 +171,7 @@ fn kind_of(
 }
 
 /// The first value: that of `init`, else the low bound, else false.
-fn start_of(alloc: Global, x: &PrismVar, names: &NameMap) -> Result<Je, AllocError>
+fn start_of(alloc: Global, x: &PrismVar, names: &NameMap) -> Result<JaniExpr, AllocError>
     ensures { IfOk result (λ r. tree r ≡ start_of (name_in names.now) (option_map tree x.now.start) (option_map prism.range_of x.now.range)) }
 {
     match (&x.start, &x.range) {

@@ -14,7 +14,7 @@ use crate::new_names::{Names, shorter};
 use crate::parts::{instead_if, nought};
 use bridge_io::List;
 use jani_table::JaniOp;
-use jani_tree::{JaniWrite, Je};
+use jani_tree::{JaniExpr, JaniWrite};
 use name_table::{Entry, keep_if};
 use op_trees::Expr;
 use prism_images::image;
@@ -56,7 +56,7 @@ fn has_item(wanted: &Wanted, r: &PrismRewards) -> bool
 }
 
 /// An item gives its value where its guard holds, else 0.
-fn item_value(alloc: Global, i: &PrismItem, names: &Names) -> Result<Je, AllocError>
+fn item_value(alloc: Global, i: &PrismItem, names: &Names) -> Result<JaniExpr, AllocError>
     ensures { IfOk result (λ r. tree r ≡ item_value (names_in names.now) (prism.item_of i.now)) }
 {
     let guard = Box::new(alloc, image(alloc, &i.guard, &names.value)?)?;
@@ -66,7 +66,7 @@ fn item_value(alloc: Global, i: &PrismItem, names: &Names) -> Result<Je, AllocEr
 }
 
 /// The sum of two expressions.
-fn sum_of(alloc: Global, a: Je, b: Je) -> Result<Je, AllocError>
+fn sum_of(alloc: Global, a: JaniExpr, b: JaniExpr) -> Result<JaniExpr, AllocError>
     ensures { IfOk result (λ r. tree r ≡ Two 0 Add (tree a) (tree b)) }
 {
     let left = Box::new(alloc, a)?;
@@ -77,10 +77,10 @@ fn sum_of(alloc: Global, a: Je, b: Je) -> Result<Je, AllocError>
 /// A sum from the left, behind a first member.
 fn sum_behind(
     alloc: Global,
-    first: Je,
+    first: JaniExpr,
     items: &[&PrismItem],
     names: &Names,
-) -> Result<Je, AllocError>
+) -> Result<JaniExpr, AllocError>
     ensures { IfOk result (λ r. tree r ≡ sum_behind (names_in names.now) (tree first) (map (λ i. prism.item_of i.now) items.now)) }
 {
     let mut sum = first;

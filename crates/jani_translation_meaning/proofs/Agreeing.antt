@@ -1,14 +1,12 @@
 -- Expressions that have types are sound where the values of names agree with their types, and their values agree with them too.
 use Rattle.std.specs.Prelude.{◌≡◌, List, [], ◌∷◌, Bool, true, false, cond, Option, Some, None, IsTrue, is_some, IfSome}
-use Rattle.std.specs.List.{All, find}
+use Rattle.std.specs.List.{All, find, AllByRecursion as Each}
 use Rattle.std.proofs.Common.{refl, sym, ap, subst}
 use Rattle.std.proofs.lemmas.List.Elements.{All-nil, All-cons}
 use Rattle.op_trees.specs.declared.tree.Ty.{Ty}
-use Rattle.op_trees.specs.declared.tree.Ty.TheVariants as T
 use Rattle.op_trees.specs.declared.tree.Value.{Value}
-use Rattle.op_trees.specs.declared.tree.Value.TheVariants as V
 use Rattle.op_trees.specs.Tree.{Truth, Number, Name as At, One, Two, Three, AllNumbers}
-use Rattle.op_trees.specs.Types.{AgreesWith, has_type, type_in}
+use Rattle.op_trees.specs.Types.{AgreesWith, type_in}
 use Rattle.op_trees.specs.TypeLaws.{value_agrees, typed_operands, some_agrees}
 use Rattle.op_trees.specs.Meaning.{value_of}
 use Rattle.op_trees.specs.Seen.{known}
@@ -19,9 +17,9 @@ use Rattle.prism_tree.specs.Operators.{prism_meaning}
 use Rattle.prism_tree.specs.OperatorLaws.{prism_lawful}
 use Rattle.prism_tree.specs.Syntax as prism
 use Rattle.prism_names.specs.Names.{see}
-use Rattle.prism_print.specs.Printable.{Each, IfAny, IsPrintableExpression}
-use Rattle.prism_check.specs.Demands.{wanted_by}
-use Rattle.prism_check.specs.TypeFaults as source
+use Rattle.basics.specs.Options.{IfAny}
+use Rattle.prism_print.specs.Printable.{IsPrintableExpression}
+use Rattle.op_trees.specs.Wanted.{wanted_by, is_wanted, wider as wider_value}
 use Rattle.prism_check.specs.TypeFaults.{types}
 use Rattle.prism_places.specs.Flattened.{IsFlat}
 use Rattle.prism_images.specs.Laws.{IsNoNumberOf}
@@ -47,19 +45,7 @@ found {A = A} P test (x ∷ xs) p = by_test (test x) refl (found P test xs p.1)
 pub undefined : (t : Option Ty) → AgreesWith t None
 undefined t = record { agrees = λ a x h k. cc }
 
-wider_value : (w t : Ty) (x : Value) → source.is_wanted (wanted_by w) t ≡ true → IsTrue (has_type t x) → IsTrue (has_type w x)
-wider_value T.Bool T.Bool x k h = h
-wider_value T.Int T.Int x k h = h
-wider_value T.Real T.Real x k h = h
-wider_value T.Real T.Int (V.Number q) k h = refl
-wider_value T.Real T.Int (V.Truth b) k h = h
-wider_value T.Bool T.Int x k h = absurd cc
-wider_value T.Bool T.Real x k h = absurd cc
-wider_value T.Int T.Bool x k h = absurd cc
-wider_value T.Int T.Real x k h = absurd cc
-wider_value T.Real T.Bool x k h = absurd cc
-
-wider : (w t : Ty) (v : Option Value) → source.is_wanted (wanted_by w) t ≡ true → AgreesWith (Some t) v → AgreesWith (Some w) v
+wider : (w t : Ty) (v : Option Value) → is_wanted (wanted_by w) t ≡ true → AgreesWith (Some t) v → AgreesWith (Some w) v
 wider w t None k a = undefined (Some w)
 wider w t (Some x) k a = some_agrees w x (wider_value w t x k (a.agrees t x refl refl))
 

@@ -1,7 +1,7 @@
 -- Constants have values of their types, to whatever depth they are looked up; so the expressions of constants, bounds and first
 -- values are sound.
 use Rattle.std.specs.Prelude.{◌≡◌, ℕ, zero, suc, true, length, Option, Some, None, IfSome}
-use Rattle.std.specs.Option.{option_map}
+use Rattle.std.specs.Option.{option_map, option_or}
 use Rattle.std.proofs.Common.{refl, sym, ap, subst, ◌∙◌}
 use Rattle.std.proofs.lemmas.List.Elements.{recursion_from_All}
 use Rattle.basics.specs.Texts.{bytes_eq-true}
@@ -13,10 +13,12 @@ use Rattle.op_trees.specs.Types.{AgreesWith}
 use Rattle.op_trees.specs.Seen.{known}
 use Rattle.process_core.specs.Ready.{Name}
 use Rattle.prism_tree.specs.Syntax as prism
-use Rattle.prism_names.specs.Names.{is_called}
+use Rattle.op_trees.specs.Names.{is_called}
 use Rattle.process_core.specs.Instance.{Valuation}
 use Rattle.prism_flat.specs.Scene.{constant_called, constant_seen, constant_value, constant_within, constant}
-use Rattle.prism_print.specs.Printable.{Each, IfAny, IsPrintableConst, IsPrintableExpression}
+use Rattle.std.specs.List.{AllByRecursion as Each}
+use Rattle.basics.specs.Options.{IfAny}
+use Rattle.prism_print.specs.Printable.{IsPrintableConst, IsPrintableExpression}
 use Rattle.prism_check.specs.Demands.{var_type}
 use Rattle.prism_check.specs.TypeFaults as source
 use Rattle.prism_check.specs.TypeFaults.{types}
@@ -49,7 +51,7 @@ module _ (file : prism.File) (flat : IsFlat file) (v : Valuation) (gives : Gives
 
   type_is : (x : Name) (c : prism.Const) → constant_called file x ≡ Some c → Some c.ty ≡ types file x
   type_is x c e =
-      sym (types_declared file flat x ∙ ap (λ o. source.or_else (option_map (λ c. c.ty) o) (option_map (λ v. v.ty) (source.variable_called file x))) e)
+      sym (types_declared file flat x ∙ ap (λ o. option_or (option_map (λ c. c.ty) o) (option_map (λ v. v.ty) (source.variable_called file x))) e)
 
   called_typed : (env : Name → Option Value) → AreTyped file flat env → (x : Name) (o : Option prism.Const) → constant_called file x ≡ o →
       AgreesWith (types file x) (constant_value (v x) (λ y. known (env y)) o)

@@ -24,7 +24,8 @@ use Rattle.prism_flat.specs.FlatLaws.{model-flat, is_written_out}
 use Rattle.prism_check.proofs.CleanFile.{flat_is_checked}
 use Rattle.prism_places.specs.Flattened.{IsFlat}
 use Rattle.jani_tree.specs.Syntax as jani
-use Rattle.jani_tree.specs.Places.{bare_name, bare_const, bare_file}
+use Rattle.op_trees.specs.Names.{bare_name}
+use Rattle.jani_tree.specs.Places.{bare_const, bare_file}
 use Rattle.jani_meaning.proofs.Bare.{places_mean_nothing}
 use Rattle.jani_meaning.specs.Process as jani_process
 use Rattle.name_table.specs.Asks.{new_names}

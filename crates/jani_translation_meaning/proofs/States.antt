@@ -1,7 +1,7 @@
 -- At a state each name has a value of its type; so the expressions of commands, labels and items are sound at it.
 use Rattle.std.specs.Prelude.{◌≡◌, ℕ, zero, suc, ◌<◌, List, [], ◌∷◌, map, length, Bool, true, false, cond, nat_eq, if◌then◌else◌, Option, Some, None, IsTrue, is_some, IfSome, Contains, bytes_eq, not}
-use Rattle.std.specs.List.{All, find, filter}
-use Rattle.std.specs.Option.{option_map}
+use Rattle.std.specs.List.{All, find, filter, AllByRecursion as Each}
+use Rattle.std.specs.Option.{option_map, option_or}
 use Rattle.std.proofs.Common.{refl, sym, ap, subst, ◌∙◌, arith}
 use Rattle.std.proofs.lemmas.List.Elements.{All-filter, Contains-append_right}
 use Rattle.op_trees.specs.TypeLaws.{some_agrees}
@@ -15,19 +15,20 @@ use Rattle.op_trees.specs.declared.tree.Value.{Value}
 use Rattle.op_trees.specs.declared.tree.Value.TheVariants as V
 use Rattle.op_trees.specs.Types.{AgreesWith, has_type}
 use Rattle.op_trees.specs.Seen.{Seen, known}
+use Rattle.name_rules.proofs.Plain.{no_fault}
 use Rattle.process_core.specs.Ready.{Values, Name}
 use Rattle.prism_tree.specs.Syntax as prism
-use Rattle.prism_names.specs.Names.{is_called, unchanged, see}
+use Rattle.op_trees.specs.Names.{is_called}
+use Rattle.prism_names.specs.Names.{unchanged, see}
 use Rattle.process_core.specs.Instance as instance
 use Rattle.process_core.specs.Instance.{Valuation, is_in, is_state, range_has, range_from}
 use Rattle.prism_flat.specs.Scene.{constant_called, constant, constant_names, column, columns_of, domain_of}
 use Rattle.prism_flat.specs.Moment.{value_in, names_in}
 use Rattle.prism_flat.specs.Process.{model}
-use Rattle.prism_print.specs.Printable.{Each, IfAny, IsPrintableExpression, IsPrintableItem, IsPrintableRewards}
+use Rattle.basics.specs.Options.{IfAny}
+use Rattle.prism_print.specs.Printable.{IsPrintableExpression, IsPrintableItem, IsPrintableRewards}
 use Rattle.prism_check.specs.Demands.{type_by, var_type}
-use Rattle.prism_check.specs.TypeFaults as source
 use Rattle.prism_check.specs.TypeFaults.{types}
-use Rattle.prism_check.proofs.Each.{no_fault}
 use Rattle.prism_places.specs.Flattened.{IsFlat}
 use Rattle.prism_images.specs.Laws.{IsNoNumber}
 use Rattle.prism_images.proofs.Typed.{agreeing}
@@ -47,13 +48,13 @@ use Rattle.jani_translation_meaning.proofs.Constants.{constant_typed}
 
 -- ---- a variable's name is no constant's
 -- so the type of a name is the variable's, or else the constant's
-either : (c d : Option Ty) → (IsTrue (is_some d) → c ≡ None) → source.or_else c d ≡ source.or_else d c
+either : (c d : Option Ty) → (IsTrue (is_some d) → c ≡ None) → option_or c d ≡ option_or d c
 either None None h = refl
 either None (Some d) h = refl
 either (Some c) None h = refl
 either (Some c) (Some d) h = absurd (let e : ◌≡◌ {A = Option Ty} (Some c) None = h refl in cc)
 
-first_agrees : (c d : Option Ty) (v : Option Value) → AgreesWith (source.or_else c d) v → AgreesWith c v
+first_agrees : (c d : Option Ty) (v : Option Value) → AgreesWith (option_or c d) v → AgreesWith c v
 first_agrees None d v a = record { agrees = λ t x h k. cc }
 first_agrees (Some c) d v a = a
 
@@ -86,14 +87,14 @@ module _ (old : Name → Seen) where
   length_is (y ∷ vs) (u ∷ s) h = ap suc (length_is vs s (second_true (is_in (domain_of old y.range) u) (is_state (map (column unchanged old) vs) s) h))
 
   in_typed : (x : Name) (constants : Name → Option Value) (t : Option Ty) → AgreesWith t (constants x) → (vs : List prism.Var) (s : Values) →
-      is_state (map (column unchanged old) vs) s ≡ true → AgreesWith (source.or_else (declared_type x vs) t) (value_in (map (column unchanged old) vs) s constants x)
+      is_state (map (column unchanged old) vs) s ≡ true → AgreesWith (option_or (declared_type x vs) t) (value_in (map (column unchanged old) vs) s constants x)
   in_typed x constants t a [] s h = a
   in_typed x constants t a (y ∷ vs) [] h = absurd cc
   in_typed x constants t a (y ∷ vs) (u ∷ s) h =
       by_test (bytes_eq y.name.name x) (in_typed x constants t a vs s (second_true (is_in (domain_of old y.range) u) (is_state (map (column unchanged old) vs) s) h))
     where
-      by_test : (b : Bool) → AgreesWith (source.or_else (declared_type x vs) t) (value_in (map (column unchanged old) vs) s constants x) →
-          AgreesWith (source.or_else (option_map var_type (cond b (Some y) (find (λ v. is_called x v.name) vs))) t)
+      by_test : (b : Bool) → AgreesWith (option_or (declared_type x vs) t) (value_in (map (column unchanged old) vs) s constants x) →
+          AgreesWith (option_or (option_map var_type (cond b (Some y) (find (λ v. is_called x v.name) vs))) t)
           (if b then Some u else value_in (map (column unchanged old) vs) s constants x)
       by_test true r = some_agrees (var_type y) u (in_domain y.range u (first_true (is_in (domain_of old y.range) u) (is_state (map (column unchanged old) vs) s) h))
       by_test false r = r
@@ -109,10 +110,10 @@ module _ (file : prism.File) (flat : IsFlat file) (v : Valuation) (gives : Gives
   values : length s ≡ length (variables file)
   values = length_is (constant_names file v unchanged) (variables file) s columns_state
 
-  types_are : (x : Name) → types file x ≡ source.or_else (option_map (λ c. c.ty) (constant_called file x)) (declared_type x (variables file))
-  types_are x = types_declared file flat x ∙ ap (source.or_else (option_map (λ c. c.ty) (constant_called file x))) (variable_types file flat x)
+  types_are : (x : Name) → types file x ≡ option_or (option_map (λ c. c.ty) (constant_called file x)) (declared_type x (variables file))
+  types_are x = types_declared file flat x ∙ ap (option_or (option_map (λ c. c.ty) (constant_called file x))) (variable_types file flat x)
 
-  types_turned : (x : Name) → types file x ≡ source.or_else (declared_type x (variables file)) (option_map (λ c. c.ty) (constant_called file x))
+  types_turned : (x : Name) → types file x ≡ option_or (declared_type x (variables file)) (option_map (λ c. c.ty) (constant_called file x))
   types_turned x =
       types_are x
       ∙ either (option_map (λ c. c.ty) (constant_called file x)) (declared_type x (variables file))
@@ -124,7 +125,7 @@ module _ (file : prism.File) (flat : IsFlat file) (v : Valuation) (gives : Gives
       let a = first_agrees c (declared_type x (variables file)) (constant file v x)
       (subst (λ t. AgreesWith t (constant file v x)) (types_are x) (constant_typed file flat v gives x)) in
       subst (λ t. AgreesWith t (here x)) (sym (types_turned x))
-      (subst (λ cs. AgreesWith (source.or_else (declared_type x (variables file)) c) (value_in cs s (constant file v) x)) (sym (variable_columns file v flat.form.modules))
+      (subst (λ cs. AgreesWith (option_or (declared_type x (variables file)) c) (value_in cs s (constant file v) x)) (sym (variable_columns file v flat.form.modules))
       (in_typed (constant_names file v unchanged) x (constant file v) c a (variables file) s columns_state))
 
   names_are : names_in file v s unchanged ≡ (λ x. known (here x))

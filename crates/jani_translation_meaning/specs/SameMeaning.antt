@@ -1,14 +1,12 @@
 -- A file without faults and what it is translated to mean the same process: the statement, which is proved of functions of
 -- this crate.
-use Rattle.std.specs.Prelude.{◌≡◌, ℕ, ◌+◌, ◌++◌, map, length, Bool, true, false, Option, if◌then◌else◌}
+use Rattle.std.specs.Prelude.{◌≡◌, ℕ, ◌+◌, ◌++◌, map, length, Option, if◌then◌else◌}
 use Rattle.std.specs.Option.{option_map}
 use Rattle.process_core.specs.Process.{SameProcess}
 use Rattle.process_core.specs.Ready.{Values, Name}
-use Rattle.process_core.specs.declared.data.FaultKind.{FaultKind}
-use Rattle.process_core.specs.declared.data.FaultKind.TheVariants.{ConstUndef, BoundUndef, EmptyRange, InitUndef, InitOutside}
 use Rattle.prism_tree.specs.Syntax as prism
 use Rattle.prism_names.specs.Flat.{flat}
-use Rattle.process_core.specs.Instance.{Fault, fault_of}
+use Rattle.process_core.specs.Instance.{Fault, fault_of, is_of_constant}
 use Rattle.prism_flat.specs.Process as prism_process
 use Rattle.prism_check.specs.Checked.{Checked, IsChecked}
 use Rattle.jani_tree.specs.Syntax as jani
@@ -20,12 +18,6 @@ use Rattle.jani_translation.specs.Translated.{translated}
 use Rattle.jani_translation.specs.StateLaws.{at_home}
 
 -- ---- what corresponds: constants do by their places (`Correspond`)
-abbrev pub is_of_constant : FaultKind → Bool
-is_of_constant ConstUndef = true
-is_of_constant BoundUndef = false
-is_of_constant EmptyRange = false
-is_of_constant InitUndef = false
-is_of_constant InitOutside = false
 
 -- a fault where so many elements come first: columns are the locations of the elements, and then the variables
 abbrev pub placed : ℕ → Fault → Fault

@@ -1,6 +1,6 @@
 -- The action of each command of a file is among its actions.
 use Rattle.std.specs.Prelude.{◌≡◌, List, [], ◌∷◌, ◌++◌, true, false, Option, Some, None, bytes_eq}
-use Rattle.std.specs.List.{flat_map, list_any}
+use Rattle.std.specs.List.{flat_map, list_any, AllByRecursion as Each}
 use Rattle.std.proofs.Common.{◌∙◌}
 use Rattle.std.proofs.lemmas.List.Folds.{list_any-append}
 use Rattle.std.proofs.lemmas.Slice.Eq.{bytes_eq-Decides}
@@ -8,10 +8,10 @@ use Rattle.std.proofs.lemmas.Bool.{or_left, or_right}
 use Rattle.basics.specs.Texts.{bytes_eq-self}
 use Rattle.basics.specs.Each.{each_then}
 use Rattle.bridge_io.specs.declared.reason.Named.{Named}
-use Rattle.process_core.specs.Ready.{Name, if_some}
+use Rattle.basics.specs.Options.{if_some, IfAny}
+use Rattle.process_core.specs.Ready.{Name}
 use Rattle.process_core.proofs.Targets.{any_firsts}
 use Rattle.prism_tree.specs.Syntax.{Command, Body, File}
-use Rattle.prism_print.specs.Printable.{Each, IfAny}
 use Rattle.name_table.specs.Asks.{bodies, actions, action_of, called}
 
 abbrev pub IsAction : File → Name → Type 0

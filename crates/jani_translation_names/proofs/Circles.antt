@@ -1,6 +1,6 @@
 -- No constant of a translated file depends on itself.
 use Rattle.std.specs.Prelude.{◌≡◌, ℕ, zero, suc, List, [], ◌∷◌, ◌++◌, map, length, take, Bool, true, false, ◌||◌, Option, Some, None, bytes_eq, Contains, if◌then◌else◌}
-use Rattle.std.specs.List.{flat_map, filter, list_any, zip}
+use Rattle.std.specs.List.{flat_map, filter, list_any, zip, AllByRecursion as Each}
 use Rattle.std.specs.Option.{option_map}
 use Rattle.std.proofs.Common.{refl, sym, ap, ap₂, subst, ◌∙◌, append-nil}
 use Rattle.std.proofs.Math.Path.{fun_ext}
@@ -17,15 +17,15 @@ use Rattle.op_trees.specs.Names.{names_of as names_in}
 use Rattle.process_core.specs.Ready.{Name}
 use Rattle.prism_tree.specs.Syntax as prism
 use Rattle.prism_flat.specs.Kept.{IsWrittenOut}
-use Rattle.prism_print.specs.Printable.{Each}
 use Rattle.name_rules.specs.Uses.{used}
+use Rattle.name_rules.proofs.Plain.{no_fault, fault_none}
 use Rattle.prism_check.specs.NameFaults as pc
 use Rattle.prism_check.specs.NameFaults.{Declared, declarations}
-use Rattle.prism_check.proofs.Each as lists
 use Rattle.jani_tree.specs.Syntax.{Const}
 use Rattle.jani_check.specs.NameFaults.{uses, uses_of, leads_to, is_circular, circular}
 use Rattle.name_table.specs.declared.entry.Entry.{Entry}
 use Rattle.prism_images.specs.Image.{image}
+use Rattle.jani_translation_names.proofs.Unknown.{one_names}
 use Rattle.prism_places.specs.Flattened.{IsFlat}
 use Rattle.name_table.specs.Asks.{variables, value_names, entries, new_names}
 use Rattle.jani_translation.specs.Parts.{constant}
@@ -33,8 +33,7 @@ use Rattle.jani_translation.proofs.Clean.{no_faults, values_distinct}
 use Rattle.jani_translation.proofs.Fresh.{values_agree, agrees_front, Takes, takes_from}
 use Rattle.jani_translation.proofs.Differ.{values_differ}
 use Rattle.jani_translation_names.specs.Laws.{NoCircles}
-use Rattle.jani_translation_names.proofs.Unknown.{one_names}
-use Rattle.jani_translation_names.proofs.Doubled.{names_of, no_fault, each_contained}
+use Rattle.jani_translation_names.proofs.Doubled.{names_of, each_contained}
 
 -- ---- names of images
 abbrev bytes_of : List Named → List Name
@@ -132,8 +131,8 @@ module _ (new : Name → Name) (IsOld : Name → Type 0) (alike : (x y : Name) �
     none_circular (d ∷ ds) [] h k = absurd h
     none_circular (d ∷ ds) (u ∷ us) h k =
         append_both (circular (images cs es) (constant new d u)) (flat_map (circular (images cs es)) (images ds us))
-        (no_fault (is_circular (images cs es) (constant new d u)) d.name.at Cycle
-        (circular_alike d u h.0 h.1 ∙ lists.no_fault (pc.is_circular (map declared cs) (declared d)) d.name.at Cycle k.0))
+        (fault_none (is_circular (images cs es) (constant new d u)) d.name.at Cycle
+        (circular_alike d u h.0 h.1 ∙ no_fault (pc.is_circular (map declared cs) (declared d)) d.name.at Cycle k.0))
         (none_circular ds us h.2 k.1)
 
   goes_from : (cs : List prism.Const) (es : List Entry) → Takes new (map (λ c. c.name.name) cs) es → Each (λ c. IsOld c.name.name) cs → Goes cs (take (length cs) es)

@@ -1,7 +1,7 @@
 -- The composition of a translated file: each automaton takes part once, and each vector has a part for each, with some that
 -- takes part.
 use Rattle.std.specs.Prelude.{◌≡◌, ℕ, ◌+◌, List, [], ◌∷◌, map, length, Bool, true, false, not, ◌||◌, Option, Some, None, is_some, nat_eq, bytes_eq, if◌then◌else◌}
-use Rattle.std.specs.List.{flat_map, list_any}
+use Rattle.std.specs.List.{flat_map, list_any, AllByRecursion as Each}
 use Rattle.std.proofs.Common.{refl, sym, ap, ap₂, ◌∙◌, arith, length-append, eq-eqb}
 use Rattle.std.proofs.lemmas.Bool.Decides.{nat_tests}
 use Rattle.std.proofs.lemmas.List.{length-map}
@@ -13,14 +13,14 @@ use Rattle.basics.specs.Texts.{bytes_eq_comm}
 use Rattle.basics.specs.Lists.{append_both}
 use Rattle.basics.specs.Each.{each_map, each_join, each_empty}
 use Rattle.bridge_io.specs.declared.reason.Reason.TheVariants.{Nothing, BadVector, RepeatedAutomaton}
-use Rattle.process_core.specs.Ready.{Name, if_some, same_label}
+use Rattle.name_rules.proofs.Plain.{no_fault, fault_none, not_doubled}
+use Rattle.basics.specs.Options.{if_some}
+use Rattle.process_core.specs.Ready.{Name, same_label}
 use Rattle.process_core.proofs.Targets.{any_firsts}
 use Rattle.prism_tree.specs.Syntax as prism
 use Rattle.prism_tree.specs.Syntax.{Body}
 use Rattle.process_core.specs.Instance.{numbered, only_if}
-use Rattle.prism_print.specs.Printable.{Each}
 use Rattle.prism_check.specs.NameFaults as pc
-use Rattle.prism_check.proofs.Each as lists
 use Rattle.jani_tree.specs.Syntax.{Vector}
 use Rattle.jani_check.specs.NameFaults.{automaton_names, doubled_names, unknown_names, circles, repeated_elements, no_element, bad_vector, composition_faults}
 use Rattle.name_table.specs.Asks.{bodies, actions, action_of, new_names}
@@ -34,7 +34,7 @@ use Rattle.jani_translation.proofs.Watched.{n_numbered}
 use Rattle.jani_translation_names.specs.Laws.{NoCompositionFaults, NoNameFaults}
 use Rattle.jani_translation_names.proofs.Actions.{IsAction, actions_among}
 use Rattle.jani_translation_names.proofs.Form.{each_only, each_numbered}
-use Rattle.jani_translation_names.proofs.Doubled.{no_fault, not_doubled, automata_apart, none_doubled}
+use Rattle.jani_translation_names.proofs.Doubled.{automata_apart, none_doubled}
 use Rattle.jani_translation_names.proofs.Unknown.{none_unknown}
 use Rattle.jani_translation_names.proofs.Circles.{no_circles}
 
@@ -74,7 +74,7 @@ module _ (file : prism.File) where
   IsFine v = bad_vector n v ≡ []
 
   fine : (v : Vector) → length v.parts ≡ n → list_any is_some v.parts ≡ true → IsFine v
-  fine v l s = no_fault (not (nat_eq (length v.parts) n) || not (list_any is_some v.parts)) v.at BadVector (neither (nat_eq (length v.parts) n) (list_any is_some v.parts) (eq-eqb (length v.parts) n l) s)
+  fine v l s = fault_none (not (nat_eq (length v.parts) n) || not (list_any is_some v.parts)) v.at BadVector (neither (nat_eq (length v.parts) n) (list_any is_some v.parts) (eq-eqb (length v.parts) n l) s)
 
   taking_part : (a : Name) (ms : List Body) → list_any (λ m. has_command a m) ms ≡ true →
       list_any is_some (map (λ m. part_if (has_command a m) (made ((new_names file).action a))) ms) ≡ true
@@ -121,7 +121,7 @@ module _ (file : prism.File) where
   -- ---- elements
   some_element : pc.no_module file ≡ [] → nat_eq n 0 ≡ false
   some_element h =
-      let m = lists.no_fault (nat_eq (length file.modules) 0) file.end Nothing h in
+      let m = no_fault (nat_eq (length file.modules) 0) file.end Nothing h in
       more (length file.modules) n m (let o = one_automaton_each file in let l = length-map (translated file).automata (λ a. a.name) in (if has_monitor file then 1 else 0, l ∙ o))
     where
       more : (i j : ℕ) → nat_eq i 0 ≡ false → (k : ℕ) × (j ≡ i + k) → nat_eq j 0 ≡ false
@@ -132,7 +132,7 @@ no_composition_faults file flat =
     let t = translated file in
     append_both (repeated_elements t) _ (not_doubled RepeatedAutomaton (automaton_names t) (automata_apart file))
     (append_both (no_element t) (flat_map (bad_vector (length t.elements)) t.vectors)
-    (no_fault (nat_eq (length t.elements) 0) t.elements_at Nothing (some_element file (no_faults file flat).modules))
+    (fault_none (nat_eq (length t.elements) 0) t.elements_at Nothing (some_element file (no_faults file flat).modules))
     (each_empty (bad_vector (length t.elements)) t.vectors (vectors_fine file)))
 
 pub no_name_faults : (file : prism.File) → NoNameFaults file

@@ -1,6 +1,6 @@
 -- No two names of a translated file that have to differ are the same.
-use Rattle.std.specs.Prelude.{◌≡◌, ◌≢◌, ℕ, zero, suc, ◌+◌, max, List, [], ◌∷◌, ◌++◌, map, length, take, drop, Bool, true, false, Option, Some, None, slice_get, bytes_eq, Contains}
-use Rattle.std.specs.List.{All, AllByRecursion, flat_map, zip}
+use Rattle.std.specs.Prelude.{◌≡◌, ◌≢◌, ℕ, zero, suc, ◌+◌, List, [], ◌∷◌, ◌++◌, map, length, take, drop, Bool, true, false, Option, Some, None, slice_get, bytes_eq, Contains}
+use Rattle.std.specs.List.{All, flat_map, zip, AllByRecursion as Each}
 use Rattle.std.proofs.Common.{refl, sym, ap, ap₂, subst, ◌∙◌, arith}
 use Rattle.std.proofs.lemmas.List.{map-append}
 use Rattle.std.proofs.lemmas.List.Concat.{flat_map-append}
@@ -8,19 +8,17 @@ use Rattle.std.proofs.lemmas.List.Elements.{All-head, All-tail}
 use Rattle.std.proofs.lemmas.Slice.Eq.{bytes_eq-Decides}
 use Rattle.basics.specs.Texts.{bytes_ne}
 use Rattle.basics.specs.Lists.{append_both}
-use Rattle.basics.specs.Each.{each_then, each_with, each_map, map_each, each_join, each_empty, each_any}
+use Rattle.basics.specs.Each.{each_then, each_with, each_map, each_join, each_any}
 use Rattle.bridge_io.specs.declared.reason.Named.{Named}
-use Rattle.bridge_io.specs.declared.reason.Reason.{Reason}
 use Rattle.bridge_io.specs.declared.reason.Reason.TheVariants.{TwiceNamed}
 use Rattle.process_core.specs.Ready.{Name}
 use Rattle.process_core.specs.Product.{map-map}
 use Rattle.process_core.proofs.Targets.{Distinct, firsts_distinct}
 use Rattle.prism_tree.specs.Syntax as prism
 use Rattle.process_core.specs.Instance.{only_if}
-use Rattle.prism_print.specs.Printable.{Each}
 use Rattle.jani_tree.specs.Syntax.{Write, Automaton}
-use Rattle.jani_check.specs.Least.{fault_if}
-use Rattle.jani_check.specs.NameFaults.{clash, doubled_after, doubled, var_names, global_names, automaton_names, doubled_in}
+use Rattle.name_rules.proofs.Plain.{Apart, not_doubled}
+use Rattle.jani_check.specs.NameFaults.{doubled, var_names, global_names, automaton_names, doubled_in}
 use Rattle.name_table.specs.declared.entry.Entry.{Entry}
 use Rattle.name_table.proofs.Parts.{get_part, values_apart}
 use Rattle.name_table.specs.Asks.{bodies, variables, actions, entries, some_from, NewNames, new_names, labels_at}
@@ -33,34 +31,9 @@ use Rattle.jani_translation.proofs.Elements.{IsOther, AreLone, automata_lone}
 use Rattle.jani_translation_names.specs.Laws.{NoDoubledNames}
 
 -- ---- names that stand once
-abbrev pub Apart : List Name → Type 0
-Apart [] = Unit {0}
-Apart (x ∷ xs) = Each (λ y. bytes_eq x y ≡ false) xs × Apart xs
-
-pub no_fault : (b : Bool) (at : ℕ) (r : Reason) → b ≡ false → fault_if b at r ≡ []
-no_fault true at r e = absurd cc
-no_fault false at r e = refl
 
 abbrev pub names_of : List Named → List Name
 names_of ns = map (λ n. n.name) ns
-
-not_doubled_after : (r : Reason) (earlier ns : List Named) → Each (λ n. Each (λ m. bytes_eq m.name n.name ≡ false) earlier) ns → Apart (names_of ns) →
-    doubled_after r earlier ns ≡ []
-not_doubled_after r earlier [] h a = refl
-not_doubled_after r earlier (n ∷ ns) h a =
-    append_both (flat_map (clash r n) earlier) (doubled_after r (n ∷ earlier) ns)
-    (each_empty (clash r n) earlier
-    (each_then (λ m. bytes_eq m.name n.name ≡ false) (λ m. clash r n m ≡ []) (λ m e. no_fault (bytes_eq m.name n.name) (max m.at n.at) r e) earlier h.0))
-    (not_doubled_after r (n ∷ earlier) ns
-    (each_with (λ m. bytes_eq n.name m.name ≡ false) (λ m. Each (λ k. bytes_eq k.name m.name ≡ false) earlier) (λ m. Each (λ k. bytes_eq k.name m.name ≡ false) (n ∷ earlier))
-    (λ m p q. (p, q)) ns (map_each (λ y. bytes_eq n.name y ≡ false) (λ m. m.name) ns a.0) h.1) a.1)
-
-no_earlier : (ns : List Named) → Each (λ n. Each {A = Named} (λ m. bytes_eq m.name n.name ≡ false) []) ns
-no_earlier [] = tt
-no_earlier (n ∷ ns) = (tt, no_earlier ns)
-
-pub not_doubled : (r : Reason) (ns : List Named) → Apart (names_of ns) → doubled r ns ≡ []
-not_doubled r ns a = not_doubled_after r [] ns (no_earlier ns) a
 
 -- one more at the end, perhaps
 apart_end : (b : Bool) (y : Name) (xs : List Name) → Apart xs → Each (λ x. bytes_eq x y ≡ false) xs → Apart (xs ++ only_if b y)
@@ -120,7 +93,7 @@ lone_apart : (as_ : List Automaton) → AreLone as_ → Apart (names_of (map (λ
 lone_apart [] h = tt
 lone_apart (a ∷ as_) h = (others as_ h.0, lone_apart as_ h.1)
   where
-    others : (bs : List Automaton) → AllByRecursion (IsOther a) bs → Each (λ y. bytes_eq a.name.name y ≡ false) (names_of (map (λ b. b.name) bs))
+    others : (bs : List Automaton) → Each (IsOther a) bs → Each (λ y. bytes_eq a.name.name y ≡ false) (names_of (map (λ b. b.name) bs))
     others [] k = tt
     others (b ∷ bs) k = (k.0, others bs k.1)
 

@@ -1,12 +1,11 @@
 -- The new names of a file: of each entry, of the names that are known and of the actions.
 use Rattle.std.specs.Prelude.{◌≡◌, ℕ, ◌≤◌, List, [], ◌∷◌, length, drop, Bool, true, false, ◌||◌, Some, slice_get, bytes_eq, if◌then◌else◌}
-use Rattle.std.specs.List.{list_any}
+use Rattle.std.specs.List.{list_any, AllByRecursion as Each}
 use Rattle.std.proofs.Common.{refl, arith, length-drop}
 use Rattle.basics.specs.Each.{each_at, each_take, each_drop}
 use Rattle.process_core.specs.Ready.{Name}
 use Rattle.prism_tree.specs.Syntax as prism
-use Rattle.prism_print.specs.Printable.{Each}
-use Rattle.jani_tree.specs.Form.{HasItems}
+use Rattle.basics.specs.Lists.{IsNotEmpty as HasItems}
 use Rattle.name_table.specs.declared.entry.Entry.{Entry}
 use Rattle.name_table.specs.Asks.{entries, some_from, new_name, value_names, new_names, actions, actions_at}
 use Rattle.jani_translation.proofs.Each.{n_entries}

@@ -1,9 +1,9 @@
 -- A translated file has the form of a file that is read.
 use Rattle.std.specs.Prelude.{ℕ, ◌+◌, List, [], ◌∷◌, ◌++◌, map, length, Bool, true, false, Option, Some, None, nat_eq, if◌then◌else◌}
-use Rattle.std.specs.List.{filter, zip}
+use Rattle.std.specs.List.{filter, zip, AllByRecursion as Each}
 use Rattle.std.specs.Option.{option_map}
 use Rattle.std.proofs.Common.{refl}
-use Rattle.basics.specs.Each.{each_map, each_join, each_zip, each_filter, each_flat, each_any}
+use Rattle.basics.specs.Each.{each_map, each_join, each_zip, each_filter, each_flat, each_any, any_map}
 use Rattle.bridge_io.specs.declared.reason.Named.{Named}
 use Rattle.op_trees.specs.Tree.{Truth, Number, Name as At, One, Two, Three, AllNumbers}
 use Rattle.op_trees.specs.SeenLaws.{names_then}
@@ -11,12 +11,12 @@ use Rattle.process_core.specs.Ready.{Name}
 use Rattle.prism_tree.specs.Syntax as prism
 use Rattle.prism_tree.specs.declared.syntax.ItemOn.{ItemOn}
 use Rattle.process_core.specs.Instance.{numbered, only_if}
-use Rattle.prism_print.specs.Printable.{Each, IfAny, IsPrintableExpression, AreBranches}
-use Rattle.prism_check.proofs.Each.{any_map}
+use Rattle.basics.specs.Options.{IfAny}
+use Rattle.prism_print.specs.Printable.{IsPrintableExpression, AreBranches}
 use Rattle.jani_table.specs.declared.operator.JaniOp.TheVariants.{Add}
-use Rattle.jani_tree.specs.Canonical.{OfSome, OfAll}
 use Rattle.jani_tree.specs.Syntax.{Expression, Write, Edge, Automaton}
-use Rattle.jani_tree.specs.Form.{HasItems, IsNormal, NameForm, ExprForm, KindForm, ConstRead, VarRead, WriteRead, DestinationRead, EdgeRead, AutomatonRead, PartForm, VectorRead}
+use Rattle.basics.specs.Lists.{IsNotEmpty as HasItems}
+use Rattle.jani_tree.specs.Form.{IsNormal, NameForm, ExprForm, KindForm, ConstRead, VarRead, WriteRead, DestinationRead, EdgeRead, AutomatonRead, PartForm, VectorRead}
 use Rattle.name_table.specs.declared.entry.Entry.{Entry}
 use Rattle.prism_images.specs.Image.{image}
 use Rattle.prism_images.specs.Laws.{HasItsOperands}
@@ -31,13 +31,6 @@ use Rattle.jani_translation_names.proofs.Entries.{names_from, known_name, action
 use Rattle.jani_translation_names.proofs.Actions.{IsAction, HasAction, actions_among, actions_of_commands}
 
 -- ---- lists
-of_all : {A : Type 0} (P : A → Type 0) (xs : List A) → Each P xs → OfAll P xs
-of_all P [] h = tt
-of_all P (x ∷ xs) h = (h.0, of_all P xs h.1)
-
-of_some : {A : Type 0} (P : A → Type 0) (o : Option A) → IfAny P o → OfSome P o
-of_some P None h = tt
-of_some P (Some x) h = h
 
 pub each_only : {A : Type 0} (P : A → Type 0) (b : Bool) (x : A) → P x → Each P (only_if b x)
 each_only P true x h = (h, tt)
@@ -89,8 +82,8 @@ module _ (file : prism.File) where
       form_kept names.value e (operands e g.0) (literals e g.0)
       (names_then (IsKnown file) (λ x. HasItems (names.value x)) (λ x k. known_name file x k) e g.1)
 
-  forms : (o : Option prism.Expression) → IfAny (Good file) o → OfSome (ExprForm HasItems) (option_map (image names.value) o)
-  forms o g = of_some (ExprForm HasItems) (option_map (image names.value) o) (any_map (Good file) (ExprForm HasItems) (image names.value) form o g)
+  forms : (o : Option prism.Expression) → IfAny (Good file) o → IfAny (ExprForm HasItems) (option_map (image names.value) o)
+  forms o g = any_map (Good file) (ExprForm HasItems) (image names.value) form o g
 
   -- ---- constants and variables
   constant_read : (c : prism.Const) (e : Entry) → GoodConst file c → HasName e → (ConstRead HasItems) (constant names.value c e)
@@ -156,14 +149,14 @@ module _ (file : prism.File) where
   destination_read b g = record {
     location = loc_name;
     weight = forms b.weight g.0;
-    writes = of_all (WriteRead HasItems) (map (write names) b.writes) (each_map (GoodWrite file) (WriteRead HasItems) (write names) write_read b.writes g.1);
+    writes = each_map (GoodWrite file) (WriteRead HasItems) (write names) write_read b.writes g.1;
   }
 
   some_branch : (bs : List prism.Branch) → AreBranches bs → HasItems (map (destination names) bs)
   some_branch [] h = h
   some_branch (b ∷ bs) h = tt
 
-  action_form : (silently : Bool) (o : Option Named) → IfAny (λ a. IsAction file a.name) o → OfSome (NameForm HasItems) (edge_action names silently o)
+  action_form : (silently : Bool) (o : Option Named) → IfAny (λ a. IsAction file a.name) o → IfAny (NameForm HasItems) (edge_action names silently o)
   action_form true None h = silent_name
   action_form false None h = tt
   action_form silently (Some a) h = action_name file a.name h
@@ -173,7 +166,7 @@ module _ (file : prism.File) where
     location = loc_name;
     action = action_form silently c.action a;
     guard = form c.guard g.0;
-    destinations = of_all (DestinationRead HasItems) (map (destination names) c.branches) (each_map (GoodBranch file) (DestinationRead HasItems) (destination names) destination_read c.branches g.2);
+    destinations = each_map (GoodBranch file) (DestinationRead HasItems) (destination names) destination_read c.branches g.2;
     some = some_branch c.branches g.1;
   }
 
@@ -186,10 +179,10 @@ module _ (file : prism.File) where
   automaton_read x ws es n w e = record {
     name = n;
     variables = tt;
-    locations = (record { name = loc_name; values = of_all (WriteRead HasItems) ws w }, tt);
+    locations = (record { name = loc_name; values = w }, tt);
     initial = (loc_name, tt);
     begins = tt;
-    edges = of_all (EdgeRead HasItems) es e;
+    edges = e;
   }
 
   modules_read : (silently : Bool) (ws : List Write) (ms : List prism.Body) (es : List Entry) → Each (WriteRead HasItems) ws → Each (GoodBody file) ms →
@@ -207,7 +200,7 @@ module _ (file : prism.File) where
     location = loc_name;
     action = n;
     guard = tt;
-    destinations = (record { location = loc_name; weight = tt; writes = of_all (WriteRead HasItems) (rewards_of names wanted file.rewards) (rewards_read wanted g) }, tt);
+    destinations = (record { location = loc_name; weight = tt; writes = rewards_read wanted g }, tt);
     some = tt;
   }
 
@@ -236,7 +229,6 @@ module _ (file : prism.File) where
   silent_read : (i : ℕ) → (VectorRead HasItems) (silent_vector file i)
   silent_read i = record {
     parts =
-        of_all (PartForm HasItems) (numbered (λ k m. part_if (nat_eq i k) zz_silent ∷ []) 0 (bodies file) ++ Some zz_silent ∷ [])
         (each_join (PartForm HasItems) (numbered (λ k m. part_if (nat_eq i k) zz_silent ∷ []) 0 (bodies file)) (Some zz_silent ∷ [])
         (each_numbered (PartForm HasItems) (λ k m. part_if (nat_eq i k) zz_silent ∷ []) (λ k m. (part_form (nat_eq i k) zz_silent silent_name, tt)) 0 (bodies file))
         (silent_name, tt));
@@ -253,8 +245,6 @@ module _ (file : prism.File) where
       let n = action_name file a h in
       record {
         parts =
-            of_all (PartForm HasItems)
-            (map (λ m. part_if (has_command a m) (made (names.action a))) (bodies file) ++ only_if (has_monitor file) (part_if (has_items (for_action a) file) (made (names.action a))))
             (each_join (PartForm HasItems) (map (λ m. part_if (has_command a m) (made (names.action a))) (bodies file))
             (only_if (has_monitor file) (part_if (has_items (for_action a) file) (made (names.action a))))
             (each_any (PartForm HasItems) (λ m. part_if (has_command a m) (made (names.action a))) (λ m. part_form (has_command a m) (made (names.action a)) n) (bodies file))
@@ -306,11 +296,11 @@ translated_has_form file flat =
     let g = is_good file flat in
     let as_ = automata_read file g in
     record {
-      actions = of_all (NameForm HasItems) (translated file).actions (actions_form file);
-      constants = of_all (ConstRead HasItems) (translated file).constants (constants_read file g.constants);
-      variables = of_all (VarRead HasItems) (translated file).variables (variables_read file g);
-      automata = of_all (AutomatonRead HasItems) (translated file).automata as_;
-      elements = of_all (NameForm HasItems) (translated file).elements (elements_form file (translated file).automata as_);
-      vectors = of_all (VectorRead HasItems) (translated file).vectors (vectors_read file);
+      actions = actions_form file;
+      constants = constants_read file g.constants;
+      variables = variables_read file g;
+      automata = as_;
+      elements = elements_form file (translated file).automata as_;
+      vectors = vectors_read file;
       properties = tt;
     }

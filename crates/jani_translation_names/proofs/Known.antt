@@ -1,8 +1,8 @@
 -- What is known of a PRISM file that has no fault and is written out: its expressions may be spelled, and their names are those
 -- of its constants and variables.
-use Rattle.std.specs.Prelude.{◌≡◌, List, [], ◌∷◌, ◌++◌, map, Bool, true, not, ◌||◌, Option, Some, None, is_some, bytes_eq}
-use Rattle.std.specs.List.{flat_map, list_any, list_all}
-use Rattle.std.proofs.Common.{refl, sym, ap, ◌∙◌}
+use Rattle.std.specs.Prelude.{◌≡◌, List, [], ◌∷◌, ◌++◌, map, Bool, true, not, Option, Some, None, is_some, bytes_eq}
+use Rattle.std.specs.List.{flat_map, list_any, list_all, AllByRecursion as Each}
+use Rattle.std.proofs.Common.{sym, ap, ◌∙◌}
 use Rattle.std.proofs.lemmas.Bool.{and_parts, not-false}
 use Rattle.basics.specs.Lists.{append_parts}
 use Rattle.basics.specs.Each.{each_then, each_with, map_each, each_join, each_parts, each_of, empty_each}
@@ -11,14 +11,16 @@ use Rattle.bridge_io.specs.declared.reason.Reason.TheVariants.{Unknown}
 use Rattle.op_trees.specs.declared.tree.Ty.{Ty}
 use Rattle.op_trees.specs.Tree.{AllNames}
 use Rattle.op_trees.specs.Names.{names_of}
-use Rattle.process_core.specs.Ready.{Name, if_some}
+use Rattle.name_rules.proofs.Plain.{no_fault, among_names}
+use Rattle.basics.specs.Options.{if_some, IfAny}
+use Rattle.process_core.specs.Ready.{Name}
 use Rattle.prism_tree.specs.Syntax.{Expression, Const, Range, Var, Label, Write, Branch, Command, Body, Module, plain, copied, Item, Rewards, File}
 use Rattle.prism_names.specs.Names.{part_of}
 use Rattle.prism_flat.specs.Kept.{is_plain, IsWrittenOut}
-use Rattle.prism_print.specs.Printable.{Each, IfAny, IsPrintableExpression, IsPrintableConst, IsPrintableRange, IsPrintableVar, IsPrintableLabel, IsPrintableWrite, IsPrintableBranch, AreBranches, IsPrintableCommand, IsPrintableModule, IsPrintableItem, IsPrintableRewards}
-use Rattle.prism_check.specs.Demands.{Demand, fixed, written, wanted_by, var_type, const_demands, range_demands, var_demands, branch_demands, command_demands, part_demands, label_demands, item_demands, rewards_demands, formula_demands, outer_demands}
+use Rattle.prism_print.specs.Printable.{IsPrintableExpression, IsPrintableConst, IsPrintableRange, IsPrintableVar, IsPrintableLabel, IsPrintableWrite, IsPrintableBranch, AreBranches, IsPrintableCommand, IsPrintableModule, IsPrintableItem, IsPrintableRewards}
+use Rattle.op_trees.specs.Wanted.{wanted_by}
+use Rattle.prism_check.specs.Demands.{Demand, fixed, written, var_type, const_demands, range_demands, var_demands, branch_demands, command_demands, part_demands, label_demands, item_demands, rewards_demands, formula_demands, outer_demands}
 use Rattle.prism_check.specs.NameFaults.{is_among, values, unless_known, unknown, unknown_in}
-use Rattle.prism_check.proofs.Each.{no_fault}
 use Rattle.prism_check.proofs.NamesIn.{listed_names}
 use Rattle.prism_places.specs.Flattened.{IsFlat}
 use Rattle.name_table.specs.Asks.{contents, bodies, variables, value_names}
@@ -75,9 +77,6 @@ pub record IsGood (file : File) : Type 0 where
   pub rewards : Each (GoodRewards file) file.rewards
 
 -- ---- the names of constants and variables
-among_names : (ns : List Named) (x : Name) → is_among ns x ≡ list_any (λ y. bytes_eq y x) (map (λ n. n.name) ns)
-among_names [] x = refl
-among_names (n ∷ ns) x = ap (λ b. bytes_eq n.name x || b) (among_names ns x)
 
 -- ---- expressions
 module _ (file : File) (w : IsWrittenOut file) where

@@ -1,6 +1,6 @@
 -- Every name that a translated file uses is declared.
 use Rattle.std.specs.Prelude.{◌≡◌, ℕ, zero, suc, ◌+◌, ◌≤◌, List, [], ◌∷◌, ◌++◌, map, length, take, drop, Bool, true, false, not, ◌||◌, Option, Some, None, nat_eq, bytes_eq, if◌then◌else◌}
-use Rattle.std.specs.List.{flat_map, filter, list_any, zip}
+use Rattle.std.specs.List.{flat_map, filter, list_any, zip, AllByRecursion as Each}
 use Rattle.std.specs.Option.{option_map}
 use Rattle.std.proofs.Common.{refl, sym, ap, subst, ◌∙◌, arith, length-append}
 use Rattle.std.proofs.lemmas.List.{length-map}
@@ -15,17 +15,19 @@ use Rattle.bridge_io.specs.declared.reason.Fault.{Fault}
 use Rattle.op_trees.specs.declared.tree.Ty.{Ty}
 use Rattle.op_trees.specs.Tree.{Tree, Truth, Number, Name as At, One, Two, Three, AllNames}
 use Rattle.op_trees.specs.Names.{names_of as names_in}
+use Rattle.name_rules.proofs.Plain.{fault_none, among_names}
 use Rattle.process_core.specs.Ready.{Name}
-use Rattle.prism_tree.specs.declared.operator.PrismOp.{PrismOp}
-use Rattle.prism_tree.specs.declared.operator.PrismOp.TheVariants as P
 use Rattle.prism_tree.specs.declared.syntax.ItemOn.{ItemOn}
 use Rattle.prism_tree.specs.Syntax as prism
 use Rattle.process_core.specs.Instance.{numbered, only_if}
-use Rattle.prism_print.specs.Printable.{Each, IfAny}
-use Rattle.jani_table.specs.declared.operator.JaniOp.{JaniOp}
 use Rattle.jani_table.specs.declared.operator.JaniOp.TheVariants.{Add}
 use Rattle.jani_tree.specs.Syntax.{Expression, Const, Var, Write, Destination, Edge, Automaton, Vector}
-use Rattle.jani_check.specs.Demands.{Demand, fixed, assigned, given, if_some, wanted_by, const_demands, bound_demands, var_demands, destination_demands, edge_demands, automaton_demands, outer_demands}
+use Rattle.basics.specs.Options.{if_some, IfAny}
+use Rattle.op_trees.specs.Wanted.{wanted_by}
+use Rattle.prism_tree.specs.declared.operator.PrismOp.{PrismOp}
+use Rattle.prism_tree.specs.declared.operator.PrismOp.TheVariants as P
+use Rattle.jani_table.specs.declared.operator.JaniOp.{JaniOp}
+use Rattle.jani_check.specs.Demands.{Demand, fixed, assigned, given, const_demands, bound_demands, var_demands, destination_demands, edge_demands, automaton_demands, outer_demands}
 use Rattle.jani_check.specs.NameFaults.{is_among, global_names, automaton_names, unless_known, unknown_by, edge_locations, locations_used, actions_used, unknown_in, vector_actions}
 use Rattle.name_table.specs.declared.entry.Entry.{Entry}
 use Rattle.prism_images.specs.Image.{image, image_one}
@@ -38,15 +40,12 @@ use Rattle.jani_translation_names.specs.Laws.{NoUnknownNames}
 use Rattle.jani_translation_names.proofs.Known.{IsKnown, Good, GoodConst, GoodRange, GoodVar, GoodLabel, GoodWrite, GoodBranch, GoodCommand, GoodBody, GoodItem, GoodRewards, IsGood, is_good}
 use Rattle.jani_translation_names.proofs.Actions.{Has, IsAction, HasAction, front, back, each_among, actions_among, actions_of_commands}
 use Rattle.jani_translation_names.proofs.Form.{each_only, each_numbered}
-use Rattle.jani_translation_names.proofs.Doubled.{names_of, entry_names, no_fault, names, cs, vs, ls, rs, values_named, actions_named}
+use Rattle.jani_translation_names.proofs.Doubled.{names_of, entry_names, names, cs, vs, ls, rs, values_named, actions_named}
 
 -- ---- names that are declared
-among_names : (ns : List Named) (x : Name) → is_among ns x ≡ list_any (λ y. bytes_eq y x) (names_of ns)
-among_names [] x = refl
-among_names (n ∷ ns) x = ap (λ b. bytes_eq n.name x || b) (among_names ns x)
 
 is_known : (known : Name → Bool) (n : Named) → known n.name ≡ true → unless_known known n ≡ []
-is_known known n h = no_fault (not (known n.name)) n.at Unknown (ap not h)
+is_known known n h = fault_none (not (known n.name)) n.at Unknown (ap not h)
 
 is_declared : (ns : List Named) (n : Named) → Has (names_of ns) n.name → unless_known (is_among ns) n ≡ []
 is_declared ns n h = is_known (is_among ns) n (among_names ns n.name ∙ h)

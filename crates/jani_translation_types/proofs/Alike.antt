@@ -1,20 +1,19 @@
 -- What new names stand for in the translated file.
 use Rattle.std.specs.Prelude.{◌≡◌, ℕ, zero, suc, List, [], ◌∷◌, ◌++◌, map, length, drop, Bool, true, false, not, ◌&&◌, is_some, cond, if◌then◌else◌, Option, Some, None, slice_get, bytes_eq}
 use Rattle.std.specs.List.{find, zip}
-use Rattle.std.specs.Option.{option_map}
+use Rattle.std.specs.Option.{option_map, option_or as or_else}
 use Rattle.std.proofs.Common.{refl, sym, ap, ap₂, ◌∙◌, append-nil}
 use Rattle.basics.specs.Texts.{bytes_ne}
 use Rattle.bridge_io.specs.declared.reason.Named.{Named}
 use Rattle.op_trees.specs.declared.tree.Ty.{Ty}
 use Rattle.process_core.specs.Ready.{Name}
 use Rattle.prism_tree.specs.Syntax as prism
-use Rattle.prism_names.specs.Names as source_names
 use Rattle.prism_check.specs.Demands.{type_by, var_type}
 use Rattle.prism_check.specs.TypeFaults as source
 use Rattle.prism_check.specs.TypeFaults.{types}
 use Rattle.prism_places.specs.Flattened.{IsFlat}
 use Rattle.jani_tree.specs.Syntax.{Expression, Const, VarKind, boolean, integer, Var}
-use Rattle.jani_check.specs.Things.{is_called, kind_type, const_thing, var_thing, or_else, thing_type, global_thing, types_by, is_transient}
+use Rattle.jani_check.specs.Things.{is_called, kind_type, const_thing, var_thing, thing_type, global_thing, types_by, is_transient}
 use Rattle.jani_check.specs.TypeFaults.{is_variable}
 use Rattle.name_table.specs.declared.entry.Entry.{Entry}
 use Rattle.name_table.specs.Asks.{variables, entries, new_name, value_names, new_names, labels_at, rewards_at}
@@ -46,7 +45,7 @@ const_step c k o p false false e q r = r
 
 consts_found : (new : Name → Name) (x z : Name) (cs : List prism.Const) (es : List Entry) → Agrees x z (map (λ c. c.name.name) cs) es →
     option_map const_thing (find (λ k. is_called z k.name) (map (λ p. constant new p.0 p.1) (zip cs es)))
-    ≡ option_map (λ c. const_thing (source_const c)) (find (λ c. source_names.is_called x c.name) cs)
+    ≡ option_map (λ c. const_thing (source_const c)) (find (λ c. is_called x c.name) cs)
 consts_found new x z [] es a = refl
 consts_found new x z (c ∷ cs) [] a = absurd a
 consts_found new x z (c ∷ cs) (e ∷ es) a =
@@ -72,14 +71,14 @@ var_step v k o p false true e q r = absurd cc
 var_step v k o p false false e q r = r refl
 
 vars_found : (new : Name → Name) (x z : Name) (vs : List prism.Var) (es : List Entry) (rest : List Var) → Agrees x z (map (λ v. v.name.name) vs) es →
-    (find (λ v. source_names.is_called x v.name) vs ≡ None → find (λ v. is_called z v.name) rest ≡ None) →
+    (find (λ v. is_called x v.name) vs ≡ None → find (λ v. is_called z v.name) rest ≡ None) →
     option_map var_thing (find (λ v. is_called z v.name) (map (λ p. variable new p.0 p.1) (zip vs es) ++ rest))
-    ≡ option_map (λ v. var_thing (source_var v)) (find (λ v. source_names.is_called x v.name) vs)
+    ≡ option_map (λ v. var_thing (source_var v)) (find (λ v. is_called x v.name) vs)
 vars_found new x z [] es rest a h = ap (option_map var_thing) (h refl)
 vars_found new x z (v ∷ vs) [] rest a h = absurd a
 vars_found new x z (v ∷ vs) (e ∷ es) rest a h =
     var_step v (variable new v e) _ _ (bytes_eq e.name z) (bytes_eq v.name.name x) a.0 (kind_same new v.range v.name v.name None None)
-    (λ f. vars_found new x z vs es rest a.1 (λ n. h (ap (λ b. cond b (Some v) (find (λ v. source_names.is_called x v.name) vs)) f ∙ n)))
+    (λ f. vars_found new x z vs es rest a.1 (λ n. h (ap (λ b. cond b (Some v) (find (λ v. is_called x v.name) vs)) f ∙ n)))
 
 -- ---- a name that is none of them becomes the empty name
 none_step : {A : Type 0} (v : A) (o : Option A) (b : Bool) (n m : Name) → (o ≡ None → m ≡ []) → cond b (Some v) o ≡ None → (if b then n else m) ≡ []
@@ -138,7 +137,7 @@ module _ (file : prism.File) (flat : IsFlat file) (x : Name) where
   agree : Agrees x ((new_names file).value x) (value_names file) (entries file)
   agree = values_agree file (values_distinct file flat) x
 
-  becomes_empty : find (λ c. source_names.is_called x c.name) file.constants ≡ None → find (λ v. source_names.is_called x v.name) (variables file) ≡ None →
+  becomes_empty : find (λ c. is_called x c.name) file.constants ≡ None → find (λ v. is_called x v.name) (variables file) ≡ None →
       (new_names file).value x ≡ []
   becomes_empty h k =
       none_new (λ c. c.name.name) file.constants (map (λ v. v.name.name) (variables file)) (entries file) x h
@@ -164,8 +163,8 @@ module _ (file : prism.File) (flat : IsFlat file) (x : Name) where
       (drop_names (labels_at file (entries file)) (entries file) (no_empty file)) (structures_none h)
 
   pub stand_alike : global_thing (translated file) ((new_names file).value x)
-      ≡ or_else (option_map (λ c. const_thing (source_const c)) (find (λ c. source_names.is_called x c.name) file.constants))
-      (option_map (λ v. var_thing (source_var v)) (find (λ v. source_names.is_called x v.name) (variables file)))
+      ≡ or_else (option_map (λ c. const_thing (source_const c)) (find (λ c. is_called x c.name) file.constants))
+      (option_map (λ v. var_thing (source_var v)) (find (λ v. is_called x v.name) (variables file)))
   stand_alike =
       let z = (new_names file).value x in
       let new = (new_names file).value in
@@ -178,12 +177,12 @@ module _ (file : prism.File) (flat : IsFlat file) (x : Name) where
       ap (λ ps. option_map var_thing (find (λ v. is_called z v.name) (map (λ p. variable new p.0 p.1) ps ++ rest))) (zip-take (variables file) (drop (length file.constants) (entries file)))
       ∙ vars_found new x z (variables file) (drop (length file.constants) (entries file)) rest
       (agrees_back (λ c. c.name.name) x z file.constants (map (λ v. v.name.name) (variables file)) (entries file) agree)
-      (λ h. rest_none (becomes_empty (mapped_none (λ c. const_thing (source_const c)) (find (λ c. source_names.is_called x c.name) file.constants) none) h)))
+      (λ h. rest_none (becomes_empty (mapped_none (λ c. const_thing (source_const c)) (find (λ c. is_called x c.name) file.constants) none) h)))
 
   -- ---- types, and which things they are
   else_typed : (c : Option prism.Const) (v : Option prism.Var) (w : Option Ty) → option_map var_type v ≡ w →
       option_map thing_type (or_else (option_map (λ c. const_thing (source_const c)) c) (option_map (λ v. var_thing (source_var v)) v))
-      ≡ source.or_else (option_map (λ c. c.ty) c) w
+      ≡ or_else (option_map (λ c. c.ty) c) w
   else_typed None None w e = e
   else_typed None (Some v) w e = ap Some (kind_typed v.range) ∙ e
   else_typed (Some c) v w e = refl
@@ -191,7 +190,7 @@ module _ (file : prism.File) (flat : IsFlat file) (x : Name) where
   pub typed_alike : types_by (global_thing (translated file)) ((new_names file).value x) ≡ types file x
   typed_alike =
       ap (option_map thing_type) stand_alike
-      ∙ else_typed (find (λ c. source_names.is_called x c.name) file.constants) (find (λ v. source_names.is_called x v.name) (variables file)) _ (sym (variable_types file flat x))
+      ∙ else_typed (find (λ c. is_called x c.name) file.constants) (find (λ v. is_called x v.name) (variables file)) _ (sym (variable_types file flat x))
       ∙ sym (types_declared file flat x)
 
   else_lasts : (c : Option prism.Const) (v : Option prism.Var) →
@@ -201,7 +200,7 @@ module _ (file : prism.File) (flat : IsFlat file) (x : Name) where
   else_lasts (Some c) v = refl
 
   pub lasts : is_transient (global_thing (translated file) ((new_names file).value x)) ≡ false
-  lasts = ap is_transient stand_alike ∙ else_lasts (find (λ c. source_names.is_called x c.name) file.constants) (find (λ v. source_names.is_called x v.name) (variables file))
+  lasts = ap is_transient stand_alike ∙ else_lasts (find (λ c. is_called x c.name) file.constants) (find (λ v. is_called x v.name) (variables file))
 
   else_stays : (c : Option prism.Const) (v : Option prism.Var) (w : Option source.Variable) → option_map (λ u. u.ty) w ≡ option_map var_type v → is_some w ≡ false →
       is_variable (or_else (option_map (λ c. const_thing (source_const c)) c) (option_map (λ v. var_thing (source_var v)) v)) ≡ false
@@ -213,7 +212,7 @@ module _ (file : prism.File) (flat : IsFlat file) (x : Name) where
   pub stays : source.is_variable file x ≡ false → is_variable (global_thing (translated file) ((new_names file).value x)) ≡ false
   stays h =
       ap is_variable stand_alike
-      ∙ else_stays (find (λ c. source_names.is_called x c.name) file.constants) (find (λ v. source_names.is_called x v.name) (variables file))
+      ∙ else_stays (find (λ c. is_called x c.name) file.constants) (find (λ v. is_called x v.name) (variables file))
       (source.variable_called file x) (variable_types file flat x)
       (ap (λ o. not (is_some o) && is_some (source.variable_called file x)) (sym (no_formula file flat x)) ∙ h)
 

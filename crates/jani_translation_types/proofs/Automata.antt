@@ -1,6 +1,6 @@
 -- The demands of automata have no fault of types.
 use Rattle.std.specs.Prelude.{◌≡◌, List, [], ◌∷◌, ◌++◌, map, Bool, true, false, Option, Some, None}
-use Rattle.std.specs.List.{flat_map, zip}
+use Rattle.std.specs.List.{flat_map, zip, AllByRecursion as Each}
 use Rattle.std.proofs.Common.{refl, ap, ◌∙◌, append-nil}
 use Rattle.std.proofs.Math.Path.{fun_ext}
 use Rattle.std.proofs.lemmas.List.{map-append}
@@ -12,10 +12,10 @@ use Rattle.process_core.specs.Ready.{Name}
 use Rattle.prism_tree.specs.declared.syntax.ItemOn.{ItemOn}
 use Rattle.prism_tree.specs.Syntax as prism
 use Rattle.process_core.specs.Instance.{only_if}
-use Rattle.prism_print.specs.Printable.{Each}
 use Rattle.prism_places.specs.Flattened.{IsFlat}
 use Rattle.jani_tree.specs.Syntax.{Write, Edge, Automaton}
-use Rattle.jani_check.specs.Things.{or_else, global_thing, beside}
+use Rattle.std.specs.Option.{option_or as or_else}
+use Rattle.jani_check.specs.Things.{global_thing, beside}
 use Rattle.jani_check.specs.Demands.{given, assigned, edge_demands, automaton_demands}
 use Rattle.jani_check.specs.TypeFaults.{demand_faults}
 use Rattle.name_table.specs.declared.entry.Entry.{Entry}

@@ -1,7 +1,7 @@
 -- In automata no expression reads a transient variable, no edge assigns to a label, and destinations assign the same rewards.
 use Rattle.std.specs.Prelude.{◌≡◌, List, [], ◌∷◌, ◌++◌, map, Bool, true, false, ◌||◌, Option, Some, None, if◌then◌else◌}
-use Rattle.std.specs.List.{flat_map, filter, find, zip, list_any}
-use Rattle.std.specs.Option.{option_map}
+use Rattle.std.specs.List.{flat_map, filter, find, zip, list_any, AllByRecursion as Each}
+use Rattle.std.specs.Option.{option_map, option_or as or_else}
 use Rattle.std.proofs.Common.{refl, ap, ap₂, ◌∙◌, append-nil}
 use Rattle.std.proofs.lemmas.List.{map-append}
 use Rattle.basics.specs.Lists.{append_both, flat_map_both}
@@ -10,19 +10,17 @@ use Rattle.bridge_io.specs.declared.reason.Fault.{Fault}
 use Rattle.bridge_io.specs.declared.reason.Named.{Named}
 use Rattle.bridge_io.specs.declared.reason.Reason.TheVariants.{LabelOnEdge, BranchReward}
 use Rattle.op_trees.specs.Tree.{Two}
-use Rattle.op_trees.specs.Names.{names_of}
+use Rattle.op_trees.specs.Names.{names_of, is_called}
 use Rattle.process_core.specs.Product.{flat_map-flat_map}
 use Rattle.process_core.specs.Ready.{Name}
 use Rattle.prism_tree.specs.declared.syntax.ItemOn.{ItemOn}
 use Rattle.prism_tree.specs.Syntax as prism
-use Rattle.prism_names.specs.Names as source_names
 use Rattle.process_core.specs.Instance.{only_if}
-use Rattle.prism_print.specs.Printable.{Each}
 use Rattle.prism_places.specs.Flattened.{IsFlat}
 use Rattle.jani_table.specs.declared.operator.JaniOp.TheVariants.{Add}
 use Rattle.jani_tree.specs.Syntax.{Expression, Write, Edge, Automaton}
-use Rattle.jani_check.specs.Least.{fault_if}
-use Rattle.jani_check.specs.Things.{const_thing, var_thing, or_else, global_thing, beside, is_label, is_reward}
+use Rattle.name_rules.specs.Least.{fault_if}
+use Rattle.jani_check.specs.Things.{const_thing, var_thing, global_thing, beside, is_label, is_reward}
 use Rattle.jani_check.specs.Demands.{assigned, given, destination_demands, edge_demands, automaton_demands}
 use Rattle.jani_check.specs.ProfileFaults.{reads, read_fault, demand_profile, value_for, lacks, rewards_by, differ, some_differ, branch_rewards}
 use Rattle.name_table.specs.declared.entry.Entry.{Entry}
@@ -59,12 +57,12 @@ module _ (file : prism.File) (flat : IsFlat file) where
   no_label : (x : Name) → is_label (global_thing (translated file) ((new_names file).value x)) ≡ false
   no_label x =
       ap is_label (stand_alike file flat x)
-      ∙ else_no_label (find (λ c. source_names.is_called x c.name) file.constants) (find (λ v. source_names.is_called x v.name) (variables file))
+      ∙ else_no_label (find (λ c. is_called x c.name) file.constants) (find (λ v. is_called x v.name) (variables file))
 
   pub no_reward : (x : Name) → is_reward (global_thing (translated file) ((new_names file).value x)) ≡ false
   no_reward x =
       ap is_reward (stand_alike file flat x)
-      ∙ else_no_reward (find (λ c. source_names.is_called x c.name) file.constants) (find (λ v. source_names.is_called x v.name) (variables file))
+      ∙ else_no_reward (find (λ c. is_called x c.name) file.constants) (find (λ v. is_called x v.name) (variables file))
 
   -- ---- the edges of modules
   write_reads : (w : prism.Write) → demand_profile (global_thing (translated file)) (assigned (write (new_names file) w)) ≡ []

@@ -1,6 +1,6 @@
 -- The edges of modules have no fault of types.
 use Rattle.std.specs.Prelude.{◌≡◌, ℕ, ◌+◌, List, [], ◌∷◌, map, Bool, Option, Some, None}
-use Rattle.std.specs.List.{flat_map}
+use Rattle.std.specs.List.{flat_map, AllByRecursion as Each}
 use Rattle.std.specs.Option.{option_map}
 use Rattle.std.proofs.Common.{refl, ◌∙◌}
 use Rattle.basics.specs.Lists.{append_both, flat_map_both}
@@ -8,14 +8,13 @@ use Rattle.basics.specs.Each.{each_then, map_each, each_parts, each_of}
 use Rattle.op_trees.specs.declared.tree.Ty.{Ty}
 use Rattle.op_trees.specs.declared.tree.Ty.TheVariants as T
 use Rattle.process_core.specs.Product.{flat_map-flat_map}
-use Rattle.process_core.specs.Ready.{if_some}
+use Rattle.basics.specs.Options.{if_some, IfAny}
 use Rattle.prism_tree.specs.Syntax as prism
-use Rattle.prism_print.specs.Printable.{Each, IfAny}
 use Rattle.prism_check.specs.Demands as source_demands
 use Rattle.prism_places.specs.Flattened.{IsFlat}
 use Rattle.jani_check.specs.Things.{global_thing}
-use Rattle.jani_check.specs.Demands as jani_demands
-use Rattle.jani_check.specs.Demands.{varying, assigned, wanted_by, destination_demands, edge_demands}
+use Rattle.op_trees.specs.Wanted.{wanted_by}
+use Rattle.jani_check.specs.Demands.{varying, assigned, destination_demands, edge_demands}
 use Rattle.jani_check.specs.TypeFaults.{demand_faults}
 use Rattle.prism_images.specs.Image.{image}
 use Rattle.name_table.specs.Asks.{new_names}
@@ -38,16 +37,16 @@ module _ (file : prism.File) (flat : IsFlat file) where
   abbrev pub IsFineCommand : prism.Command → Type 0
   IsFineCommand c = HasType file flat T.Bool c.guard × Each IsFineBranch c.branches
 
-  varied : (i : ℕ) (w : Ty) (e : prism.Expression) → IsFine file flat i (source_demands.varying (source_demands.wanted_by w) e) → HasType file flat w e
+  varied : (i : ℕ) (w : Ty) (e : prism.Expression) → IsFine file flat i (source_demands.varying (wanted_by w) e) → HasType file flat w e
   varied i w e h = has_type file flat w e (known_names file flat e h.1) h.0
 
-  weight_fine : (i : ℕ) (o : Option prism.Expression) → Each (IsFine file flat i) (map (source_demands.varying (source_demands.wanted_by T.Real)) (if_some o)) → IfAny (HasType file flat T.Real) o
+  weight_fine : (i : ℕ) (o : Option prism.Expression) → Each (IsFine file flat i) (map (source_demands.varying (wanted_by T.Real)) (if_some o)) → IfAny (HasType file flat T.Real) o
   weight_fine i None h = tt
   weight_fine i (Some e) h = varied i T.Real e h.0
 
   branch_fine : (i : ℕ) (acts : Bool) (b : prism.Branch) → Each (IsFine file flat i) (source_demands.branch_demands acts b) → IsFineBranch b
   branch_fine i acts b h =
-      let r = each_parts (IsFine file flat i) (map (source_demands.varying (source_demands.wanted_by T.Real)) (if_some b.weight)) (map (source_demands.written acts) b.writes) h in (
+      let r = each_parts (IsFine file flat i) (map (source_demands.varying (wanted_by T.Real)) (if_some b.weight)) (map (source_demands.written acts) b.writes) h in (
         weight_fine i b.weight r.0,
         each_then (λ w. IsFine file flat i (source_demands.written acts w)) (IsFineWrite file flat) (written_fine file flat i acts) b.writes
             (map_each (IsFine file flat i) (source_demands.written acts) b.writes r.1),
@@ -74,7 +73,7 @@ module _ (file : prism.File) (flat : IsFlat file) where
   varying_clean w e h = image_fits file flat w e h
 
   weight_clean : (o : Option prism.Expression) → IfAny (HasType file flat T.Real) o →
-      flat_map (demand_faults (global_thing (translated file))) (map (varying (wanted_by T.Real)) (jani_demands.if_some (option_map (image (new_names file).value) o))) ≡ []
+      flat_map (demand_faults (global_thing (translated file))) (map (varying (wanted_by T.Real)) (if_some (option_map (image (new_names file).value) o))) ≡ []
   weight_clean None h = refl
   weight_clean (Some e) h = append_both (demand_faults (global_thing (translated file)) (varying (wanted_by T.Real) (image (new_names file).value e))) [] (varying_clean T.Real e h) refl
 
@@ -84,7 +83,7 @@ module _ (file : prism.File) (flat : IsFlat file) where
 
   branch_clean : (b : prism.Branch) → IsFineBranch b → flat_map (demand_faults (global_thing (translated file))) (destination_demands (destination (new_names file) b)) ≡ []
   branch_clean b h =
-      flat_map_both (demand_faults (global_thing (translated file))) (map (varying (wanted_by T.Real)) (jani_demands.if_some (option_map (image (new_names file).value) b.weight)))
+      flat_map_both (demand_faults (global_thing (translated file))) (map (varying (wanted_by T.Real)) (if_some (option_map (image (new_names file).value) b.weight)))
       (map assigned (map (write (new_names file)) b.writes)) (weight_clean b.weight h.0) (writes_clean b.writes h.1)
 
   pub edge_clean : (silently : Bool) (c : prism.Command) → IsFineCommand c → flat_map (demand_faults (global_thing (translated file))) (edge_demands (edge (new_names file) silently c)) ≡ []

@@ -1,42 +1,41 @@
 -- Images of expressions without faults have none.
 use Rattle.std.specs.Prelude.{◌≡◌, ℕ, List, [], ◌∷◌, ◌++◌, map, Bool, true, false, not, ◌||◌, ◌&&◌, cond, Option, Some, None, IsTrue, is_some, bytes_eq}
 use Rattle.std.specs.List.{find, flat_map, list_any}
-use Rattle.std.specs.Option.{option_map}
+use Rattle.std.specs.Option.{option_map, option_or}
 use Rattle.std.proofs.Common.{refl, sym, ap, ap₂, subst, ◌∙◌}
 use Rattle.basics.specs.Lists.{append_parts, append_both, empty_map}
 use Rattle.basics.specs.Each.{each_then, empty_each}
 use Rattle.bridge_io.specs.declared.reason.Named.{Named}
 use Rattle.bridge_io.specs.declared.reason.Reason.TheVariants.{WrongType, NotConstant, Unknown}
 use Rattle.op_trees.specs.declared.tree.Ty.{Ty}
-use Rattle.op_trees.specs.declared.tree.Ty.TheVariants as T
 use Rattle.op_trees.specs.Tree.{Tree, Truth, Number, Name as At, One, Two, Three, AllNames}
 use Rattle.op_trees.specs.SeenLaws.{names_then, names_all}
 use Rattle.op_trees.specs.Types as trees
 use Rattle.op_trees.specs.Types.{Types, type_in, misfit_at}
 use Rattle.op_trees.specs.TypeLaws.{misfits_none}
-use Rattle.op_trees.specs.Names.{offset_of, names_of, some_name}
+use Rattle.op_trees.specs.Names.{offset_of, names_of, some_name, is_called}
 use Rattle.op_trees.specs.NameLaws.{none_named}
 use Rattle.process_core.specs.Ready.{Name}
 use Rattle.prism_tree.specs.declared.operator.PrismOp.{PrismOp}
 use Rattle.prism_tree.specs.declared.operator.PrismOp.TheVariants as P
 use Rattle.prism_tree.specs.Operators.{prism_meaning}
 use Rattle.prism_tree.specs.Syntax as prism
-use Rattle.prism_names.specs.Names as source_names
 use Rattle.prism_check.specs.Demands as source_demands
 use Rattle.prism_check.specs.NameFaults.{is_among, values, unless_known}
 use Rattle.prism_check.specs.NameFaults as source_some
 use Rattle.prism_check.specs.TypeFaults as source
 use Rattle.prism_check.specs.TypeFaults.{types}
-use Rattle.prism_check.proofs.Each.{no_fault}
 use Rattle.prism_check.proofs.NamesIn.{listed_names}
 use Rattle.prism_check.proofs.CleanTypes.{IsFree, free_whole}
 use Rattle.prism_places.specs.Flattened.{IsFlat}
 use Rattle.jani_table.specs.declared.operator.JaniOp.{JaniOp}
 use Rattle.jani_table.specs.Operators.{jani_meaning}
-use Rattle.jani_check.specs.Least.{fault, fault_if}
+use Rattle.name_rules.specs.Least.{fault, fault_if}
+use Rattle.name_rules.proofs.Plain.{no_fault}
 use Rattle.jani_check.specs.Things.{global_thing, types_by}
-use Rattle.jani_check.specs.Demands.{wanted_by, fixed}
-use Rattle.jani_check.specs.TypeFaults.{is_variable, has_variable, is_wanted, is_unwanted, type_faults_of, demand_faults}
+use Rattle.jani_check.specs.Demands.{fixed}
+use Rattle.op_trees.specs.Wanted.{is_wanted, is_unwanted, wanted_by}
+use Rattle.jani_check.specs.TypeFaults.{is_variable, has_variable, type_faults_of, demand_faults}
 use Rattle.prism_images.specs.Image.{image, image_one}
 use Rattle.prism_images.proofs.Types.{typed_alike}
 use Rattle.name_table.specs.Asks.{variables, new_names}
@@ -54,14 +53,14 @@ among_vars : (x : Name) (vs : List prism.Var) → list_any (λ y. bytes_eq y x) 
 among_vars x [] h = absurd cc
 among_vars x (v ∷ vs) h = among_step source_demands.var_type v _ (bytes_eq v.name.name x) _ (among_vars x vs) h
 
-among_or : (a : Ty) (o : Option prism.Const) (c : prism.Const) (w : Option Ty) (b d : Bool) → (d ≡ true → IsTrue (is_some (source.or_else (option_map (λ c. c.ty) o) w))) → (b || d) ≡ true →
-    IsTrue (is_some (source.or_else (option_map (λ c. c.ty) (cond b (Some c) o)) w))
+among_or : (a : Ty) (o : Option prism.Const) (c : prism.Const) (w : Option Ty) (b d : Bool) → (d ≡ true → IsTrue (is_some (option_or (option_map (λ c. c.ty) o) w))) → (b || d) ≡ true →
+    IsTrue (is_some (option_or (option_map (λ c. c.ty) (cond b (Some c) o)) w))
 among_or a o c w true d r h = refl
 among_or a o c w false d r h = r h
 
 among_values : (x : Name) (cs : List prism.Const) (vs : List prism.Var) →
     list_any (λ y. bytes_eq y x) (map (λ c. c.name.name) cs ++ map (λ v. v.name.name) vs) ≡ true →
-    IsTrue (is_some (source.or_else (option_map (λ c. c.ty) (find (λ c. source_names.is_called x c.name) cs)) (declared_type x vs)))
+    IsTrue (is_some (option_or (option_map (λ c. c.ty) (find (λ c. is_called x c.name) cs)) (declared_type x vs)))
 among_values x [] vs h = among_vars x vs h
 among_values x (c ∷ cs) vs h = among_or c.ty _ c _ (bytes_eq c.name.name x) _ (among_values x cs vs) h
 
@@ -87,16 +86,6 @@ same_misfits ty (Three at o a b c) h =
     ap₂ (λ ms ns. ms ++ ns) (same_misfits ty a h.0) (ap₂ (λ ms ns. ms ++ (ns ++ last)) (same_misfits ty b h.1) (same_misfits ty c h.2))
 
 -- ---- what is wanted
-pub same_wanted : (w t : Ty) → is_wanted (wanted_by w) t ≡ source.is_wanted (source_demands.wanted_by w) t
-same_wanted T.Bool T.Bool = refl
-same_wanted T.Bool T.Int = refl
-same_wanted T.Bool T.Real = refl
-same_wanted T.Int T.Bool = refl
-same_wanted T.Int T.Int = refl
-same_wanted T.Int T.Real = refl
-same_wanted T.Real T.Bool = refl
-same_wanted T.Real T.Int = refl
-same_wanted T.Real T.Real = refl
 
 -- ---- no name of an image is such a one
 one_none : (p : Name → Bool) (at : ℕ) (o : PrismOp) (a : Tree JaniOp) → some_name p a ≡ false → some_name p (image_one at o a) ≡ false
@@ -119,7 +108,7 @@ module _ (file : prism.File) (flat : IsFlat file) where
   known_typed : (x : Name) → IsKnown x → IsTrue (is_some (types file x))
   known_typed x h =
       subst (λ o. IsTrue (is_some o))
-      (ap (λ w. source.or_else (option_map (λ c. c.ty) (find (λ c. source_names.is_called x c.name) file.constants)) w) (sym (variable_types file flat x))
+      (ap (λ w. option_or (option_map (λ c. c.ty) (find (λ c. is_called x c.name) file.constants)) w) (sym (variable_types file flat x))
       ∙ sym (types_declared file flat x))
       (among_values x file.constants (variables file) (sym (any_named x (values file) ∙ ap (list_any (λ y. bytes_eq y x)) (value_names_are file flat.form)) ∙ h))
 
@@ -151,24 +140,24 @@ module _ (file : prism.File) (flat : IsFlat file) where
   pub record HasType (w : Ty) (e : prism.Expression) : Type 0 where
     pub ty : Ty
     pub is : type_in prism_meaning (types file) e ≡ Some ty
-    pub wanted : source.is_wanted (source_demands.wanted_by w) ty ≡ true
+    pub wanted : is_wanted (wanted_by w) ty ≡ true
 
   unwanted_not : (b : Bool) → not b ≡ false → b ≡ true
   unwanted_not true e = refl
   unwanted_not false e = absurd cc
 
-  pub has_type : (w : Ty) (e : prism.Expression) → AllNames IsKnown e → source.type_faults_of (types file) (source_demands.wanted_by w) e ≡ [] → HasType w e
+  pub has_type : (w : Ty) (e : prism.Expression) → AllNames IsKnown e → source.type_faults_of (types file) (wanted_by w) e ≡ [] → HasType w e
   has_type w e k h =
       let t = type_in prism_meaning (types file) e in
-      let r = append_parts (map (λ at. fault at WrongType) (source.misfits (types file) e)) (fault_if (source.is_unwanted (source_demands.wanted_by w) t) (offset_of e) WrongType) h in
+      let r = append_parts (map (λ at. fault at WrongType) (source.misfits (types file) e)) (fault_if (is_unwanted (wanted_by w) t) (offset_of e) WrongType) h in
       let typed = names_then IsKnown (λ x. IsTrue (is_some (types file x))) known_typed e k in
       let s = has_some t ((misfits_none prism_meaning (types file) e).0 (same_misfits (types file) e typed ∙ empty_map (λ at. fault at WrongType) (source.misfits (types file) e) r.0)) in
       record {
         ty = s.0;
         is = s.1;
         wanted =
-            unwanted_not (source.is_wanted (source_demands.wanted_by w) s.0)
-            (sym (ap (source.is_unwanted (source_demands.wanted_by w)) s.1) ∙ no_fault (source.is_unwanted (source_demands.wanted_by w) t) (offset_of e) WrongType r.1);
+            unwanted_not (is_wanted (wanted_by w) s.0)
+            (sym (ap (is_unwanted (wanted_by w)) s.1) ∙ no_fault (is_unwanted (wanted_by w) t) (offset_of e) WrongType r.1);
       }
 
   -- a JANI expression that has a type which is wanted has no fault
@@ -181,7 +170,7 @@ module _ (file : prism.File) (flat : IsFlat file) where
       (ap (λ b. fault_if b (offset_of e) WrongType) (ap (is_unwanted (wanted_by w)) h ∙ ap not k))
 
   pub image_fits : (w : Ty) (e : prism.Expression) → HasType w e → type_faults_of (types_by (global_thing (translated file))) (wanted_by w) (image (new_names file).value e) ≡ []
-  image_fits w e h = no_faults_of w h.ty (image (new_names file).value e) (image_type e h.ty h.is) (same_wanted w h.ty ∙ h.wanted)
+  image_fits w e h = no_faults_of w h.ty (image (new_names file).value e) (image_type e h.ty h.is) h.wanted
 
   -- ---- no variable is named
   pub image_constant : (e : prism.Expression) → source.has_variable file e ≡ false → has_variable (global_thing (translated file)) (image (new_names file).value e) ≡ false

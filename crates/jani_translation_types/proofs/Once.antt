@@ -1,6 +1,6 @@
 -- Nothing is assigned twice in one location, nor in one destination of an edge.
 use Rattle.std.specs.Prelude.{◌≡◌, ℕ, suc, ◌+◌, ◌<◌, List, [], ◌∷◌, ◌++◌, map, max, length, drop, Bool, true, false, cond, Some, Contains, slice_get, bytes_eq}
-use Rattle.std.specs.List.{AllByRecursion, IsDistinct, flat_map, filter, find, zip}
+use Rattle.std.specs.List.{IsDistinct, flat_map, filter, find, zip, AllByRecursion as Each}
 use Rattle.std.specs.Option.{option_map}
 use Rattle.std.proofs.Common.{refl, sym, ap, subst, ◌∙◌, arith, append-nil}
 use Rattle.std.proofs.lemmas.List.Elements.{Contains-append_right}
@@ -11,18 +11,17 @@ use Rattle.bridge_io.specs.declared.reason.Named.{Named}
 use Rattle.bridge_io.specs.declared.reason.Reason.{Reason}
 use Rattle.bridge_io.specs.declared.reason.Reason.TheVariants.{WrittenTwice}
 use Rattle.op_trees.specs.declared.tree.Ty.{Ty}
+use Rattle.op_trees.specs.Names.{is_called}
 use Rattle.process_core.specs.Ready.{Name}
 use Rattle.prism_tree.specs.declared.syntax.ItemOn.{ItemOn}
 use Rattle.prism_tree.specs.Syntax as prism
-use Rattle.prism_names.specs.Names as source_names
 use Rattle.process_core.specs.Instance.{only_if}
-use Rattle.prism_print.specs.Printable.{Each}
 use Rattle.prism_check.specs.Demands.{var_type}
 use Rattle.prism_check.specs.NameFaults as source
 use Rattle.prism_check.specs.TypeFaults as source_types
 use Rattle.prism_places.specs.Flattened.{IsFlat}
 use Rattle.jani_tree.specs.Syntax.{Write}
-use Rattle.jani_check.specs.Least.{fault_if}
+use Rattle.name_rules.specs.Least.{fault_if}
 use Rattle.jani_check.specs.NameFaults.{clash, doubled_after}
 use Rattle.jani_check.specs.TypeFaults.{repeated, edge_repeats, repeated_writes}
 use Rattle.name_table.specs.declared.entry.Entry.{Entry}
@@ -61,7 +60,7 @@ contains_var x t [] h = absurd cc
 contains_var x t (v ∷ vs) h = by_answer (bytes_eq v.name.name x) refl (contains_var x t vs) h
   where
     by_answer : (b : Bool) → bytes_eq v.name.name x ≡ b → (declared_type x vs ≡ Some t → Contains (map (λ v. v.name.name) vs) x) →
-        option_map var_type (cond b (Some v) (find (λ v. source_names.is_called x v.name) vs)) ≡ Some t → Contains (map (λ v. v.name.name) (v ∷ vs)) x
+        option_map var_type (cond b (Some v) (find (λ v. is_called x v.name) vs)) ≡ Some t → Contains (map (λ v. v.name.name) (v ∷ vs)) x
     by_answer true e r h = (0, omega arith, bytes_eq-true v.name.name x e)
     by_answer false e r h = let k = r h in let l = k.1 in (suc k.0, omega arith, k.2)
 
@@ -71,8 +70,8 @@ module _ (file : prism.File) (flat : IsFlat file) where
       Contains-append_right (map (λ c. c.name.name) file.constants) (map (λ v. v.name.name) (variables file)) w.name.name
       (contains_var w.name.name h.ty (variables file) h.variable)
 
-  others_renamed : (x : Name) (ws : List prism.Write) → Contains (value_names file) x → AllByRecursion (λ y. bytes_eq x y ≡ false) (map (λ n. n.name) (map (λ w. w.name) ws)) →
-      AllByRecursion (λ y. bytes_eq ((new_names file).value x) y ≡ false) (names_of (map (write (new_names file)) ws))
+  others_renamed : (x : Name) (ws : List prism.Write) → Contains (value_names file) x → Each (λ y. bytes_eq x y ≡ false) (map (λ n. n.name) (map (λ w. w.name) ws)) →
+      Each (λ y. bytes_eq ((new_names file).value x) y ≡ false) (names_of (map (write (new_names file)) ws))
   others_renamed x [] c h = tt
   others_renamed x (w ∷ ws) c h = (
     bytes_ne ((new_names file).value x) ((new_names file).value w.name.name)
@@ -113,23 +112,23 @@ abbrev AreApart : ℕ → List Entry → Type 0
 AreApart n es = (i j : ℕ) (e u : Entry) → i < n → j < n → (i ≡ j → ⊥) → slice_get es i ≡ Some e → slice_get es j ≡ Some u → bytes_eq e.name u.name ≡ false
 
 module _ (file : prism.File) where
-  one_apart : (z : Name) (r : prism.Rewards) (e : Entry) (is : List prism.Item) (ws : List Write) → bytes_eq z e.name ≡ false → AllByRecursion (λ y. bytes_eq z y ≡ false) (names_of ws) →
-      AllByRecursion (λ y. bytes_eq z y ≡ false) (names_of (sum_to (new_names file) (instead_if r.name e.name) is ++ ws))
+  one_apart : (z : Name) (r : prism.Rewards) (e : Entry) (is : List prism.Item) (ws : List Write) → bytes_eq z e.name ≡ false → Each (λ y. bytes_eq z y ≡ false) (names_of ws) →
+      Each (λ y. bytes_eq z y ≡ false) (names_of (sum_to (new_names file) (instead_if r.name e.name) is ++ ws))
   one_apart z r e [] ws h k = k
   one_apart z r e (i ∷ is) ws h k = (ap (bytes_eq z) (structure_name r e) ∙ h, k)
 
   rewards_apart : (z : Name) (wanted : ItemOn → Bool) (rs : List prism.Rewards) (es : List Entry) → ApartFrom z (length rs) es →
-      AllByRecursion (λ y. bytes_eq z y ≡ false) (names_of (flat_map (λ p. reward_of (new_names file) wanted p.0 p.1) (zip rs es)))
+      Each (λ y. bytes_eq z y ≡ false) (names_of (flat_map (λ p. reward_of (new_names file) wanted p.0 p.1) (zip rs es)))
   rewards_apart z wanted [] es h = tt
   rewards_apart z wanted (r ∷ rs) [] h = tt
   rewards_apart z wanted (r ∷ rs) (e ∷ es) h =
       one_apart z r e (filter (λ i. wanted i.on) r.items) _ (h 0 e (omega arith) refl) (rewards_apart z wanted rs es (λ i u l g. h (suc i) u (omega arith) g))
 
-  one_distinct : (r : prism.Rewards) (e : Entry) (is : List prism.Item) (ws : List Write) → AllByRecursion (λ y. bytes_eq e.name y ≡ false) (names_of ws) → IsDistinct bytes_eq (names_of ws) →
+  one_distinct : (r : prism.Rewards) (e : Entry) (is : List prism.Item) (ws : List Write) → Each (λ y. bytes_eq e.name y ≡ false) (names_of ws) → IsDistinct bytes_eq (names_of ws) →
       IsDistinct bytes_eq (names_of (sum_to (new_names file) (instead_if r.name e.name) is ++ ws))
   unfolding IsDistinct
   one_distinct r e [] ws h d = d
-  one_distinct r e (i ∷ is) ws h d = (subst (λ z. AllByRecursion (λ y. bytes_eq z y ≡ false) (names_of ws)) (sym (structure_name r e)) h, d)
+  one_distinct r e (i ∷ is) ws h d = (subst (λ z. Each (λ y. bytes_eq z y ≡ false) (names_of ws)) (sym (structure_name r e)) h, d)
 
   rewards_distinct : (wanted : ItemOn → Bool) (rs : List prism.Rewards) (es : List Entry) → AreApart (length rs) es →
       IsDistinct bytes_eq (names_of (flat_map (λ p. reward_of (new_names file) wanted p.0 p.1) (zip rs es)))
@@ -141,14 +140,14 @@ module _ (file : prism.File) where
       (rewards_apart e.name wanted rs es (λ i u l g. h 0 (suc i) e u (omega arith) (omega arith) (λ q. absurd (omega arith)) refl g))
       (rewards_distinct wanted rs es (λ i j a b k l d g m. h (suc i) (suc j) a b (omega arith) (omega arith) (λ q. d (omega arith)) g m))
 
-  labels_apart : (z : Name) (ls : List prism.Label) (es : List Entry) (ws : List Write) → ApartFrom z (length ls) es → AllByRecursion (λ y. bytes_eq z y ≡ false) (names_of ws) →
-      AllByRecursion (λ y. bytes_eq z y ≡ false) (names_of (map (λ p. label_value (new_names file) p.0 p.1) (zip ls es) ++ ws))
+  labels_apart : (z : Name) (ls : List prism.Label) (es : List Entry) (ws : List Write) → ApartFrom z (length ls) es → Each (λ y. bytes_eq z y ≡ false) (names_of ws) →
+      Each (λ y. bytes_eq z y ≡ false) (names_of (map (λ p. label_value (new_names file) p.0 p.1) (zip ls es) ++ ws))
   labels_apart z [] es ws h k = k
   labels_apart z (l ∷ ls) [] ws h k = k
   labels_apart z (l ∷ ls) (e ∷ es) ws h k = (h 0 e (omega arith) refl, labels_apart z ls es ws (λ i u m g. h (suc i) u (omega arith) g) k)
 
   labels_distinct : (ls : List prism.Label) (es : List Entry) (ws : List Write) → AreApart (length ls) es →
-      ((i : ℕ) (u : Entry) → i < length ls → slice_get es i ≡ Some u → AllByRecursion (λ y. bytes_eq u.name y ≡ false) (names_of ws)) → IsDistinct bytes_eq (names_of ws) →
+      ((i : ℕ) (u : Entry) → i < length ls → slice_get es i ≡ Some u → Each (λ y. bytes_eq u.name y ≡ false) (names_of ws)) → IsDistinct bytes_eq (names_of ws) →
       IsDistinct bytes_eq (names_of (map (λ p. label_value (new_names file) p.0 p.1) (zip ls es) ++ ws))
   unfolding IsDistinct
   labels_distinct [] es ws h k d = d
@@ -175,7 +174,7 @@ module _ (file : prism.File) where
       (labels_distinct file.labels (drop at (entries file)) ws
       (λ i j e u k l d g h. values_apart file (at + i) (at + j) e u (omega arith) (omega arith) (λ q. d (omega arith)) (sym (slice_get-drop at i (entries file)) ∙ g) (sym (slice_get-drop at j (entries file)) ∙ h))
       (λ i e k g.
-      subst (λ ps. AllByRecursion (λ y. bytes_eq e.name y ≡ false) (names_of (flat_map (λ p. reward_of (new_names file) for_states p.0 p.1) ps))) (sym (zip-take file.rewards (drop to (entries file))))
+      subst (λ ps. Each (λ y. bytes_eq e.name y ≡ false) (names_of (flat_map (λ p. reward_of (new_names file) for_states p.0 p.1) ps))) (sym (zip-take file.rewards (drop to (entries file))))
       (rewards_apart e.name for_states file.rewards (drop to (entries file))
       (λ j u l h. values_apart file (at + i) (to + j) e u (omega arith) (omega arith) (λ q. absurd (omega arith)) (sym (slice_get-drop at i (entries file)) ∙ g) (sym (slice_get-drop to j (entries file)) ∙ h))))
       (rewards_once for_states))

@@ -1,6 +1,6 @@
 -- Only the monitor assigns rewards on edges, so of each vector one participant alone does.
 use Rattle.std.specs.Prelude.{◌≡◌, List, [], ◌∷◌, ◌++◌, map, Bool, true, false, ◌&&◌, ◌||◌, cond, Option, Some, None, bytes_eq}
-use Rattle.std.specs.List.{flat_map, find, list_any}
+use Rattle.std.specs.List.{flat_map, find, list_any, AllByRecursion as Each}
 use Rattle.std.proofs.Common.{refl, ap, ap₂, ◌∙◌}
 use Rattle.std.proofs.lemmas.List.{map-append}
 use Rattle.std.proofs.lemmas.Bool.{or_left, or_right}
@@ -11,10 +11,9 @@ use Rattle.bridge_io.specs.declared.reason.Reason.TheVariants.{TwoRewardWriters}
 use Rattle.process_core.specs.Ready.{Name}
 use Rattle.prism_tree.specs.Syntax as prism
 use Rattle.process_core.specs.Instance.{only_if}
-use Rattle.prism_print.specs.Printable.{Each}
 use Rattle.prism_places.specs.Flattened.{IsFlat}
 use Rattle.jani_tree.specs.Syntax.{Write, Automaton, Vector}
-use Rattle.jani_check.specs.Least.{fault_if}
+use Rattle.name_rules.specs.Least.{fault_if}
 use Rattle.jani_check.specs.Things.{is_called, global_thing, is_reward}
 use Rattle.jani_check.specs.TypeFaults.{has_action, with_automaton, taken_part, participants}
 use Rattle.jani_check.specs.ProfileFaults.{assigns_reward, rewards_with, two_hold, two_writers}

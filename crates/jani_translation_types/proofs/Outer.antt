@@ -1,6 +1,6 @@
 -- What stands outside of automata has no fault of types.
 use Rattle.std.specs.Prelude.{◌≡◌, List, [], ◌∷◌, ◌++◌, map, Option, Some, None}
-use Rattle.std.specs.List.{flat_map, zip}
+use Rattle.std.specs.List.{flat_map, zip, AllByRecursion as Each}
 use Rattle.std.specs.Option.{option_map}
 use Rattle.std.proofs.Common.{refl, ◌∙◌}
 use Rattle.basics.specs.Lists.{append_both, flat_map_both}
@@ -9,11 +9,12 @@ use Rattle.op_trees.specs.declared.tree.Ty.TheVariants as T
 use Rattle.process_core.specs.Product.{flat_map-flat_map}
 use Rattle.process_core.specs.Ready.{Name}
 use Rattle.prism_tree.specs.Syntax as prism
-use Rattle.prism_print.specs.Printable.{Each, IfAny}
 use Rattle.prism_check.specs.Demands.{type_by}
 use Rattle.prism_places.specs.Flattened.{IsFlat}
 use Rattle.jani_check.specs.Things.{kind_type, global_thing}
-use Rattle.jani_check.specs.Demands.{fixed, if_some, wanted_by, const_demands, bound_demands, var_demands, outer_demands}
+use Rattle.basics.specs.Options.{if_some, IfAny}
+use Rattle.op_trees.specs.Wanted.{wanted_by}
+use Rattle.jani_check.specs.Demands.{fixed, const_demands, bound_demands, var_demands, outer_demands}
 use Rattle.jani_check.specs.TypeFaults.{var_faults, demand_faults}
 use Rattle.name_table.specs.declared.entry.Entry.{Entry}
 use Rattle.prism_images.specs.Image.{image}

@@ -19,9 +19,11 @@ use Rattle.process_core.specs.Instance.{only_if}
 use Rattle.prism_places.specs.Flattened.{IsFlat}
 use Rattle.jani_table.specs.declared.operator.JaniOp.{JaniOp}
 use Rattle.jani_tree.specs.Syntax.{Write}
-use Rattle.jani_check.specs.Least.{fault_if}
+use Rattle.name_rules.specs.Least.{fault_if}
 use Rattle.jani_check.specs.Things.{kind_type, global_thing, is_transient}
-use Rattle.jani_check.specs.Demands.{fixed, if_some, wanted_by, const_demands, bound_demands, var_demands, outer_demands}
+use Rattle.basics.specs.Options.{if_some}
+use Rattle.op_trees.specs.Wanted.{wanted_by}
+use Rattle.jani_check.specs.Demands.{fixed, const_demands, bound_demands, var_demands, outer_demands}
 use Rattle.jani_check.specs.ProfileFaults.{reads, read_fault, demand_profile, start_faults, given_again, given_after}
 use Rattle.jani_check.specs.NameFaults.{is_among}
 use Rattle.name_table.specs.declared.entry.Entry.{Entry}

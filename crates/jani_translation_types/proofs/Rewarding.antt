@@ -1,6 +1,6 @@
 -- What labels and reward structures are given has their types.
 use Rattle.std.specs.Prelude.{◌≡◌, List, [], ◌∷◌, map, Bool, true, not, Option, Some, None}
-use Rattle.std.specs.List.{flat_map, filter, zip}
+use Rattle.std.specs.List.{flat_map, filter, zip, AllByRecursion as Each}
 use Rattle.std.proofs.Common.{refl, ap, ap₂, ◌∙◌}
 use Rattle.basics.specs.Lists.{append_both}
 use Rattle.basics.specs.Each.{each_join, each_filter}
@@ -11,22 +11,22 @@ use Rattle.op_trees.specs.Tree.{Two}
 use Rattle.op_trees.specs.Types.{type_in, sort_two, sort_three}
 use Rattle.prism_tree.specs.declared.syntax.ItemOn.{ItemOn}
 use Rattle.prism_tree.specs.Syntax as prism
-use Rattle.prism_print.specs.Printable.{Each}
 use Rattle.prism_places.specs.Flattened.{IsFlat}
 use Rattle.jani_table.specs.declared.operator.JaniOp.TheVariants.{Add, Ite}
 use Rattle.jani_table.specs.Operators.{jani_meaning}
 use Rattle.jani_tree.specs.Syntax.{Expression, Var, number, Write}
-use Rattle.jani_check.specs.Least.{fault_if}
+use Rattle.name_rules.specs.Least.{fault_if}
 use Rattle.jani_check.specs.Things.{var_thing, global_thing, types_by, is_constant, is_transient}
-use Rattle.jani_check.specs.Demands.{assigned, given, wanted_by}
-use Rattle.jani_check.specs.TypeFaults.{is_wanted, type_faults_of, wanted_at, demand_faults}
+use Rattle.jani_check.specs.Demands.{assigned, given}
+use Rattle.op_trees.specs.Wanted.{is_wanted, wanted_by}
+use Rattle.jani_check.specs.TypeFaults.{type_faults_of, wanted_at, demand_faults}
 use Rattle.name_table.specs.declared.entry.Entry.{Entry}
 use Rattle.name_table.specs.Asks.{new_names}
 use Rattle.jani_translation.specs.Parts.{made, label, instead_if}
 use Rattle.jani_translation.specs.Automata.{item_value, sum_behind, sum_to, reward_of, rewards_of, label_value}
 use Rattle.jani_translation.specs.Translated.{translated}
 use Rattle.jani_translation_types.proofs.Alike.{structure_name}
-use Rattle.jani_translation_types.proofs.Expressions.{image_type, image_fits, no_faults_of, same_wanted}
+use Rattle.jani_translation_types.proofs.Expressions.{image_type, image_fits, no_faults_of}
 use Rattle.jani_translation_types.proofs.Sources.{IsFineLabel, IsFineItem, labels_fine, rewards_fine}
 use Rattle.jani_translation_types.proofs.Transients.{labels_stand, structures_stand}
 
@@ -73,7 +73,7 @@ module _ (file : prism.File) (flat : IsFlat file) where
   item_numeric : (i : prism.Item) → IsFineItem file flat i → Numeric (item_value (new_names file) i)
   item_numeric i h =
       let r = ite_typed _ _ h.0.ty h.1.ty (image_type file flat i.guard h.0.ty h.0.is) (image_type file flat i.value h.1.ty h.1.is)
-      (same_wanted T.Bool h.0.ty ∙ h.0.wanted) (same_wanted T.Real h.1.ty ∙ h.1.wanted) in
+      h.0.wanted h.1.wanted in
       record { ty = r.ty; is = r.is; number = r.number }
 
   sum_numeric : (e : Expression) (is : List prism.Item) → Numeric e → Each (IsFineItem file flat) is → Numeric (sum_behind (new_names file) e is)

@@ -1,7 +1,7 @@
 -- No two participants of a vector assign one variable: each module's edges with an action assign its own variables alone,
 -- and the monitor assigns rewards.
 use Rattle.std.specs.Prelude.{◌≡◌, ℕ, ◌+◌, ◌<◌, List, [], ◌∷◌, ◌++◌, map, Bool, true, false, ◌||◌, Option, Some, None, Contains, nat_eq, is_some, bytes_eq, if◌then◌else◌}
-use Rattle.std.specs.List.{flat_map, filter, list_any}
+use Rattle.std.specs.List.{flat_map, filter, list_any, AllByRecursion as Each}
 use Rattle.std.specs.Option.{option_map}
 use Rattle.std.proofs.Common.{refl, sym, ap, ap₂, subst, ◌∙◌, arith, append-nil}
 use Rattle.std.proofs.lemmas.Bool.Decides.{nat_tests}
@@ -12,19 +12,18 @@ use Rattle.bridge_io.specs.declared.reason.Named.{Named}
 use Rattle.bridge_io.specs.declared.reason.Reason.TheVariants.{WrittenTwice}
 use Rattle.op_trees.specs.declared.tree.Ty.TheVariants as T
 use Rattle.process_core.specs.Ready.{Name}
-use Rattle.process_core.specs.Ready as ready
 use Rattle.prism_tree.specs.declared.syntax.ItemOn.{ItemOn}
 use Rattle.prism_tree.specs.Syntax as prism
 use Rattle.process_core.specs.Instance.{numbered, only_if}
-use Rattle.prism_print.specs.Printable.{Each, IfAny}
-use Rattle.prism_check.specs.Demands.{varying, written, wanted_by, branch_demands, command_demands}
+use Rattle.op_trees.specs.Wanted.{wanted_by}
+use Rattle.prism_check.specs.Demands.{varying, written, branch_demands, command_demands}
 use Rattle.prism_check.specs.TypeFaults.{Variable, variable_called, types, type_faults_of, target_of, target_by, target, wanted_at, write_faults}
 use Rattle.prism_check.specs.TypeFaults as source
 use Rattle.prism_places.specs.Flattened.{IsFlat}
 use Rattle.jani_tree.specs.Syntax.{Write, Automaton, Vector}
-use Rattle.jani_check.specs.Least.{fault_if}
+use Rattle.name_rules.specs.Least.{fault_if}
 use Rattle.jani_check.specs.Things.{is_called, automaton_called, global_thing, is_lasting}
-use Rattle.jani_check.specs.Demands.{if_some}
+use Rattle.basics.specs.Options.{if_some, IfAny}
 use Rattle.jani_check.specs.TypeFaults.{has_action, with_automaton, taken_part, participants, assigned_by, edge_shared, shared_by, meet, clashing_writes}
 use Rattle.name_table.specs.declared.entry.Entry.{Entry}
 use Rattle.name_table.specs.Asks.{bodies, actions, value_names, new_names}
@@ -191,7 +190,7 @@ module _ (file : prism.File) (flat : IsFlat file) where
   branches_own i [] h = tt
   branches_own i (b ∷ bs) h =
       writes_all i b.writes (flat_map (λ d. d.writes) (map (destination (new_names file)) bs))
-      (each_parts (IsFine file flat i) (map (varying (wanted_by T.Real)) (ready.if_some b.weight)) (map (written true) b.writes) h.0).1 (branches_own i bs h.1)
+      (each_parts (IsFine file flat i) (map (varying (wanted_by T.Real)) (if_some b.weight)) (map (written true) b.writes) h.0).1 (branches_own i bs h.1)
 
   abbrev targets_of : prism.Command → List Name
   targets_of c = map (λ w. w.target.name) (flat_map (λ d. d.writes) (map (destination (new_names file)) c.branches))

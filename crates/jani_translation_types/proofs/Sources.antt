@@ -1,22 +1,22 @@
 -- What a file without faults has of its demands, part by part.
 use Rattle.std.specs.Prelude.{◌≡◌, ℕ, ◌+◌, List, [], ◌∷◌, map, true, Option, Some, None}
-use Rattle.std.specs.List.{flat_map, list_all}
+use Rattle.std.specs.List.{flat_map, list_all, AllByRecursion as Each}
 use Rattle.basics.specs.Lists.{append_parts}
 use Rattle.basics.specs.Each.{each_then, each_with, each_join, each_parts, each_of, empty_each}
 use Rattle.bridge_io.specs.declared.reason.Reason.TheVariants.{NotConstant}
 use Rattle.op_trees.specs.declared.tree.Ty.{Ty}
 use Rattle.op_trees.specs.declared.tree.Ty.TheVariants as T
 use Rattle.op_trees.specs.Names.{offset_of}
-use Rattle.process_core.specs.Ready.{if_some}
+use Rattle.basics.specs.Options.{if_some, IfAny}
 use Rattle.prism_tree.specs.Syntax.{Expression, Const, Range, Var, Label, Body, Module, plain, copied, Item, File}
 use Rattle.prism_names.specs.Names.{part_of}
 use Rattle.prism_flat.specs.Kept.{is_plain}
-use Rattle.prism_print.specs.Printable.{Each, IfAny}
-use Rattle.prism_check.specs.Demands.{Demand, fixed, varying, wanted_by, var_type, const_demands, range_demands, var_demands, command_demands, label_demands, item_demands, rewards_demands, part_demands, formula_demands, outer_demands}
+use Rattle.op_trees.specs.Wanted.{wanted_by}
+use Rattle.prism_check.specs.Demands.{Demand, fixed, varying, var_type, const_demands, range_demands, var_demands, command_demands, label_demands, item_demands, rewards_demands, part_demands, formula_demands, outer_demands}
 use Rattle.prism_check.specs.NameFaults.{unknown, unknown_in}
 use Rattle.prism_check.specs.TypeFaults.{types, type_faults_of, has_variable, demand_faults, repeated_writes, part_faults, numbered_faults}
 use Rattle.name_rules.specs.Least.{fault_if}
-use Rattle.prism_check.proofs.Each.{no_fault}
+use Rattle.name_rules.proofs.Plain.{no_fault}
 use Rattle.prism_places.specs.Flattened.{IsFlat}
 use Rattle.name_table.specs.Asks.{contents, bodies, variables}
 use Rattle.jani_translation.proofs.Clean.{no_faults, no_type_fault}

@@ -1,7 +1,7 @@
 -- What the new names of labels and reward structures stand for.
 use Rattle.std.specs.Prelude.{◌≡◌, ℕ, zero, suc, ◌+◌, ◌<◌, List, [], ◌∷◌, ◌++◌, map, length, drop, false, cond, unwrap_or, Some, None, slice_get, bytes_eq}
-use Rattle.std.specs.List.{find, zip}
-use Rattle.std.specs.Option.{option_map}
+use Rattle.std.specs.List.{find, zip, AllByRecursion as Each}
+use Rattle.std.specs.Option.{option_map, option_or as or_else}
 use Rattle.std.proofs.Common.{refl, sym, ap, ap₂, subst, ◌∙◌, arith, append-nil}
 use Rattle.basics.specs.Each.{each_at}
 use Rattle.basics.specs.Texts.{bytes_eq-self}
@@ -9,9 +9,8 @@ use Rattle.basics.specs.Lists.{slice_get-drop}
 use Rattle.bridge_io.specs.declared.reason.Named.{Named}
 use Rattle.process_core.specs.Ready.{Name}
 use Rattle.prism_tree.specs.Syntax as prism
-use Rattle.prism_print.specs.Printable.{Each}
 use Rattle.jani_tree.specs.Syntax.{Const, Var}
-use Rattle.jani_check.specs.Things.{is_called, const_thing, var_thing, or_else, global_thing}
+use Rattle.jani_check.specs.Things.{is_called, const_thing, var_thing, global_thing}
 use Rattle.name_table.specs.declared.class.NameClass.TheVariants.{Label}
 use Rattle.name_table.specs.declared.entry.Entry.{Entry}
 use Rattle.name_table.proofs.Parts.{values_apart}

@@ -17,7 +17,9 @@ use Rattle.jani_table.specs.Operators.{op_of, op_text, arity}
 use Rattle.jani_table.specs.Faults.{op_kind}
 use Rattle.jani_tree.specs.Syntax.{Expression, Const, VarKind, boolean, integer, number as real, real_bounded, one_sided, bounded, Var, Write, Location, Destination, Edge, Automaton, Vector, File}
 use Rattle.jani_tree.specs.Jani.{Each, IsItems, IsNamed, IsKeyed, IsExpr, IsBoxed, IsKindAt, IsConst, IsVar, IsWrite, IsLocation, IsDestination, IsEdge, IsAutomaton, IsPart, IsVector, IsSystem, IsFile}
-use Rattle.jani_tree.specs.Canonical.{expr_node, boxed_node, kind_node, const_node, var_node, write_node, location_node, destination_node, edge_node, automaton_node, part_node, vector_node, system_node, file_node, keyed_node, name_node, list_node, HasOperands, OfSome, OfAll, HasBounds, ConstForm, VarForm, WriteForm, LocationForm, DestinationForm, EdgeForm, AutomatonForm, FileForm}
+use Rattle.std.specs.List.{AllByRecursion as OfAll}
+use Rattle.basics.specs.Options.{IfAny as OfSome}
+use Rattle.jani_tree.specs.Canonical.{expr_node, boxed_node, kind_node, const_node, var_node, write_node, location_node, destination_node, edge_node, automaton_node, part_node, vector_node, system_node, file_node, keyed_node, name_node, list_node, HasOperands, HasBounds, ConstForm, VarForm, WriteForm, LocationForm, DestinationForm, EdgeForm, AutomatonForm, FileForm}
 
 -- ---- operators and types
 

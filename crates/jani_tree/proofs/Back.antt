@@ -9,7 +9,8 @@ use Rattle.jani_table.specs.Faults.{faults}
 use Rattle.jani_tree.specs.Syntax.{File}
 use Rattle.jani_tree.specs.Jani.{IsFile}
 use Rattle.jani_tree.specs.Canonical.{file_node}
-use Rattle.jani_tree.specs.Form.{FileShort, HasItems, IsShortName}
+use Rattle.basics.specs.Lists.{IsNotEmpty as HasItems}
+use Rattle.jani_tree.specs.Form.{FileShort, IsShortName}
 use Rattle.jani_tree.specs.Places.{bare_node, bare_file}
 use Rattle.jani_tree.specs.Back.{IsWritable, OnlyLong, IsClean, ReadsBack, SpellsFile, TextSpells}
 use Rattle.jani_tree.proofs.Again.{file_again}

@@ -7,10 +7,13 @@ use Rattle.op_trees.specs.Tree.{Truth, Number, Name, One, Two, Three, bare}
 use Rattle.jani_table.specs.Node.{Node, null, truth, number, text, array, object, Nodes, no_nodes, more_nodes, Fields, no_fields, field}
 use Rattle.jani_table.specs.Faults.{member_text}
 use Rattle.jani_tree.specs.Syntax.{Expression, Const, VarKind, boolean, integer, number as real, real_bounded, one_sided, bounded, Var, Write, Location, Destination, Edge, Automaton, Vector, File}
-use Rattle.jani_tree.specs.Canonical.{OfSome, OfAll}
-use Rattle.jani_tree.specs.Places.{bare_name, bare_node, bare_nodes, bare_fields, bare_const, bare_kind, bare_var, bare_write, bare_location, bare_destination, bare_edge, bare_automaton, bare_part, bare_vector, bare_file}
+use Rattle.std.specs.List.{AllByRecursion as OfAll}
+use Rattle.basics.specs.Options.{IfAny as OfSome}
+use Rattle.op_trees.specs.Names.{bare_name}
+use Rattle.jani_tree.specs.Places.{bare_node, bare_nodes, bare_fields, bare_const, bare_kind, bare_var, bare_write, bare_location, bare_destination, bare_edge, bare_automaton, bare_part, bare_vector, bare_file}
 use Rattle.jani_tree.proofs.Bare.{member_bare}
-use Rattle.jani_tree.specs.Form.{HasItems, HasOne, IsGiven, NormalNode, NormalNodes, NormalFields, KeysOnce, KeysOnceInside, KeysApart, NameForm, ExprForm, KindForm, ConstRead, VarRead, WriteRead, LocationRead, DestinationRead, EdgeRead, AutomatonRead, PartForm, VectorRead, FileWith}
+use Rattle.basics.specs.Lists.{IsNotEmpty as HasItems}
+use Rattle.jani_tree.specs.Form.{HasOne, IsGiven, NormalNode, NormalNodes, NormalFields, KeysOnce, KeysOnceInside, KeysApart, NameForm, ExprForm, KindForm, ConstRead, VarRead, WriteRead, LocationRead, DestinationRead, EdgeRead, AutomatonRead, PartForm, VectorRead, FileWith}
 
 -- the one holds exactly where the other does
 abbrev Alike : Type 0 → Type 0 → Type 0

@@ -1,40 +1,21 @@
 -- Lists that are made item by item, and are seen alike.
-use Rattle.std.proofs.Common.{◌≡◌, ℕ, ◌+◌, ◌<◌, ◌≤◌, refl, sym, ap, ◌∙◌, List, [], ◌∷◌, ◌++◌, Some, None, length, drop, get_or, append_assoc}
+use Rattle.std.proofs.Common.{◌≡◌, ℕ, ◌+◌, ◌≤◌, refl, sym, ap, ◌∙◌, List, [], ◌∷◌, ◌++◌, length, drop}
 use Rattle.std.specs.Prelude.{map}
-use Rattle.std.proofs.lemmas.List.{append-nil, map-append}
-use Rattle.basics.specs.Lists.{drop_item}
+use Rattle.std.proofs.lemmas.List.{append-nil}
 use Rattle.decimal_json.specs.declared.tree.Json.{Json}
 use Rattle.decimal_json.specs.declared.tree.Json.TheVariants.{Array}
 use Rattle.jani_table.specs.Node.{Node, array, node, nodes_of}
 use Rattle.jani_table.specs.NodeLaws.{drop_all, node_array}
-use Rattle.jani_tree.specs.Canonical.{some_list, list_node}
+use Rattle.jani_tree.specs.Canonical.{list_node}
 
 pub map_map : {A B C : Type 0} (f : B → C) (g : A → B) (xs : List A) → map f (map g xs) ≡ map (λ x. f (g x)) xs
 map_map f g [] = refl
 map_map f g (x ∷ xs) = ap (λ ys. f (g x) ∷ ys) (map_map f g xs)
 
--- what is made and what is left is seen as the whole list
-pub made_next : {A B C : Type 0} (f : B → C) (g : A → C) (xs : List A) (made new : List B) (i : ℕ) (x : A) (y : B) → i < length xs → x ≡ get_or xs i x → f y ≡ g x → new ≡ made ++ y ∷ [] →
-    map f made ++ map g (drop i xs) ≡ map g xs → map f new ++ map g (drop (i + 1) xs) ≡ map g xs
-made_next f g xs made new i x y h e c n inv =
-    ap (λ ys. map f ys ++ map g (drop (i + 1) xs)) n
-    ∙ (ap (λ ys. ys ++ map g (drop (i + 1) xs)) (map-append f made (y ∷ []))
-    ∙ (append_assoc (map f made) (f y ∷ []) (map g (drop (i + 1) xs))
-    ∙ (ap (λ z. map f made ++ z ∷ map g (drop (i + 1) xs)) c
-    ∙ (sym (ap (λ ys. map f made ++ map g ys) (drop_item xs i x h e)) ∙ inv))))
-
 pub made_end : {A B C : Type 0} (f : B → C) (g : A → C) (xs : List A) (made : List B) (i : ℕ) → length xs ≤ i → map f made ++ map g (drop i xs) ≡ map g xs → map f made ≡ map g xs
 made_end f g xs made i h inv = sym (append-nil (map f made)) ∙ (sym (ap (λ ys. map f made ++ map g ys) (drop_all xs i h)) ∙ inv)
 
 -- ---- a list that is written if it has items
-
-pub no_items : {A B : Type 0} (f : B → Node) (g : A → B) (xs : List A) → length xs ≡ 0 → some_list f (map g xs) ≡ None
-no_items f g [] e = refl
-no_items f g (x ∷ xs) e = absurd cc
-
-pub with_items : {A B : Type 0} (f : B → Node) (g : A → B) (xs : List A) → (length xs ≡ 0 → ⊥) → some_list f (map g xs) ≡ Some (list_node f 0 (map g xs))
-with_items f g [] e = absurd (e refl)
-with_items f g (x ∷ xs) e = refl
 
 -- a list of values that is made of trees
 pub keyed_done : {A : Type 0} (f : A → Node) (at : ℕ) (xs trees : List A) (made : List Json) (i : ℕ) → xs ≡ trees → length xs ≤ i → map node made ++ map f (drop i xs) ≡ map f xs → node (Array at made) ≡ list_node f at trees

@@ -5,7 +5,7 @@ use Rattle.std.specs.Option.{option_map}
 use Rattle.std.proofs.lemmas.Bool.{not-true}
 use Rattle.std.proofs.Math.Bool.{or_assoc}
 use Rattle.basics.specs.Texts.{bytes_eq-false_comm}
-use Rattle.basics.specs.Options.{none_of}
+use Rattle.basics.specs.Options.{none_of, IfAny as OfSome}
 use Rattle.basics.specs.Booleans.{first_true, second_true, or_none}
 use Rattle.basics.specs.Lists.{append_both}
 use Rattle.bridge_io.specs.declared.reason.Fault.{Fault}
@@ -17,7 +17,8 @@ use Rattle.jani_table.specs.Node.{Node, Nodes, Fields, no_fields, field, nodes_o
 use Rattle.jani_table.specs.Table.{Row, spelled, rows_of, is_required, known_form, item_form}
 use Rattle.jani_table.specs.Faults.{fault, fault_if, fault_unless, faults, items_faults, members_faults, missing_faults, row_faults, other_faults, own_faults, list_faults, by_form, by_kind, object_kind, member_text, has}
 use Rattle.jani_table.specs.Words.{kind_fault}
-use Rattle.jani_tree.specs.Canonical.{with_entry, with_maybe, with_members, object_of, list_node, some_list, OfSome, OfAll}
+use Rattle.std.specs.List.{AllByRecursion as OfAll}
+use Rattle.jani_tree.specs.Canonical.{with_entry, with_maybe, with_members, object_of, list_node, some_list}
 use Rattle.jani_tree.specs.Form.{NormalNode, NormalNodes, NormalFields, KeysOnce, KeysOnceInside, KeysApart}
 
 -- What is asked of a list of faults is asked of its parts: that there is none, say.

@@ -2,7 +2,7 @@
 use Rattle.std.proofs.Common.{◌≡◌, ℕ, ◌<◌, refl, sym, subst, List, [], ◌∷◌, length, Option, Some, None, Bool, true, false, if◌then◌else◌, is_some, arith}
 use Rattle.std.specs.Prelude.{IsSomeAnd, bytes_eq, nat_lt}
 use Rattle.std.proofs.lemmas.Bool.Decides.{nat_tests}
-use Rattle.basics.specs.Lists.{append_left, append_right}
+use Rattle.basics.specs.Lists.{append_left, append_right, IsNotEmpty as HasItems}
 use Rattle.bridge_io.specs.declared.reason.Reason.TheVariants.{TooLong, InitialSet}
 use Rattle.bridge_io.specs.declared.reason.Named.{Named}
 use Rattle.op_trees.specs.declared.tree.Ty.{Ty}
@@ -26,8 +26,9 @@ use Rattle.jani_table.specs.Laws as laws
 use Rattle.jani_table.specs.Laws.{plain_part_there, part_clean, object_clean, list_clean, items_in_clean, unless_clean}
 use Rattle.jani_tree.specs.Syntax.{Expression, Const, VarKind, Var, Write, Location, Destination, Edge, Automaton, Vector, File}
 use Rattle.jani_tree.specs.Jani.{Optional, Each, IsItems, IsList, IsListAt, IsNamed, IsKeyed, IsOperation, IsExpr, IsBoxed, range_of, ty_in, IsWord, IsRange, IsKind, IsKindAt, IsConst, IsVar, IsWrite, IsLocation, IsDestination, IsEdge, IsAutomaton, IsPart, IsVector, IsSystem, IsKept, IsFile}
-use Rattle.jani_tree.specs.Canonical.{OfSome, OfAll}
-use Rattle.jani_tree.specs.Form.{HasItems, HasOne, IsGiven, IsShortName, NormalNode, NormalNodes, NormalFields, NameForm, ExprForm, KindForm, ConstRead, VarRead, WriteRead, LocationRead, DestinationRead, EdgeRead, AutomatonRead, PartForm, VectorRead, FileWith, FileShort, KeysOnce, KeysApart}
+use Rattle.std.specs.List.{AllByRecursion as OfAll}
+use Rattle.basics.specs.Options.{IfAny as OfSome}
+use Rattle.jani_tree.specs.Form.{HasOne, IsGiven, IsShortName, NormalNode, NormalNodes, NormalFields, NameForm, ExprForm, KindForm, ConstRead, VarRead, WriteRead, LocationRead, DestinationRead, EdgeRead, AutomatonRead, PartForm, VectorRead, FileWith, FileShort, KeysOnce, KeysApart}
 
 -- ---- parts
 

@@ -33,7 +33,9 @@ use Rattle.op_trees.specs.declared.tree.Ty.{Ty}
 use Rattle.op_trees.specs.declared.tree.Ty.TheVariants as T
 use Rattle.jani_table.specs.Words.{ty_text, feature_text}
 use Rattle.jani_table.specs.declared.words.Feature.TheVariants.{DerivedOperators, StateExitRewards}
-use Rattle.jani_tree.specs.Canonical.{OfSome, OfAll, with_entry, with_maybe, with_members, object_of, list_node, some_list, word, name_node, keyed_node, expr_node, boxed_node, bounded_word, kind_node, flag_node, head_members, part_node, const_node, var_node, write_node, location_node, destination_node, edge_node, automaton_node, vector_node, system_node, file_members, file_node}
+use Rattle.std.specs.List.{AllByRecursion as OfAll}
+use Rattle.basics.specs.Options.{IfAny as OfSome}
+use Rattle.jani_tree.specs.Canonical.{with_entry, with_maybe, with_members, object_of, list_node, some_list, word, name_node, keyed_node, expr_node, boxed_node, bounded_word, kind_node, flag_node, head_members, part_node, const_node, var_node, write_node, location_node, destination_node, edge_node, automaton_node, vector_node, system_node, file_members, file_node}
 use Rattle.jani_tree.specs.Form.{NormalNodes, NormalFields}
 use Rattle.jani_tree.specs.Text.{ProperNode, ProperNodes, ProperFields, KeptNode}
 use Rattle.jani_tree.proofs.Normal.{normal_again}

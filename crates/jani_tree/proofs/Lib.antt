@@ -16,7 +16,6 @@ pub mod Bared
 pub mod Back
 pub mod Wider
 pub mod Text
-pub mod Mapped
 pub mod BareForm
 pub mod Pieces
 pub mod Made

@@ -1,5 +1,5 @@
 -- The object of an expression, and the parts of a vector.
-use Rattle.std.proofs.Common.{◌≡◌, ℕ, refl, sym, subst, ap, ◌∙◌, List, [], Option, None, Some, true}
+use Rattle.std.proofs.Common.{◌≡◌, ℕ, refl, sym, subst, ap, ◌∙◌, List, [], Option, None, true}
 use Rattle.jani_table.specs.declared.table.Form.TheVariants as F
 use Rattle.jani_table.specs.declared.key.Key.TheVariants as K
 use Rattle.jani_table.specs.declared.operator.JaniOp.{JaniOp}
@@ -8,14 +8,11 @@ use Rattle.decimal_json.specs.declared.tree.Json.{Json}
 use Rattle.decimal_json.specs.declared.tree.Json.TheVariants.{Null, Object, rolls-Null}
 use Rattle.decimal_json.specs.declared.tree.Json.TheFolds.{fold-roll-Json}
 use Rattle.decimal_json.specs.declared.tree.Member.{Member}
-use Rattle.jani_table.specs.Node.{Node, null, truth, number, text, array, object, Fields, node, fields}
+use Rattle.jani_table.specs.Node.{Node, null, truth, number, text, array, object, node, fields}
 use Rattle.jani_table.specs.NodeLaws.{node_object}
-use Rattle.jani_table.specs.Faults.{faults, member, op_in, op_kind, object_faults, is_text}
+use Rattle.jani_table.specs.Faults.{faults, member, op_in, is_text}
 use Rattle.jani_table.specs.Laws as laws
 use Rattle.jani_tree.specs.Jani.{IsPart}
-
-pub operation_clean : (at : ℕ) (ms : Fields) (close : ℕ) (o : JaniOp) → op_in (member K.Op ms) ≡ Some o → faults F.Expression (object at ms close) ≡ [] → object_faults (op_kind o) (object at ms close) ≡ []
-operation_clean at ms close o e c = laws.operation_clean at ms close o e c
 
 pub has_operator : (v : Json) (at : ℕ) (ms slice : List Member) (close : ℕ) (op : Option JaniOp) → slice ≡ ms → v ≡ Object at ms close → op ≡ op_in (member K.Op (fields slice)) → op ≡ None → faults F.Expression (node v) ≡ [] → ⊥
 has_operator v at ms slice close op s e o n c =

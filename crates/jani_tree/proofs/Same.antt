@@ -13,7 +13,8 @@ use Rattle.decimal_json.specs.declared.tree.Json.TheVariants.{Null, rolls-Null, 
 use Rattle.decimal_json.specs.Proper.{bare_step, bare_member_step, bare, bare_member}
 use Rattle.jani_table.specs.Node.{Node, null, array, object, nodes_of, fields_of, field, more_nodes, node, named_node, node_step, member_step}
 use Rattle.jani_table.specs.NodeLaws.{node_array, node_object, node_named}
-use Rattle.jani_tree.specs.Places.{bare_name, bare_node, bare_nodes, bare_fields, SameTree}
+use Rattle.op_trees.specs.Names.{bare_name}
+use Rattle.jani_tree.specs.Places.{bare_node, bare_nodes, bare_fields, SameTree}
 use Rattle.jani_tree.proofs.Bare.{one_tree}
 
 abbrev IsSame : Json → Type 0

@@ -3,7 +3,7 @@ use Rattle.std.proofs.Common.{◌≡◌, ℕ, ◌<◌, refl, sym, ap, subst, ◌
 use Rattle.std.specs.Prelude.{pos, codes, nat_lt}
 use Rattle.std.specs.Option.{option_map}
 use Rattle.std.proofs.lemmas.Bool.Decides.{nat_tests}
-use Rattle.basics.specs.Lists.{append_right, append_both, append_left}
+use Rattle.basics.specs.Lists.{append_right, append_both, append_left, IsNotEmpty as HasItems}
 use Rattle.bridge_io.specs.declared.reason.Fault.{Fault}
 use Rattle.bridge_io.specs.declared.reason.Named.{Named}
 use Rattle.bridge_io.specs.declared.reason.Reason.TheVariants.{TooLong, WrongShape, LeftOut, MissingMember, InitialSet}
@@ -24,8 +24,10 @@ use Rattle.jani_table.specs.Words.{name_fault, unless, ty_text, ty_of, feature_o
 use Rattle.jani_table.specs.Operators.{op_of, op_text}
 use Rattle.jani_table.specs.Faults.{faults, fault_if, or_unclear, op_kind, has, fault_unless, is_true, member}
 use Rattle.jani_tree.specs.Syntax.{Expression, Const, VarKind, boolean, integer, number as real, real_bounded, one_sided, bounded, Var, Write, Location, Destination, Edge, Automaton, Vector, File}
-use Rattle.jani_tree.specs.Canonical.{with_members, object_of, list_node, some_list, word, name_node, keyed_node, expr_node, boxed_node, bounded_word, kind_node, const_node, flag_node, var_node, write_node, location_node, destination_node, edge_node, automaton_node, part_node, vector_node, system_node, version_node, features_node, head_members, file_members, file_node, OfSome, OfAll, HasBounds, VarForm, AutomatonForm, FileForm}
-use Rattle.jani_tree.specs.Form.{HasItems, HasOne, IsGiven, IsShortName, NormalNode, KeysOnce, FileWith, NameForm, ExprForm, KindForm, ConstRead, VarRead, WriteRead, LocationRead, DestinationRead, EdgeRead, AutomatonRead, PartForm, VectorRead}
+use Rattle.std.specs.List.{AllByRecursion as OfAll}
+use Rattle.basics.specs.Options.{IfAny as OfSome}
+use Rattle.jani_tree.specs.Canonical.{with_members, object_of, list_node, some_list, word, name_node, keyed_node, expr_node, boxed_node, bounded_word, kind_node, const_node, flag_node, var_node, write_node, location_node, destination_node, edge_node, automaton_node, part_node, vector_node, system_node, version_node, features_node, head_members, file_members, file_node, HasBounds, VarForm, AutomatonForm, FileForm}
+use Rattle.jani_tree.specs.Form.{HasOne, IsGiven, IsShortName, NormalNode, KeysOnce, FileWith, NameForm, ExprForm, KindForm, ConstRead, VarRead, WriteRead, LocationRead, DestinationRead, EdgeRead, AutomatonRead, PartForm, VectorRead}
 use Rattle.jani_tree.proofs.Again.{op_again, kind_one, kind_two, kind_three, ty_again}
 use Rattle.jani_tree.proofs.Filled.{IsByParts, Good, has_members, object_good, list_good, some_list_good, option_good}
 

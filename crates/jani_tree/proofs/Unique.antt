@@ -34,7 +34,7 @@ operation_object (number at d) _ o k i = cc
 operation_object (text at s) _ o k i = cc
 operation_object (array at vs) _ o k i = cc
 
-same_op : (v : Node) (at at2 : ℕ) (o p : JaniOp) (k l : Kind) → IsOperation v at o k → IsOperation v at2 p l → (at ≡ at2) × (o ≡ p) × (k ≡ l)
+pub same_op : (v : Node) (at at2 : ℕ) (o p : JaniOp) (k l : Kind) → IsOperation v at o k → IsOperation v at2 p l → (at ≡ at2) × (o ≡ p) × (k ≡ l)
 same_op v at at2 o p k l i j =
     let e : o ≡ p = cc (i.op, j.op) in (cc (i.offset, j.offset), e, cc (i.takes, j.takes, e))
 

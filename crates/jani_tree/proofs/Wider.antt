@@ -4,8 +4,9 @@ use Rattle.basics.specs.Each.{each_then}
 use Rattle.bridge_io.specs.declared.reason.Named.{Named}
 use Rattle.op_trees.specs.Tree.{Truth, Number, Name, One, Two, Three}
 use Rattle.jani_tree.specs.Syntax.{Expression, Const, VarKind, boolean, integer, number as real, real_bounded, one_sided, bounded, Var, Write, Location, Destination, Edge, Automaton, Vector, File}
-use Rattle.jani_tree.specs.Canonical.{OfSome}
-use Rattle.jani_tree.specs.Form.{HasItems, IsShortName, NameForm, ExprForm, KindForm, ConstRead, VarRead, WriteRead, LocationRead, DestinationRead, EdgeRead, AutomatonRead, PartForm, VectorRead, FileWith, FileRead, FileShort}
+use Rattle.basics.specs.Options.{IfAny as OfSome}
+use Rattle.basics.specs.Lists.{IsNotEmpty as HasItems}
+use Rattle.jani_tree.specs.Form.{IsShortName, NameForm, ExprForm, KindForm, ConstRead, VarRead, WriteRead, LocationRead, DestinationRead, EdgeRead, AutomatonRead, PartForm, VectorRead, FileWith, FileRead, FileShort}
 
 pub some_wider : {A : Type 0} (F G : A → Type 0) → ((x : A) → F x → G x) → (o : Option A) → OfSome F o → OfSome G o
 some_wider F G h None p = tt

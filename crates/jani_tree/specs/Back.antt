@@ -12,7 +12,8 @@ use Rattle.jani_table.specs.Node.{node}
 use Rattle.jani_table.specs.Faults.{faults}
 use Rattle.jani_tree.specs.Syntax.{File}
 use Rattle.jani_tree.specs.Jani.{IsFile}
-use Rattle.jani_tree.specs.Canonical.{FileForm, OfAll, file_node}
+use Rattle.std.specs.List.{AllByRecursion as OfAll}
+use Rattle.jani_tree.specs.Canonical.{FileForm, file_node}
 use Rattle.jani_tree.specs.Places.{bare_node, bare_file}
 use Rattle.jani_tree.specs.Form.{FileRead, FileShort, KeysOnce}
 

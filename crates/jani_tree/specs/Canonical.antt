@@ -2,6 +2,8 @@
 -- expressions and the lists whose offset a tree keeps stand at their own offsets, all else at 0.
 use Rattle.std.specs.Prelude.{◌≡◌, ℕ, pos, List, [], ◌∷◌, map, codes, Bool, true, false, Option, Some, None}
 use Rattle.std.specs.Option.{option_map}
+use Rattle.std.specs.List.{AllByRecursion as OfAll}
+use Rattle.basics.specs.Options.{IfAny as OfSome}
 use Rattle.bridge_io.specs.declared.reason.Named.{Named}
 use Rattle.op_trees.specs.declared.tree.Ty.TheVariants as T
 use Rattle.op_trees.specs.Names as Walks
@@ -153,14 +155,6 @@ file_node f = object 0 (with_members (with_members no_fields head_members) (file
 -- each node has its operator's number of operands
 abbrev pub HasOperands : Expression → Type 0
 HasOperands e = Walks.HasOperands arity e
-
-abbrev pub OfSome : {A : Type 0} → (A → Type 0) → Option A → Type 0
-OfSome P None = Unit {0}
-OfSome P (Some x) = P x
-
-abbrev pub OfAll : {A : Type 0} → (A → Type 0) → List A → Type 0
-OfAll P [] = Unit {0}
-OfAll P (x ∷ xs) = P x × OfAll P xs
 
 -- a type that has a value: an int has both bounds or none, a real has none
 abbrev pub HasBounds : VarKind → Type 0

@@ -11,11 +11,9 @@ use Rattle.jani_table.specs.Operators.{arity}
 use Rattle.jani_table.specs.Faults.{member_text}
 use Rattle.jani_table.specs.Node.{Node, null, truth, number, text, array, object, Nodes, no_nodes, more_nodes, Fields, no_fields, field}
 use Rattle.jani_tree.specs.Syntax.{Expression, Const, VarKind, boolean, integer, number as real, real_bounded, one_sided, bounded, Var, Write, Location, Destination, Edge, Automaton, Vector, File}
-use Rattle.jani_tree.specs.Canonical.{OfSome, OfAll}
-
-abbrev pub HasItems : {A : Type 0} → List A → Type 0
-HasItems [] = ⊥
-HasItems (x ∷ xs) = Unit {0}
+use Rattle.std.specs.List.{AllByRecursion as OfAll}
+use Rattle.basics.specs.Options.{IfAny as OfSome}
+use Rattle.basics.specs.Lists.{IsNotEmpty as HasItems}
 
 -- a list of one item
 abbrev pub HasOne : {A : Type 0} → List A → Type 0

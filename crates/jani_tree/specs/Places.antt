@@ -5,12 +5,10 @@ use Rattle.bridge_io.specs.declared.reason.Named.{Named}
 use Rattle.decimal_json.specs.declared.tree.Json.{Json}
 use Rattle.decimal_json.specs.Proper.{SameValue}
 use Rattle.op_trees.specs.Tree.{bare}
+use Rattle.op_trees.specs.Names.{bare_name}
 use Rattle.jani_table.specs.Node.{Node, node, null, truth, number, text, array, object, Nodes, no_nodes, more_nodes, Fields, no_fields, field}
 use Rattle.jani_tree.specs.Syntax.{Const, VarKind, bounded, Var, Write, Location, Destination, Edge, Automaton, Vector, File}
 use Rattle.jani_tree.specs.Jani.{IsFile}
-
-abbrev pub bare_name : Named → Named
-bare_name n = record { name = n.name; at = 0 }
 
 -- a value with every offset 0
 abbrev mutual

@@ -12,7 +12,7 @@ ghost use Rattle.jani_table.specs.Faults.{faults, is_known, is_needed, object_fa
 ghost use Rattle.jani_table.specs.Parts.{is_plain, kind_of, item_of, is_list_form};
 ghost use Rattle.jani_tree.specs.Jani.{IsBoxed, IsExpr, IsItems, IsKeyed, IsList, IsNamed, IsPart, IsText, Optional};
 
-use crate::syntax::Je;
+use crate::syntax::JaniExpr;
 use bridge_io::{List, Named, Text};
 use decimal_json::Json;
 use jani_table::{
@@ -24,7 +24,7 @@ use std::alloc::{AllocError, Global};
 
 /// The operand that is the member with this key.
 #[cycle(expression)]
-fn operand(alloc: Global, kind: Kind, key: Key, value: &Json) -> Result<Box<Je>, AllocError>
+fn operand(alloc: Global, kind: Kind, key: Key, value: &Json) -> Result<Box<JaniExpr>, AllocError>
     requires known { IsTrue (is_known kind key) }
     requires needed { IsTrue (is_needed kind key) }
     requires form { part_form kind key ≡ F.Expression }
@@ -37,7 +37,7 @@ fn operand(alloc: Global, kind: Kind, key: Key, value: &Json) -> Result<Box<Je>,
 
 /// The tree of an operator's object.
 #[cycle(expression)]
-fn operation(alloc: Global, at: usize, op: JaniOp, value: &Json) -> Result<Je, AllocError>
+fn operation(alloc: Global, at: usize, op: JaniOp, value: &Json) -> Result<JaniExpr, AllocError>
     requires offset { at_of (node value.now) ≡ at }
     requires op { op_in (part K.Op (node value.now)) ≡ Some op }
     requires clean { object_faults (op_kind op) (node value.now) ≡ [] }
@@ -64,8 +64,8 @@ fn operation(alloc: Global, at: usize, op: JaniOp, value: &Json) -> Result<Je, A
 
 /// The tree of an expression.
 #[cycle(expression)]
-#[tactic(auto, using(crate::proofs::Operation::operation_clean))]
-pub(crate) fn expression(alloc: Global, value: &Json) -> Result<Je, AllocError>
+#[tactic(auto, using(jani_table::specs::Laws::operation_clean))]
+pub(crate) fn expression(alloc: Global, value: &Json) -> Result<JaniExpr, AllocError>
     requires { faults F.Expression (node value.now) ≡ [] }
     ensures { IfOk result (λ e. IsExpr (node value.now) (tree e)) }
 {
@@ -88,7 +88,7 @@ pub(crate) fn expression_of(
     form: Form,
     key: Key,
     value: &Json,
-) -> Result<Je, AllocError>
+) -> Result<JaniExpr, AllocError>
     requires plain { IsTrue (is_plain form) }
     requires known { IsTrue (is_known (kind_of form) key) }
     requires needed { IsTrue (is_needed (kind_of form) key) }
@@ -105,7 +105,7 @@ pub(crate) fn optional_expression(
     form: Form,
     key: Key,
     value: &Json,
-) -> Result<Option<Je>, AllocError>
+) -> Result<Option<JaniExpr>, AllocError>
     requires plain { IsTrue (is_plain form) }
     requires known { IsTrue (is_known (kind_of form) key) }
     requires form { part_form (kind_of form) key ≡ F.Expression }
@@ -124,7 +124,7 @@ pub(crate) fn optional_boxed(
     form: Form,
     key: Key,
     value: &Json,
-) -> Result<Option<Je>, AllocError>
+) -> Result<Option<JaniExpr>, AllocError>
     requires plain { IsTrue (is_plain form) }
     requires known { IsTrue (is_known (kind_of form) key) }
     requires form { part_form (kind_of form) key ≡ F.Boxed }

@@ -16,7 +16,7 @@ pub use laws::{places_law, reads_back_law, written_law};
 pub use read::from_json;
 pub use spell::write_jani;
 pub use syntax::{
-    JaniAutomaton, JaniConst, JaniDestination, JaniEdge, JaniFile, JaniKind, JaniLocation, JaniVar,
-    JaniVector, JaniWrite, Je,
+    JaniAutomaton, JaniConst, JaniDestination, JaniEdge, JaniExpr, JaniFile, JaniKind,
+    JaniLocation, JaniVar, JaniVector, JaniWrite,
 };
 pub use write::to_json;

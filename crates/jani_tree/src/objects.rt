@@ -20,8 +20,8 @@ use crate::build::{
 };
 use crate::copy::copy_json;
 use crate::syntax::{
-    JaniAutomaton, JaniConst, JaniDestination, JaniEdge, JaniFile, JaniKind, JaniLocation, JaniVar,
-    JaniVector, JaniWrite, Je,
+    JaniAutomaton, JaniConst, JaniDestination, JaniEdge, JaniExpr, JaniFile, JaniKind,
+    JaniLocation, JaniVar, JaniVector, JaniWrite,
 };
 use bridge_io::{List, Named, Text};
 use decimal_json::Json;
@@ -175,7 +175,7 @@ fn flag(key: Key, value: &Json) -> bool
 struct Typed {
     kind: JaniKind,
     at: usize,
-    start: Option<Je>,
+    start: Option<JaniExpr>,
 }
 
 fn typed_start(alloc: Global, value: &Json) -> Result<Typed, AllocError>

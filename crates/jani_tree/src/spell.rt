@@ -9,14 +9,16 @@ ghost use Rattle.jani_table.specs.Node.{Node};
 ghost use Rattle.jani_table.specs.Operators.{op_text};
 ghost use Rattle.jani_table.specs.Words.{ty_text};
 ghost use Rattle.jani_tree.specs.Syntax.{bounded, Automaton, Const, Destination, Edge, Location, Var, Vector, Write, automaton_of, const_of, destination_of, edge_of, file_of, kind_of, location_of, var_of, vector_of, write_of};
-ghost use Rattle.jani_tree.specs.Canonical.{OfAll, OfSome, automaton_node, boxed_node, const_node, destination_node, edge_node, expr_node, file_node, flag_node, kind_node, list_node, location_node, name_node, part_node, some_list, system_node, var_node, vector_node, word, write_node};
+ghost use Rattle.std.specs.List.{AllByRecursion as OfAll};
+ghost use Rattle.basics.specs.Options.{IfAny as OfSome};
+ghost use Rattle.jani_tree.specs.Canonical.{automaton_node, boxed_node, const_node, destination_node, edge_node, expr_node, file_node, flag_node, kind_node, list_node, location_node, name_node, part_node, some_list, system_node, var_node, vector_node, word, write_node};
 ghost use Rattle.jani_tree.specs.Back.{IsWritable};
 ghost use Rattle.jani_tree.specs.Text.{KeptNode, SpellsNode, jani_text, node_text};
 ghost use Rattle.jani_tree.specs.Pieces.{if_some, keyed_text, list_text};
 
 use crate::syntax::{
-    JaniAutomaton, JaniConst, JaniDestination, JaniEdge, JaniFile, JaniKind, JaniLocation, JaniVar,
-    JaniVector, JaniWrite, Je,
+    JaniAutomaton, JaniConst, JaniDestination, JaniEdge, JaniExpr, JaniFile, JaniKind,
+    JaniLocation, JaniVar, JaniVector, JaniWrite,
 };
 use bridge_io::{List, Named, Text};
 use decimal_json::{push_number, push_string, push_value};
@@ -70,7 +72,7 @@ fn push_operator(out: &mut Vec<u8>, op: &JaniOp) -> Result<(), AllocError>
 }
 
 /// Writes what stands in front of an expression, and the expression.
-fn push_expression(out: &mut Vec<u8>, lead: &[u8], e: &Je) -> Result<(), AllocError>
+fn push_expression(out: &mut Vec<u8>, lead: &[u8], e: &JaniExpr) -> Result<(), AllocError>
     ensures text { OnOk result (out.new.items ≡ out.old.items ++ (lead.now ++ node_text (expr_node (tree e.now)))) }
     ensures kept { OnOk result (KeptNode (expr_node (tree e.now))) }
 {
@@ -101,7 +103,11 @@ fn push_expression(out: &mut Vec<u8>, lead: &[u8], e: &Je) -> Result<(), AllocEr
     }
 }
 
-fn push_some_expression(out: &mut Vec<u8>, lead: &[u8], e: &Option<Je>) -> Result<(), AllocError>
+fn push_some_expression(
+    out: &mut Vec<u8>,
+    lead: &[u8],
+    e: &Option<JaniExpr>,
+) -> Result<(), AllocError>
     ensures text { OnOk result (out.new.items ≡ out.old.items ++ if_some lead.now (option_map expr_node (option_map tree e.now))) }
     ensures kept { OnOk result (OfSome KeptNode (option_map expr_node (option_map tree e.now))) }
 {
@@ -111,7 +117,7 @@ fn push_some_expression(out: &mut Vec<u8>, lead: &[u8], e: &Option<Je>) -> Resul
     }
 }
 
-fn push_some_boxed(out: &mut Vec<u8>, lead: &[u8], e: &Option<Je>) -> Result<(), AllocError>
+fn push_some_boxed(out: &mut Vec<u8>, lead: &[u8], e: &Option<JaniExpr>) -> Result<(), AllocError>
     ensures text { OnOk result (out.new.items ≡ out.old.items ++ if_some lead.now (option_map boxed_node (option_map tree e.now))) }
     ensures kept { OnOk result (OfSome KeptNode (option_map boxed_node (option_map tree e.now))) }
 {
@@ -274,7 +280,7 @@ impl Shown for JaniConst {
     }
 }
 
-fn push_bounded(out: &mut Vec<u8>, low: &Je, high: &Je) -> Result<(), AllocError>
+fn push_bounded(out: &mut Vec<u8>, low: &JaniExpr, high: &JaniExpr) -> Result<(), AllocError>
     ensures text { OnOk result (out.new.items ≡ out.old.items ++ node_text (kind_node 0 (bounded (tree low.now) (tree high.now)))) }
     ensures kept { OnOk result (KeptNode (kind_node 0 (bounded (tree low.now) (tree high.now)))) }
 {

@@ -7,7 +7,7 @@ use jani_table::JaniOp;
 use op_trees::{Expr, Ty};
 
 /// An expression.
-pub type Je = Expr<JaniOp>;
+pub type JaniExpr = Expr<JaniOp>;
 
 /// A file: a model of type "mdp". The lists are in the order of the file. The properties are kept as they are.
 #[derive(Drop)]
@@ -29,7 +29,7 @@ pub struct JaniFile {
 pub struct JaniConst {
     pub name: Named,
     pub ty: Ty,
-    pub value: Option<Je>,
+    pub value: Option<JaniExpr>,
     pub note: Option<Text>,
 }
 
@@ -41,7 +41,7 @@ pub struct JaniVar {
     /// The offset of the type.
     pub kind_at: usize,
     pub transient: bool,
-    pub start: Option<Je>,
+    pub start: Option<JaniExpr>,
     pub note: Option<Text>,
 }
 
@@ -56,7 +56,7 @@ pub enum JaniKind {
     /// An int with one bound.
     OneSided,
     /// An int from the first bound to the second.
-    Bounded(Je, Je),
+    Bounded(JaniExpr, JaniExpr),
 }
 
 /// An automaton. Which location it begins in is the one of the list `initial`.
@@ -80,7 +80,7 @@ pub struct JaniLocation {
 #[derive(Drop)]
 pub struct JaniWrite {
     pub target: Named,
-    pub value: Je,
+    pub value: JaniExpr,
 }
 
 /// An edge from a location; without an action it is silent.
@@ -88,7 +88,7 @@ pub struct JaniWrite {
 pub struct JaniEdge {
     pub location: Named,
     pub action: Option<Named>,
-    pub guard: Option<Je>,
+    pub guard: Option<JaniExpr>,
     pub destinations: List<JaniDestination>,
     /// The offset of the list of destinations.
     pub at: usize,
@@ -98,7 +98,7 @@ pub struct JaniEdge {
 #[derive(Drop)]
 pub struct JaniDestination {
     pub location: Named,
-    pub weight: Option<Je>,
+    pub weight: Option<JaniExpr>,
     pub writes: List<JaniWrite>,
 }
 

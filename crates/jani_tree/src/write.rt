@@ -14,8 +14,8 @@ ghost use Rattle.jani_tree.specs.Canonical.{FileForm, automaton_node, bounded_wo
 
 use crate::copy::copy_json;
 use crate::syntax::{
-    JaniAutomaton, JaniConst, JaniDestination, JaniEdge, JaniFile, JaniKind, JaniLocation, JaniVar,
-    JaniVector, JaniWrite, Je,
+    JaniAutomaton, JaniConst, JaniDestination, JaniEdge, JaniExpr, JaniFile, JaniKind,
+    JaniLocation, JaniVar, JaniVector, JaniWrite,
 };
 use bridge_io::{List, Named, Text};
 use decimal_json::{Json, Member};
@@ -132,7 +132,7 @@ fn operator_json(alloc: Global, op: JaniOp) -> Result<List<Member>, AllocError>
     Ok(members)
 }
 
-fn expression_json(alloc: Global, e: &Je) -> Result<Json, AllocError>
+fn expression_json(alloc: Global, e: &JaniExpr) -> Result<Json, AllocError>
     ensures { IfOk result (λ v. node v ≡ expr_node (tree e.now)) }
 {
     match e {
@@ -165,7 +165,7 @@ fn add_expression(
     alloc: Global,
     members: &mut List<Member>,
     key: Key,
-    e: &Je,
+    e: &JaniExpr,
 ) -> Result<(), AllocError>
     ensures { OnOk result (fields members.new ≡ with_entry (fields members.old) key (expr_node (tree e.now))) }
 {
@@ -177,7 +177,7 @@ fn add_some_expression(
     alloc: Global,
     members: &mut List<Member>,
     key: Key,
-    e: &Option<Je>,
+    e: &Option<JaniExpr>,
 ) -> Result<(), AllocError>
     ensures { OnOk result (fields members.new ≡ with_maybe (fields members.old) key (option_map expr_node (option_map tree e.now))) }
 {
@@ -187,7 +187,7 @@ fn add_some_expression(
     }
 }
 
-fn boxed_json(alloc: Global, e: &Je) -> Result<Json, AllocError>
+fn boxed_json(alloc: Global, e: &JaniExpr) -> Result<Json, AllocError>
     ensures { IfOk result (λ v. node v ≡ boxed_node (tree e.now)) }
 {
     let mut members = List::new(alloc);
@@ -200,7 +200,7 @@ fn add_some_boxed(
     alloc: Global,
     members: &mut List<Member>,
     key: Key,
-    e: &Option<Je>,
+    e: &Option<JaniExpr>,
 ) -> Result<(), AllocError>
     ensures { OnOk result (fields members.new ≡ with_maybe (fields members.old) key (option_map boxed_node (option_map tree e.now))) }
 {
@@ -360,7 +360,12 @@ fn range_json(alloc: Global, ty: Ty) -> Result<List<Member>, AllocError>
     Ok(members)
 }
 
-fn bounded_json(alloc: Global, at: usize, low: &Je, high: &Je) -> Result<Json, AllocError>
+fn bounded_json(
+    alloc: Global,
+    at: usize,
+    low: &JaniExpr,
+    high: &JaniExpr,
+) -> Result<Json, AllocError>
     ensures { IfOk result (λ v. node v ≡ kind_node at (bounded (tree low.now) (tree high.now))) }
 {
     let mut members = range_json(alloc, Ty::Int)?;

@@ -8,13 +8,12 @@ use Rattle.bridge_io.specs.declared.reason.Fault.{Fault}
 use Rattle.bridge_io.specs.declared.reason.Reason.{Reason}
 use Rattle.bridge_io.specs.declared.place.Place.{Place}
 use Rattle.prism_tree.specs.Syntax.{File}
-use Rattle.name_rules.specs.Least.{IsLeast}
+use Rattle.name_rules.proofs.Plain.{no_least}
 use Rattle.prism_check.specs.Faults.{faults}
 use Rattle.command_words.specs.declared.request.Task.{Task}
 use Rattle.command_words.specs.declared.request.Task.TheVariants.{ToJani, ToPrism, ToPrismProps, CheckPrism, CheckJani}
 use Rattle.command_words.specs.Words.{Request, IsRequest, HasForm, IsWrongAt}
 use Rattle.model_walks.specs.declared.ending.Ending.{Ending}
-use Rattle.jani_table.specs.Least.{IsLeast as IsLeastOfJani}
 use Rattle.jani_table.specs.declared.table.Form.TheVariants as F
 use Rattle.jani_table.specs.Node.{node}
 use Rattle.jani_table.specs.Faults.{faults as shape_faults}
@@ -67,23 +66,16 @@ too_long_told lefts now name bytes read had was on = of (now name) was on
         let same : read ++ rest ≡ bytes = cc in
         omega (arith, length-append read rest, ap length same)
 
--- a tree without faults has no least one
-no_least : (tree : File) (f : Fault) → faults tree ≡ [] → IsLeast (faults tree) f → ⊥
-no_least tree f none least = let e : IsLeast [] f = subst (λ fs. IsLeast fs f) none least in e.among
-
-no_least_of_jani : (fs : List Fault) (f : Fault) → fs ≡ [] → IsLeastOfJani fs f → ⊥
-no_least_of_jani fs f none least = let e : IsLeastOfJani [] f = subst (λ gs. IsLeastOfJani gs f) none least in e.among
-
 -- nor has a JANI file
 not_faultless_jani : (bytes : List ℕ) (f : Fault) (tree : JaniFile) → IsJaniFault bytes f → IsFaultlessJani bytes tree → ⊥
 not_faultless_jani bytes f tree (of_json least) ok = ok.read.whole.clean f.at f.reason least.fault
 not_faultless_jani bytes f tree (of_shape value whole least) ok =
     let same : ok.value ≡ value = whole.only ok.value ok.read.whole.tokens ok.read.whole.spells in
-    no_least_of_jani _ f (subst (λ v. shape_faults F.Model (node v) ≡ []) same ok.read.shaped) least
+    no_least _ f (subst (λ v. shape_faults F.Model (node v) ≡ []) same ok.read.shaped) least
 not_faultless_jani bytes f tree (of_model value other read least) ok =
     let same : ok.value ≡ value = read.whole.only ok.value ok.read.whole.tokens ok.read.whole.spells in
     let trees : tree ≡ other = read.only tree (subst (λ v. IsFile (node v) tree) same ok.read.spells) in
-    no_least_of_jani _ f (subst (λ t. jani_faults t ≡ []) trees ok.sound) least
+    no_least _ f (subst (λ t. jani_faults t ≡ []) trees ok.sound) least
 
 -- bytes spell one JANI tree without fault
 one_tree_of : (bytes : List ℕ) (tree other : JaniFile) → IsFaultlessJani bytes tree → IsFaultlessJani bytes other → tree ≡ other
@@ -96,13 +88,13 @@ not_faultless : (bytes : List ℕ) (f : Fault) (tree : File) → IsPrismFault by
 not_faultless bytes f other (of_text least) ok = least.faulty ok.read.clean
 not_faultless bytes f other (of_tree tree read least) ok =
     let same : other ≡ tree = read.only other ok.read.spells in
-    no_least tree f (subst (λ t. faults t ≡ []) same ok.sound) least
+    no_least _ f (subst (λ t. faults t ≡ []) same ok.sound) least
 
 -- nor has a JANI file that can be translated
 not_translatable : (bytes : List ℕ) (f : Fault) (tree : JaniFile) → IsRefusedBack bytes f → IsTranslatable bytes tree → ⊥
 not_translatable bytes f tree (of_file fault) ok = not_faultless_jani bytes f tree fault ok.faultless
 not_translatable bytes f tree (of_result other read least) ok =
-    no_least_of_jani _ f (subst (λ t. refused t ≡ []) (one_tree_of bytes tree other ok.faultless read) ok.accepted) least
+    no_least _ f (subst (λ t. refused t ≡ []) (one_tree_of bytes tree other ok.faultless read) ok.accepted) least
 
 -- nor has one whose properties are read
 not_holding : (bytes : List ℕ) (f : Fault) (tree : JaniFile) (ps : List JaniProperty) → IsPropertiesRefused bytes f → HoldsProperties bytes tree ps → ⊥

@@ -81,12 +81,6 @@ one_more_whole before mid after [] name (b ∷ contents) bytes w h = absurd w
 one_more_whole before mid after (n ∷ names) name [] bytes w h = absurd w
 one_more_whole before mid after (n ∷ names) name (b ∷ contents) bytes w h = (w.0, w.1, one_more_whole w.0 mid after names name contents bytes w.2 h)
 
-pub length_whole : (before after : Option Lefts) (names contents : List (List ℕ)) → AreWhole before after names contents → length contents ≡ length names
-length_whole before after [] [] w = refl
-length_whole before after [] (b ∷ contents) w = absurd w
-length_whole before after (n ∷ names) [] w = absurd w
-length_whole before after (n ∷ names) (b ∷ contents) w = let e = length_whole w.0 after names contents w.2 in omega (arith, e)
-
 pub whole_short : (before after : Option Lefts) (names contents : List (List ℕ)) → AreWhole before after names contents → AreShort contents
 whole_short before after [] [] w = tt
 whole_short before after [] (b ∷ contents) w = absurd w

@@ -7,7 +7,7 @@ use Rattle.prism_tree.specs.Faults.{Spells}
 use Rattle.prism_print.specs.Text.{file_text}
 use Rattle.prism_print.specs.Same.{bare_file, SpellsFile}
 use Rattle.prism_print.specs.Comments.{lines_text}
-use Rattle.jani_table.specs.Least.{IsLeast}
+use Rattle.name_rules.specs.Least.{IsLeast}
 use Rattle.jani_tree.specs.Syntax as jani
 use Rattle.prism_translation.specs.Lines.{lines}
 use Rattle.prism_translation.specs.Refused.{refused}

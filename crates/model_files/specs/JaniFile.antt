@@ -8,7 +8,7 @@ use Rattle.decimal_json.specs.declared.tree.Json.{Json}
 use Rattle.decimal_json.specs.Faults.{IsWhole, IsLeast as IsLeastOfText}
 use Rattle.jani_table.specs.declared.table.Form.TheVariants as F
 use Rattle.jani_table.specs.Node.{node}
-use Rattle.jani_table.specs.Least.{IsLeast}
+use Rattle.name_rules.specs.Least.{IsLeast}
 use Rattle.jani_table.specs.Faults.{faults as shape_faults}
 use Rattle.jani_tree.specs.Syntax.{File}
 use Rattle.jani_tree.specs.Jani.{IsFile}

@@ -8,8 +8,7 @@ use Rattle.jani_tree.specs.Canonical.{FileForm, file_node}
 use Rattle.jani_tree.specs.Back.{TextSpells}
 use Rattle.jani_tree.specs.Text.{jani_text, SpellsNode}
 use Rattle.prism_to_jani.specs.Promise.{IsTranslated, PlacesAside}
-use Rattle.model_files.specs.PrismFile.{IsFaultless}
-use Rattle.model_translation.specs.Translation.{IsText, IsWritten, Translates}
+use Rattle.model_translation.specs.Translation.{IsText, IsWritten}
 
 -- a text with its line feed
 pub text_is : (f : jani.File) (text : List ℕ) → TextSpells → LineFeedBehind → FileForm f → text ≡ jani_text f → SpellsNode text (file_node f) → IsText (text ++ 10 ∷ []) f
@@ -30,6 +29,3 @@ written tree model text aside h t = (
     only = λ other s. (t.spells.only other s, aside tree model other (sym (t.spells.only other s)) h);
   },
 )
-
-pub translates : (bytes text : List ℕ) (tree : prism.File) → IsFaultless bytes tree → ((model : jani.File) × IsWritten tree text model) → Translates bytes text
-translates bytes text tree ok w = (tree, w.0, record { faultless = ok; written = w.1 })

@@ -2,6 +2,7 @@
 use Rattle.std.proofs.Common.{arith, ◌≡◌, ◌∙◌, refl, sym, ap, ap₂, subst, ℕ, suc, ◌+◌, ◌<◌, ◌≤◌, List, [], ◌∷◌, length, Bool, true, false, not, Some, None}
 use Rattle.std.specs.Prelude.{◌++◌, ◌||◌, if◌then◌else◌}
 use Rattle.std.specs.List.{list_any, position_or_len}
+use Rattle.basics.specs.Members.{none_at_end}
 use Rattle.process_core.specs.declared.data.Given.{Given}
 use Rattle.process_texts.specs.declared.given.GivenText.{GivenText}
 use Rattle.process_texts.specs.declared.given.GivenText.TheVariants.{Good, Past, NoForm}
@@ -17,14 +18,6 @@ position_step p x xs = by_test (p x) (position_or_len p xs)
     by_test : (b : Bool) (n : ℕ) → (if not b then 1 + n else 0) ≡ (if b then 0 else 1 + n)
     by_test true n = refl
     by_test false n = refl
-
-none_at_end : {X : Type 0} (p : X → Bool) (xs : List X) → list_any p xs ≡ false → position_or_len p xs ≡ length xs
-none_at_end p [] h = refl
-none_at_end p (x ∷ xs) h = position_step p x xs ∙ by_test (p x) (none_at_end p xs) h
-  where
-    by_test : (b : Bool) → (list_any p xs ≡ false → position_or_len p xs ≡ length xs) → (b || list_any p xs) ≡ false → (if b then 0 else 1 + position_or_len p xs) ≡ suc (length xs)
-    by_test true ih h = absurd cc
-    by_test false ih h = let e = ih h in omega (arith, e)
 
 position_within : {X : Type 0} (p : X → Bool) (xs : List X) → position_or_len p xs ≤ length xs
 position_within p [] = omega arith

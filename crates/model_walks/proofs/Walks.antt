@@ -1,8 +1,6 @@
 -- How a walk ends on a model, and on the bytes of its file.
 use Rattle.std.proofs.Common.{◌≡◌, refl, subst, List, ℕ}
 use Rattle.std.specs.Prelude.{Result, Ok, Err, IfOk}
-use Rattle.bridge_io.specs.declared.reason.Refused.{Refused}
-use Rattle.bridge_io.specs.declared.reason.Refused.TheVariants as F
 use Rattle.process_core.specs.Steps.{Process}
 use Rattle.instance_start.specs.Description.{Description}
 use Rattle.walk_texts.specs.declared.report.Report.{Report}
@@ -10,22 +8,13 @@ use Rattle.command_words.specs.Words.{Walking}
 use Rattle.command_words.specs.declared.request.Lang.TheVariants.{Prism, Jani}
 use Rattle.prism_tree.specs.Syntax as prism
 use Rattle.jani_tree.specs.Syntax as jani
-use Rattle.model_files.specs.PrismFile.{IsFaultless, RefusesPrism}
-use Rattle.model_files.specs.JaniFile.{IsFaultlessJani, RefusesJani}
+use Rattle.model_files.specs.PrismFile.{IsFaultless}
+use Rattle.model_files.specs.JaniFile.{IsFaultlessJani}
 use Rattle.prism_meaning.specs.Described.{prism_description}
 use Rattle.jani_instance.specs.Described.{jani_description}
 use Rattle.model_walks.specs.Starts.{IsSound, process_for}
-use Rattle.model_walks.specs.Walks.{EndsOnModel, EndsOnBytes, IsReport, WalksOn, ending_of, shown}
+use Rattle.model_walks.specs.Walks.{EndsOnModel, EndsOnBytes, IsReport, ending_of, shown}
 use Rattle.model_walks.specs.declared.ending.Ending.{Ending}
-
--- ---- files that are refused
-pub refused_prism : (w : Walking) (bytes : List ℕ) (r : Refused) → RefusesPrism bytes r → WalksOn Prism w bytes (Err r)
-refused_prism w bytes (F.Memory e) h = tt
-refused_prism w bytes (F.At f) h = h
-
-pub refused_jani : (w : Walking) (bytes : List ℕ) (r : Refused) → RefusesJani bytes r → WalksOn Jani w bytes (Err r)
-refused_jani w bytes (F.Memory e) h = tt
-refused_jani w bytes (F.At f) h = h
 
 -- ---- what is shown of a process that is started
 pub if_shown : {E : Type 0} (d : Description) (w : Walking) (p : Process) (r : Result Ending E) → IsSound d w.given × (p ≡ process_for d w.given) →

@@ -6,12 +6,12 @@ use Rattle.std.proofs.lemmas.List.{at_drop_more, get_or_default}
 use Rattle.std.proofs.lemmas.List.Concat.{flat_map-append}
 use Rattle.bridge_io.specs.declared.reason.Fault.{Fault}
 use Rattle.name_rules.specs.Least.{soonest}
-use Rattle.name_rules.proofs.Soonest.{soonest-append}
+use Rattle.name_rules.proofs.Soonest.{soonest_append}
 
 pub soonest_both : {A : Type 0} (f : A → List Fault) (xs ys : List A) (best first last : Option Fault) → first ≡ soonest best (flat_map f xs) →
     last ≡ soonest first (flat_map f ys) → last ≡ soonest best (flat_map f (xs ++ ys))
 soonest_both f xs ys best first last p q =
-    q ∙ ap (λ b. soonest b (flat_map f ys)) p ∙ sym (soonest-append best (flat_map f xs) (flat_map f ys)) ∙ ap (soonest best) (sym (flat_map-append f xs ys))
+    q ∙ ap (λ b. soonest b (flat_map f ys)) p ∙ sym (soonest_append best (flat_map f xs) (flat_map f ys)) ∙ ap (soonest best) (sym (flat_map-append f xs ys))
 
 pub soonest_three : {A : Type 0} (f : A → List Fault) (xs ys zs : List A) (best first second last : Option Fault) → first ≡ soonest best (flat_map f xs) →
     second ≡ soonest first (flat_map f ys) → last ≡ soonest second (flat_map f zs) → last ≡ soonest best (flat_map f (xs ++ (ys ++ zs)))
@@ -24,13 +24,13 @@ pub soonest_next : {A B : Type 0} (view : A → B) (f : B → List Fault) (xs : 
 soonest_next view f xs i x best next whole h is judged so_far =
     let rest = flat_map f (map view (drop (i + 1) xs)) in
     ap (λ b. soonest b rest) judged
-    ∙ sym (soonest-append best (f (view x)) rest)
+    ∙ sym (soonest_append best (f (view x)) rest)
     ∙ sym (at_drop_more (λ ys. soonest best (flat_map f (map view ys))) xs i x h ∙ ap (λ y. soonest best (flat_map f (map view (y ∷ drop (i + 1) xs)))) (sym is))
     ∙ so_far
 
 -- first these faults, then those
 pub soonest_then : (best next : Option Fault) (xs ys : List Fault) → next ≡ soonest best xs → soonest next ys ≡ soonest best (xs ++ ys)
-soonest_then best next xs ys p = ap (λ b. soonest b ys) p ∙ sym (soonest-append best xs ys)
+soonest_then best next xs ys p = ap (λ b. soonest b ys) p ∙ sym (soonest_append best xs ys)
 
 pub three_parts : (a b c : List Fault) (b0 b1 b2 : Option Fault) → b1 ≡ soonest b0 a → b2 ≡ soonest b1 b → soonest b2 c ≡ soonest b0 (a ++ (b ++ c))
 three_parts a b c b0 b1 b2 p1 p2 = soonest_then b1 b2 b c p2 ∙ soonest_then b0 b1 a (b ++ c) p1

@@ -9,7 +9,7 @@ use Rattle.bridge_io.specs.declared.reason.Named.{Named}
 use Rattle.bridge_io.specs.declared.reason.Reason.{Reason}
 use Rattle.bridge_io.specs.declared.reason.Fault.{Fault}
 use Rattle.name_rules.specs.Least.{fault, sooner, soonest}
-use Rattle.name_rules.proofs.Soonest.{soonest-append, sooner_twice}
+use Rattle.name_rules.proofs.Soonest.{soonest_append, sooner_twice}
 use Rattle.name_rules.specs.declared.names.Entry.{Entry}
 use Rattle.name_rules.specs.Doubled.{clash, doubled_after, lower, by_lowest, lowest_of}
 use Rattle.name_rules.specs.Names.{named_by}
@@ -62,7 +62,7 @@ both_judged : (reason : Reason) (n : Named) (earlier others : List Named) (best 
     ≡ by_lowest reason (by_lowest reason best (lowest_of n.name earlier) n.at) (lowest_of n.name others) n.at
 both_judged reason n earlier others best =
     ap (soonest best) (flat_map-append (clash reason n) earlier others)
-    ∙ soonest-append best (flat_map (clash reason n) earlier) (flat_map (clash reason n) others)
+    ∙ soonest_append best (flat_map (clash reason n) earlier) (flat_map (clash reason n) others)
     ∙ ap (λ o. soonest o (flat_map (clash reason n) others)) (clashes_by_lowest reason n earlier best)
     ∙ clashes_by_lowest reason n others (by_lowest reason best (lowest_of n.name earlier) n.at)
 
@@ -84,7 +84,7 @@ one_more reason others lowest new before best among next whole es i h known firs
           ∙ ap (λ o. by_lowest reason among o e.at) (known e.name.now)
           ∙ ap (λ o. by_lowest reason o (lowest_of e.name.now others) e.at) (first ∙ ap (λ o. by_lowest reason best o e.at) (left.table e.name.now))
           ∙ sym (both_judged reason (named_by e) left.earlier others best))
-          ∙ sym (soonest-append best (flat_map (clash reason (named_by e)) (left.earlier ++ others)) rest)
+          ∙ sym (soonest_append best (flat_map (clash reason (named_by e)) (left.earlier ++ others)) rest)
           ∙ sym (at_drop_more (λ ys. soonest best (doubled_after reason (left.earlier ++ others) (map named_by ys))) es i no_entry h)
           ∙ left.found;
     }
@@ -151,7 +151,7 @@ few_more reason best next whole es i h judged so_far =
     let after = doubled_after reason (n ∷ earlier) rest in
     ap (λ ms. soonest next (doubled_after reason ms rest)) (before_more es i h)
     ∙ ap (λ b. soonest b after) (judged ∙ sym (clashes_by_lowest reason n earlier best))
-    ∙ sym (soonest-append best (flat_map (clash reason n) earlier) after)
+    ∙ sym (soonest_append best (flat_map (clash reason n) earlier) after)
     ∙ sym (at_drop_more (λ ys. soonest best (doubled_after reason earlier (map named_by ys))) es i no_entry h)
     ∙ so_far
 

@@ -7,7 +7,7 @@ use Rattle.std.proofs.lemmas.List.Folds.{list_any-append}
 use Rattle.std.proofs.lemmas.Slice.Eq.{bytes_eq-Decides}
 use Rattle.basics.specs.Texts.{bytes_eq-self}
 use Rattle.name_rules.specs.Names.{Name}
-use Rattle.name_rules.specs.Names.{is_called}
+use Rattle.op_trees.specs.Names.{is_called}
 use Rattle.name_rules.specs.Circles.{Declared, uses_of, leads_to, is_circular}
 use Rattle.name_rules.specs.declared.declarations.Declaration.{Declaration}
 use Rattle.name_rules.specs.Circles.{declared_by, nothing_declared, declared_at}

@@ -1,5 +1,8 @@
 pub mod Soonest
 pub mod Append
+pub mod Plain
+pub mod Placeless
+pub mod Misfits
 pub mod Maps
 pub mod Clashes
 pub mod NamesAdded

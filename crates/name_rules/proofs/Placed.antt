@@ -9,7 +9,7 @@ use Rattle.std.proofs.lemmas.List.Folds.{list_any-append}
 use Rattle.std.proofs.lemmas.Slice.Eq.{bytes_eq-Decides}
 use Rattle.basics.specs.Texts.{bytes_eq-self}
 use Rattle.name_rules.specs.Names.{Name}
-use Rattle.name_rules.specs.Names.{is_called}
+use Rattle.op_trees.specs.Names.{is_called}
 use Rattle.name_rules.specs.Circles.{Declared, leads_to, is_circular}
 use Rattle.name_rules.specs.Circles.{nothing_declared, declared_at, HasTurned, AreInTurn, turns_from}
 use Rattle.name_rules.specs.Rounds.{some_use, is_placed, one_if, waiting, is_blocked, open_from, IsPlacing}

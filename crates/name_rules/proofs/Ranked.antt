@@ -7,7 +7,7 @@ use Rattle.std.proofs.lemmas.Bool.Decides.{nat_tests}
 use Rattle.std.proofs.lemmas.Slice.Eq.{bytes_eq-Decides}
 use Rattle.std.proofs.lemmas.Bool.{and_parts}
 use Rattle.name_rules.specs.Names.{Name}
-use Rattle.name_rules.specs.Names.{is_called}
+use Rattle.op_trees.specs.Names.{is_called}
 use Rattle.name_rules.specs.declared.declarations.Declaration.{Declaration}
 use Rattle.name_rules.specs.declared.ranks.Ranks.{Ranks}
 use Rattle.name_rules.specs.Circles.{Declared, uses_of, leads_to, is_circular}
@@ -45,11 +45,6 @@ module _ (ds : List Declared) (rank : Name → ℕ) (falling : AreFalling ds ran
 pub apart_in : (all : List Declaration) (ranks : Option (Bor Ranks)) (d : Declared) → FallIn all ranks → UsesLower ranks d → is_circular (map declared_by all) d ≡ false
 apart_in all None d f u = absurd u
 apart_in all (Some r) d f u = apart_is (map declared_by all) (rank_in r.now) f d u
-
--- a test against the number before one is a test against that
-pub lower_bound : (d : Declared) (rank : Name → ℕ) (bound : ℕ) → rank d.name.name ≡ bound + 1 → some_use (λ z. nat_lt bound (rank z)) d ≡ false →
-    some_use (λ z. nat_le (rank d.name.name) (rank z)) d ≡ false
-lower_bound d rank bound e h = any_stronger (λ z. nat_lt bound (rank z)) (λ z. nat_le (rank d.name.name) (rank z)) (λ z t. grind (arith, nat_tests)) d.uses h
 
 -- one declaration more uses no name above its own
 pub falling_more : (all : List Declaration) (rank : Name → ℕ) (n : ℕ) (d : Declaration) (bound : ℕ) → n < length all → d ≡ get_or all n d → bound ≡ rank d.name.now →

@@ -6,9 +6,9 @@ use Rattle.bridge_io.specs.declared.reason.Reason.{Reason}
 use Rattle.bridge_io.specs.declared.reason.Fault.{Fault}
 use Rattle.name_rules.specs.Least.{fault, is_before, sooner, soonest, IsAmong, AtMost, IsLeast}
 
-pub soonest-append : (best : Option Fault) (xs ys : List Fault) → soonest best (xs ++ ys) ≡ soonest (soonest best xs) ys
-soonest-append best [] ys = refl
-soonest-append best (x ∷ xs) ys = soonest-append (sooner best x) xs ys
+pub soonest_append : (best : Option Fault) (xs ys : List Fault) → soonest best (xs ++ ys) ≡ soonest (soonest best xs) ys
+soonest_append best [] ys = refl
+soonest_append best (x ∷ xs) ys = soonest_append (sooner best x) xs ys
 
 at_most_refl : (f : Fault) → AtMost f f
 at_most_refl f = inr (refl, omega arith)
@@ -60,8 +60,6 @@ soonest_none [] e = refl
 soonest_none (x ∷ xs) e = let r = found x xs in absurd (cc (r.1.is, e))
 
 -- ---- of two faults of one reason the lesser is that at the lower offset
-abbrev in_place : Fault → Fault → Option Fault
-in_place f g = if is_before f g then Some f else Some g
 
 pick : (x y : ℕ) (r : Reason) (b : Bool) → is_before (fault y r) (fault x r) ≡ b → (if b then Some (fault y r) else Some (fault x r)) ≡ Some (fault (min y x) r)
 pick x y r true e = let h : y ≡ min y x = grind (arith, nat_tests) in ap (λ n. Some (fault n r)) h

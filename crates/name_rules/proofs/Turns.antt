@@ -50,10 +50,6 @@ module _ (all : List Declaration) where
   turn_done n old new true l h = h
   turn_done n old new false l h = subst (IsStuckIn all) (sym h.0) (λ i k. h.1 i (omega (arith, l, k)) k)
 
-pub only_if : (b : Bool) → (if b then true else false) ≡ b
-only_if true = refl
-only_if false = refl
-
 -- a fault behind one that was found changes nothing_declared
 pub past_stays : (before : Option Fault) (at : ℕ) (b : Bool) (reason : Reason) → is_past before at ≡ true → soonest before (fault_if b at reason) ≡ before
 past_stays None at b reason h = absurd (cc)

@@ -5,7 +5,7 @@ use Rattle.std.proofs.lemmas.List.{at_drop_more}
 use Rattle.std.proofs.lemmas.Slice.Eq.{bytes_eq-Decides}
 use Rattle.std.proofs.lemmas.List.{length-map}
 use Rattle.name_rules.specs.Names.{Name}
-use Rattle.name_rules.specs.Names.{is_called}
+use Rattle.op_trees.specs.Names.{is_called}
 use Rattle.name_rules.specs.declared.declarations.Declaration.{Declaration}
 use Rattle.name_rules.specs.Circles.{Declared}
 use Rattle.name_rules.specs.Circles.{declared_by}

@@ -7,7 +7,7 @@ use Rattle.std.proofs.lemmas.Slice.Eq.{bytes_eq-Decides}
 use Rattle.std.proofs.lemmas.Bool.{and_parts}
 use Rattle.basics.specs.Texts.{bytes_eq-self}
 use Rattle.name_rules.specs.Names.{Name}
-use Rattle.name_rules.specs.Names.{is_called}
+use Rattle.op_trees.specs.Names.{is_called}
 use Rattle.name_rules.specs.Circles.{Declared, leads_to, is_circular}
 use Rattle.name_rules.specs.Circles.{nothing_declared, declared_at}
 use Rattle.name_rules.specs.Rounds.{some_use, is_placed, waiting, others, IsStuck}

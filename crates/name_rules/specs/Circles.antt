@@ -5,7 +5,8 @@ use Rattle.bridge_io.specs.declared.reason.Named.{Named}
 use Rattle.bridge_io.specs.declared.reason.Reason.TheVariants.{Cycle}
 use Rattle.bridge_io.specs.declared.reason.Fault.{Fault}
 use Rattle.name_rules.specs.Least.{fault_if}
-use Rattle.name_rules.specs.Names.{Name, is_called}
+use Rattle.op_trees.specs.Names.{is_called}
+use Rattle.name_rules.specs.Names.{Name}
 use Rattle.name_rules.specs.declared.declarations.Declaration.{Declaration}
 
 -- something that is declared, and the names that it uses

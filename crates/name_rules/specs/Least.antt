@@ -11,6 +11,11 @@ fault at reason = record { reason = reason; at = at }
 abbrev pub fault_if : Bool → ℕ → Reason → List Fault
 fault_if b at reason = if b then fault at reason ∷ [] else []
 
+-- the faults of the first kind that has any
+abbrev pub or_else : List Fault → List Fault → List Fault
+or_else [] others = others
+or_else (f ∷ fs) others = f ∷ fs
+
 -- the fault at another offset
 abbrev pub moved_to : ℕ → Fault → Fault
 moved_to at f = fault at f.reason

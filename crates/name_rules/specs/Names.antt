@@ -3,6 +3,7 @@ use Rattle.std.specs.Prelude.{ℕ, List, Bool, false, Option, Some, None, is_som
 use Rattle.std.specs.List.{list_any}
 use Rattle.indexmap.specs.IndexMap.{get_by}
 use Rattle.bridge_io.specs.declared.reason.Named.{Named}
+use Rattle.op_trees.specs.Names.{is_called}
 use Rattle.name_rules.specs.declared.map.NameMap.{NameMap}
 use Rattle.name_rules.specs.declared.names.Entry.{Entry}
 use Rattle.name_rules.specs.declared.names.NameSet.{NameSet}
@@ -10,9 +11,6 @@ use Rattle.name_rules.specs.declared.names.NameSet.{NameSet}
 -- a name: its bytes
 abbrev pub Name : Type 0
 Name = List ℕ
-
-abbrev pub is_called : Name → Named → Bool
-is_called x n = bytes_eq n.name x
 
 abbrev pub is_among : List Named → Name → Bool
 is_among ns x = list_any (is_called x) ns

@@ -8,7 +8,8 @@ use Rattle.name_rules.specs.declared.waiting.Waiting.{Waiting}
 use Rattle.name_rules.specs.declared.placing.Placing.{Placing}
 use Rattle.name_rules.specs.declared.ranks.Ranks.{Ranks}
 use Rattle.name_rules.specs.declared.ranks.Above.{Above}
-use Rattle.name_rules.specs.Names.{Name, is_called, under}
+use Rattle.op_trees.specs.Names.{is_called}
+use Rattle.name_rules.specs.Names.{Name, under}
 use Rattle.name_rules.specs.Circles.{Declared, declared_by, declared_at, leads_to, is_circular, AreInTurn, turns_from}
 
 -- some name that it uses is such a one

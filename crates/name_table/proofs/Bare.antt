@@ -5,11 +5,12 @@ use Rattle.std.specs.Option.{option_map}
 use Rattle.std.proofs.Common.{refl, sym, ap, ap₂, ◌∙◌}
 use Rattle.std.proofs.lemmas.List.{length-map}
 use Rattle.bridge_io.specs.declared.reason.Named.{Named}
-use Rattle.process_core.specs.Ready.{Name, firsts, if_some}
+use Rattle.basics.specs.Options.{if_some}
+use Rattle.process_core.specs.Ready.{Name, firsts}
 use Rattle.prism_tree.specs.Syntax.{Command, Module, plain, copied, File}
-use Rattle.prism_print.specs.Same.{bare_name, bare_const, bare_var, bare_command, bare_body, bare_module, bare_label, bare_rewards, bare_file}
-use Rattle.prism_check.proofs.Each.{map_same, flat_map_same}
-use Rattle.prism_places.proofs.Lists.{some_mapped, joined, turned, gathered}
+use Rattle.op_trees.specs.Names.{bare_name}
+use Rattle.prism_print.specs.Same.{bare_const, bare_var, bare_command, bare_body, bare_module, bare_label, bare_rewards, bare_file}
+use Rattle.basics.specs.Mapped.{some_mapped, joined, turned, gathered, mapped, walked}
 use Rattle.name_table.specs.declared.class.NameClass.TheVariants.{Reward}
 use Rattle.name_table.specs.declared.class.Target.TheVariants.{Jani}
 use Rattle.name_table.specs.declared.entry.Entry.{Entry}
@@ -45,20 +46,20 @@ module _ (file : File) where
   pub actions-bare : actions (bare_file file) ≡ actions file
   actions-bare =
       ap (λ ms. firsts bytes_eq (flat_map (λ m. flat_map (λ c. if_some (action_of c)) m.commands) ms)) bodies-bare
-      ∙ ap (firsts bytes_eq) (flat_map_same _ bare_body (λ m. flat_map (λ c. if_some (action_of c)) m.commands)
-      (λ m. flat_map_same _ bare_command (λ c. if_some (action_of c)) (λ c. ap if_some (action-bare c)) m.commands) (bodies file))
+      ∙ ap (firsts bytes_eq) (walked bare_body _ (λ m. flat_map (λ c. if_some (action_of c)) m.commands)
+      (λ m. walked bare_command _ (λ c. if_some (action_of c)) (λ c. ap if_some (action-bare c)) m.commands) (bodies file))
 
   variable_names-bare : {B : Type 0} (f : Name → B) → map (λ x. f x.name.name) (variables (bare_file file)) ≡ map (λ x. f x.name.name) (variables file)
-  variable_names-bare f = ap (map (λ x. f x.name.name)) variables-bare ∙ map_same _ bare_var (λ x. f x.name.name) (λ x. refl) (variables file)
+  variable_names-bare f = ap (map (λ x. f x.name.name)) variables-bare ∙ mapped bare_var _ (λ x. f x.name.name) (λ x. refl) (variables file)
 
   -- ---- asks and entries
   asks-bare : asks (bare_file file) ≡ asks file
   asks-bare =
-      ap₂ (λ a b. a ++ b) (map_same _ bare_const _ (λ c. refl) file.constants)
+      ap₂ (λ a b. a ++ b) (mapped bare_const _ _ (λ c. refl) file.constants)
       (ap₂ (λ a b. a ++ b) (variable_names-bare _)
-      (ap₂ (λ a b. a ++ b) (map_same _ bare_label _ (λ l. refl) file.labels)
-      (ap₂ (λ a b. a ++ b) (map_same _ bare_rewards _ (λ r. ap (λ n. (Reward, n)) (called-bare r.name)) file.rewards)
-      (ap₂ (λ a b. a ++ b) (ap (map _) bodies-bare ∙ map_same _ bare_body _ (λ m. refl) (bodies file)) (ap (map _) actions-bare)))))
+      (ap₂ (λ a b. a ++ b) (mapped bare_label _ _ (λ l. refl) file.labels)
+      (ap₂ (λ a b. a ++ b) (mapped bare_rewards _ _ (λ r. ap (λ n. (Reward, n)) (called-bare r.name)) file.rewards)
+      (ap₂ (λ a b. a ++ b) (ap (map _) bodies-bare ∙ mapped bare_body _ _ (λ m. refl) (bodies file)) (ap (map _) actions-bare)))))
 
   entries-bare : entries (bare_file file) ≡ entries file
   entries-bare = ap (entries_of Jani) asks-bare
@@ -69,7 +70,7 @@ module _ (file : File) where
       ap (names_by (bare_file file)) entries-bare
       ∙ same_names (entries file) _ _ _ _ _ _ _ _ _ _ _ _ _ _ (length-map file.constants bare_const) (ap length variables-bare ∙ length-map (variables file) bare_var)
       (length-map file.labels bare_label) (length-map file.rewards bare_rewards) (length-map file.modules bare_module)
-      (ap₂ (λ a b. a ++ b) (map_same _ bare_const _ (λ c. refl) file.constants) (variable_names-bare (λ x. x))) actions-bare
+      (ap₂ (λ a b. a ++ b) (mapped bare_const _ _ (λ c. refl) file.constants) (variable_names-bare (λ x. x))) actions-bare
 
 -- files that are the same but for places have the same entries
 pub entries_alike : (f g : File) → bare_file f ≡ bare_file g → entries f ≡ entries g

@@ -1,5 +1,5 @@
 -- The entries of asks, place by place.
-use Rattle.std.proofs.Common.{◌≡◌, ◌≢◌, ℕ, zero, suc, ◌+◌, ◌<◌, Bool, true, false, cond, List, [], ◌∷◌, ◌++◌, length, take, Option, Some, None, refl, sym, ap, subst, ◌∙◌, arith, append-nil, append_assoc, length-append, eq-eqb}
+use Rattle.std.proofs.Common.{◌≡◌, ◌≢◌, ℕ, zero, suc, ◌+◌, ◌<◌, Bool, true, false, cond, List, [], ◌∷◌, ◌++◌, length, take, drop, Option, Some, None, refl, sym, ap, subst, ◌∙◌, arith, append-nil, append_assoc, length-append, eq-eqb, drop-drop}
 use Rattle.std.specs.Prelude.{◌&&◌, not, slice_get, count_by, nat_lt, bytes_eq}
 use Rattle.std.proofs.lemmas.Option.{slice_get_past, same_Some}
 use Rattle.std.proofs.lemmas.Bool.Decides.{nat_tests}
@@ -18,6 +18,7 @@ use Rattle.name_table.specs.Rule.{same_class, same_space, space, is_valid, begin
 use Rattle.name_table.specs.Entries.{Ask, count_of, is_taken, keeps, kept_entry, made_entry, next, entries_after, entries_of}
 use Rattle.name_table.specs.Laws.{ComesOf}
 use Rattle.name_table.proofs.MadeNames.{made_begins, made_class, made_number}
+use Rattle.name_table.specs.Asks.{some_from}
 
 -- ---- lists
 
@@ -255,3 +256,10 @@ no_two_alike t asks i j e f h k d s n = by_test (nat_lt i j) refl
     by_test : (b : Bool) → nat_lt i j ≡ b → ⊥
     by_test true l = let a : i < j = grind (arith, nat_tests) in alike t es i j p.asked.0 q.asked.0 p.asked.1 q.asked.1 e f a h p.comes q.comes s n
     by_test false l = let a : j < i = grind (arith, nat_tests, d) in alike t es j i q.asked.0 p.asked.0 q.asked.1 p.asked.1 f e a k q.comes p.comes (sym s) (sym n)
+
+-- ---- the entries of a class, taken from what the classes before leave
+pub further : (es xs ys : List Entry) (a n : ℕ) → xs ≡ drop a es → ys ≡ drop n xs → ys ≡ drop (a + n) es
+further es xs ys a n h k = k ∙ ap (λ (l : List Entry). drop n l) h ∙ drop-drop n a es
+
+pub part : (es xs r : List Entry) (a n : ℕ) → xs ≡ drop a es → r ≡ take n xs → r ≡ some_from a n es
+part es xs r a n h k = k ∙ ap (λ (l : List Entry). take n l) h

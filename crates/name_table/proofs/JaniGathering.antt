@@ -11,9 +11,10 @@ use Rattle.process_core.specs.Instance.{numbered}
 use Rattle.jani_tree.specs.Syntax.{Automaton, File}
 use Rattle.bridge_io.specs.declared.reason.Reason.TheVariants.{Unknown}
 use Rattle.jani_check.specs.Demands.{outer_demands}
-use Rattle.jani_check.specs.Least.{fault_if}
+use Rattle.name_rules.specs.Least.{fault_if}
 use Rattle.jani_check.specs.NameFaults.{is_among, global_names, automaton_names, doubled_names, unless_known, unknown_by, unknown_in, unknown_names, name_faults}
-use Rattle.jani_meaning.specs.Elements.{Owned, elements, is_called, owned_by, variables}
+use Rattle.op_trees.specs.Names.{is_called}
+use Rattle.jani_meaning.specs.Elements.{Owned, elements, owned_by, variables}
 
 -- ---- numbered lists
 pub filter_numbered : {A B : Type 0} (p : B → Bool) (f : ℕ → A → List B) (i : ℕ) (xs : List A) → filter p (numbered f i xs) ≡ numbered (λ k x. filter p (f k x)) i xs

@@ -3,7 +3,8 @@ use Rattle.std.proofs.Common.{◌≡◌, ℕ, true, List, [], ◌∷◌, refl, s
 use Rattle.std.specs.Prelude.{◌==◌, if◌then◌else◌}
 use Rattle.name_table.specs.declared.class.NameClass.{NameClass}
 use Rattle.name_table.specs.declared.class.NameClass.TheVariants.{Constant, Variable, Location, Module, Action, Label, Reward, Property}
-use Rattle.name_table.specs.Rule.{begins_zz, made_name, digits}
+use Rattle.frac_core.specs.Text.{digits}
+use Rattle.name_table.specs.Rule.{begins_zz, made_name}
 use Rattle.name_table.proofs.Digits.{digits_differ}
 
 -- what holds of each class

@@ -14,9 +14,10 @@ use Rattle.name_table.specs.declared.class.NameClass.{NameClass}
 use Rattle.name_table.specs.declared.class.Target.{Target}
 use Rattle.name_table.specs.declared.class.Target.TheVariants.{Prism, Jani}
 use Rattle.name_table.specs.declared.entry.Entry.{Entry}
-use Rattle.name_table.specs.Rule.{same_class, is_identifier, may_be_called, is_valid, prefix, digits_of, digits, made_name}
+use Rattle.frac_core.specs.Text.{digits_of, digits}
+use Rattle.name_table.specs.Rule.{same_class, is_identifier, may_be_called, is_valid, prefix, made_name}
 use Rattle.name_table.specs.Entries.{Ask, count_of, entries_of}
-use Rattle.name_table.proofs.Digits.{digits_decimal}
+use Rattle.frac_core.proofs.Digits.{digits_decimal}
 use Rattle.name_table.proofs.EntryLemmas.{Comes, was_kept, was_made, placed, one_each}
 use Rattle.name_table.proofs.Identifiers.{identifier}
 use Rattle.name_table.proofs.MadeNames.{each_class}
@@ -51,7 +52,7 @@ unfolding digits
 digits_go_on n = digits_of_go_on (suc n) n
 
 digits_short : (n : ℕ) → n < 2 ^ 64 → length (digits n) ≤ 20
-digits_short n h = let e = ap length (digits_decimal n h) in let l = length-decimal-le 20 n (omega arith) (omega arith) h in omega arith
+digits_short n h = let e = ap length (digits_decimal n (omega (arith, h))) in let l = length-decimal-le 20 n (omega arith) (omega arith) h in omega arith
 
 -- ---- made names, however many there are
 

@@ -8,7 +8,8 @@ use Rattle.std.specs.Option.{option_map, option_or}
 use Rattle.bridge_io.specs.declared.reason.Named.{Named}
 use Rattle.process_core.specs.Ready.{Name}
 use Rattle.jani_tree.specs.Syntax.{Const, File}
-use Rattle.jani_meaning.specs.Elements.{Owned, is_called, lasting, labels, structures, place_of}
+use Rattle.op_trees.specs.Names.{is_called}
+use Rattle.jani_meaning.specs.Elements.{Owned, lasting, labels, structures, place_of}
 use Rattle.name_table.specs.declared.class.NameClass.{NameClass}
 use Rattle.name_table.specs.declared.class.NameClass.TheVariants.{Constant, Variable, Location, Module, Label, Reward}
 use Rattle.name_table.specs.declared.class.Target.TheVariants.{Prism}

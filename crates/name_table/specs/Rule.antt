@@ -1,7 +1,8 @@
 -- Which names are valid, which names are made, and in which spaces names differ. (This project's own rule; what an
 -- identifier is: PRISM manual, "The PRISM Language", "Identifiers".)
-use Rattle.std.specs.Prelude.{ℕ, zero, suc, ◌+◌, ◌/◌, ◌%◌, nat_eq, nat_lt, nat_le, Bool, true, false, not, ◌&&◌, ◌||◌, is_none, bytes_eq, List, [], ◌∷◌, ◌++◌, length, codes, if◌then◌else◌}
+use Rattle.std.specs.Prelude.{ℕ, ◌+◌, nat_eq, nat_lt, nat_le, Bool, true, false, not, ◌&&◌, ◌||◌, is_none, bytes_eq, List, [], ◌++◌, length, codes, if◌then◌else◌}
 use Rattle.std.specs.List.{starts_with}
+use Rattle.frac_core.specs.Text.{digits}
 use Rattle.prism_lex.specs.Tokens.{is_name}
 use Rattle.prism_lex.specs.Words.{lookup, words}
 use Rattle.name_table.specs.declared.class.NameClass.{NameClass}
@@ -95,15 +96,6 @@ prefix Action = codes "zz_a_"
 prefix Label = codes "zz_l_"
 prefix Reward = codes "zz_r_"
 prefix Property = codes "zz_p_"
-
--- the decimal digits of a number that has at most so many
-abbrev pub digits_of : ℕ → ℕ → List ℕ
-digits_of zero n = []
-digits_of (suc k) n = if nat_lt n 10 then (48 + n) ∷ [] else digits_of k (n / 10) ++ (48 + n % 10) ∷ []
-
--- a number in decimal, without leading zeros
-unfoldable pub digits : ℕ → List ℕ
-digits n = digits_of (suc n) n
 
 -- the name that is made for the entry of this number among those of its class
 abbrev pub made_name : NameClass → ℕ → List ℕ

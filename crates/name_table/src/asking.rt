@@ -49,12 +49,13 @@ pub fn flat_names(
     ensures { IfOk result (λ t. t.entries ≡ entries (file_of file.now)) }
 {
     let mut table = NameTable::new(alloc, Target::Jani);
-    ask_all(&mut table, file, vars, acts)?;
+    ask_file(&mut table, file, vars, acts)?;
     Ok(table)
 }
 
-/// Asks for the names of all that the file declares.
-fn ask_all(
+/// Asks for the names of all that a file declares that is written out, where these are its variables and its actions, in the order of
+/// `jani_names`. `Err` is want of memory, alone, and leaves the table with some of them.
+pub fn ask_file(
     table: &mut NameTable,
     file: &PrismFile,
     vars: &[&PrismVar],

@@ -3,7 +3,8 @@
 ghost use Rattle.std.specs.Prelude.{◌≡◌, ◌++◌, map, IfOk, OnOk, bytes_eq};
 ghost use Rattle.std.specs.List.{flat_map};
 ghost use Rattle.process_core.specs.Instance.{only_if};
-ghost use Rattle.process_core.specs.Ready.{firsts, if_some};
+ghost use Rattle.basics.specs.Options.{if_some};
+ghost use Rattle.process_core.specs.Ready.{firsts};
 ghost use Rattle.prism_tree.specs.Syntax.{file_of, var_of, command_of};
 ghost use Rattle.name_table.specs.Asks.{variables, actions, action_of};
 ghost use Rattle.name_table.specs.Gathered.{body_in};

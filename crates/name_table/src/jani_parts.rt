@@ -5,7 +5,8 @@ ghost use Rattle.std.specs.List.{All, filter, find};
 ghost use Rattle.std.specs.Option.{option_map};
 ghost use Rattle.jani_tree.specs.Syntax.{automaton_of, file_of, kind_of, var_of};
 ghost use Rattle.jani_check.specs.NameFaults.{name_faults};
-ghost use Rattle.jani_meaning.specs.Elements.{elements, is_boolean, is_called, owned_by, variables, lasting, labels, structures};
+ghost use Rattle.op_trees.specs.Names.{is_called};
+ghost use Rattle.jani_meaning.specs.Elements.{elements, is_boolean, owned_by, variables, lasting, labels, structures};
 ghost use Rattle.name_table.specs.JaniParts.{under, owned_of, element_under, is_wanted, owner_of};
 
 use crate::name_map::NameMap;

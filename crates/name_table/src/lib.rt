@@ -20,7 +20,7 @@ mod table;
 mod taken;
 
 pub use ask::{HasName, ask_each};
-pub use asking::{flat_names, jani_names};
+pub use asking::{ask_file, flat_names, jani_names};
 pub use class::{NameClass, Target};
 pub use entry::Entry;
 pub use gather::{actions, commands_of, keep_if, name_of, variables};

@@ -16,7 +16,7 @@ pub(crate) fn begins_zz(name: &str) -> bool
 }
 
 /// The name that is made for the entry of this number among those of its class.
-#[tactic(auto, using(crate::proofs::Digits::digits_decimal))]
+#[tactic(auto, using(frac_core::proofs::Digits::digits_decimal))]
 pub(crate) fn made_name(alloc: Global, class: NameClass, number: usize) -> Result<Text, AllocError>
     ensures { IfOk result (λ name. name ≡ made_name class number) }
 {

@@ -1,7 +1,7 @@
 // What stands under names.
 
 ghost use Rattle.std.specs.Prelude.{◌≡◌, List, ℕ, None, Some, if◌then◌else◌, OnOk, bytes_eq};
-ghost use Rattle.jani_check.specs.Things.{or_else};
+ghost use Rattle.std.specs.Option.{option_or as or_else};
 ghost use Rattle.name_table.specs.JaniParts.{under};
 
 use indexmap::IndexMap;

@@ -3,13 +3,14 @@ use Rattle.std.proofs.Common.{◌≡◌, ℕ, List, [], ◌++◌, Bool, true, fa
 use Rattle.std.specs.List.{list_any}
 use Rattle.std.proofs.lemmas.List.Folds.{list_any-append}
 use Rattle.std.proofs.Math.Bool.{or-false, or-true}
+use Rattle.basics.specs.Booleans.{or_absorbs}
 use Rattle.op_trees.specs.declared.tree.Value.{Value}
 use Rattle.op_trees.specs.declared.tree.Next.{Next}
 use Rattle.op_trees.specs.declared.tree.Next.TheVariants.{Done, Second, Third, All}
 use Rattle.op_trees.specs.declared.tree.EvalFail.{EvalFail}
 use Rattle.op_trees.specs.declared.tree.EvalFail.TheVariants.{Undef}
 use Rattle.op_trees.specs.Tree.{Tree, Truth, Number, Name, One, Two, Three}
-use Rattle.op_trees.specs.Meaning.{Meaning, Environment, value_of, needed, needs_wide, is_wide_value, answered, answer, narrowed, one_answer, both_answer, of_one, of_both, of_lazy, chosen, asked, asked_by}
+use Rattle.op_trees.specs.Meaning.{Meaning, Environment, value_of, needed, needs_wide, is_wide_value, answered, answer, narrowed, both_answer, of_both, of_lazy, chosen, asked, asked_by}
 
 -- ---- a lazy node's answer, from the answers for its operands
 abbrev pub next_answer : Next → Result Value EvalFail → Result Value EvalFail → Result Value EvalFail
@@ -23,17 +24,7 @@ abbrev pub lazy_answer : {O : Type 0} → Meaning O → O → Result Value EvalF
 lazy_answer m o (Ok x) b c = next_answer (m.first o x) b c
 lazy_answer m o (Err f) b c = Err f
 
-or_absorbs : (a b : Bool) → (a ≡ true → b ≡ true) → (a || b) ≡ b
-or_absorbs true b h = sym (h refl)
-or_absorbs false b h = refl
-
 module _ {O : Type 0} (m : Meaning O) (o : O) where
-  one_answered : (p : Bool) (v : Option Value) → answered (is_wide_value (of_one m o v) || p) (of_one m o v)
-      ≡ one_answer m o (answered p v)
-  one_answered true v = ap (λ b. answered b (of_one m o v)) (or-true (is_wide_value (of_one m o v)))
-  one_answered false None = refl
-  one_answered false (Some x) = ap (λ b. answered b (m.value o x None)) (or-false (is_wide_value (m.value o x None)))
-
   both_answered : (p q : Bool) (v w : Option Value) →
       answered (is_wide_value (of_both m o v w) || (p || q)) (of_both m o v w)
       ≡ both_answer m o (answered p v) (answered q w)
@@ -75,28 +66,6 @@ module _ {O : Type 0} (m : Meaning O) (env : Environment) where
       ap (λ t. t || list_any (λ s. is_wide_value (value_of m s env)) (needed m a env ++ (if m.strict o then needed m b env else asked_by m o (value_of m a env) (needed m b env) []))) h
   self_counts (Three at o a b c) h =
       ap (λ t. t || list_any (λ s. is_wide_value (value_of m s env)) (needed m a env ++ asked_by m o (value_of m a env) (needed m b env) (needed m c env))) h
-
-  pub strict_one : (at : ℕ) (o : O) (a : Tree O) → m.strict o ≡ true → answer m (One at o a) env
-      ≡ one_answer m o (answer m a env)
-  strict_one at o a s = rw s (one_answered m o (needs_wide m a env) (value_of m a env))
-
-  pub lazy_one : (at : ℕ) (o : O) (a : Tree O) → m.strict o ≡ false → answer m (One at o a) env
-      ≡ lazy_answer m o (answer m a env) (Err Undef) (Err Undef)
-  lazy_one at o a s =
-      let P : Tree O → Bool = λ s. is_wide_value (value_of m s env) in
-      let v = of_lazy m o (value_of m a env) None None in
-      rw s (ap (λ t. answered (is_wide_value v || t) v) (sym (nothing_asked P (value_of m a env) (needs_wide m a env)))
-      ∙ lazy_answered m o P None None [] [] (λ h. h) (λ h. h) (needs_wide m a env) (value_of m a env))
-    where
-      nothing_asked : (P : Tree O → Bool) (v : Option Value) (b : Bool) → (b || list_any P (asked_by m o v [] [])) ≡ b
-      nothing_asked P None b = or-false b
-      nothing_asked P (Some x) b = none_of (m.first o x)
-        where
-          none_of : (n : Next) → (b || list_any P (asked n [] [])) ≡ b
-          none_of (Done v) = or-false b
-          none_of Second = or-false b
-          none_of Third = or-false b
-          none_of All = or-false b
 
   pub strict_two : (at : ℕ) (o : O) (a b : Tree O) → m.strict o ≡ true → answer m (Two at o a b) env
       ≡ both_answer m o (answer m a env) (answer m b env)

@@ -12,3 +12,4 @@ pub mod AlongLaws
 pub mod TypeLaws
 pub mod Rebuilt
 pub mod Laws
+pub mod Wanted

@@ -1,11 +1,10 @@
 -- Laws of the names in an expression: under other offsets and other names, and what holds of each of them.
 use Rattle.std.specs.Prelude.{◌≡◌, ℕ, List, ◌++◌, map, Bool, false, ◌||◌}
-use Rattle.std.proofs.Common.{refl, sym, ap, ap₂, ◌∙◌}
+use Rattle.std.proofs.Common.{refl, sym, ap₂, ◌∙◌}
 use Rattle.std.proofs.lemmas.Bool.{or_parts}
 use Rattle.std.proofs.lemmas.List.{map-append}
-use Rattle.frac_core.specs.declared.decimal.Decimal.{Decimal}
-use Rattle.op_trees.specs.Tree.{Tree, Truth, Number, Name, One, Two, Three, AllNames, AllNumbers, bare, renamed}
-use Rattle.op_trees.specs.Names.{offset_of, names_of, some_name}
+use Rattle.op_trees.specs.Tree.{Tree, Truth, Number, Name, One, Two, Three, AllNames, bare, renamed}
+use Rattle.op_trees.specs.Names.{offset_of, names_of, bare_name, some_name}
 
 -- ---- offsets do not matter
 pub offset-bare : {O : Type 0} (t : Tree O) → offset_of (bare t) ≡ 0
@@ -25,7 +24,7 @@ some_name-bare p (Two at o a b) = ap₂ (λ x y. x || y) (some_name-bare p a) (s
 some_name-bare p (Three at o a b c) = ap₂ (λ x y. x || y) (some_name-bare p a) (ap₂ (λ x y. x || y) (some_name-bare p b) (some_name-bare p c))
 
 -- the same names stand in it, at the offset 0
-pub names-bare : {O : Type 0} (t : Tree O) → names_of (bare t) ≡ map (λ n. record { name = n.name; at = 0 }) (names_of t)
+pub names-bare : {O : Type 0} (t : Tree O) → names_of (bare t) ≡ map bare_name (names_of t)
 names-bare (Truth at b) = refl
 names-bare (Number at d) = refl
 names-bare (Name at x) = refl
@@ -63,15 +62,6 @@ names_renamed P new (Name at x) h = h
 names_renamed P new (One at o a) h = names_renamed P new a h
 names_renamed P new (Two at o a b) h = (names_renamed P new a h.0, names_renamed P new b h.1)
 names_renamed P new (Three at o a b c) h = (names_renamed P new a h.0, names_renamed P new b h.1, names_renamed P new c h.2)
-
-pub renamed_same : {O : Type 0} (t : Tree O) → renamed (λ x. x) t ≡ t
-renamed_same (Truth at b) = refl
-renamed_same (Number at d) = refl
-renamed_same (Name at x) = refl
-renamed_same (One at o a) = ap (One at o) (renamed_same a)
-renamed_same (Two at o a b) = ap₂ (Two at o) (renamed_same a) (renamed_same b)
-renamed_same {O = O} (Three at o a b c) =
-    ap₂ {B = Tree O → Tree O} (λ r g. g r) (renamed_same a) (ap₂ (λ s t r. Three at o r s t) (renamed_same b) (renamed_same c))
 
 -- ---- what holds of each name
 pub names_with : {O : Type 0} (P Q R : List ℕ → Type 0) → ((x : List ℕ) → P x → Q x → R x) → (t : Tree O) → AllNames P t → AllNames Q t → AllNames R t
@@ -114,12 +104,3 @@ some_agree_on f g (One at o a) h = some_agree_on f g a h
 some_agree_on f g (Two at o a b) h = ap₂ (λ p q. p || q) (some_agree_on f g a h.0) (some_agree_on f g b h.1)
 some_agree_on f g (Three at o a b c) h =
     ap₂ (λ p q. p || q) (some_agree_on f g a h.0) (ap₂ (λ p q. p || q) (some_agree_on f g b h.1) (some_agree_on f g c h.2))
-
--- what holds of each literal
-pub numbers_then : {O : Type 0} (P Q : Decimal → Type 0) → ((d : Decimal) → P d → Q d) → (t : Tree O) → AllNumbers P t → AllNumbers Q t
-numbers_then P Q h (Truth at b) p = tt
-numbers_then P Q h (Number at d) p = h d p
-numbers_then P Q h (Name at x) p = tt
-numbers_then P Q h (One at o a) p = numbers_then P Q h a p
-numbers_then P Q h (Two at o a b) p = (numbers_then P Q h a p.0, numbers_then P Q h b p.1)
-numbers_then P Q h (Three at o a b c) p = (numbers_then P Q h a p.0, numbers_then P Q h b p.1, numbers_then P Q h c p.2)

@@ -1,5 +1,5 @@
 -- The names in an expression: where it begins, which names stand in it and where, and whether one of them is such a one.
-use Rattle.std.specs.Prelude.{◌≡◌, ℕ, List, [], ◌∷◌, ◌++◌, Bool, false, ◌||◌}
+use Rattle.std.specs.Prelude.{◌≡◌, ℕ, List, [], ◌∷◌, ◌++◌, Bool, false, ◌||◌, bytes_eq}
 use Rattle.bridge_io.specs.declared.reason.Named.{Named}
 use Rattle.op_trees.specs.Tree.{Tree, Truth, Number, Name, One, Two, Three}
 
@@ -20,6 +20,14 @@ names_of (Name at x) = record { name = x; at = at } ∷ []
 names_of (One at o a) = names_of a
 names_of (Two at o a b) = names_of a ++ names_of b
 names_of (Three at o a b c) = names_of a ++ (names_of b ++ names_of c)
+
+-- a name has these bytes
+abbrev pub is_called : List ℕ → Named → Bool
+is_called x n = bytes_eq n.name x
+
+-- a name without the offset where it stands
+abbrev pub bare_name : Named → Named
+bare_name n = record { name = n.name; at = 0 }
 
 -- some name in an expression is such a one
 abbrev pub some_name : {O : Type 0} → (List ℕ → Bool) → Tree O → Bool

@@ -1,5 +1,5 @@
 -- A type excludes misfits, a value has the type, and substitution and renaming keep types.
-use Rattle.std.specs.Prelude.{◌≡◌, ◌↔◌, ◌≤◌, ℕ, zero, suc, List, [], ◌∷◌, ◌++◌, Bool, true, false, ◌&&◌, Option, Some, None, Result, Ok, Err, IsTrue, is_some, nat_eq, Contains, IfOk, MatchResult, min, if◌then◌else◌, not, ◌%◌, pos}
+use Rattle.std.specs.Prelude.{◌≡◌, ◌↔◌, ◌≤◌, ℕ, zero, suc, List, [], ◌∷◌, ◌++◌, map, Bool, true, false, ◌&&◌, Option, Some, None, Result, Ok, Err, IsTrue, is_some, nat_eq, Contains, IfOk, MatchResult, min, if◌then◌else◌, not, ◌%◌, pos}
 use Rattle.std.specs.Option.{ok_or, option_map}
 use Rattle.std.proofs.Common.{refl, sym, ap, ap₂, subst, ◌∙◌, arith, append-nil, eq-eqb}
 use Rattle.std.specs.Ordering.{int_eq}
@@ -401,3 +401,17 @@ module _ {O : Type 0} (m : Meaning O) where
     typed_operands types (Three at o a b c) h =
         let s = some_three o (type_in m types a) (type_in m types b) (type_in m types c) h in
         (three_counted o (type_in m types a) (type_in m types b) (type_in m types c) h, typed_operands types a s.0, typed_operands types b s.1, typed_operands types c s.2)
+
+-- ---- misfits of a tree without offsets
+-- every offset is 0
+abbrev pub noughts : List ℕ → List ℕ
+noughts ns = map (λ n. 0) ns
+
+pub misfit-bare : (at : ℕ) (b c : Bool) (o p : Option Ty) → b ≡ c → o ≡ p → misfit_at 0 b o ≡ noughts (misfit_at at c p)
+misfit-bare at b c o p e h = ap₂ (misfit_at 0) e h ∙ same c p
+  where
+    same : (c : Bool) (p : Option Ty) → misfit_at 0 c p ≡ noughts (misfit_at at c p)
+    same true None = refl
+    same true (Some t) = refl
+    same false None = refl
+    same false (Some t) = refl

@@ -11,6 +11,7 @@ mod rebuild;
 mod standard;
 mod tree;
 mod typing;
+mod wanted;
 
 pub use evaluation::{apply_both, apply_one, eval, held, literal};
 pub use laws::{
@@ -23,3 +24,4 @@ pub use rebuild::{Bodies, OpMap, Shape, copy_expr, map_ops, substitute};
 pub use standard::StandardOp;
 pub use tree::{EvalFail, Expr, Next, Ty, Value};
 pub use typing::type_of;
+pub use wanted::{Wanted, is_wanted, wanted_by};

@@ -13,7 +13,8 @@ use Rattle.indexmap.specs.IndexSet.{insert_all, insert_key}
 use Rattle.op_trees.specs.Tree.{capped}
 use Rattle.process_core.specs.Equal.{IsEquality}
 use Rattle.process_core.specs.Often.{sum_by-map}
-use Rattle.process_core.specs.Ready.{Name, firsts, if_some}
+use Rattle.basics.specs.Options.{if_some}
+use Rattle.process_core.specs.Ready.{Name, firsts}
 use Rattle.process_core.proofs.Targets.{firsts_more}
 use Rattle.prism_tree.specs.declared.syntax.NamePair.{NamePair}
 use Rattle.prism_tree.specs.declared.syntax.PrismFile.{PrismFile}

@@ -3,11 +3,11 @@ use Rattle.std.specs.Prelude.{◌≡◌, List, [], ◌∷◌, Some, None}
 use Rattle.std.proofs.Common.{sym, ap, subst, ◌∙◌}
 use Rattle.bridge_io.specs.declared.reason.Fault.{Fault}
 use Rattle.prism_tree.specs.Syntax.{File}
-use Rattle.name_rules.specs.Least.{soonest, IsLeast}
+use Rattle.name_rules.specs.Least.{soonest, IsLeast, or_else}
 use Rattle.prism_check.specs.NameFaults.{name_faults}
 use Rattle.prism_check.specs.SizeFaults.{size_faults}
 use Rattle.prism_check.specs.TypeFaults.{type_faults}
-use Rattle.prism_check.specs.Faults.{or_else, faults}
+use Rattle.prism_check.specs.Faults.{faults}
 use Rattle.name_rules.proofs.Soonest.{soonest_some, soonest_none}
 
 -- the least of some is the least of all

@@ -1,6 +1,6 @@
 -- A file without circles has none once it is written out.
 use Rattle.std.specs.Prelude.{◌≡◌, ℕ, zero, suc, ◌+◌, ◌≤◌, List, [], ◌∷◌, ◌++◌, map, length, Bool, true, false, ◌||◌, Option, Some, None, cond, bytes_eq, ◌⊎◌}
-use Rattle.std.specs.List.{flat_map, filter, find, list_any}
+use Rattle.std.specs.List.{flat_map, filter, find, list_any, AllByRecursion as Each}
 use Rattle.std.specs.Option.{option_map}
 use Rattle.std.proofs.Common.{refl, sym, ap, ap₂, ◌∙◌, inl, inr, subst, arith}
 use Rattle.std.proofs.Math.Path.{fun_ext}
@@ -10,21 +10,21 @@ use Rattle.std.proofs.lemmas.List.Folds.{list_any-append}
 use Rattle.std.proofs.Math.Bool.{or-false}
 use Rattle.std.proofs.lemmas.Bool.{or_parts}
 use Rattle.basics.specs.Members.{any_weaker}
-use Rattle.basics.specs.Each.{each_then, each_map, map_each, each_join, each_parts, empty_each, each_empty, none_each, each_none}
+use Rattle.basics.specs.Each.{each_then, each_map, map_each, each_join, each_parts, empty_each, each_empty, none_each, each_none, any_map}
 use Rattle.bridge_io.specs.declared.reason.Reason.TheVariants.{Cycle}
 use Rattle.op_trees.specs.Tree.{AllNames}
-use Rattle.op_trees.specs.Names.{names_of}
+use Rattle.op_trees.specs.Names.{names_of, is_called}
 use Rattle.op_trees.specs.NameLaws.{names_renamed}
-use Rattle.process_core.specs.Ready.{Name, if_some}
+use Rattle.basics.specs.Options.{if_some, IfAny}
+use Rattle.process_core.specs.Ready.{Name}
 use Rattle.prism_tree.specs.Syntax.{Expression, Const, Formula, File}
-use Rattle.prism_names.specs.Names.{is_called, formula_body, unchanged}
+use Rattle.prism_names.specs.Names.{formula_body, unchanged}
 use Rattle.prism_names.specs.Flat.{flat_expression, flat_constant, flat}
 use Rattle.prism_names.specs.Order.{whole}
-use Rattle.prism_print.specs.Printable.{Each, IfAny}
 use Rattle.name_rules.specs.Uses.{used}
 use Rattle.name_rules.specs.Circles.{Declared, uses_of, leads_to, is_circular, circular}
+use Rattle.name_rules.proofs.Plain.{no_fault, fault_none}
 use Rattle.prism_check.specs.NameFaults.{declared_const, declared_formula, declarations, circles}
-use Rattle.prism_check.proofs.Each.{any_map, no_fault, fault_none}
 use Rattle.prism_check.proofs.NamesIn.{listed_names, names_listed, names_written_out}
 
 -- ---- how many of what is declared have names that pass a test

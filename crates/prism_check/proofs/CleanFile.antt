@@ -1,39 +1,38 @@
 -- A file without faults has none once it is written out.
 use Rattle.std.specs.Prelude.{◌≡◌, ℕ, ◌+◌, ◌<◌, List, [], ◌∷◌, ◌++◌, map, length, true, false, not, ◌&&◌, ◌||◌, Option, Some, None, is_some, nat_eq, if◌then◌else◌}
-use Rattle.std.specs.List.{flat_map, find}
+use Rattle.std.specs.List.{flat_map, find, AllByRecursion as Each}
 use Rattle.std.proofs.Common.{refl, sym, ap, ap₂, ◌∙◌, subst, arith}
 use Rattle.std.proofs.lemmas.List.{length-map}
 use Rattle.std.proofs.lemmas.List.Elements.{All-nil}
 use Rattle.std.proofs.lemmas.Bool.{or_parts, not-false}
-use Rattle.basics.specs.Options.{none_of}
+use Rattle.basics.specs.Options.{none_of, IfAny}
 use Rattle.basics.specs.Lists.{append_parts, append_both, empty_map}
-use Rattle.basics.specs.Each.{each_then, each_with, each_map, map_each, each_of, empty_each, each_empty, none_each}
+use Rattle.basics.specs.Each.{each_then, each_with, each_map, map_each, each_of, empty_each, each_empty, none_each, each_found, any_map}
+use Rattle.basics.specs.Mapped.{mapped, walked}
 use Rattle.bridge_io.specs.declared.reason.Named.{Named}
 use Rattle.bridge_io.specs.declared.reason.Reason.TheVariants.{Unknown, Nothing, WrongType, WrittenTwice, TooLarge}
 use Rattle.bridge_io.specs.declared.reason.Fault.{Fault}
 use Rattle.op_trees.specs.Tree.{AllNames}
 use Rattle.op_trees.specs.SeenLaws.{names_then}
-use Rattle.op_trees.specs.Names.{names_of, some_name}
+use Rattle.op_trees.specs.Names.{names_of, some_name, is_called}
 use Rattle.op_trees.specs.NameLaws.{names_with, none_named, names_renamed}
 use Rattle.process_core.specs.Ready.{Name}
 use Rattle.prism_tree.specs.Syntax.{Expression, Command, Module, plain, copied, File}
-use Rattle.prism_names.specs.Names.{is_called, formula_body, is_formula, unchanged, written_name, module_called, part_of}
+use Rattle.prism_names.specs.Names.{formula_body, is_formula, unchanged, written_name, module_called, part_of}
 use Rattle.prism_names.specs.Flat.{flat_expression, flat_write, flat_branch, flat_command, flat_module, flat}
 use Rattle.prism_names.specs.Laws.{flat_part}
 use Rattle.prism_names.specs.Places.{IsPlaceOrder, at_places, formula_names, places_order}
 use Rattle.prism_names.specs.Order.{IsOrder, whole, whole_plain}
-use Rattle.prism_print.specs.Printable.{Each, IfAny}
-use Rattle.name_rules.specs.Least.{fault, fault_if, moved_to}
+use Rattle.name_rules.specs.Least.{fault, fault_if, moved_to, or_else}
 use Rattle.prism_check.specs.Demands.{Demand, fixed, varying, written, formula_demands, part_demands, outer_demands}
 use Rattle.name_rules.specs.Names.{is_among}
 use Rattle.name_rules.specs.Doubled.{doubled}
 use Rattle.prism_check.specs.NameFaults.{values, unknown, some_used, is_lost, loses_name, unknown_in, unknown_names, circles, doubled_names, copy_faults, no_module, name_faults}
 use Rattle.name_rules.specs.Unknown.{unless_known}
+use Rattle.name_rules.proofs.Plain.{no_fault, fault_none}
 use Rattle.prism_check.specs.TypeFaults.{types, misfits, demand_faults, write_faults, target, repeated_writes, part_faults, module_faults, numbered_faults, type_faults}
 use Rattle.prism_check.specs.SizeFaults.{passes_limit, size_faults}
-use Rattle.prism_check.specs.Faults.{or_else}
 use Rattle.prism_check.specs.Clean.{FlatIsClean, FlatHasNoFault, FlatIsChecked}
-use Rattle.prism_check.proofs.Each.{map_same, flat_map_same, each_found, any_map, no_fault, fault_none}
 use Rattle.prism_check.proofs.NamesIn.{listed_names, names_listed, names_written_out}
 use Rattle.prism_check.proofs.FlatDemands.{flat_demand, part-flat, outer-flat}
 use Rattle.prism_check.proofs.CleanPrintable.{flat_printable}
@@ -92,9 +91,9 @@ each_body file P h x =
 -- ---- repeated writes
 same_writes : (file : File) (c : Command) → repeated_writes (flat_command file unchanged c) ≡ repeated_writes c
 same_writes file c =
-    flat_map_same (λ b. doubled WrittenTwice (map (λ w. w.name) b.writes)) (flat_branch file unchanged) (λ b. doubled WrittenTwice (map (λ w. w.name) b.writes))
+    walked (flat_branch file unchanged) (λ b. doubled WrittenTwice (map (λ w. w.name) b.writes)) (λ b. doubled WrittenTwice (map (λ w. w.name) b.writes))
     (λ b. ap (doubled WrittenTwice)
-    (map_same (λ w. w.name) (flat_write file unchanged) (λ w. w.name) (λ w. ap (λ x. record { name = x; at = w.name.at }) (same_written file w.name.name)) b.writes))
+    (mapped (flat_write file unchanged) (λ w. w.name) (λ w. w.name) (λ w. ap (λ x. record { name = x; at = w.name.at }) (same_written file w.name.name)) b.writes))
     c.branches
 
 -- ---- the demands of a file that is written out
@@ -231,7 +230,7 @@ module _ (file : File) (order : List Name) (ordered : IsOrder file order) (clean
         demands =
             subst (Each (IsFine i)) (sym (part-flat file p))
             (plain_fine i (part_demands p) (empty_each (unknown file) (part_demands p) u) (empty_each (demand_faults file i) (part_demands p) r.0));
-        writes = flat_map_same repeated_writes (flat_command file unchanged) repeated_writes (same_writes file) m.commands ∙ r.1;
+        writes = walked (flat_command file unchanged) repeated_writes repeated_writes (same_writes file) m.commands ∙ r.1;
       }
   module_fine i (copied m) u j =
       let p = part_of file (copied m) in

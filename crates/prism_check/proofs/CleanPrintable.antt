@@ -1,19 +1,20 @@
 -- A printable file that is written out is printable.
 use Rattle.std.specs.Prelude.{ℕ, zero, suc, List, [], ◌∷◌, map, length, Bool, true, false, Option, Some, None, cond}
-use Rattle.std.specs.List.{find}
+use Rattle.std.specs.List.{find, AllByRecursion as Each}
 use Rattle.std.specs.Option.{option_map}
 use Rattle.std.proofs.Common.{ap}
-use Rattle.basics.specs.Each.{each_map}
+use Rattle.basics.specs.Each.{each_map, each_found, any_map}
 use Rattle.op_trees.specs.Tree.{Truth, Number, Name as At, One, Two, Three, replaced, substituted, written_out, renamed}
 use Rattle.prism_lex.specs.declared.token.TokenKind.TheVariants.{Ident}
 use Rattle.prism_lex.specs.Tokens.{IsKind}
 use Rattle.process_core.specs.Ready.{Name}
 use Rattle.prism_tree.specs.declared.syntax.NamePair.{NamePair}
 use Rattle.prism_tree.specs.Syntax.{Expression, Const, Range, Var, Label, Write, Branch, Command, Module, plain, copied, Item, Rewards, File}
-use Rattle.prism_names.specs.Names.{is_called, formula_body, is_formula, unchanged, written_name, renaming, module_name, module_called, Part, copy_of, part_of}
+use Rattle.op_trees.specs.Names.{is_called}
+use Rattle.prism_names.specs.Names.{formula_body, is_formula, unchanged, written_name, renaming, module_name, module_called, Part, copy_of, part_of}
 use Rattle.prism_names.specs.Flat.{flat_expression, flat_name, flat_range, flat_var, flat_write, flat_branch, flat_command, flat_module, flat_constant, flat_label, flat_item, flat_rewards, flat}
-use Rattle.prism_print.specs.Printable.{Each, IfAny, IsIdentifier, IsPrintableExpression, IsPrintableConst, IsPrintableRange, IsPrintableVar, IsPrintableFormula, IsPrintableLabel, IsPrintableWrite, IsPrintableBranch, HasWeight, AreBranches, IsPrintableCommand, IsPrintablePair, IsPrintableModule, IsPrintableItem, IsPrintableRewards, IsPrintable}
-use Rattle.prism_check.proofs.Each.{each_found, any_map}
+use Rattle.basics.specs.Options.{IfAny}
+use Rattle.prism_print.specs.Printable.{IsIdentifier, IsPrintableExpression, IsPrintableConst, IsPrintableRange, IsPrintableVar, IsPrintableFormula, IsPrintableLabel, IsPrintableWrite, IsPrintableBranch, HasWeight, AreBranches, IsPrintableCommand, IsPrintablePair, IsPrintableModule, IsPrintableItem, IsPrintableRewards, IsPrintable}
 
 -- ---- expressions
 replaced_printable : (t : Expression) (o : Option Expression) → IsPrintableExpression t → IfAny IsPrintableExpression o → IsPrintableExpression (replaced t o)

@@ -1,7 +1,7 @@
 -- The types of a file that is written out, and what its expressions have to be.
 use Rattle.std.specs.Prelude.{◌≡◌, ℕ, zero, suc, ◌+◌, List, [], ◌∷◌, ◌++◌, map, length, Bool, true, false, not, ◌&&◌, ◌||◌, Option, Some, None, is_some, cond, bytes_eq, if◌then◌else◌}
 use Rattle.std.specs.List.{find}
-use Rattle.std.specs.Option.{option_map}
+use Rattle.std.specs.Option.{option_map, option_or as or_else}
 use Rattle.std.proofs.Common.{refl, sym, ap, ap₂, ◌∙◌, subst}
 use Rattle.std.proofs.Math.Path.{fun_ext}
 use Rattle.basics.specs.Lists.{append_parts, append_both, empty_map}
@@ -12,23 +12,25 @@ use Rattle.op_trees.specs.Types.{Types, type_in, sort_one, sort_two, sort_three,
 use Rattle.op_trees.specs.TypeLaws.{type-substituted, type-written_out, type_agree_on}
 use Rattle.op_trees.specs.Seen.{FallsTo}
 use Rattle.op_trees.specs.SeenLaws.{names_all, names_then}
-use Rattle.op_trees.specs.Names.{offset_of, some_name}
+use Rattle.op_trees.specs.Names.{offset_of, some_name, is_called}
 use Rattle.op_trees.specs.NameLaws.{some_agree_on}
 use Rattle.process_core.specs.Ready.{Name}
 use Rattle.prism_tree.specs.Operators.{prism_meaning}
 use Rattle.prism_tree.specs.Syntax.{Expression, Const, Var, File}
-use Rattle.prism_names.specs.Names.{is_called, formula_body, is_formula, unchanged, written_name, Part, parts}
+use Rattle.prism_names.specs.Names.{formula_body, is_formula, unchanged, written_name, Part, parts}
 use Rattle.prism_names.specs.Flat.{flat_expression, flat_var, flat_constant, flat}
 use Rattle.prism_names.specs.WrittenOut.{substituted_none, lower, lowest}
 use Rattle.prism_names.specs.Laws.{flat_part, parts-flat}
 use Rattle.prism_names.specs.Order.{place_in, IsOrder, whole, whole_plain, fills}
-use Rattle.prism_print.specs.Printable.{IfAny}
-use Rattle.prism_check.specs.declared.demands.Wanted.{Wanted}
+use Rattle.basics.specs.Options.{IfAny}
+use Rattle.basics.specs.Mapped.{mapped}
+use Rattle.op_trees.specs.declared.wanted.Wanted.{Wanted}
 use Rattle.name_rules.specs.Least.{fault, fault_if}
+use Rattle.name_rules.proofs.Plain.{no_fault, fault_none}
 use Rattle.prism_flat.specs.ConstantLaws.{renamed_unchanged}
 use Rattle.prism_check.specs.Demands.{Demand, fixed, varying, written, var_type}
-use Rattle.prism_check.specs.TypeFaults.{Variable, numbered_variables, variables, variable_called, or_else, declared_types, types, misfits, is_unwanted, type_faults_of, is_variable, has_variable, target_of, target, write_faults, wanted_at, demand_faults}
-use Rattle.prism_check.proofs.Each.{map_same, no_fault, fault_none}
+use Rattle.op_trees.specs.Wanted.{is_unwanted}
+use Rattle.prism_check.specs.TypeFaults.{Variable, numbered_variables, variables, variable_called, declared_types, types, misfits, type_faults_of, is_variable, has_variable, target_of, target, write_faults, wanted_at, demand_faults}
 use Rattle.prism_check.proofs.FlatDemands.{flat_demand, same_type}
 use Rattle.prism_check.proofs.TypeOrder.{types_of_plain, in_depth, types_read}
 
@@ -126,7 +128,7 @@ module _ (file : File) where
   flat_numbered i [] = refl
   flat_numbered i (p ∷ ps) =
       ap₂ (λ a b. a ++ b)
-      (map_same (λ x. record { owner = Some i; name = x.name.name; ty = var_type x }) (flat_var file p.rename)
+      (mapped (flat_var file p.rename) (λ x. record { owner = Some i; name = x.name.name; ty = var_type x })
       (λ x. record { owner = Some i; name = p.rename x.name.name; ty = var_type x })
       (λ x. ap (λ t. record { owner = Some i; name = p.rename x.name.name; ty = t }) (same_type file p.rename x.range)) p.vars)
       (flat_numbered (i + 1) ps)
@@ -134,7 +136,7 @@ module _ (file : File) where
   pub variables_kept : variables (flat file) ≡ variables file
   variables_kept =
       ap₂ (λ a b. a ++ b)
-      (map_same global_variable (flat_var file unchanged) global_variable
+      (mapped (flat_var file unchanged) global_variable global_variable
       (λ x. ap (λ t. record { owner = None; name = x.name.name; ty = t }) (same_type file unchanged x.range)) file.globals)
       (ap (numbered_variables 0) (parts-flat file) ∙ flat_numbered 0 (parts file))
 

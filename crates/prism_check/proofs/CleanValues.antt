@@ -1,7 +1,7 @@
 -- The names of a file that is written out: none stands twice where none does in the file, and all that are no formula's
 -- are known.
 use Rattle.std.specs.Prelude.{◌≡◌, List, [], ◌∷◌, ◌++◌, map, Bool, true, false, not, ◌||◌, Option, Some, None, cond, bytes_eq, max}
-use Rattle.std.specs.List.{flat_map, find, list_any}
+use Rattle.std.specs.List.{flat_map, find, list_any, AllByRecursion as Each}
 use Rattle.std.specs.Option.{option_map}
 use Rattle.std.proofs.Common.{refl, sym, ap, ap₂, ◌∙◌, subst}
 use Rattle.std.proofs.lemmas.List.{map-append}
@@ -12,19 +12,20 @@ use Rattle.basics.specs.Each.{each_then, each_map, map_each, empty_each, each_em
 use Rattle.bridge_io.specs.declared.reason.Named.{Named}
 use Rattle.bridge_io.specs.declared.reason.Reason.{Reason}
 use Rattle.bridge_io.specs.declared.reason.Reason.TheVariants.{TwiceNamed, RenameMissing, RenameOfRenamed}
-use Rattle.process_core.specs.Ready.{Name, if_some}
+use Rattle.basics.specs.Options.{if_some}
+use Rattle.process_core.specs.Ready.{Name}
 use Rattle.process_core.specs.Product.{map-map}
 use Rattle.prism_tree.specs.declared.syntax.CopiedModule.{CopiedModule}
 use Rattle.prism_tree.specs.Syntax.{Var, Formula, Module, plain, copied, File}
-use Rattle.prism_names.specs.Names.{is_called, formula_body, unchanged, renaming, module_name, module_called, copy_of, part_of}
+use Rattle.op_trees.specs.Names.{is_called}
+use Rattle.prism_names.specs.Names.{formula_body, unchanged, renaming, module_name, module_called, copy_of, part_of}
 use Rattle.prism_names.specs.Flat.{flat_var, flat_module, flat_constant, flat_label, flat_rewards, flat}
 use Rattle.prism_names.specs.Places.{stands}
-use Rattle.prism_print.specs.Printable.{Each}
 use Rattle.name_rules.specs.Least.{fault_if}
 use Rattle.name_rules.specs.Names.{is_among}
 use Rattle.name_rules.specs.Doubled.{clash, doubled_after, doubled}
+use Rattle.name_rules.proofs.Plain.{no_fault, fault_none}
 use Rattle.prism_check.specs.NameFaults.{has_pair, renamed_var, module_vars, values, given_labels, doubled_pairs, doubled_names, copy_faults, is_copy}
-use Rattle.prism_check.proofs.Each.{no_fault, fault_none}
 
 abbrev pub names : List Named → List Name
 names ns = map (λ n. n.name) ns

@@ -9,7 +9,8 @@ use Rattle.std.proofs.lemmas.Option.{slice_get-map, slice_get_read}
 use Rattle.std.proofs.lemmas.Slice.Eq.{bytes_eq-Decides}
 use Rattle.op_trees.specs.Tree.{AllNames, capped}
 use Rattle.op_trees.specs.SeenLaws.{names_then}
-use Rattle.process_core.specs.Ready.{Name, if_some}
+use Rattle.basics.specs.Options.{if_some}
+use Rattle.process_core.specs.Ready.{Name}
 use Rattle.prism_tree.specs.declared.syntax.PrismFormula.{PrismFormula}
 use Rattle.prism_tree.specs.declared.syntax.PrismFile.{PrismFile}
 use Rattle.prism_tree.specs.Syntax.{Expression, Formula, File, formula_of, file_of}

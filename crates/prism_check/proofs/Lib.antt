@@ -23,7 +23,6 @@ pub mod TypedTables
 pub mod Renamed
 pub mod Owners
 pub mod Misfits
-pub mod Each
 pub mod NamesIn
 pub mod TypeOrder
 pub mod FlatDemands

@@ -12,7 +12,8 @@ use Rattle.bridge_io.specs.declared.reason.Named.{Named}
 use Rattle.bridge_io.specs.declared.reason.Reason.TheVariants.{TooLarge as Oversized}
 use Rattle.op_trees.specs.Tree.{capped}
 use Rattle.process_core.specs.Often.{sum_by-map}
-use Rattle.process_core.specs.Ready.{Name, firsts, if_some}
+use Rattle.basics.specs.Options.{if_some}
+use Rattle.process_core.specs.Ready.{Name, firsts}
 use Rattle.prism_tree.specs.Syntax.{Command, Rewards, File}
 use Rattle.prism_names.specs.Names.{Part, parts}
 use Rattle.prism_names.specs.Flat.{flat, flat_name, flat_command, flat_rewards, flat_item, flat_module}

@@ -1,7 +1,7 @@
 -- Names of a copy by the tables of its file.
 use Rattle.std.specs.Prelude.{List, ◌++◌, length, Bool, not, ◌&&◌, Option, Some, None, is_some}
 use Rattle.std.specs.List.{flat_map, list_any}
-use Rattle.std.proofs.Common.{◌≡◌, refl, sym, ap, ap₂, ◌∙◌}
+use Rattle.std.proofs.Common.{◌≡◌, refl, sym, ap, ◌∙◌}
 use Rattle.std.proofs.Math.Path.{fun_ext}
 use Rattle.std.proofs.lemmas.List.{length-map}
 use Rattle.op_trees.specs.Tree.{written_out}
@@ -10,18 +10,14 @@ use Rattle.prism_tree.specs.declared.syntax.PrismFile.{PrismFile}
 use Rattle.prism_tree.specs.declared.syntax.PrismFormula.{PrismFormula}
 use Rattle.prism_tree.specs.declared.syntax.CopiedModule.{CopiedModule}
 use Rattle.prism_tree.specs.declared.syntax.NamePair.{NamePair}
-use Rattle.prism_tree.specs.Syntax.{Expression, Body, Module, plain, copied, File, file_of, formula_of}
+use Rattle.prism_tree.specs.Syntax.{Expression, Module, plain, copied, File, file_of, formula_of}
 use Rattle.prism_names.specs.Names.{renaming, copy_of, module_called, part_of, formula_body}
 use Rattle.prism_names.specs.Order.{whole}
 use Rattle.prism_check.specs.Demands.{Demand, var_demands, command_demands, part_demands}
-use Rattle.prism_check.specs.NameFaults.{some_used, is_lost, loses_name, unknown_by, unknown, unknown_in, values}
+use Rattle.prism_check.specs.NameFaults.{some_used, is_lost, loses_name, unknown_by, unknown, values}
 use Rattle.name_rules.specs.Names.{is_among}
 use Rattle.prism_check.specs.Tables.{pair_for, vars_in, commands_in, body_in}
 use Rattle.prism_check.specs.Levels.{lost_by, lost_to}
-use Rattle.bridge_io.specs.declared.reason.Reason.TheVariants.{Unknown}
-use Rattle.bridge_io.specs.declared.reason.Fault.{Fault}
-use Rattle.name_rules.specs.Least.{fault_if, soonest}
-use Rattle.name_rules.proofs.Append.{soonest_then}
 use Rattle.prism_check.proofs.Declared.{renaming_is}
 
 copy_demands : (rename : Name → Name) (o : Option Module) →
@@ -59,17 +55,3 @@ loses_is f m bodies known new lost fs o ds b k n l s c d =
 pub unknown_is : (file : File) (known : Name → Bool) (ds : List Demand) → known ≡ is_among (values file) →
     flat_map (unknown_by known) ds ≡ flat_map (unknown file) ds
 unknown_is file known ds h = ap (λ k. flat_map (unknown_by k) ds) h
-
--- a plain module by a table of what is known
-pub plain_is : (file : File) (m : Body) (known : Name → Bool) (ds : List Demand) → known ≡ is_among (values file) →
-    ds ≡ flat_map var_demands m.vars ++ flat_map command_demands m.commands → flat_map (unknown_by known) ds ≡ unknown_in file (plain m)
-plain_is file m known ds h e = ap (flat_map (unknown_by known)) e ∙ unknown_is file known (flat_map var_demands m.vars ++ flat_map command_demands m.commands) h
-
--- a copy, part by part
-pub copy_is : (file : File) (m : CopiedModule) (before first last : Option Fault) (missing loses : Bool) →
-    first ≡ soonest before (fault_if missing m.from.at Unknown) → last ≡ soonest first (fault_if loses m.name.at Unknown) →
-    missing ≡ not (is_some (module_called file m.from.name)) → loses ≡ loses_name file (part_of file (copied m)) →
-    last ≡ soonest before (unknown_in file (copied m))
-copy_is file m before first last missing loses p q e f =
-    q ∙ soonest_then before first (fault_if missing m.from.at Unknown) (fault_if loses m.name.at Unknown) p
-    ∙ ap₂ (λ a b. soonest before (fault_if a m.from.at Unknown ++ fault_if b m.name.at Unknown)) e f

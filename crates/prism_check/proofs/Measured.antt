@@ -4,7 +4,8 @@ use Rattle.std.specs.List.{flat_map, fold, sum}
 use Rattle.std.specs.Option.{option_map}
 use Rattle.std.proofs.Common.{◌≡◌, refl, sym, ap, ap₂, ◌∙◌}
 use Rattle.std.proofs.lemmas.List.{map-append}
-use Rattle.process_core.specs.Ready.{Name, if_some}
+use Rattle.basics.specs.Options.{if_some}
+use Rattle.process_core.specs.Ready.{Name}
 use Rattle.prism_tree.specs.Syntax.{Expression, Const, Range, Var, Label, Write, Branch, Command, Item, Rewards, File}
 use Rattle.prism_names.specs.Names.{unchanged, Part, parts}
 use Rattle.prism_names.specs.Flat.{flat_expression, flat_range, flat_var, flat_write, flat_branch, flat_command, flat_constant, flat_label, flat_item, flat_rewards, flat}
@@ -12,9 +13,10 @@ use Rattle.prism_names.specs.Order.{whole_nodes, whole_height, nodes-flat, heigh
 use Rattle.op_trees.specs.Tree.{node_count, height_of}
 use Rattle.prism_check.specs.SizeFaults.{NodesCounted, HeightCounted}
 use Rattle.prism_names.specs.Laws.{flat_part, parts-flat}
-use Rattle.prism_check.specs.declared.demands.Wanted.{Wanted}
-use Rattle.prism_check.specs.declared.demands.Wanted.TheVariants as W
-use Rattle.prism_check.specs.Demands.{Demand, fixed, varying, written, expression_of, wanted_by, var_type, const_demands, range_demands, var_demands, branch_demands, command_demands, part_demands, label_demands, item_demands, rewards_demands, outer_demands, all_demands}
+use Rattle.op_trees.specs.declared.wanted.Wanted.{Wanted}
+use Rattle.op_trees.specs.declared.wanted.Wanted.TheVariants as W
+use Rattle.op_trees.specs.Wanted.{wanted_by}
+use Rattle.prism_check.specs.Demands.{Demand, fixed, varying, written, expression_of, var_type, const_demands, range_demands, var_demands, branch_demands, command_demands, part_demands, label_demands, item_demands, rewards_demands, outer_demands, all_demands}
 
 module _ (file : File) (new old : Expression → ℕ) (same : (rename : Name → Name) (e : Expression) → new (flat_expression file rename e) ≡ old e) where
   abbrev of_new : List Demand → List ℕ

@@ -2,15 +2,15 @@
 use Rattle.std.specs.Prelude.{◌≡◌, ℕ, zero, suc, ◌++◌, Bool, false, ◌||◌, Option, Some, None}
 use Rattle.std.specs.Option.{option_map}
 use Rattle.std.proofs.Common.{refl, ap₂}
-use Rattle.basics.specs.Each.{each_join, each_parts}
+use Rattle.basics.specs.Each.{each_join, each_parts, any_map}
 use Rattle.op_trees.specs.Tree.{Tree, Truth, Number, Name as At, One, Two, Three, AllNames, replaced, written_out, renamed}
 use Rattle.op_trees.specs.SeenLaws.{names_then}
 use Rattle.op_trees.specs.Names.{names_of, some_name}
 use Rattle.op_trees.specs.NameLaws.{names_with, none_named, named_none, names_renamed}
 use Rattle.process_core.specs.Ready.{Name}
 use Rattle.prism_names.specs.WrittenOut.{names-substituted}
-use Rattle.prism_print.specs.Printable.{Each, IfAny}
-use Rattle.prism_check.proofs.Each.{any_map}
+use Rattle.std.specs.List.{AllByRecursion as Each}
+use Rattle.basics.specs.Options.{IfAny}
 
 -- ---- names as they are listed
 pub listed_names : {O : Type 0} (P : Name → Type 0) (t : Tree O) → Each (λ n. P n.name) (names_of t) → AllNames P t

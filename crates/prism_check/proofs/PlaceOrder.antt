@@ -16,10 +16,11 @@ use Rattle.bridge_io.specs.declared.reason.Reason.{Reason}
 use Rattle.bridge_io.specs.declared.reason.Reason.TheVariants.{TwiceNamed}
 use Rattle.op_trees.specs.Tree.{Truth, Number, Name as At, One, Two, Three, AllNames}
 use Rattle.op_trees.specs.SeenLaws.{names_then}
-use Rattle.op_trees.specs.Names.{names_of}
-use Rattle.process_core.specs.Ready.{Name, if_some}
+use Rattle.op_trees.specs.Names.{names_of, is_called}
+use Rattle.basics.specs.Options.{if_some}
+use Rattle.process_core.specs.Ready.{Name}
 use Rattle.prism_tree.specs.Syntax.{Expression, Formula, File}
-use Rattle.prism_names.specs.Names.{is_called, formula_body}
+use Rattle.prism_names.specs.Names.{formula_body}
 use Rattle.prism_names.specs.Places.{formula_names, at_places, stands, IsEarlier, IsListed, IsPlaceOrder}
 use Rattle.name_rules.specs.Least.{fault_if}
 use Rattle.name_rules.specs.Doubled.{clash, doubled_after, doubled}

@@ -12,24 +12,25 @@ use Rattle.op_trees.specs.declared.tree.Ty.{Ty}
 use Rattle.op_trees.specs.Tree.{Truth, Number, Name as At, One, Two, Three, renamed, written_out}
 use Rattle.op_trees.specs.Types.{Types, sort_one, sort_two, sort_three, misfit_at}
 use Rattle.op_trees.specs.TypeLaws.{type-renamed}
-use Rattle.op_trees.specs.Names.{offset_of, some_name}
+use Rattle.op_trees.specs.Names.{offset_of, some_name, is_called}
 use Rattle.op_trees.specs.NameLaws.{offset-renamed, some_name-renamed}
 use Rattle.process_core.specs.Ready.{Name}
 use Rattle.process_core.specs.Product.{map-map}
 use Rattle.prism_tree.specs.declared.syntax.CopiedModule.{CopiedModule}
 use Rattle.prism_tree.specs.Operators.{prism_meaning}
 use Rattle.prism_tree.specs.Syntax.{Expression, Formula, Var, Branch, Command, Module, plain, copied, File}
-use Rattle.prism_names.specs.Names.{is_called, formula_body, renaming, written_name, module_called, Part, copy_of}
+use Rattle.prism_names.specs.Names.{formula_body, renaming, written_name, module_called, Part, copy_of}
 use Rattle.prism_names.specs.Flat.{flat_expression, flat_write, flat_branch, flat_command}
 use Rattle.prism_names.specs.Laws.{flat_part}
-use Rattle.prism_check.specs.declared.demands.Wanted.{Wanted}
+use Rattle.op_trees.specs.declared.wanted.Wanted.{Wanted}
 use Rattle.prism_check.specs.declared.tables.Renaming.{Renaming}
 use Rattle.prism_check.specs.declared.typing.Names.{Names}
 use Rattle.name_rules.specs.Least.{fault, fault_if, soonest}
 use Rattle.prism_check.specs.Demands.{Demand, fixed, varying, written, part_demands}
 use Rattle.name_rules.specs.Doubled.{doubled}
 use Rattle.prism_check.specs.Tables.{pair_for, vars_in, commands_in, new_name}
-use Rattle.prism_check.specs.TypeFaults.{types, misfits, is_unwanted, type_faults_of, has_variable, Target, target, wanted_at, write_faults, demand_faults, repeated_writes, part_faults, module_faults}
+use Rattle.op_trees.specs.Wanted.{is_unwanted}
+use Rattle.prism_check.specs.TypeFaults.{types, misfits, type_faults_of, has_variable, Target, target, wanted_at, write_faults, demand_faults, repeated_writes, part_faults, module_faults}
 use Rattle.prism_check.specs.Typing.{AreNames, read_in, type_under, varies_under, target_under, type_of, varies_in, target_in, faults_in, repeated_in, repeated_by, contents_in, soonest_at}
 use Rattle.prism_check.proofs.Declared.{renaming_is}
 use Rattle.prism_check.proofs.FlatDemands.{flat_demand, part-flat}

@@ -9,11 +9,10 @@ use native.Mathlib.Decide.{ℕ_discrete}
 use Rattle.std.proofs.lemmas.Slice.Eq.{bytes_eq-Decides}
 use Rattle.std.proofs.lemmas.List.Elements.{All-head, All-tail}
 use Rattle.op_trees.specs.Tree.{Truth, Number, Name as At, One, Two, Three, replaced, substituted, written_out}
-use Rattle.op_trees.specs.Names.{some_name}
+use Rattle.op_trees.specs.Names.{some_name, is_called}
 use Rattle.process_core.specs.Ready.{Name}
 use Rattle.prism_tree.specs.declared.syntax.PrismFormula.{PrismFormula}
 use Rattle.prism_tree.specs.Syntax.{Expression, Formula, formula_of}
-use Rattle.prism_names.specs.Names.{is_called}
 use Rattle.prism_check.specs.Demands.{Demand, fixed, varying, written}
 use Rattle.prism_check.specs.NameFaults.{some_used}
 use Rattle.name_rules.specs.Names.{first_some}

@@ -1,7 +1,7 @@
 -- The faults of types by the tables of a file.
 use Rattle.std.specs.Prelude.{ℕ, ◌<◌, ◌+◌, List, [], ◌∷◌, ◌++◌, map, length, drop, Bool, Option, Some, None, is_some, if◌then◌else◌}
 use Rattle.std.specs.List.{flat_map}
-use Rattle.std.specs.Option.{option_map}
+use Rattle.std.specs.Option.{option_map, option_or as or_else}
 use Rattle.std.proofs.Common.{◌≡◌, refl, sym, ap, ap₂, ◌∙◌, get_or}
 use Rattle.std.proofs.Math.Path.{fun_ext}
 use Rattle.std.proofs.lemmas.List.{at_drop_more}
@@ -23,7 +23,7 @@ use Rattle.prism_check.specs.declared.typing.Names.{Names}
 use Rattle.prism_check.specs.Demands.{Demand, fixed, varying, written, formula_demands, outer_demands}
 use Rattle.name_rules.specs.Least.{fault_if, soonest}
 use Rattle.name_rules.specs.Names.{under}
-use Rattle.prism_check.specs.TypeFaults.{Variable, variable_called, or_else, declared_types, types, type_faults_of, is_variable, has_variable, Target, target_of, target, wanted_at, write_faults, demand_faults, repeated_writes, module_faults, numbered_faults, type_faults}
+use Rattle.prism_check.specs.TypeFaults.{Variable, variable_called, declared_types, types, type_faults_of, is_variable, has_variable, Target, target_of, target, wanted_at, write_faults, demand_faults, repeated_writes, module_faults, numbered_faults, type_faults}
 use Rattle.prism_check.specs.Typing.{owned, IsDeclared, declared_type, is_declared_variable, known_after, type_under, varies_under, target_found, target_under, type_of, varies_in, target_in, read_by, read_in, AreNames, soonest_at, faults_in, repeated_by, contents_by, contents_faults}
 use Rattle.name_rules.proofs.Append.{soonest_then, three_parts}
 use Rattle.prism_check.proofs.TypesInOrder.{formula_known, whole_known, reads_type, reads_varies, known_whole}

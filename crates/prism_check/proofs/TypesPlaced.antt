@@ -9,7 +9,7 @@ use Rattle.bridge_io.specs.declared.reason.Fault.{Fault}
 use Rattle.name_rules.specs.Least.{fault_if, soonest}
 use Rattle.name_rules.specs.Doubled.{clash, doubled_after, doubled}
 use Rattle.prism_check.specs.Typing.{placed, soonest_at, wrong, moved_name}
-use Rattle.name_rules.proofs.Soonest.{soonest-append}
+use Rattle.name_rules.proofs.Soonest.{soonest_append}
 use Rattle.name_rules.proofs.Append.{soonest_next}
 use Rattle.process_core.specs.Product.{map-flat_map}
 
@@ -23,7 +23,7 @@ unplaced (f ∷ fs) = ap (λ gs. f ∷ gs) (unplaced fs)
 
 pub at-append : (place : Option ℕ) (best : Option Fault) (xs ys : List Fault) → soonest_at place best (xs ++ ys) ≡ soonest_at place (soonest_at place best xs) ys
 at-append place best xs ys =
-    ap (soonest best) (map-append (placed place) xs ys) ∙ soonest-append best (map (placed place) xs) (map (placed place) ys)
+    ap (soonest best) (map-append (placed place) xs ys) ∙ soonest_append best (map (placed place) xs) (map (placed place) ys)
 
 -- first these faults, then those
 pub at_then : (place : Option ℕ) (best next : Option Fault) (xs ys : List Fault) → next ≡ soonest_at place best xs →

@@ -6,7 +6,8 @@ use Rattle.std.specs.Borrow.{Bor}
 use Rattle.name_rules.specs.declared.map.NameMap.{NameMap}
 use Rattle.indexmap.specs.IndexSet.{IndexSet}
 use Rattle.op_trees.specs.Tree.{capped}
-use Rattle.process_core.specs.Ready.{Name, if_some}
+use Rattle.basics.specs.Options.{if_some}
+use Rattle.process_core.specs.Ready.{Name}
 use Rattle.prism_tree.specs.declared.syntax.NamePair.{NamePair}
 use Rattle.prism_tree.specs.Syntax.{Command, Module, plain, copied, File}
 use Rattle.prism_names.specs.Names.{formula_body}

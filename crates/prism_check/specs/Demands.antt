@@ -4,11 +4,12 @@ use Rattle.std.specs.Prelude.{List, [], ◌∷◌, ◌++◌, map, Bool, Option, 
 use Rattle.std.specs.List.{flat_map}
 use Rattle.op_trees.specs.declared.tree.Ty.{Ty}
 use Rattle.op_trees.specs.declared.tree.Ty.TheVariants as T
-use Rattle.process_core.specs.Ready.{if_some}
+use Rattle.basics.specs.Options.{if_some}
 use Rattle.prism_tree.specs.Syntax.{Expression, Const, Range, Var, Formula, Label, Write, Branch, Command, Item, Rewards, File}
 use Rattle.prism_names.specs.Names.{Part, parts}
-use Rattle.prism_check.specs.declared.demands.Wanted.{Wanted}
-use Rattle.prism_check.specs.declared.demands.Wanted.TheVariants as W
+use Rattle.op_trees.specs.declared.wanted.Wanted.{Wanted}
+use Rattle.op_trees.specs.declared.wanted.Wanted.TheVariants as W
+use Rattle.op_trees.specs.Wanted.{wanted_by}
 
 -- an expression in which no variable may occur, one in which variables may, or a write of a command that has an action
 -- or has none
@@ -21,12 +22,6 @@ abbrev pub expression_of : Demand → Expression
 expression_of (fixed w e) = e
 expression_of (varying w e) = e
 expression_of (written acts w) = w.value
-
--- what is given to a thing of this type
-abbrev pub wanted_by : Ty → Wanted
-wanted_by T.Bool = W.Bool
-wanted_by T.Int = W.Int
-wanted_by T.Real = W.Number
 
 -- ---- constants and formulas
 abbrev pub const_demands : Const → List Demand

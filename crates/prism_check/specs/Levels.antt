@@ -4,7 +4,7 @@ use Rattle.std.specs.Borrow.{Bor}
 use Rattle.name_rules.specs.declared.map.NameMap.{NameMap}
 use Rattle.process_core.specs.Ready.{Name}
 use Rattle.prism_tree.specs.Syntax.{Expression}
-use Rattle.prism_check.specs.declared.lost.Reading.{Reading}
+use Rattle.prism_check.specs.declared.lost_names.Reading.{Reading}
 use Rattle.prism_check.specs.Demands.{Demand, fixed, varying, written}
 use Rattle.op_trees.specs.Names.{some_name}
 use Rattle.prism_check.specs.Tables.{body_under, new_name}

@@ -6,7 +6,8 @@ use Rattle.bridge_io.specs.declared.reason.Named.{Named}
 use Rattle.bridge_io.specs.declared.reason.Reason.TheVariants.{TwiceNamed, Unknown, RenameMissing, RenameOfRenamed, Nothing}
 use Rattle.bridge_io.specs.declared.reason.Fault.{Fault}
 use Rattle.name_rules.specs.Least.{fault_if}
-use Rattle.name_rules.specs.Names.{Name, is_called}
+use Rattle.op_trees.specs.Names.{is_called}
+use Rattle.name_rules.specs.Names.{Name}
 pub use Rattle.name_rules.specs.Names.{is_among}
 pub use Rattle.name_rules.specs.Doubled.{clash, doubled_after, doubled}
 use Rattle.name_rules.specs.Uses.{used}
@@ -14,7 +15,7 @@ pub use Rattle.op_trees.specs.Names.{names_of, some_name}
 pub use Rattle.name_rules.specs.Unknown.{unless_known}
 use Rattle.name_rules.specs.Circles.{circles as circles_of}
 pub use Rattle.name_rules.specs.Circles.{Declared, uses_of, leads_to, is_circular, circular}
-use Rattle.process_core.specs.Ready.{if_some}
+use Rattle.basics.specs.Options.{if_some}
 use Rattle.prism_tree.specs.declared.syntax.NamePair.{NamePair}
 use Rattle.prism_tree.specs.declared.syntax.CopiedModule.{CopiedModule}
 use Rattle.prism_tree.specs.Syntax.{Expression, Const, Formula, Var, Module, plain, copied, File}

@@ -6,7 +6,8 @@ use Rattle.std.specs.Option.{option_map}
 use Rattle.bridge_io.specs.declared.reason.Reason.TheVariants.{TooLarge}
 use Rattle.bridge_io.specs.declared.reason.Fault.{Fault}
 use Rattle.op_trees.specs.Tree.{node_count, height_of}
-use Rattle.process_core.specs.Ready.{Name, if_some, firsts}
+use Rattle.basics.specs.Options.{if_some}
+use Rattle.process_core.specs.Ready.{Name, firsts}
 use Rattle.prism_tree.specs.Syntax.{File}
 use Rattle.prism_names.specs.Names.{Part, parts}
 use Rattle.prism_names.specs.Flat.{flat}

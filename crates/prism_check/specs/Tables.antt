@@ -20,7 +20,8 @@ use Rattle.name_rules.specs.Names.{is_among, has_name, under}
 use Rattle.prism_check.specs.declared.scope.Scope.{Scope}
 use Rattle.bridge_io.specs.declared.reason.Named.{Named}
 use Rattle.prism_tree.specs.Syntax.{Expression, Module, module_of, formula_of, Var, Command, File, plain, copied}
-use Rattle.prism_names.specs.Names.{is_called, module_name}
+use Rattle.op_trees.specs.Names.{is_called}
+use Rattle.prism_names.specs.Names.{module_name}
 use Rattle.prism_check.specs.declared.tables.Renaming.{Renaming}
 use Rattle.prism_check.specs.declared.tables.Renaming.TheVariants.{Few, Many}
 use Rattle.prism_check.specs.declared.tables.Modules.{Modules}

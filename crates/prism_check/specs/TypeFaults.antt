@@ -1,25 +1,25 @@
 -- The faults of the types of a PRISM file, and of what its commands write (PRISM manual, "The PRISM Language":
 -- "Expressions", "Constants", "Modules and Variables", "Commands", "Global Variables", "Module Renaming").
-use Rattle.std.specs.Prelude.{ℕ, ◌+◌, List, [], ◌∷◌, ◌++◌, map, length, Option, Some, None, Bool, true, false, not, ◌&&◌, if◌then◌else◌, bytes_eq, nat_eq, is_some}
+use Rattle.std.specs.Prelude.{ℕ, ◌+◌, List, [], ◌∷◌, ◌++◌, map, length, Option, Some, None, Bool, not, ◌&&◌, if◌then◌else◌, bytes_eq, nat_eq, is_some}
 use Rattle.std.specs.List.{flat_map, find}
-use Rattle.std.specs.Option.{option_map}
+use Rattle.std.specs.Option.{option_map, option_or as or_else}
 use Rattle.bridge_io.specs.declared.reason.Reason.TheVariants.{WrongType, NotConstant, ForeignWrite, SyncGlobalWrite, WrittenTwice}
 use Rattle.bridge_io.specs.declared.reason.Fault.{Fault}
 use Rattle.op_trees.specs.declared.tree.Ty.{Ty}
-use Rattle.op_trees.specs.declared.tree.Ty.TheVariants as T
 use Rattle.op_trees.specs.Tree.{Truth, Number, Name as At, One, Two, Three}
 use Rattle.op_trees.specs.Types.{Types, type_in, types_looked_up, misfit_at}
-use Rattle.op_trees.specs.Names.{offset_of, some_name}
+use Rattle.op_trees.specs.Names.{offset_of, some_name, is_called}
 use Rattle.process_core.specs.Ready.{Name}
 use Rattle.prism_tree.specs.Operators.{prism_meaning}
 use Rattle.prism_tree.specs.Syntax.{Expression, Command, Module, plain, copied, File}
-use Rattle.prism_names.specs.Names.{is_called, formula_body, is_formula, Part, part_of, parts}
+use Rattle.prism_names.specs.Names.{formula_body, is_formula, Part, part_of, parts}
 use Rattle.prism_names.specs.Laws.{flat_part}
 use Rattle.prism_names.specs.Order.{whole}
 use Rattle.name_rules.specs.Least.{fault, fault_if, moved_to}
-use Rattle.prism_check.specs.declared.demands.Wanted.{Wanted}
-use Rattle.prism_check.specs.declared.demands.Wanted.TheVariants as W
-use Rattle.prism_check.specs.Demands.{Demand, fixed, varying, written, wanted_by, var_type, formula_demands, part_demands, outer_demands}
+use Rattle.op_trees.specs.declared.wanted.Wanted.{Wanted}
+use Rattle.op_trees.specs.declared.wanted.Wanted.TheVariants as W
+use Rattle.op_trees.specs.Wanted.{wanted_by, is_unwanted}
+use Rattle.prism_check.specs.Demands.{Demand, fixed, varying, written, var_type, formula_demands, part_demands, outer_demands}
 use Rattle.name_rules.specs.Doubled.{doubled}
 
 -- ---- what the names are
@@ -44,11 +44,6 @@ variables file =
 
 abbrev pub variable_called : File → Name → Option Variable
 variable_called file x = find (λ v. bytes_eq v.name x) (variables file)
-
--- the type of the first, or else of the second
-abbrev pub or_else : Option Ty → Option Ty → Option Ty
-or_else None t = t
-or_else (Some s) t = Some s
 
 -- the type that a constant or a variable is declared with
 abbrev pub declared_types : File → Types
@@ -76,19 +71,6 @@ misfits ty (Two at o a b) =
 misfits ty (Three at o a b c) =
     misfits ty a ++ (misfits ty b ++ (misfits ty c
     ++ misfit_at at (is_some (type_in prism_meaning ty a) && (is_some (type_in prism_meaning ty b) && is_some (type_in prism_meaning ty c))) (type_in prism_meaning ty (Three at o a b c))))
-
-abbrev pub is_wanted : Wanted → Ty → Bool
-is_wanted W.Anything t = true
-is_wanted W.Bool T.Bool = true
-is_wanted W.Int T.Int = true
-is_wanted W.Number T.Int = true
-is_wanted W.Number T.Real = true
-is_wanted w t = false
-
--- an expression without a type has its fault at a node
-abbrev pub is_unwanted : Wanted → Option Ty → Bool
-is_unwanted w None = false
-is_unwanted w (Some t) = not (is_wanted w t)
 
 abbrev pub type_faults_of : Types → Wanted → Expression → List Fault
 type_faults_of ty w e =

@@ -1,19 +1,18 @@
 -- What the code's tables of types have, and the faults that are judged by them.
 use Rattle.std.specs.Prelude.{◌≡◌, ℕ, ◌+◌, List, [], ◌∷◌, ◌++◌, map, Bool, Option, Some, None, is_some, unwrap_or, bytes_eq, if◌then◌else◌}
 use Rattle.std.specs.List.{find, flat_map, fold}
-use Rattle.std.specs.Option.{option_map}
+use Rattle.std.specs.Option.{option_map, option_or as or_else}
 use Rattle.std.specs.Borrow.{Bor}
 use Rattle.bridge_io.specs.declared.reason.Reason.TheVariants.{WrongType, NotConstant, WrittenTwice}
 use Rattle.bridge_io.specs.declared.reason.Fault.{Fault}
 use Rattle.bridge_io.specs.declared.reason.Named.{Named}
 use Rattle.op_trees.specs.declared.tree.Ty.{Ty}
 use Rattle.op_trees.specs.Types.{Types, type_in}
-use Rattle.op_trees.specs.Names.{offset_of, some_name}
+use Rattle.op_trees.specs.Names.{offset_of, some_name, is_called}
 use Rattle.process_core.specs.Ready.{Name}
 use Rattle.prism_tree.specs.Operators.{prism_meaning}
 use Rattle.prism_tree.specs.Syntax.{Expression, Var, Formula, Branch, Command, Module, plain, copied, File}
-use Rattle.prism_names.specs.Names.{is_called}
-use Rattle.prism_check.specs.declared.demands.Wanted.TheVariants as W
+use Rattle.op_trees.specs.declared.wanted.Wanted.TheVariants as W
 use Rattle.prism_check.specs.declared.tables.Renaming.{Renaming}
 use Rattle.prism_check.specs.declared.variables.Owned.{Owned}
 use Rattle.prism_check.specs.declared.variables.Declared.{Declared}
@@ -26,7 +25,7 @@ use Rattle.prism_check.specs.Demands.{Demand, fixed, varying, written, var_type,
 use Rattle.name_rules.specs.Names.{under}
 use Rattle.name_rules.specs.Doubled.{doubled}
 use Rattle.prism_check.specs.Tables.{pair_for, vars_in, new_name}
-use Rattle.prism_check.specs.TypeFaults.{Variable, variable_called, or_else, types, has_variable, Target, own, global, foreign, target_by, target, wanted_at, type_faults_of, write_faults}
+use Rattle.prism_check.specs.TypeFaults.{Variable, variable_called, types, has_variable, Target, own, global, foreign, target_by, target, wanted_at, type_faults_of, write_faults}
 
 -- ---- variables
 abbrev pub owned : Variable → Owned

@@ -11,7 +11,7 @@ ghost use Rattle.prism_check.specs.NameFaults.{declarations, declared_const, dec
 
 use bridge_io::Named;
 use name_rules::{Declaration, add_names};
-use prism_tree::{Pe, PrismConst, PrismFile, PrismFormula};
+use prism_tree::{PrismConst, PrismExpr, PrismFile, PrismFormula};
 use std::alloc::{AllocError, Global};
 
 /// The constants of a file, and then its formulas.
@@ -57,7 +57,7 @@ fn add_formulas<'a>(
 fn add<'a>(
     alloc: Global,
     name: &'a Named,
-    body: Option<&'a Pe>,
+    body: Option<&'a PrismExpr>,
     list: &mut Vec<Declaration<'a>>,
 ) -> Result<(), AllocError>
     ensures { OnOk result
@@ -74,7 +74,7 @@ fn add<'a>(
 }
 
 // The names that a body uses, if there is one.
-fn uses_of<'a>(alloc: Global, body: Option<&'a Pe>) -> Result<Vec<&'a str>, AllocError>
+fn uses_of<'a>(alloc: Global, body: Option<&'a PrismExpr>) -> Result<Vec<&'a str>, AllocError>
     ensures { IfOk result (λ list. map (λ s. s.now) list.items ≡ used (option_map (λ e. tree e.now) body.entry)) }
 {
     let mut list = Vec::new(alloc);

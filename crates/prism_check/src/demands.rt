@@ -4,34 +4,22 @@ ghost use Rattle.std.specs.Prelude.{◌≡◌, List, ◌++◌, map, IfOk, OnOk};
 ghost use Rattle.std.specs.List.{flat_map};
 ghost use Rattle.prism_tree.specs.Syntax.{branch_of, command_of, file_of, var_of, write_of};
 ghost use Rattle.prism_check.specs.Views.{demand_by};
-ghost use Rattle.prism_check.specs.Demands.{Demand as Asked, branch_demands, command_demands, outer_demands, var_demands, wanted_by, written};
+ghost use Rattle.op_trees.specs.Wanted.{wanted_by};
+ghost use Rattle.prism_check.specs.Demands.{Demand as Asked, branch_demands, command_demands, outer_demands, var_demands, written};
 
-use op_trees::Ty;
+use op_trees::{Wanted, wanted_by};
 use prism_tree::{
-    Pe, PrismBranch, PrismCommand, PrismConst, PrismFile, PrismFormula, PrismItem, PrismLabel,
-    PrismRewards, PrismVar, PrismWrite,
+    PrismBranch, PrismCommand, PrismConst, PrismExpr, PrismFile, PrismFormula, PrismItem,
+    PrismLabel, PrismRewards, PrismVar, PrismWrite,
 };
 use std::alloc::{AllocError, Global};
-
-/// What the type of an expression has to be; an int is a number too.
-#[derive(Clone, Copy)]
-pub enum Wanted {
-    /// A bool.
-    Bool,
-    /// An int.
-    Int,
-    /// An int or a real.
-    Number,
-    /// Any type.
-    Anything,
-}
 
 /// An expression in which no variable may occur, one in which variables may, or a write of a command that has an action
 /// or has none.
 #[derive(Clone, Copy)]
 pub(crate) enum Demand<'a> {
-    Fixed(Wanted, &'a Pe),
-    Varying(Wanted, &'a Pe),
+    Fixed(Wanted, &'a PrismExpr),
+    Varying(Wanted, &'a PrismExpr),
     Written(bool, &'a PrismWrite),
 }
 
@@ -55,17 +43,6 @@ pub(crate) fn add_all<'a, T: Demanding>(
         part.add_demands(list)?;
     }
     Ok(())
-}
-
-/// What is given to a thing of this type.
-pub(crate) fn wanted_by(ty: Ty) -> Wanted
-    ensures { result ≡ wanted_by ty }
-{
-    match ty {
-        Ty::Bool => Wanted::Bool,
-        Ty::Int => Wanted::Int,
-        Ty::Real => Wanted::Number,
-    }
 }
 
 impl Demanding for PrismConst {

@@ -21,7 +21,7 @@ use crate::values::values;
 use crate::variables::{Declared, declarations};
 use name_rules::{NameMap, NameSet, Telling};
 use op_trees::Ty;
-use prism_tree::{Pe, PrismFile};
+use prism_tree::{PrismExpr, PrismFile};
 use std::alloc::{AllocError, Global};
 use std::marker::Model;
 
@@ -58,7 +58,7 @@ impl<'a> TypeTables<'a> {
 
     // Whether a variable occurs in an expression where its formulas are written out.
     #[tactic(auto, unfolding(crate::specs::Typing::varies_under))]
-    fn varies(&self, e: &Pe) -> bool
+    fn varies(&self, e: &PrismExpr) -> bool
         ensures { result ≡ some_name (varies_in_tables self.now) (tree e.now) }
     {
         let names = Names {
@@ -167,14 +167,14 @@ impl<'a> FileNames<'a> {
     }
 
     /// Whether a variable occurs in an expression where its formulas are written out.
-    pub fn varies(&self, e: &Pe) -> bool
+    pub fn varies(&self, e: &PrismExpr) -> bool
         ensures { result ≡ has_variable self.now.file (tree e.now) }
     {
         self.types.varies(e)
     }
 
     /// How large an expression is where its formulas are written out.
-    pub fn size(&self, e: &Pe) -> Size
+    pub fn size(&self, e: &PrismExpr) -> Size
         ensures nodes { result.nodes ≡ capped (whole_nodes self.now.file (tree e.now)) }
         ensures height { result.height ≡ capped (whole_height self.now.file (tree e.now)) }
     {

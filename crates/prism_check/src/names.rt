@@ -12,9 +12,9 @@ ghost use Rattle.name_rules.specs.Names.{named_by};
 
 use crate::copies::judge_copies;
 use crate::declarations::declarations;
+use crate::doubled::judge_twice;
 use crate::scope::{Scope, judge_unknown_names};
 use crate::tables::{Formulas, Modules};
-use crate::twice::judge_twice;
 use crate::values::values;
 use bridge_io::{Fault, Reason};
 use name_rules::{Entry, NameSet, judge_circles, sooner_if};

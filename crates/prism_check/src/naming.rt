@@ -110,7 +110,7 @@ impl Naming for PrismModule {
 }
 
 impl Naming for PrismRewards {
-    ghost use Rattle.process_core.specs.Ready.{if_some};
+    ghost use Rattle.basics.specs.Options.{if_some};
 
     ghost names = { λ r. if_some r.name };
 

@@ -11,7 +11,7 @@ ghost use Rattle.prism_check.specs.NameFaults.{loses_name, unknown_in, unknown_n
 ghost use Rattle.prism_check.specs.Tables.{IsScope, module_under};
 
 use crate::demands::{Demand, add_all, contents_demands, outer_demands};
-use crate::lost::{Reading, loses_name};
+use crate::lost_names::{Reading, loses_name};
 use crate::tables::{Formulas, Modules, Renaming};
 use crate::unknown::judge_unknown;
 use crate::values::{commands_in, vars_in};

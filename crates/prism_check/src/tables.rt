@@ -9,7 +9,7 @@ ghost use Rattle.prism_check.specs.Tables.{body_in, body_under, module_under, ne
 ghost use Rattle.name_rules.specs.Names.{under, first_some};
 
 use name_rules::NameMap;
-use prism_tree::{NamePair, Pe, PrismFormula, PrismModule};
+use prism_tree::{NamePair, PrismExpr, PrismFormula, PrismModule};
 use std::alloc::{AllocError, Global};
 
 /// The renaming of a copy.
@@ -109,7 +109,7 @@ pub(crate) fn name_of(m: &PrismModule) -> &str
 /// The bodies of formulas by their names.
 #[derive(Drop)]
 pub(crate) struct Formulas<'a> {
-    bodies: NameMap<'a, &'a Pe>,
+    bodies: NameMap<'a, &'a PrismExpr>,
 }
 
 impl<'a> Formulas<'a> {

@@ -11,7 +11,7 @@ ghost use Rattle.prism_check.specs.Views.{demand_by};
 use crate::demands::Demand;
 use name_rules::NameMap;
 use op_trees::Expr;
-use prism_tree::Pe;
+use prism_tree::PrismExpr;
 
 /// How many nodes some expressions have, and the height of the highest. Either number stands at 2^64 - 1 where it would
 /// pass that.
@@ -78,7 +78,7 @@ pub(crate) fn size_under(name: &str, table: &NameMap<Size>, other: Size) -> Size
 }
 
 /// The size of an expression.
-pub(crate) fn measure(e: &Pe, names: &NameMap<Size>) -> Size
+pub(crate) fn measure(e: &PrismExpr, names: &NameMap<Size>) -> Size
     ensures nodes { result.nodes ≡ capped (nodes_by (nodes_in names.now) (tree e.now)) }
     ensures height { result.height ≡ capped (height_by (height_in names.now) (tree e.now)) }
 {
@@ -107,7 +107,7 @@ pub(crate) fn measure_all(demands: &[Demand], names: &NameMap<Size>) -> Size
     all
 }
 
-fn expression<'a>(demand: &Demand<'a>) -> &'a Pe
+fn expression<'a>(demand: &Demand<'a>) -> &'a PrismExpr
     ensures { tree result.now ≡ expression_of (demand_by demand.now) }
 {
     match demand {

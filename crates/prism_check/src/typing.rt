@@ -10,16 +10,16 @@ ghost use Rattle.prism_tree.specs.Syntax.{formula_of};
 ghost use Rattle.prism_names.specs.Places.{at_places};
 ghost use Rattle.name_rules.specs.Least.{fault_if};
 ghost use Rattle.name_rules.specs.Names.{under};
-ghost use Rattle.prism_check.specs.TypeFaults.{is_unwanted, is_wanted, misfits, type_faults_of};
+ghost use Rattle.op_trees.specs.Wanted.{is_wanted, is_unwanted};
+ghost use Rattle.prism_check.specs.TypeFaults.{misfits, type_faults_of};
 ghost use Rattle.prism_check.specs.Typing.{declared_type, is_declared_variable, known_after, known_by, read_in, soonest_at, type_of, type_under, varies_in, varies_under, wrong};
 
-use crate::demands::Wanted;
 use crate::tables::Renaming;
 use crate::variables::Declared;
 use bridge_io::{Fault, Reason};
 use name_rules::{NameMap, sooner_if};
-use op_trees::{Expr, Operator, Ty};
-use prism_tree::{Pe, PrismFormula, PrismOp};
+use op_trees::{Expr, Operator, Ty, Wanted, is_wanted};
+use prism_tree::{PrismExpr, PrismFormula, PrismOp};
 use std::alloc::{AllocError, Global};
 
 /// What is known of a formula: its type, if it has one, and whether a variable occurs in it where formulas are written
@@ -119,7 +119,7 @@ impl<'a, 'b, 'c> Names<'a, 'b, 'c> {
 }
 
 /// Whether a variable occurs in an expression.
-pub(crate) fn varies(names: &Names, e: &Pe) -> bool
+pub(crate) fn varies(names: &Names, e: &PrismExpr) -> bool
     ensures { result ≡ some_name (varies_in names.now) (tree e.now) }
 {
     match e {
@@ -223,7 +223,7 @@ fn three(
 }
 
 // The type of an expression, and the least of a fault that was found before and those of its nodes.
-fn typed(names: &Names, place: Option<usize>, e: &Pe, best: Option<Fault>) -> Finding
+fn typed(names: &Names, place: Option<usize>, e: &PrismExpr, best: Option<Fault>) -> Finding
     ensures ty { result.ty ≡ type_in prism_meaning (type_of names.now) (tree e.now) }
     ensures best { result.best ≡ soonest_at place best (wrong (misfits (type_of names.now) (tree e.now))) }
 {
@@ -258,18 +258,6 @@ fn typed(names: &Names, place: Option<usize>, e: &Pe, best: Option<Fault>) -> Fi
     }
 }
 
-/// Whether this type may stand where that is wanted.
-pub fn is_wanted(wanted: Wanted, ty: Ty) -> bool
-    ensures { result ≡ is_wanted wanted ty }
-{
-    match wanted {
-        Wanted::Anything => true,
-        Wanted::Bool => matches!(ty, Ty::Bool),
-        Wanted::Int => matches!(ty, Ty::Int),
-        Wanted::Number => matches!(ty, Ty::Int | Ty::Real),
-    }
-}
-
 // An expression without a type has its fault at a node.
 fn is_unwanted(wanted: Wanted, ty: Option<Ty>) -> bool
     ensures { result ≡ is_unwanted wanted ty }
@@ -281,7 +269,7 @@ fn is_unwanted(wanted: Wanted, ty: Option<Ty>) -> bool
 }
 
 /// Where an expression begins.
-pub fn offset_of(e: &Pe) -> usize
+pub fn offset_of(e: &PrismExpr) -> usize
     ensures { result ≡ offset_of (tree e.now) }
 {
     match e {
@@ -300,7 +288,7 @@ pub(crate) fn judge_type(
     names: &Names,
     place: Option<usize>,
     wanted: Wanted,
-    e: &Pe,
+    e: &PrismExpr,
     best: Option<Fault>,
 ) -> Option<Fault>
     ensures { result ≡ soonest_at place best (type_faults_of (type_of names.now) wanted (tree e.now)) }
@@ -334,7 +322,11 @@ pub(crate) fn known_formulas<'b>(
 
 // What is known of an expression.
 #[tactic(auto, unfolding(crate::specs::Typing::type_under, crate::specs::Typing::varies_under))]
-fn learned<'a, 'b>(declared: &'a Declared<'b>, formulas: &'a NameMap<'b, Known>, e: &Pe) -> Known
+fn learned<'a, 'b>(
+    declared: &'a Declared<'b>,
+    formulas: &'a NameMap<'b, Known>,
+    e: &PrismExpr,
+) -> Known
     ensures { result ≡ known_by (declared_type declared.now) (is_declared_variable declared.now) (under formulas.now) (tree e.now) }
 {
     let names = Names {

@@ -4,7 +4,7 @@ ghost use Rattle.std.specs.Prelude.{◌≡◌, List, ℕ, map, IfOk, OnOk, unwra
 ghost use Rattle.std.specs.Option.{option_map};
 ghost use Rattle.std.specs.List.{find};
 ghost use Rattle.prism_tree.specs.Syntax.{file_of, module_of, var_of, const_of};
-ghost use Rattle.prism_names.specs.Names.{is_called};
+ghost use Rattle.op_trees.specs.Names.{is_called};
 ghost use Rattle.prism_check.specs.Demands.{var_type};
 ghost use Rattle.name_rules.specs.Names.{first_some, under};
 ghost use Rattle.prism_check.specs.Tables.{module_under, named_module, new_name};

@@ -8,12 +8,11 @@ ghost use Rattle.prism_check.specs.TypeFaults.{target_by, wanted_at, write_fault
 ghost use Rattle.prism_check.specs.Typing.{called_by, faults_in, moved_name, read_in, repeated_by, repeated_in, soonest_at, target_in, target_under, target_view};
 ghost use Rattle.name_rules.specs.Names.{named_by};
 
-use crate::demands::{Wanted, wanted_by};
 use crate::typing::{Names, Spot, judge_type, sooner_at};
 use crate::variables::Owned;
 use bridge_io::{Fault, Reason};
 use name_rules::{Entry, judge_doubled};
-use op_trees::Ty;
+use op_trees::{Ty, Wanted, wanted_by};
 use prism_tree::{PrismBranch, PrismCommand, PrismWrite};
 use std::alloc::{AllocError, Global};
 

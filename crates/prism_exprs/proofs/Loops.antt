@@ -7,11 +7,12 @@ use Rattle.prism_exprs.specs.Reading.{starts, is_kind, same_kind}
 use Rattle.std.proofs.lemmas.List.{length-append}
 use Rattle.prism_exprs.specs.declared.tokens.Tokens.{Tokens}
 use Rattle.std.specs.Prelude.{Result, Ok, Err}
-use Rattle.std.proofs.Common.{rules, arith, length, ◌<◌, append-nil, ◌≡◌, Bool, true, false, List, [], ◌∷◌, ◌++◌, refl, sym, ap, subst, ◌∙◌, append_assoc}
+use Rattle.std.proofs.Common.{rules, arith, length, ◌<◌, append-nil, ◌≡◌, Bool, true, false, List, [], ◌∷◌, ◌++◌, refl, sym, ap, subst, ◌∙◌}
 use Rattle.prism_lex.specs.declared.token.TokenKind.{TokenKind}
 use Rattle.prism_lex.specs.Tokens.{Lexeme}
 use Rattle.prism_exprs.specs.declared.tokens.Stop.{Stop}
-use Rattle.prism_tree.specs.Lang.{Lang, gives, folding, fold_left, with_last, front, ◌>>=◌, ◌or◌, many}
+use Rattle.prism_tree.specs.Lang.{Lang, gives, folding, with_last, front, ◌>>=◌, ◌or◌, many}
+use Rattle.prism_tree.specs.Laws.{fold_last}
 use Rattle.prism_exprs.specs.Reading.{Parses, Stops, Ends, none, Reads, Fails}
 use Rattle.prism_exprs.proofs.Laws.{none_follows, IsOne, HasWord, Follows, then_reads, then_fails_later, then_stops, then_stops_later}
 use Rattle.prism_exprs.proofs.Choice.{FirstIs, Same, same_reads, same_fails, same_stops, or_fails_right, Barred, or_reads_left, or_reads_right, or_stops_right, gives_barred, Opens, Repeats, folding-unfold, folding_word, folding_follows}
@@ -75,22 +76,15 @@ halt_at K M {m = m} {more = more} {us = us} l word fol e p = l.stops e (then_sto
 
 -- ---- lists
 
-fold-with_last : {A : Type 0} (xs ys : List A) → fold_left with_last xs ys ≡ xs ++ ys
-fold-with_last xs [] = sym append_nil_of
-  where
-    append_nil_of : xs ++ [] ≡ xs
-    append_nil_of = append-nil xs
-fold-with_last xs (y ∷ ys) = fold-with_last (xs ++ y ∷ []) ys ∙ append_assoc xs (y ∷ []) ys
-
 -- any number are those, taken up into a list
 pub many-folding : {A : Type 0} (L : Lang A) → Same (many L) (folding with_last L [])
 unfolding folding ◌>>=◌ gives
 many-folding {A} L = record {
-  to = λ w xs h. (xs, w, [], sym (append-nil w), h, (refl, sym (fold-with_last [] xs)));
+  to = λ w xs h. (xs, w, [], sym (append-nil w), h, (refl, sym (fold_last [] xs)));
   from = λ w xs h.
       let F : List Lexeme → Type 0 = λ u. many L u xs in
       let G : List A → Type 0 = λ ys. many L h.1 ys in
-      let ys_are : xs ≡ h.0 = h.5.1 ∙ fold-with_last [] h.0 in
+      let ys_are : xs ≡ h.0 = h.5.1 ∙ fold_last [] h.0 in
       subst F (sym (h.3 ∙ ap (λ (u : List Lexeme). h.1 ++ u) h.5.0 ∙ append-nil h.1)) (subst G (sym ys_are) h.4);
 }
 

@@ -57,7 +57,7 @@ symbol_reads bytes literals s x found xs r e y q =
 
 -- ---- behind an operand
 
-nothing_below : (p : Option (ℕ × PrismOp)) → binds_below 0 p ≡ false
+pub nothing_below : (p : Option (ℕ × PrismOp)) → binds_below 0 p ≡ false
 nothing_below None = refl
 nothing_below (Some p) = grind (arith, nat_tests)
 

@@ -16,7 +16,7 @@ use crate::tokens::{Cause, Kept, Stop, Tokens};
 use bridge_io::Text;
 use op_trees::Expr;
 use prism_lex::{Reserved, Symbol};
-use prism_tree::{Pe, PrismOp};
+use prism_tree::{PrismExpr, PrismOp};
 use std::alloc::Global;
 
 /// `E`. An operand alone is read at once.
@@ -24,7 +24,7 @@ use std::alloc::Global;
 pub(crate) fn parse_expr<'a>(
     alloc: Global,
     tokens: Tokens<'a>,
-) -> Result<(Pe, Tokens<'a>), Stop<'a>>
+) -> Result<(PrismExpr, Tokens<'a>), Stop<'a>>
     ensures { Parses tree expr goes_on (seen tokens.entry) result }
 {
     if leaf_next(tokens) {
@@ -35,7 +35,10 @@ pub(crate) fn parse_expr<'a>(
 
 /// `Or5 [ ? E : E ]`
 #[cycle(expressions)]
-fn parse_conditional<'a>(alloc: Global, tokens: Tokens<'a>) -> Result<(Pe, Tokens<'a>), Stop<'a>>
+fn parse_conditional<'a>(
+    alloc: Global,
+    tokens: Tokens<'a>,
+) -> Result<(PrismExpr, Tokens<'a>), Stop<'a>>
     ensures { Parses tree expr goes_on (seen tokens.entry) result }
 {
     let (test, rest) = parse_level(alloc, 10, tokens)?;
@@ -49,9 +52,9 @@ fn parse_conditional<'a>(alloc: Global, tokens: Tokens<'a>) -> Result<(Pe, Token
 #[cycle(expressions)]
 fn parse_choice<'a>(
     alloc: Global,
-    test: Pe,
+    test: PrismExpr,
     tokens: Tokens<'a>,
-) -> Result<(Pe, Tokens<'a>), Stop<'a>>
+) -> Result<(PrismExpr, Tokens<'a>), Stop<'a>>
     ensures { Parses tree (choice expr (tree test)) goes_on (seen tokens.entry) result }
 {
     let (first, rest) = parse_first(alloc, tokens)?;
@@ -62,7 +65,7 @@ fn parse_choice<'a>(
 
 /// `? E :`
 #[cycle(expressions)]
-fn parse_first<'a>(alloc: Global, tokens: Tokens<'a>) -> Result<(Pe, Tokens<'a>), Stop<'a>>
+fn parse_first<'a>(alloc: Global, tokens: Tokens<'a>) -> Result<(PrismExpr, Tokens<'a>), Stop<'a>>
     ensures { Parses tree first_choice none (seen tokens.entry) result }
 {
     let (_question, rest) = read_symbol(tokens, Symbol::Question)?;
@@ -77,7 +80,7 @@ fn parse_level<'a>(
     alloc: Global,
     height: u8,
     tokens: Tokens<'a>,
-) -> Result<(Pe, Tokens<'a>), Stop<'a>>
+) -> Result<(PrismExpr, Tokens<'a>), Stop<'a>>
     requires { height ≤ 10 }
     ensures { Parses tree (level expr height) (more height) (seen tokens.entry) result }
 {
@@ -101,7 +104,7 @@ fn parse_climb<'a>(
     alloc: Global,
     height: u8,
     tokens: Tokens<'a>,
-) -> Result<(Pe, Tokens<'a>), Stop<'a>>
+) -> Result<(PrismExpr, Tokens<'a>), Stop<'a>>
     requires { height ≤ 10 }
     ensures { Parses tree (level expr height) (more height) (seen tokens.entry) result }
 {
@@ -128,7 +131,7 @@ fn parse_low<'a>(
     alloc: Global,
     height: u8,
     tokens: Tokens<'a>,
-) -> Result<(Pe, Tokens<'a>), Stop<'a>>
+) -> Result<(PrismExpr, Tokens<'a>), Stop<'a>>
     requires { height ≤ 5 }
     ensures { Parses tree (level expr height) (more height) (seen tokens.entry) result }
 {
@@ -154,9 +157,9 @@ fn parse_low<'a>(
 fn parse_chain<'a>(
     alloc: Global,
     level: u8,
-    first: Pe,
+    first: PrismExpr,
     tokens: Tokens<'a>,
-) -> Result<(Pe, Tokens<'a>), Stop<'a>>
+) -> Result<(PrismExpr, Tokens<'a>), Stop<'a>>
     requires low { level ≤ 9 }
     requires ends { Ends (more level) (seen tokens) }
     ensures { Parses tree (others level (tree first)) (more (suc level)) (seen tokens.entry) result }
@@ -180,7 +183,7 @@ fn parse_chain<'a>(
 pub(crate) fn parse_prim<'a>(
     alloc: Global,
     tokens: Tokens<'a>,
-) -> Result<(Pe, Tokens<'a>), Stop<'a>>
+) -> Result<(PrismExpr, Tokens<'a>), Stop<'a>>
     ensures { Parses tree (prim expr) (more 0) (seen tokens.entry) result }
 {
     let Some((first, behind)) = tokens.found.split_first() else {
@@ -223,7 +226,7 @@ fn parse_name<'a>(
     name: &str,
     at: usize,
     tokens: Tokens<'a>,
-) -> Result<(Pe, Tokens<'a>), Stop<'a>>
+) -> Result<(PrismExpr, Tokens<'a>), Stop<'a>>
     ensures { Parses tree (gives (Name at name.now) or arguments expr (function_of name.now) at) (more 0) (seen tokens.entry) result }
 {
     if !next_is(tokens, Symbol::LeftParenthesis) {
@@ -246,7 +249,7 @@ fn parse_one_argument<'a>(
     op: PrismOp,
     at: usize,
     tokens: Tokens<'a>,
-) -> Result<(Pe, Tokens<'a>), Stop<'a>>
+) -> Result<(PrismExpr, Tokens<'a>), Stop<'a>>
     ensures { Parses tree (one_argument expr op at) (more 0) (seen tokens.entry) result }
 {
     let (_open, rest) = read_symbol(tokens, Symbol::LeftParenthesis)?;
@@ -263,7 +266,7 @@ fn parse_both<'a>(
     op: PrismOp,
     at: usize,
     tokens: Tokens<'a>,
-) -> Result<(Pe, Tokens<'a>), Stop<'a>>
+) -> Result<(PrismExpr, Tokens<'a>), Stop<'a>>
     ensures { Parses tree (both op at) goes_on (seen tokens.entry) result }
 {
     let (_open, rest) = read_symbol(tokens, Symbol::LeftParenthesis)?;
@@ -280,7 +283,7 @@ fn parse_two_arguments<'a>(
     op: PrismOp,
     at: usize,
     tokens: Tokens<'a>,
-) -> Result<(Pe, Tokens<'a>), Stop<'a>>
+) -> Result<(PrismExpr, Tokens<'a>), Stop<'a>>
     ensures { Parses tree (two_arguments expr op at) (more 0) (seen tokens.entry) result }
 {
     let (whole, rest) = parse_both(alloc, op, at, tokens)?;
@@ -295,7 +298,7 @@ fn parse_listed<'a>(
     op: PrismOp,
     at: usize,
     tokens: Tokens<'a>,
-) -> Result<(Pe, Tokens<'a>), Stop<'a>>
+) -> Result<(PrismExpr, Tokens<'a>), Stop<'a>>
     ensures { Parses tree (listed op at) (more 0) (seen tokens.entry) result }
 {
     let (both, rest) = parse_both(alloc, op, at, tokens)?;
@@ -310,9 +313,9 @@ fn parse_others<'a>(
     alloc: Global,
     op: PrismOp,
     at: usize,
-    first: Pe,
+    first: PrismExpr,
     tokens: Tokens<'a>,
-) -> Result<(Pe, Tokens<'a>), Stop<'a>>
+) -> Result<(PrismExpr, Tokens<'a>), Stop<'a>>
     requires { Ends goes_on (seen tokens) }
     ensures { Parses tree (more_arguments op at (tree first)) lists_on (seen tokens.entry) result }
 {
@@ -328,7 +331,10 @@ fn parse_others<'a>(
 
 /// `, E`
 #[cycle(expressions)]
-fn parse_argument<'a>(alloc: Global, tokens: Tokens<'a>) -> Result<(Pe, Tokens<'a>), Stop<'a>>
+fn parse_argument<'a>(
+    alloc: Global,
+    tokens: Tokens<'a>,
+) -> Result<(PrismExpr, Tokens<'a>), Stop<'a>>
     ensures { Parses tree (argument expr) goes_on (seen tokens.entry) result }
 {
     let (_comma, rest) = read_symbol(tokens, Symbol::Comma)?;

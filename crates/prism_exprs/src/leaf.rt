@@ -11,7 +11,7 @@ use crate::tokens::{Cause, Kept, Stop, Tokens};
 use bridge_io::Text;
 use op_trees::Expr;
 use prism_lex::Symbol;
-use prism_tree::Pe;
+use prism_tree::PrismExpr;
 use std::alloc::Global;
 
 impl Kept {
@@ -68,7 +68,7 @@ pub(crate) fn leaf_next(tokens: Tokens) -> bool
 pub(crate) fn parse_leaf<'a>(
     alloc: Global,
     tokens: Tokens<'a>,
-) -> Result<(Pe, Tokens<'a>), Stop<'a>>
+) -> Result<(PrismExpr, Tokens<'a>), Stop<'a>>
     requires { IsLeaf tokens }
     ensures read { Parses tree (prim expr) (more 0) (seen tokens.entry) result }
     ensures ends { IfOk result (λ r. Ends goes_on (seen r.1)) }

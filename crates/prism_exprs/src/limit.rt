@@ -7,7 +7,7 @@ ghost use Rattle.prism_exprs.specs.Scope.{ParsesIn, expressions, prims, IsWithin
 
 use crate::expressions::{parse_expr, parse_prim};
 use crate::tokens::{Cause, Stop, Tokens};
-use prism_tree::Pe;
+use prism_tree::PrismExpr;
 use std::alloc::Global;
 
 /// The most tokens that an expression may have.
@@ -16,7 +16,10 @@ const MOST: usize = 1024;
 /// An expression that stands inside no other, of at most 1,024 tokens. Where the first 1,025 tokens begin an expression or
 /// are one, reading stops at the last of them, because of `Cause::Deep`; any other stop is because of `Cause::Form`.
 /// No token behind those is looked at.
-pub fn parse_outer<'a>(alloc: Global, tokens: Tokens<'a>) -> Result<(Pe, Tokens<'a>), Stop<'a>>
+pub fn parse_outer<'a>(
+    alloc: Global,
+    tokens: Tokens<'a>,
+) -> Result<(PrismExpr, Tokens<'a>), Stop<'a>>
     ensures { ParsesIn tree expressions goes_on (seen tokens.entry) result }
 {
     let ahead = tokens.found.len().min(MOST + 1);
@@ -36,7 +39,10 @@ pub fn parse_outer<'a>(alloc: Global, tokens: Tokens<'a>) -> Result<(Pe, Tokens<
 
 /// An operand that stands inside no other expression, of at most 1,024 tokens, as `parse_outer` reads an expression. Behind it no
 /// `(` stands.
-pub fn parse_outer_prim<'a>(alloc: Global, tokens: Tokens<'a>) -> Result<(Pe, Tokens<'a>), Stop<'a>>
+pub fn parse_outer_prim<'a>(
+    alloc: Global,
+    tokens: Tokens<'a>,
+) -> Result<(PrismExpr, Tokens<'a>), Stop<'a>>
     ensures { ParsesIn tree prims (more 0) (seen tokens.entry) result }
 {
     let ahead = tokens.found.len().min(MOST + 1);

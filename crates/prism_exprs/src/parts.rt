@@ -14,7 +14,7 @@ ghost use Rattle.prism_tree.specs.declared.operator.PrismOp.TheVariants as O;
 use crate::tokens::{Cause, Found, Kept, Stop, Tokens};
 use op_trees::Expr;
 use prism_lex::{Reserved, Symbol};
-use prism_tree::{Pe, PrismOp};
+use prism_tree::{PrismExpr, PrismOp};
 use std::alloc::{AllocError, Global};
 
 impl Kept {
@@ -133,7 +133,10 @@ pub fn read_symbol<'a>(tokens: Tokens<'a>, wanted: Symbol) -> Result<(Found, Tok
 
 /// An operand behind which no `(` stands.
 #[inline(always)]
-pub(crate) fn closed<'a>(e: Pe, tokens: Tokens<'a>) -> Result<(Pe, Tokens<'a>), Stop<'a>>
+pub(crate) fn closed<'a>(
+    e: PrismExpr,
+    tokens: Tokens<'a>,
+) -> Result<(PrismExpr, Tokens<'a>), Stop<'a>>
     ensures { Parses tree (gives (tree e)) (more 0) (seen tokens.entry) result }
 {
     if next_is(tokens, Symbol::LeftParenthesis) {
@@ -155,7 +158,7 @@ pub fn function_of(name: &str) -> Option<PrismOp>
 }
 
 /// Where an expression begins.
-pub(crate) fn offset_of(e: &Pe) -> usize
+pub(crate) fn offset_of(e: &PrismExpr) -> usize
     ensures { result ≡ offset_of (tree e.now) }
 {
     match e {
@@ -170,7 +173,7 @@ pub(crate) fn offset_of(e: &Pe) -> usize
 
 /// The same expression, with its node at another offset.
 #[inline(always)]
-pub(crate) fn moved(e: Pe, at: usize) -> Pe
+pub(crate) fn moved(e: PrismExpr, at: usize) -> PrismExpr
     ensures { tree result ≡ moved at (tree e) }
 {
     match e {
@@ -184,21 +187,37 @@ pub(crate) fn moved(e: Pe, at: usize) -> Pe
 }
 
 /// A node over one operand.
-pub(crate) fn one(alloc: Global, at: usize, op: PrismOp, a: Pe) -> Result<Pe, AllocError>
+pub(crate) fn one(
+    alloc: Global,
+    at: usize,
+    op: PrismOp,
+    a: PrismExpr,
+) -> Result<PrismExpr, AllocError>
     ensures { IfOk result (λ e. tree e ≡ One at op (tree a)) }
 {
     Ok(Expr::One(at, op, Box::new(alloc, a)?))
 }
 
 /// A node over two operands.
-pub(crate) fn two(alloc: Global, at: usize, op: PrismOp, a: Pe, b: Pe) -> Result<Pe, AllocError>
+pub(crate) fn two(
+    alloc: Global,
+    at: usize,
+    op: PrismOp,
+    a: PrismExpr,
+    b: PrismExpr,
+) -> Result<PrismExpr, AllocError>
     ensures { IfOk result (λ e. tree e ≡ Two at op (tree a) (tree b)) }
 {
     Ok(Expr::Two(at, op, Box::new(alloc, a)?, Box::new(alloc, b)?))
 }
 
 /// The choice between two expressions, which begins where its condition begins.
-pub(crate) fn choice(alloc: Global, test: Pe, a: Pe, b: Pe) -> Result<Pe, AllocError>
+pub(crate) fn choice(
+    alloc: Global,
+    test: PrismExpr,
+    a: PrismExpr,
+    b: PrismExpr,
+) -> Result<PrismExpr, AllocError>
     ensures { IfOk result (λ e. tree e ≡ Three (offset_of (tree test)) O.Ite (tree test) (tree a) (tree b)) }
 {
     let at = offset_of(&test);
@@ -214,8 +233,8 @@ pub(crate) fn with_signs(
     alloc: Global,
     op: PrismOp,
     tokens: Tokens,
-    e: Pe,
-) -> Result<Pe, AllocError>
+    e: PrismExpr,
+) -> Result<PrismExpr, AllocError>
     ensures { IfOk result (λ r. tree r ≡ applied op (seen tokens.entry) (tree e)) }
 {
     let mut whole = e;

@@ -12,16 +12,16 @@ use Rattle.std.proofs.lemmas.List.Folds.{find-append}
 use Rattle.std.proofs.lemmas.List.Sums.{fold-append}
 use Rattle.std.proofs.lemmas.Option.{slice_get-get_or}
 use Rattle.std.proofs.lemmas.Slice.Eq.{bytes_eq-Decides}
-use Rattle.basics.specs.Options.{none_is}
+use Rattle.basics.specs.Options.{none_is, if_some}
 use Rattle.op_trees.specs.Tree.{tree, substituted}
-use Rattle.process_core.specs.Ready.{Name, if_some}
+use Rattle.process_core.specs.Ready.{Name}
 use Rattle.process_core.specs.Product.{map-map}
 use Rattle.process_core.specs.Zip.{AllZip-append, map_alike}
 use Rattle.prism_tree.specs.declared.syntax.NamePair.{NamePair}
 use Rattle.prism_tree.specs.declared.syntax.PrismFormula.{PrismFormula}
 use Rattle.prism_tree.specs.Syntax.{Expression, Branch, Command, formula_of}
 use Rattle.bridge_io.specs.declared.reason.Named.{Named}
-use Rattle.prism_names.specs.Names.{is_called}
+use Rattle.op_trees.specs.Names.{is_called}
 use Rattle.prism_names.specs.Places.{at_places}
 use Rattle.prism_flat.specs.Filling.{with_formula, no_bodies, bodies_after}
 use Rattle.prism_flat.specs.Renamings.{first_new}

@@ -15,7 +15,8 @@ use Rattle.process_core.specs.Product.{map-map, flat_map_agree}
 use Rattle.process_core.specs.Ready.{Values, Name, Ready}
 use Rattle.prism_tree.specs.Syntax.{Expression, Const, Range, Var, Branch, Command, Module, plain, copied, File}
 use Rattle.prism_tree.specs.Syntax as syntax
-use Rattle.prism_names.specs.Names.{is_called, unchanged, parts, module_name, written_name, see, reading, reading_in}
+use Rattle.op_trees.specs.Names.{is_called}
+use Rattle.prism_names.specs.Names.{unchanged, parts, module_name, written_name, see, reading, reading_in}
 use Rattle.prism_names.specs.Flat.{flat_expression, flat_name, flat_range, flat_var, flat_write, flat_branch, flat_command, flat_module, flat_constant, flat_label, flat_item, flat_rewards, flat}
 use Rattle.prism_names.specs.Laws.{seen_written_out, flat_part, parts-flat}
 use Rattle.process_core.specs.Instance.{Valuation, Between, Column, instance_faults, is_wide_instance, is_state, is_initial, write_to, models_alike}

@@ -7,7 +7,8 @@ use Rattle.op_trees.specs.declared.tree.Value.{Value}
 use Rattle.op_trees.specs.declared.tree.Value.TheVariants as V
 use Rattle.process_core.specs.Ready.{Name}
 use Rattle.prism_tree.specs.Syntax.{Expression, Const, Range, Var, File}
-use Rattle.prism_names.specs.Names.{is_called, unchanged, Part, parts, see, reading, reading_in}
+use Rattle.op_trees.specs.Names.{is_called}
+use Rattle.prism_names.specs.Names.{unchanged, Part, parts, see, reading, reading_in}
 use Rattle.process_core.specs.Instance.{Valuation, Domain, Truths, Between, Column, Scene}
 
 -- ---- constants

@@ -9,13 +9,13 @@ ghost use Rattle.prism_flat.specs.Tables.{body_in};
 
 use indexmap::IndexMap;
 use op_trees::{Bodies, substitute};
-use prism_tree::{Pe, PrismFormula, PrismOp};
+use prism_tree::{PrismExpr, PrismFormula, PrismOp};
 use std::alloc::{AllocError, Global};
 
 /// Bodies of names.
 #[derive(Drop)]
 pub(crate) struct Table<'a> {
-    bodies: IndexMap<&'a str, Pe>,
+    bodies: IndexMap<&'a str, PrismExpr>,
 }
 
 impl<'a> Bodies<PrismOp> for Table<'a> {
@@ -23,7 +23,7 @@ impl<'a> Bodies<PrismOp> for Table<'a> {
 
     ghost bodies = { body_in };
 
-    fn body(&self, name: &str) -> Option<&Pe> {
+    fn body(&self, name: &str) -> Option<&PrismExpr> {
         self.bodies.get(name)
     }
 }
@@ -37,7 +37,7 @@ impl<'a> Table<'a> {
         }
     }
 
-    fn insert(&mut self, name: &'a str, body: Pe) -> Result<(), AllocError>
+    fn insert(&mut self, name: &'a str, body: PrismExpr) -> Result<(), AllocError>
         ensures { OnOk result
             ((x : List ℕ) → body_in self.new x ≡ (if bytes_eq name.now x then Some (tree body) else body_in self.old x)) }
     {

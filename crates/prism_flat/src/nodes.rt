@@ -4,7 +4,7 @@ ghost use Rattle.std.specs.Prelude.{◌≡◌, IfOk, IsOkAnd, Ok};
 ghost use Rattle.op_trees.specs.Tree.{One, Two, Three, tree};
 
 use op_trees::Expr;
-use prism_tree::{Pe, PrismOp};
+use prism_tree::{PrismExpr, PrismOp};
 use std::alloc::{AllocError, Global};
 
 /// A node over one operand.
@@ -12,8 +12,8 @@ pub(crate) fn one(
     alloc: Global,
     at: usize,
     o: PrismOp,
-    a: Result<Pe, AllocError>,
-) -> Result<Pe, AllocError>
+    a: Result<PrismExpr, AllocError>,
+) -> Result<PrismExpr, AllocError>
     ensures { IfOk result (λ r. IsOkAnd a (λ x. tree r ≡ One at o (tree x))) }
 {
     Ok(Expr::One(at, o, boxed(alloc, a)?))
@@ -24,9 +24,9 @@ pub(crate) fn two(
     alloc: Global,
     at: usize,
     o: PrismOp,
-    a: Result<Pe, AllocError>,
-    b: Result<Pe, AllocError>,
-) -> Result<Pe, AllocError>
+    a: Result<PrismExpr, AllocError>,
+    b: Result<PrismExpr, AllocError>,
+) -> Result<PrismExpr, AllocError>
     ensures { IfOk result
         (λ r. IsOkAnd a (λ x. IsOkAnd b (λ y. tree r ≡ Two at o (tree x) (tree y)))) }
 {
@@ -40,10 +40,10 @@ pub(crate) fn three(
     alloc: Global,
     at: usize,
     o: PrismOp,
-    a: Result<Pe, AllocError>,
-    b: Result<Pe, AllocError>,
-    c: Result<Pe, AllocError>,
-) -> Result<Pe, AllocError>
+    a: Result<PrismExpr, AllocError>,
+    b: Result<PrismExpr, AllocError>,
+    c: Result<PrismExpr, AllocError>,
+) -> Result<PrismExpr, AllocError>
     ensures { IfOk result (λ r. IsOkAnd a (λ x. IsOkAnd b
         (λ y. IsOkAnd c (λ z. tree r ≡ Three at o (tree x) (tree y) (tree z))))) }
 {
@@ -54,7 +54,7 @@ pub(crate) fn three(
 }
 
 /// An expression in a place of its own.
-fn boxed(alloc: Global, made: Result<Pe, AllocError>) -> Result<Box<Pe>, AllocError>
+fn boxed(alloc: Global, made: Result<PrismExpr, AllocError>) -> Result<Box<PrismExpr>, AllocError>
     ensures { IfOk result (λ place. made ≡ Ok place.value) }
 {
     Ok(Box::new(alloc, made?)?)

@@ -12,7 +12,7 @@ use crate::nodes::{one, three, two};
 use crate::renaming::Renaming;
 use bridge_io::{Named, Text};
 use op_trees::{Bodies, Expr};
-use prism_tree::{Pe, PrismRange};
+use prism_tree::{PrismExpr, PrismRange};
 use std::alloc::{AllocError, Global};
 
 /// Bodies that names are replaced by, and new names for what is left.
@@ -24,14 +24,18 @@ pub(crate) struct Rewriter<'a, 't> {
 
 impl<'a, 't> Rewriter<'a, 't> {
     /// An expression rewritten.
-    pub(crate) fn expression(&self, alloc: Global, e: &Pe) -> Result<Pe, AllocError>
+    pub(crate) fn expression(&self, alloc: Global, e: &PrismExpr) -> Result<PrismExpr, AllocError>
         ensures { IfOk result (λ r. tree r ≡ (rewriting self.now).expression (tree e.now)) }
     {
         written(alloc, e, self.bodies, self.renaming)
     }
 
     /// An expression rewritten, where there is one.
-    pub(crate) fn optional(&self, alloc: Global, e: &Option<Pe>) -> Result<Option<Pe>, AllocError>
+    pub(crate) fn optional(
+        &self,
+        alloc: Global,
+        e: &Option<PrismExpr>,
+    ) -> Result<Option<PrismExpr>, AllocError>
         ensures { IfOk result (λ r. option_map tree r ≡ option_map (rewriting self.now).expression (option_map tree e.now)) }
     {
         match e {
@@ -103,7 +107,7 @@ pub(crate) fn named(alloc: Global, name: &str, at: usize) -> Result<Named, Alloc
 }
 
 /// An expression in which names are replaced.
-fn renamed(alloc: Global, e: &Pe, renaming: &Renaming) -> Result<Pe, AllocError>
+fn renamed(alloc: Global, e: &PrismExpr, renaming: &Renaming) -> Result<PrismExpr, AllocError>
     ensures { IfOk result (λ r. tree r ≡ renamed (name_in renaming.now) (tree e.now)) }
 {
     match e {
@@ -130,7 +134,12 @@ fn renamed(alloc: Global, e: &Pe, renaming: &Renaming) -> Result<Pe, AllocError>
 }
 
 /// A name replaced.
-fn renamed_name(alloc: Global, at: usize, x: &str, renaming: &Renaming) -> Result<Pe, AllocError>
+fn renamed_name(
+    alloc: Global,
+    at: usize,
+    x: &str,
+    renaming: &Renaming,
+) -> Result<PrismExpr, AllocError>
     ensures { IfOk result (λ r. tree r ≡ Name at (name_in renaming.now x.now)) }
 {
     let name = renaming.new_name(x);
@@ -138,7 +147,12 @@ fn renamed_name(alloc: Global, at: usize, x: &str, renaming: &Renaming) -> Resul
 }
 
 /// An expression in which names that have bodies are replaced by them, and then all names are replaced.
-fn written(alloc: Global, e: &Pe, bodies: &Table, renaming: &Renaming) -> Result<Pe, AllocError>
+fn written(
+    alloc: Global,
+    e: &PrismExpr,
+    bodies: &Table,
+    renaming: &Renaming,
+) -> Result<PrismExpr, AllocError>
     ensures { IfOk result (λ r. tree r ≡ renamed (name_in renaming.now) (substituted (body_in bodies.now) (tree e.now))) }
 {
     match e {
@@ -171,7 +185,7 @@ fn written_name(
     x: &str,
     bodies: &Table,
     renaming: &Renaming,
-) -> Result<Pe, AllocError>
+) -> Result<PrismExpr, AllocError>
     ensures { IfOk result
         (λ r. tree r ≡ renamed (name_in renaming.now) (replaced (Name at x.now) (body_in bodies.now x.now))) }
 {

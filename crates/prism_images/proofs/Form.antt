@@ -13,9 +13,11 @@ use Rattle.prism_tree.specs.Syntax.{Expression}
 use Rattle.jani_table.specs.declared.operator.JaniOp.{JaniOp}
 use Rattle.jani_table.specs.Operators as JaniTable
 use Rattle.jani_tree.specs.Canonical.{HasOperands}
-use Rattle.jani_tree.specs.Form.{ExprForm, HasItems, IsNormal}
+use Rattle.basics.specs.Lists.{IsNotEmpty as HasItems}
+use Rattle.jani_tree.specs.Form.{ExprForm, IsNormal}
 use Rattle.prism_images.specs.Image.{image, image_one, jani_op}
-use Rattle.prism_images.specs.Laws.{HasItsOperands, IsLiteral, names_in}
+use Rattle.frac_core.specs.Decimal.{IsLiteral}
+use Rattle.prism_images.specs.Laws.{HasItsOperands, names_in}
 use Rattle.prism_images.proofs.Values.{IsPlain, same_op}
 
 arity_alike : (o : PrismOp) → IsPlain o → JaniTable.arity (jani_op o) ≡ PrismTable.arity o

@@ -1,7 +1,6 @@
 -- The laws of images, each as one statement.
-use Rattle.std.specs.Prelude.{◌≡◌, List, [], ◌∷◌, ◌++◌, ℕ, map, true, false, Option, Some, None, IsTrue, is_some}
-use Rattle.frac_core.specs.declared.decimal.Decimal.{Decimal}
-use Rattle.frac_core.specs.Decimal.{is_normal}
+use Rattle.std.specs.Prelude.{◌≡◌, List, [], ◌∷◌, ◌++◌, ℕ, map, Option, Some, None, IsTrue, is_some}
+use Rattle.frac_core.specs.Decimal.{IsLiteral}
 use Rattle.op_trees.specs.declared.tree.Ty.{Ty}
 use Rattle.op_trees.specs.declared.tree.Ty.TheVariants as T
 use Rattle.op_trees.specs.declared.tree.Value.{Value}
@@ -17,7 +16,8 @@ use Rattle.prism_tree.specs.Operators.{prism_meaning, arity}
 use Rattle.prism_tree.specs.Syntax.{Expression}
 use Rattle.jani_table.specs.Operators.{jani_meaning}
 use Rattle.jani_tree.specs.Canonical.{HasOperands}
-use Rattle.jani_tree.specs.Form.{ExprForm, HasItems, IsNormal}
+use Rattle.basics.specs.Lists.{IsNotEmpty as HasItems}
+use Rattle.jani_tree.specs.Form.{ExprForm, IsNormal}
 use Rattle.prism_images.specs.Image.{image}
 
 -- ---- what is asked of an expression
@@ -57,10 +57,6 @@ ComparesTruths old (Three at o a b c) = ComparesTruths old a × ComparesTruths o
 abbrev pub IsNoNumberOf : Option Ty → Option Value → Type 0
 IsNoNumberOf (Some T.Bool) v = IsNoNumber v
 IsNoNumberOf t v = Unit {0}
-
--- in normal form and not negative
-abbrev pub IsLiteral : Decimal → Type 0
-IsLiteral d = (is_normal d ≡ true) × (d.negative ≡ false)
 
 -- ---- values
 

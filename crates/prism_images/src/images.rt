@@ -8,9 +8,9 @@ ghost use Rattle.prism_images.specs.Image.{image, image_one, jani_op, nought_lit
 use bridge_io::Text;
 use frac_core::Decimal;
 use jani_table::JaniOp;
-use jani_tree::Je;
+use jani_tree::JaniExpr;
 use op_trees::{Expr, OpMap, Shape, map_ops};
-use prism_tree::{Pe, PrismOp};
+use prism_tree::{PrismExpr, PrismOp};
 use std::alloc::{AllocError, Global};
 
 /// New names for old ones.
@@ -25,7 +25,7 @@ pub trait NewNames {
 
 /// The image of an expression under new names: minus with one operand takes it from 0, `<=>` is `=`, every other operator
 /// is JANI's of the same meaning, and names become their new names. `Err` is want of memory.
-pub fn image<N: NewNames>(alloc: Global, e: &Pe, names: &N) -> Result<Je, AllocError>
+pub fn image<N: NewNames>(alloc: Global, e: &PrismExpr, names: &N) -> Result<JaniExpr, AllocError>
     ensures { IfOk result (λ r. tree r ≡ image (N.new names.now) (tree e.now)) }
 {
     map_ops(alloc, e, &Images { names })
@@ -45,7 +45,7 @@ impl<'a, N: NewNames> OpMap<PrismOp, JaniOp> for Images<'a, N> {
 
     ghost rebuilt = { λ m. image_node (N.new m.names.now) };
 
-    fn rebuild(&self, alloc: Global, node: Shape<PrismOp, JaniOp>) -> Result<Je, AllocError>
+    fn rebuild(&self, alloc: Global, node: Shape<PrismOp, JaniOp>) -> Result<JaniExpr, AllocError>
         ensures { IfOk result (λ r. tree r ≡ image_node (N.new self.now.names.now) (shape node)) }
     {
         match node {
@@ -63,7 +63,7 @@ impl<'a, N: NewNames> OpMap<PrismOp, JaniOp> for Images<'a, N> {
 }
 
 /// A node with one operand: minus takes it from 0.
-fn one(alloc: Global, at: usize, o: PrismOp, a: Box<Je>) -> Result<Je, AllocError>
+fn one(alloc: Global, at: usize, o: PrismOp, a: Box<JaniExpr>) -> Result<JaniExpr, AllocError>
     ensures { IfOk result (λ r. tree r ≡ image_one at o (tree a.value)) }
 {
     match o {

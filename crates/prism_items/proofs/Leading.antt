@@ -1,8 +1,7 @@
 -- How far reading has come: what is left to be read, and from where, so that what this gives the whole gives too.
 use Rattle.std.proofs.Common.{map, ◌≡◌, Bool, true, false, List, [], ◌∷◌, ◌++◌, Some, refl, sym, ap, subst, ◌∙◌, append_assoc, inl, inr}
-use Rattle.std.specs.Prelude.{Result, Ok, Err, IsErr, IsErrAnd}
+use Rattle.std.specs.Prelude.{Result, Ok, Err}
 use Rattle.std.proofs.lemmas.List.{map_push, append_cancel_left}
-use Rattle.std.proofs.lemmas.Result.{err_from_is_err_and}
 use Rattle.prism_lex.specs.declared.token.TokenKind.{TokenKind}
 use Rattle.prism_lex.specs.Tokens.{Lexeme}
 use Rattle.prism_tree.specs.Lang.{Lang, gives, folding, front, with_last, ◌>>=◌, ◌or◌, many, Begins}
@@ -150,12 +149,6 @@ halt K M {more = more} s l word e p = stops_by s e l (then_stops K M _ s e word 
 
 pub halt_at : {A B : Type 0} {L : Lang B} (K : Lang A) (M : A → Lang B) {m more : TokenKind → Bool} {ts us : List Lexeme} (s : Scope) → Leads more L ts (K >>= M) us → ((x : A) → HasWord (M x)) → Follows m M more → (e : Stop) → StopsIn s K m us e → StopsIn s L more ts e
 halt_at K M s l word fol e p = stops_by s e l (then_stops K M _ s e word fol p)
-
--- What a function returned at a `?` is where it met an end.
-pub leaves : {X A : Type 0} (view : X → A) (L : Scope → Lang A) (more : TokenKind → Bool) (ts : List Lexeme) (r : Result (X × Tokens) Stop) (e : Stop) → IsErr r × IsErrAnd r (λ x. x ≡ e) → ((s : Scope) → StopsIn s (L s) more ts e) → ParsesIn view L more ts r
-leaves view L more ts r e h p =
-    let q = err_from_is_err_and r h.1 in
-    rw (q.1, q.2) p
 
 pub parses_by : {X A : Type 0} (view : X → A) (L M : Scope → Lang A) (more : TokenKind → Bool) (ts us : List Lexeme) (r : Result (X × Tokens) Stop) → ((s : Scope) → Leads more (L s) ts (M s) us) → ParsesIn view M more us r → ParsesIn view L more ts r
 parses_by view L M more ts us (Ok y) l p = λ s. (l s).reads _ _ (p s)

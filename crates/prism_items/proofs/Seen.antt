@@ -1,5 +1,5 @@
 -- One token of those that are kept, as the grammar sees it.
-use Rattle.std.proofs.Common.{◌≡◌, ℕ, Bool, true, false, List, [], ◌∷◌, ◌++◌, Some, None, refl, sym, ap, subst, ◌∙◌, map, length, if◌then◌else◌}
+use Rattle.std.proofs.Common.{◌≡◌, ℕ, Bool, true, false, List, [], ◌∷◌, Some, None, refl, sym, ap, subst, ◌∙◌, map, length, if◌then◌else◌}
 use denote.Enum.Bare.{true_same}
 use Rattle.bridge_io.specs.declared.reason.Named.{Named}
 use Rattle.prism_lex.specs.contracts.words.Reserved.{the_type as words}
@@ -8,7 +8,7 @@ use Rattle.prism_lex.specs.declared.token.TokenKind.TheVariants as K
 use Rattle.prism_lex.specs.declared.words.Reserved.{Reserved}
 use Rattle.prism_lex.specs.Tokens.{Lexeme}
 use Rattle.prism_tree.specs.Lang.{token, gives, ◌>>=◌}
-use Rattle.prism_tree.specs.Grammar.{named, but_last, unquoted}
+use Rattle.prism_tree.specs.Grammar.{named}
 use Rattle.prism_exprs.specs.declared.tokens.Cause.TheVariants as C
 use Rattle.prism_exprs.specs.declared.tokens.Found.{Found}
 use Rattle.prism_exprs.specs.declared.tokens.Literal.{Literal}
@@ -113,11 +113,3 @@ type_none f [] e = refl
 type_none f (x ∷ xs) e = absurd (omega (arith, e))
 
 -- ---- quotes
-
-but_last_of : (w : List ℕ) (b : ℕ) → but_last (w ++ b ∷ []) ≡ w
-but_last_of [] b = refl
-but_last_of (a ∷ []) b = refl
-but_last_of (a ∷ c ∷ w) b = ap (λ (u : List ℕ). a ∷ u) (but_last_of (c ∷ w) b)
-
-pub unquoted_is : (w v x : List ℕ) (a b : ℕ) → w ≡ a ∷ v → v ≡ x ++ b ∷ [] → unquoted w ≡ x
-unquoted_is w v x a b e f = ap (λ (u : List ℕ). unquoted u) e ∙ ap (λ (u : List ℕ). but_last u) f ∙ but_last_of x b

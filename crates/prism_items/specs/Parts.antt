@@ -183,16 +183,6 @@ branches_on k = is_kind (K.Symbol S.Plus) k || writes_on k
 abbrev pub vars_on : TokenKind → Bool
 vars_on k = all_but (K.Symbol S.LeftBracket) k && all_but (K.Word W.Endmodule) k
 
--- the words that begin an item
-abbrev pub begins_item : TokenKind → Bool
-begins_item (K.Word W.Const) = true
-begins_item (K.Word W.Global) = true
-begins_item (K.Word W.Formula) = true
-begins_item (K.Word W.Module) = true
-begins_item (K.Word W.Label) = true
-begins_item (K.Word W.Rewards) = true
-begins_item k = false
-
 -- An update without a probability stands here: `true ;` or `( Ident '`.
 abbrev pub plain_front : List Lexeme → Bool
 plain_front (t ∷ s ∷ ts) =

@@ -11,7 +11,7 @@ ghost use Rattle.prism_items.specs.Parts.{in_scope, closed_expression, definitio
 use crate::readers::read_symbol;
 use prism_exprs::{Stop, Tokens, parse_outer};
 use prism_lex::Symbol;
-use prism_tree::Pe;
+use prism_tree::PrismExpr;
 use std::alloc::Global;
 
 /// `E`, and the symbol that closes it.
@@ -19,7 +19,7 @@ pub(crate) fn parse_closed<'a>(
     alloc: Global,
     tokens: Tokens<'a>,
     closing: Symbol,
-) -> Result<(Pe, Tokens<'a>), Stop<'a>>
+) -> Result<(PrismExpr, Tokens<'a>), Stop<'a>>
     requires { goes_on (K.Symbol closing) ≡ false }
     ensures { ParsesIn tree (in_scope (closed_expression closing)) none (seen tokens.entry) result }
 {
@@ -32,7 +32,7 @@ pub(crate) fn parse_closed<'a>(
 pub(crate) fn parse_definition<'a>(
     alloc: Global,
     tokens: Tokens<'a>,
-) -> Result<(Pe, Tokens<'a>), Stop<'a>>
+) -> Result<(PrismExpr, Tokens<'a>), Stop<'a>>
     ensures { ParsesIn tree (in_scope definition) none (seen tokens.entry) result }
 {
     let (_equal, rest) = read_symbol(tokens, Symbol::Equal)?;

@@ -18,7 +18,7 @@ use crate::readers::{read_name, read_quoted, read_symbol, read_word, symbol_next
 use op_trees::Ty;
 use prism_exprs::{Cause, Kept, Stop, Tokens};
 use prism_lex::{Reserved, Symbol};
-use prism_tree::{Pe, PrismConst, PrismFormula, PrismLabel, PrismRange, PrismVar};
+use prism_tree::{PrismConst, PrismExpr, PrismFormula, PrismLabel, PrismRange, PrismVar};
 use std::alloc::Global;
 
 /// The type of constants that a token is.
@@ -47,7 +47,10 @@ fn read_type<'a>(tokens: Tokens<'a>) -> (Ty, Tokens<'a>)
 }
 
 /// `[ = E ] ;`
-fn parse_value<'a>(alloc: Global, tokens: Tokens<'a>) -> Result<(Option<Pe>, Tokens<'a>), Stop<'a>>
+fn parse_value<'a>(
+    alloc: Global,
+    tokens: Tokens<'a>,
+) -> Result<(Option<PrismExpr>, Tokens<'a>), Stop<'a>>
     ensures { ParsesIn (option_map tree) (in_scope value_part) none (seen tokens.entry) result }
 {
     if !symbol_next(tokens, Symbol::Equal) {
@@ -141,7 +144,10 @@ fn parse_kind<'a>(
 }
 
 /// `[ init E ] ;`
-fn parse_start<'a>(alloc: Global, tokens: Tokens<'a>) -> Result<(Option<Pe>, Tokens<'a>), Stop<'a>>
+fn parse_start<'a>(
+    alloc: Global,
+    tokens: Tokens<'a>,
+) -> Result<(Option<PrismExpr>, Tokens<'a>), Stop<'a>>
     ensures { ParsesIn (option_map tree) (in_scope start_part) none (seen tokens.entry) result }
 {
     if !word_next(tokens, Reserved::Init) {

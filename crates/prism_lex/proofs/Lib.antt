@@ -10,3 +10,4 @@ pub mod FrontLemmas
 pub mod NextLemmas
 pub mod Once
 pub mod Readers
+pub mod NameTexts

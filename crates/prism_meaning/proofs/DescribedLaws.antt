@@ -11,7 +11,8 @@ use Rattle.process_core.specs.Instance.{Scene, Valuation, is_state, is_initial, 
 use Rattle.process_core.specs.Steps.{Process}
 use Rattle.prism_tree.specs.Syntax.{Const, Label, Rewards, File}
 use Rattle.prism_names.specs.Flat.{flat, flat_constant, flat_label, flat_rewards}
-use Rattle.prism_print.specs.Same.{bare_file, bare_name, bare_const, bare_label, bare_rewards}
+use Rattle.op_trees.specs.Names.{bare_name}
+use Rattle.prism_print.specs.Same.{bare_file, bare_const, bare_label, bare_rewards}
 use Rattle.prism_flat.specs.Scene.{scene}
 use Rattle.prism_flat.specs.Moment.{Moment, moment}
 use Rattle.prism_flat.specs.Process.{choices, excess, marks, has_wide_mark}

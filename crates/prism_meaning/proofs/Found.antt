@@ -1,6 +1,5 @@
 -- What an answer tells of what is seen.
-use Rattle.std.proofs.Common.{◌≡◌, List, [], ◌∷◌, map, false, None, Result, if◌then◌else◌, refl, sym, ap, ◌∙◌}
-use Rattle.std.specs.List.{flat_map}
+use Rattle.std.proofs.Common.{◌≡◌, [], false, None, Result, if◌then◌else◌, sym, ap, ◌∙◌}
 use Rattle.op_trees.specs.Seen.{Seen}
 use Rattle.op_trees.specs.declared.tree.Value.{Value}
 use Rattle.op_trees.specs.declared.tree.EvalFail.{EvalFail}
@@ -14,7 +13,3 @@ narrow_seen s r e h = sym (ap (λ x. x.wide) (ap seen_of e ∙ computed_laws.val
 -- a value that isn't wide is what is seen
 pub value_seen : (s : Seen) (r : Result Value EvalFail) → r ≡ computed s → (seen_of r).wide ≡ false → (seen_of r).value ≡ s.value
 value_seen s r e h = ap (λ x. x.value) (ap seen_of e ∙ computed_laws.values s) ∙ ap (λ w. if w then None else s.value) (narrow_seen s r e h)
-
-pub each_one : {A B : Type 0} (f : A → B) (xs : List A) → flat_map (λ x. f x ∷ []) xs ≡ map f xs
-each_one f [] = refl
-each_one f (x ∷ xs) = ap (λ l. f x ∷ l) (each_one f xs)

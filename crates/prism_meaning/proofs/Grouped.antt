@@ -3,7 +3,8 @@ use Rattle.std.proofs.Common.{◌≡◌, List, [], ◌∷◌, ◌++◌, map, Boo
 use Rattle.std.specs.List.{flat_map, filter, list_any}
 use Rattle.std.proofs.lemmas.List.{map-append}
 use Rattle.op_trees.specs.Seen.{Seen}
-use Rattle.process_core.specs.Ready.{Name, Values, Ready, Sum, has_action, firsts, if_some, actions_of}
+use Rattle.basics.specs.Options.{if_some}
+use Rattle.process_core.specs.Ready.{Name, Values, Ready, Sum, has_action, firsts, actions_of}
 use Rattle.process_core.specs.Ready as core
 use Rattle.process_core.specs.Product.{map-map}
 use Rattle.process_core.specs.Bounds.{summed}
@@ -13,8 +14,8 @@ use Rattle.prism_names.specs.Names.{unchanged}
 use Rattle.prism_flat.specs.Moment.{Adds, action_of, item_at}
 use Rattle.prism_flat.specs.Process.{is_for_choices, sum_for, choice_rewards}
 use Rattle.state_choices.specs.Groups.{module_groups, silent_group}
+use Rattle.state_choices.proofs.ComputedParts.{same_group}
 use Rattle.prism_meaning.specs.Shapes.{acts, items_for, earned, acting, sharing, silent_shape, action_shape, shapes, sum_under, command_under, group_under}
-use Rattle.prism_meaning.proofs.Trimming.{same_group}
 
 -- ---- lists
 kept_map : {A B : Type 0} (p : B → Bool) (f : A → B) (xs : List A) → map f (filter (λ x. p (f x)) xs) ≡ filter p (map f xs)

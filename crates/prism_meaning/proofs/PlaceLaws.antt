@@ -8,7 +8,3 @@ pub place_more : (old : Option Place) (b : Bool) (p : Place) (rest : Option Plac
 place_more None true p rest = refl
 place_more None false p rest = refl
 place_more (Some q) b p rest = refl
-
-pub last_place : (o : Option Place) → first_some o None ≡ o
-last_place None = refl
-last_place (Some p) = refl

@@ -20,7 +20,7 @@ use Rattle.name_rules.specs.Circles.{circles as circles_of}
 use Rattle.prism_check.specs.NameFaults.{circles, copy_faults, declared_formula, doubled_names, name_faults, no_module, unknown_names}
 use Rattle.prism_check.specs.SizeFaults.{size_faults}
 use Rattle.prism_check.specs.TypeFaults.{type_faults}
-use Rattle.prism_check.specs.Faults.{or_else}
+use Rattle.name_rules.specs.Least.{or_else}
 use Rattle.prism_check.proofs.CleanFile.{no_either}
 use Rattle.prism_places.specs.Flattened.{IsFlat}
 use Rattle.process_core.specs.declared.data.Given.{Given}

@@ -23,7 +23,8 @@ use Rattle.process_core.specs.Instance.{Valuation}
 use Rattle.prism_tree.specs.Operators.{prism_meaning}
 use Rattle.prism_tree.specs.Syntax.{Expression, Const, File, const_of}
 use Rattle.prism_tree.specs.declared.syntax.PrismConst.{PrismConst}
-use Rattle.prism_names.specs.Names.{is_called, unchanged, see}
+use Rattle.op_trees.specs.Names.{is_called}
+use Rattle.prism_names.specs.Names.{unchanged, see}
 use Rattle.prism_flat.specs.Scene.{constant, constant_seen, constant_value, constant_names, scene}
 use Rattle.prism_flat.specs.ConstantLaws.{ConstantsHaveValues, see_agree_on}
 use Rattle.state_choices.specs.Views.{seen_of}

@@ -1,34 +1,17 @@
--- What the code computes of writes, commands and items, trimmed as what is seen of them is.
-use Rattle.std.proofs.Common.{◌≡◌, ℕ, List, [], ◌∷◌, map, Bool, true, false, not, ◌&&◌, Option, Some, None, Result, Err, if◌then◌else◌, refl, sym, ap, ap₂, ◌∙◌}
+-- What the code computes of commands and items, trimmed as what is seen of them is.
+use Rattle.std.proofs.Common.{◌≡◌, List, [], ◌∷◌, map, Bool, true, false, not, ◌&&◌, Option, Some, None, Result, Err, if◌then◌else◌, refl, sym, ap, ap₂, ◌∙◌}
 use Rattle.op_trees.specs.Seen.{Seen}
 use Rattle.op_trees.specs.declared.tree.Value.{Value}
 use Rattle.op_trees.specs.declared.tree.EvalFail.{EvalFail}
 use Rattle.op_trees.specs.declared.tree.EvalFail.TheVariants.{Undef}
-use Rattle.process_core.specs.Ready.{Name, Write, Reward, Update, Ready, Sum}
+use Rattle.process_core.specs.Ready.{Update, Ready, Sum}
 use Rattle.process_core.specs.Bounds.{Item}
 use Rattle.process_core.specs.Choices.{is_false, is_true}
-use Rattle.process_core.specs.Instance.{Column, domain_at, fits_in, write_to}
 use Rattle.process_core.specs.Product.{map-map}
-use Rattle.state_choices.specs.Groups.{Group}
 use Rattle.state_choices.proofs.ComputedLaws.{computed_laws}
+use Rattle.state_choices.proofs.ComputedParts.{command_computed}
 use Rattle.state_choices.specs.Views.{seen_of, sum_of}
-use Rattle.state_choices.specs.Trimmed.{computed, computed_sum, trimmed_sum, trimmed, trimmed_seen, trimmed_write, trimmed_update, trimmed_item}
-
-pub seen_computed : (s : Seen) → seen_of (computed s) ≡ trimmed_seen s
-seen_computed s = by_parts s.wide s.value
-  where
-    by_parts : (w : Bool) (v : Option Value) → seen_of (computed (record { value = v; wide = w })) ≡ trimmed_seen (record { value = v; wide = w })
-    by_parts true v = refl
-    by_parts false None = refl
-    by_parts false (Some v) = refl
-
-pub false_computed : (s : Seen) → is_false (seen_of (computed s)).value ≡ (not s.wide && is_false s.value)
-false_computed s = by_parts s.wide s.value
-  where
-    by_parts : (w : Bool) (v : Option Value) → is_false (seen_of (computed (record { value = v; wide = w }))).value ≡ (not w && is_false v)
-    by_parts true v = refl
-    by_parts false None = refl
-    by_parts false (Some v) = refl
+use Rattle.state_choices.specs.Trimmed.{computed, computed_sum, trimmed_sum, trimmed, trimmed_seen, trimmed_update, trimmed_item}
 
 pub true_computed : (s : Seen) → is_true (seen_of (computed s)).value ≡ (not s.wide && is_true s.value)
 true_computed s = by_parts s.wide s.value
@@ -38,58 +21,25 @@ true_computed s = by_parts s.wide s.value
     by_parts false None = refl
     by_parts false (Some v) = refl
 
-fits_computed : (cs : List Column) (i : ℕ) (s : Seen) → fits_in (domain_at cs i) (seen_of (computed s)).value ≡ (not s.wide && fits_in (domain_at cs i) s.value)
-fits_computed cs i s = by_parts s.wide s.value
-  where
-    by_parts : (w : Bool) (v : Option Value) → fits_in (domain_at cs i) (seen_of (computed (record { value = v; wide = w }))).value ≡ (not w && fits_in (domain_at cs i) v)
-    by_parts true v = refl
-    by_parts false None = refl
-    by_parts false (Some v) = refl
-
-same_write : (i j : ℕ) (s t : Seen) (a b : Bool) → i ≡ j → s ≡ t → a ≡ b →
-    ◌≡◌ {A = Write} (record { column = i; value = s; fits = a }) (record { column = j; value = t; fits = b })
-same_write i j s t a b e f g = cc
-
-pub write_seen : (cs : List Column) (i j : ℕ) (s : Seen) (r : Result Value EvalFail) (b : Bool) → i ≡ j → r ≡ computed s →
-    b ≡ fits_in (domain_at cs i) (seen_of r).value →
-    ◌≡◌ {A = Write} (record { column = i; value = seen_of r; fits = b }) (trimmed_write (write_to cs j s))
-write_seen cs i j s r b e f g =
-    same_write i j (seen_of r) (trimmed_seen s) b (not s.wide && fits_in (domain_at cs j) s.value) e (ap seen_of f ∙ seen_computed s)
-    (g ∙ ap₂ (λ k x. fits_in (domain_at cs k) (seen_of x).value) e f ∙ fits_computed cs j s)
-
-same_command : (g h : Seen) (us ws : List Update) → g ≡ h → us ≡ ws →
-    ◌≡◌ {A = Ready} (record { action = None; guard = g; updates = us }) (record { action = None; guard = h; updates = ws })
-same_command g h us ws e f = cc
-
 -- a command whose guard is false has no update, any other all its updates
 pub command_seen : (r : Ready) (g : Result Value EvalFail) (us : List Update) → g ≡ computed r.guard →
     us ≡ (if is_false (seen_of g).value then [] else map trimmed_update r.updates) →
     ◌≡◌ {A = Ready} (record { action = None; guard = seen_of g; updates = us }) (trimmed r)
-command_seen r g us e f =
-    same_command (seen_of g) (trimmed_seen r.guard) us (trimmed r).updates (ap seen_of e ∙ seen_computed r.guard)
-    (f ∙ ap (λ b. if b then [] else map trimmed_update r.updates) (ap (λ x. is_false (seen_of x).value) e ∙ false_computed r.guard))
+command_seen r g us e f = command_computed r.guard g us (map trimmed_update r.updates) e f
 
 same_item : (g h v w : Seen) → g ≡ h → v ≡ w → ◌≡◌ {A = Item} (record { guard = g; value = v }) (record { guard = h; value = w })
 same_item g h v w e f = cc
 
 seen_if : (b : Bool) (s : Seen) → seen_of (if b then computed s else Err Undef) ≡ (if b then trimmed_seen s else record { value = None; wide = false })
-seen_if true s = seen_computed s
+seen_if true s = computed_laws.values s
 seen_if false s = refl
 
 pub item_seen : (i : Item) (g v : Result Value EvalFail) → g ≡ computed i.guard → v ≡ (if is_true (seen_of g).value then computed i.value else Err Undef) →
     ◌≡◌ {A = Item} (record { guard = seen_of g; value = seen_of v }) (trimmed_item i)
 item_seen i g v e f =
-    same_item (seen_of g) (trimmed_seen i.guard) (seen_of v) (trimmed_item i).value (ap seen_of e ∙ seen_computed i.guard)
+    same_item (seen_of g) (trimmed_seen i.guard) (seen_of v) (trimmed_item i).value (ap seen_of e ∙ computed_laws.values i.guard)
     (ap seen_of f ∙ seen_if (is_true (seen_of g).value) i.value
     ∙ ap (λ b. if b then trimmed_seen i.value else record { value = None; wide = false }) (ap (λ x. is_true (seen_of x).value) e ∙ true_computed i.guard))
-
-pub same_group : (l : Option Name) (r s : List Sum) (m n : List (List Ready)) → r ≡ s → m ≡ n →
-    ◌≡◌ {A = Group} (record { label = l; rewards = r; lists = m }) (record { label = l; rewards = s; lists = n })
-same_group l r s m n e f = cc
-
-pub same_update : (s t : Seen) (m n : List Write) (r q : List Reward) → s ≡ t → m ≡ n → r ≡ q →
-    ◌≡◌ {A = Update} (record { weight = s; writes = m; rewards = r }) (record { weight = t; writes = n; rewards = q })
-same_update s t m n r q e f g = cc
 
 -- ---- lists of them
 pub sums_seen : {A B : Type 0} (g : A → B) (h : B → Sum) (xs : List A) → map sum_of (map (λ x. computed_sum (h (g x))) xs) ≡ map trimmed_sum (map h (map g xs))

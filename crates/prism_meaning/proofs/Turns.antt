@@ -10,12 +10,12 @@ use Rattle.std.proofs.lemmas.Option.{slice_get-map, slice_get_within, get_or_fro
 use Rattle.bridge_io.specs.declared.reason.Named.{Named}
 use Rattle.op_trees.specs.Tree.{Truth, Number, Name as At, One, Two, Three, AllNames, written_out}
 use Rattle.op_trees.specs.SeenLaws.{names_then}
-use Rattle.op_trees.specs.Names.{names_of}
+use Rattle.op_trees.specs.Names.{names_of, is_called}
 use Rattle.name_rules.specs.Circles.{Declared, nothing_declared, declared_at, HasTurned, AreInTurn, turns_from, AreTurns}
 use Rattle.name_rules.specs.Uses.{used}
 use Rattle.process_core.specs.Ready.{Name}
 use Rattle.prism_tree.specs.Syntax.{Expression, Const, File}
-use Rattle.prism_names.specs.Names.{is_called, formula_body}
+use Rattle.prism_names.specs.Names.{formula_body}
 use Rattle.prism_names.specs.Order.{whole}
 use Rattle.prism_flat.specs.Scene.{constant_called}
 use Rattle.prism_flat.specs.ConstantLaws.{RanksBelow, ConstantsHaveValues, constants_have_values}

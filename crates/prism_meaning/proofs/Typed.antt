@@ -1,60 +1,56 @@
 -- The values of constants have their types, so a variable without a range begins with a truth value.
 use Rattle.std.proofs.Common.{◌≡◌, ℕ, zero, suc, ◌+◌, List, [], ◌∷◌, ◌++◌, map, length, Bool, true, false, not, ◌&&◌, ◌||◌, Option, Some, None, is_some, IsTrue, inl, inr, refl, sym, ap, ap₂, subst, ◌∙◌}
 use Rattle.std.specs.Prelude.{bytes_eq, if◌then◌else◌}
-use Rattle.std.specs.List.{flat_map, find, list_any, list_all, position_or_len}
-use Rattle.std.specs.Option.{option_map}
+use Rattle.std.specs.List.{flat_map, find, list_any, list_all, AllByRecursion as Each}
+use Rattle.std.specs.Option.{option_map, option_or}
 use Rattle.std.proofs.lemmas.Bool.{or_cases}
 use Rattle.std.proofs.lemmas.List.Elements.{All-nil, All-cons}
 use Rattle.std.proofs.lemmas.List.Folds.{list_any-append}
-use Rattle.std.proofs.lemmas.Slice.Eq.{bytes_eq-Decides}
 use Rattle.basics.specs.Members.{any-map}
-use Rattle.basics.specs.Options.{has_some}
-use Rattle.basics.specs.Booleans.{second_true}
+use Rattle.basics.specs.Options.{has_some, if_some, IfAny}
 use Rattle.basics.specs.Lists.{append_parts, empty_map}
-use Rattle.basics.specs.Each.{each_then, each_with, each_join, each_parts, each_of, empty_each}
+use Rattle.basics.specs.Each.{each_then, each_with, each_join, each_parts, each_of, empty_each, each_found}
 use Rattle.bridge_io.specs.declared.reason.Named.{Named}
 use Rattle.bridge_io.specs.declared.reason.Reason.TheVariants.{WrongType, NotConstant, Unknown}
 use Rattle.frac_core.specs.Decimal.{is_normal}
 use Rattle.op_trees.specs.declared.tree.Ty.{Ty}
 use Rattle.op_trees.specs.declared.tree.Ty.TheVariants as T
 use Rattle.op_trees.specs.declared.tree.Value.{Value}
-use Rattle.op_trees.specs.declared.tree.Value.TheVariants as V
 use Rattle.op_trees.specs.Meaning.{Environment, value_of}
 use Rattle.op_trees.specs.Seen.{Seen, known, known_names}
 use Rattle.op_trees.specs.SeenLaws.{names_all, seen_is}
-use Rattle.op_trees.specs.Names.{names_of, offset_of}
+use Rattle.op_trees.specs.Names.{names_of, offset_of, is_called}
 use Rattle.op_trees.specs.Tree.{Truth, Number, Name as At, One, Two, Three, AllNames, AllNumbers}
 use Rattle.op_trees.specs.Types.{Types, AgreesWith, has_type, type_in, types_looked_up, misfit_at}
 use Rattle.op_trees.specs.Types as trees
 use Rattle.op_trees.specs.TypeLaws.{misfits_none, value_agrees}
-use Rattle.name_rules.specs.Least.{fault, fault_if}
+use Rattle.op_trees.specs.Wanted.{wider, is_wanted, is_unwanted, wanted_by}
+use Rattle.name_rules.specs.Least.{fault, fault_if, or_else}
 use Rattle.name_rules.specs.Names.{is_among}
 use Rattle.name_rules.specs.Unknown.{unless_known}
-use Rattle.process_core.specs.Ready.{Name, if_some}
-use Rattle.process_core.specs.Instance.{Truths, Column}
+use Rattle.name_rules.proofs.Plain.{no_fault}
+use Rattle.process_core.specs.Ready.{Name}
+use Rattle.process_core.specs.Instance.{Column}
 use Rattle.process_core.specs.declared.data.Given.{Given}
 use Rattle.prism_tree.specs.Operators.{prism_meaning}
 use Rattle.prism_tree.specs.OperatorLaws.{prism_lawful}
 use Rattle.prism_tree.specs.Syntax.{Expression, Const, Range, Var, Module, plain, copied, File}
-use Rattle.prism_names.specs.Names.{is_called, unchanged, part_of, parts, see, reading, formula_body}
+use Rattle.prism_names.specs.Names.{unchanged, part_of, parts, see, reading, formula_body}
 use Rattle.prism_flat.specs.Kept.{is_plain}
 use Rattle.prism_flat.specs.FlatLaws.{found_after}
 use Rattle.prism_flat.specs.Scene.{constant_called, constant_seen, constant_value, constant_within, constant, constant_names, column, columns_of}
-use Rattle.prism_print.specs.Printable.{Each, IfAny, IsPrintableExpression, IsPrintableConst, IsPrintableVar, IsPrintableModule}
-use Rattle.prism_check.specs.Demands.{Demand, fixed, wanted_by, var_type, const_demands, range_demands, var_demands, command_demands, part_demands, outer_demands, formula_demands}
+use Rattle.prism_print.specs.Printable.{IsPrintableExpression, IsPrintableConst, IsPrintableVar, IsPrintableModule}
+use Rattle.prism_check.specs.Demands.{Demand, fixed, var_type, const_demands, range_demands, var_demands, command_demands, part_demands, outer_demands, formula_demands}
 use Rattle.prism_check.specs.NameFaults.{copy_faults, circles, doubled_names, module_vars, name_faults, no_module, unknown, unknown_in, unknown_names, values}
 use Rattle.prism_check.specs.SizeFaults.{size_faults}
-use Rattle.prism_check.specs.TypeFaults.{Variable, declared_types, demand_faults, has_variable, is_unwanted, is_wanted, misfits, numbered_faults, numbered_variables, part_faults, repeated_writes, type_faults, type_faults_of, types, variable_called, variables}
-use Rattle.prism_check.specs.TypeFaults as faults_of
-use Rattle.prism_check.specs.Faults.{or_else}
+use Rattle.prism_check.specs.TypeFaults.{Variable, declared_types, demand_faults, has_variable, misfits, numbered_faults, numbered_variables, part_faults, repeated_writes, type_faults, type_faults_of, types, variable_called, variables}
 use Rattle.prism_check.proofs.CleanFile.{no_either}
-use Rattle.prism_check.proofs.Each.{each_found, no_fault}
 use Rattle.prism_check.proofs.NamesIn.{listed_names}
 use Rattle.prism_places.specs.Flattened.{IsFlat}
 use Rattle.instance_start.specs.Firsts.{BeginRight, begins_right}
-use Rattle.instance_start.specs.Description.{Constant}
-use Rattle.instance_start.specs.Given as given_specs
-use Rattle.instance_start.specs.Given.{given_by, misfit, fits, takes, is_missing}
+use Rattle.instance_start.proofs.Givens as givens
+use Rattle.instance_start.proofs.Givens.{none_misfits, bool_right}
+use Rattle.instance_start.specs.Given.{given_by, misfit, fits}
 use Rattle.prism_meaning.specs.Described.{opened}
 use Rattle.prism_meaning.specs.Variables.{all_variables, own_variables}
 use Rattle.prism_meaning.proofs.StartLaws.{columns_are}
@@ -91,58 +87,12 @@ unwanted_not : (b : Bool) → not b ≡ false → b ≡ true
 unwanted_not true e = refl
 unwanted_not false e = absurd cc
 
-wider : (w s : Ty) (v : Value) → is_wanted (wanted_by w) s ≡ true → IsTrue (has_type s v) → IsTrue (has_type w v)
-wider T.Bool T.Bool v h k = k
-wider T.Bool T.Int v h k = absurd cc
-wider T.Bool T.Real v h k = absurd cc
-wider T.Int T.Int v h k = k
-wider T.Int T.Bool v h k = absurd cc
-wider T.Int T.Real v h k = absurd cc
-wider T.Real T.Bool v h k = absurd cc
-wider T.Real T.Int (V.Number q) h k = refl
-wider T.Real T.Int (V.Truth b) h k = k
-wider T.Real T.Real v h k = k
-
 -- ---- given values
-taken_typed : (t : Ty) (v : Value) → takes t v ≡ true → IsTrue (has_type t v)
-taken_typed T.Bool (V.Truth b) h = refl
-taken_typed T.Bool (V.Number q) h = absurd cc
-taken_typed T.Int (V.Truth b) h = absurd cc
-taken_typed T.Int (V.Number q) h = h
-taken_typed T.Real (V.Truth b) h = absurd cc
-taken_typed T.Real (V.Number q) h = refl
-
-no_misfit : {A : Type 0} (b c : Bool) (i : A) (j : Option A) → (if b then Some i else (if c then j else None)) ≡ None → b ≡ false
-no_misfit true c i j h = absurd cc
-no_misfit false c i j h = refl
-
-none_misfits : (cs : List Constant) (given : List Given) → misfit cs given ≡ None → list_any (λ g. not (fits cs g)) given ≡ false
-none_misfits cs given m =
-    no_misfit (list_any (λ g. not (fits cs g)) given) (list_any (is_missing given) cs) (position_or_len (λ g. not (fits cs g)) given) (Some (length given)) m
-
 given_typed : (cs : List Const) (given : List Given) → list_any (λ g. not (fits (map opened cs) g)) given ≡ false →
     (x : Name) (c : Const) → find (λ d. is_called x d.name) cs ≡ Some c → (v : Value) → given_by given x ≡ Some v → IsTrue (has_type c.ty v)
-given_typed cs [] h x c f v e = absurd cc
-given_typed cs (g ∷ gs) h x c f v e = by_name (bytes_eq g.name x) refl (λ r k. given_typed cs gs r x c f v k) e
-  where
-    first : (b r : Bool) → (not b || r) ≡ false → b ≡ true
-    first true r k = refl
-    first false r k = absurd cc
-
-    rest : (b r : Bool) → (not b || r) ≡ false → r ≡ false
-    rest true r k = k
-    rest false r k = absurd cc
-
-    by_name : (b : Bool) → bytes_eq g.name x ≡ b →
-        (list_any (λ d. not (fits (map opened cs) d)) gs ≡ false → given_by gs x ≡ Some v → IsTrue (has_type c.ty v)) → (if b then Some g.value else given_by gs x) ≡ Some v → IsTrue (has_type c.ty v)
-    by_name true n r k =
-        let same : g.name ≡ x = (bytes_eq-Decides g.name x).0 n in
-        let found : given_specs.constant_called (map opened cs) g.name ≡ Some (opened c) =
-        ap (given_specs.constant_called (map opened cs)) same
-        ∙ found_after (λ d. bytes_eq d.name x) (λ d. is_called x d.name) opened (λ d. refl) cs ∙ ap (option_map opened) f in
-        let taken = sym (ap (λ o. given_specs.is_taken o g.value) found) ∙ first (fits (map opened cs) g) (list_any (λ d. not (fits (map opened cs) d)) gs) h in
-        subst (λ w. IsTrue (has_type c.ty w)) (let z : g.value ≡ v = cc in z) (taken_typed c.ty g.value (second_true (opened c).is_open (takes c.ty g.value) taken))
-    by_name false n r k = r (rest (fits (map opened cs) g) (list_any (λ d. not (fits (map opened cs) d)) gs) h) k
+given_typed cs given h x c f v e =
+    givens.given_typed (map opened cs) given h x (opened c)
+    (found_after (λ d. bytes_eq d.name x) (λ d. is_called x d.name) opened (λ d. refl) cs ∙ ap (option_map opened) f) v e
 
 -- ---- names that are known have types
 found_some : {A : Type 0} (p : A → Bool) (xs : List A) → list_any p xs ≡ true → IsTrue (is_some (find p xs))
@@ -157,18 +107,13 @@ some_mapped : {A B : Type 0} (f : A → B) (o : Option A) → IsTrue (is_some o)
 some_mapped f None h = h
 some_mapped f (Some x) h = refl
 
-either_some : (a b : Option Ty) → IsTrue (is_some a) → IsTrue (is_some (faults_of.or_else a b))
+either_some : (a b : Option Ty) → IsTrue (is_some a) → IsTrue (is_some (option_or a b))
 either_some None b h = absurd cc
 either_some (Some t) b h = refl
 
-second_some : (a b : Option Ty) → IsTrue (is_some b) → IsTrue (is_some (faults_of.or_else a b))
+second_some : (a b : Option Ty) → IsTrue (is_some b) → IsTrue (is_some (option_or a b))
 second_some None b h = h
 second_some (Some t) b h = refl
-
-bool_right : (o : Option Value) → ((v : Value) → o ≡ Some v → IsTrue (has_type T.Bool v)) → begins_right Truths o ≡ true
-bool_right None h = refl
-bool_right (Some (V.Truth b)) h = refl
-bool_right (Some (V.Number q)) h = h (V.Number q) refl
 
 module _ (file : File) (flat : IsFlat file) where
   -- ---- no fault of names or types
@@ -322,7 +267,7 @@ module _ (file : File) (flat : IsFlat file) where
         by_const r None e f = record { agrees = λ t v h k. absurd cc }
         by_const r (Some c) e f = record {
           agrees = λ t v h k.
-              let s : Some c.ty ≡ Some t = sym (types_declared x ∙ ap (λ o. faults_of.or_else (option_map (λ d. d.ty) o) (option_map (λ w. w.ty) (variable_called file x))) e) ∙ h in
+              let s : Some c.ty ≡ Some t = sym (types_declared x ∙ ap (λ o. option_or (option_map (λ d. d.ty) o) (option_map (λ w. w.ty) (variable_called file x))) e) ∙ h in
               subst (λ u. IsTrue (has_type u v)) (let z : c.ty ≡ t = cc in z) (by_value r c e c.value f v k);
         }
 

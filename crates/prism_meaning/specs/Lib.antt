@@ -2,7 +2,6 @@ pub mod Described
 pub mod Shapes
 pub mod Prepared
 pub mod Views
-pub mod Codes
 pub mod Places
 pub mod Variables
 pub mod Constants

@@ -4,7 +4,7 @@ use Rattle.std.specs.Prelude.{ℕ, ◌+◌, List, [], ◌∷◌, Option, Some, N
 use Rattle.process_core.specs.Ready.{Name}
 use Rattle.process_core.specs.Instance.{Column}
 use Rattle.prism_tree.specs.Syntax.{Const}
-use Rattle.prism_names.specs.Names.{is_called}
+use Rattle.op_trees.specs.Names.{is_called}
 use Rattle.instance_start.specs.declared.data.Place.{Place}
 use Rattle.instance_start.specs.declared.data.Place.TheVariants.{Constant, Variable}
 

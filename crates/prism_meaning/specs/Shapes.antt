@@ -3,7 +3,8 @@
 use Rattle.std.specs.Prelude.{List, [], ◌∷◌, ◌++◌, map, Bool, Option, Some, None, bytes_eq}
 use Rattle.std.specs.List.{flat_map, filter, list_any}
 use Rattle.op_trees.specs.Seen.{Seen}
-use Rattle.process_core.specs.Ready.{Name, Write, Update, Ready, Sum, same_label, firsts, if_some}
+use Rattle.basics.specs.Options.{if_some}
+use Rattle.process_core.specs.Ready.{Name, Write, Update, Ready, Sum, same_label, firsts}
 use Rattle.process_core.specs.Bounds as core
 use Rattle.process_core.specs.Bounds.{summed}
 use Rattle.process_core.specs.Instance.{Column, write_to}

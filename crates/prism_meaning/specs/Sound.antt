@@ -21,7 +21,7 @@ use Rattle.instance_start.specs.declared.data.Column as code
 use Rattle.expr_store.specs.Nodes.{seen_at}
 use Rattle.expr_store.specs.declared.node.ExprId.{ExprId}
 use Rattle.expr_store.specs.declared.node.Node.{Node}
-use Rattle.prism_meaning.specs.Codes.{one_columns, one_faults, one_groups, one_names, one_seens, one_sums, one_truth}
+use Rattle.state_choices.specs.Codes.{one_columns, one_faults, one_groups, one_names, one_seens, one_sums, one_truth}
 use Rattle.prism_meaning.specs.Described.{mark_names}
 use Rattle.prism_meaning.specs.Prepared.{group_by, sum_by}
 use Rattle.prism_meaning.specs.Shapes.{bodies, shapes, earned_in_states, group_under, sum_under}

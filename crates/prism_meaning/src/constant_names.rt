@@ -8,7 +8,7 @@ ghost use Rattle.prism_meaning.specs.Views.{seen_in};
 use instance_start::{Place, type_of, value_at};
 use name_rules::NameMap;
 use op_trees::{EvalFail, Names, Ty, Value, eval};
-use prism_tree::Pe;
+use prism_tree::PrismExpr;
 
 /// The constants, without a state: where names stand, and the values of the constants.
 #[derive(Clone, Copy)]
@@ -36,7 +36,7 @@ impl<'a> Names for ConstantNames<'a> {
 }
 
 /// The value of an expression: `Wide` exactly where something is that it needs, else `Undef` exactly where it is undefined.
-pub(crate) fn value_of(e: &Pe, names: &ConstantNames) -> Result<Value, EvalFail>
+pub(crate) fn value_of(e: &PrismExpr, names: &ConstantNames) -> Result<Value, EvalFail>
     ensures { result ≡ computed (see (tree e.now) (seen_in names.now)) }
 {
     eval(e, names)

@@ -18,7 +18,7 @@ use crate::constant_names::{ConstantNames, value_of};
 use instance_start::{Place, given_value};
 use name_rules::{Declaration, NameMap, add_names, judge_circles};
 use op_trees::{EvalFail, Value, held};
-use prism_tree::{Pe, PrismConst, PrismFile};
+use prism_tree::{PrismConst, PrismExpr, PrismFile};
 use process_core::{Given, StartFail};
 use std::alloc::{AllocError, Global};
 
@@ -52,7 +52,7 @@ fn declarations(alloc: Global, constants: &[PrismConst]) -> Result<Vec<Declarati
 }
 
 /// The names that an expression uses, if there is one.
-fn uses_of<'a>(alloc: Global, body: Option<&'a Pe>) -> Result<Vec<&'a str>, AllocError>
+fn uses_of<'a>(alloc: Global, body: Option<&'a PrismExpr>) -> Result<Vec<&'a str>, AllocError>
     ensures { IfOk result (λ list. map (λ s. s.now) list.items ≡ used (option_map (λ e. tree e.now) body.entry)) }
 {
     let mut list = Vec::new(alloc);

@@ -19,7 +19,9 @@ use crate::data::{
 };
 use crate::state_names::{StateNames, column_of, put};
 use expr_store::{ExprId, ExprStore};
-use prism_tree::{Pe, PrismBranch, PrismCommand, PrismItem, PrismLabel, PrismOp, PrismWrite};
+use prism_tree::{
+    PrismBranch, PrismCommand, PrismExpr, PrismItem, PrismLabel, PrismOp, PrismWrite,
+};
 use std::alloc::{AllocError, Global};
 
 /// Combinations, items of reward structures and labels, prepared.
@@ -172,7 +174,7 @@ fn prepared_update(
 }
 
 fn prepared_weight(
-    weight: &Option<Pe>,
+    weight: &Option<PrismExpr>,
     names: &StateNames,
     store: &mut ExprStore<PrismOp>,
 ) -> Result<Option<ExprId>, AllocError>

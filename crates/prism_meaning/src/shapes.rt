@@ -2,7 +2,8 @@
 ghost use Rattle.std.specs.Prelude.{◌≡◌, ◌++◌, IfOk, OnOk, List, None, Some, bytes_eq, map, option_copied};
 ghost use Rattle.std.specs.List.{filter, flat_map, list_any};
 ghost use Rattle.process_core.specs.Instance.{only_if};
-ghost use Rattle.process_core.specs.Ready.{firsts, if_some};
+ghost use Rattle.basics.specs.Options.{if_some};
+ghost use Rattle.process_core.specs.Ready.{firsts};
 ghost use Rattle.prism_flat.specs.Moment.{action_of, adds_of};
 ghost use Rattle.prism_flat.specs.Process.{is_for_choices, is_for_states};
 ghost use Rattle.prism_names.specs.Names.{unchanged};

@@ -11,7 +11,7 @@ ghost use Rattle.prism_meaning.specs.Views.{columns_in, places_in, FindsColumns}
 use expr_store::{ExprId, ExprStore, Scope};
 use instance_start::{Column, Place};
 use name_rules::NameMap;
-use prism_tree::{Pe, PrismOp};
+use prism_tree::{PrismExpr, PrismOp};
 use std::alloc::AllocError;
 
 /// Where names stand, and the columns.
@@ -33,7 +33,7 @@ impl<'a> Scope for StateNames<'a> {
 
 /// Puts an expression into a store.
 pub(crate) fn put(
-    e: &Pe,
+    e: &PrismExpr,
     names: &StateNames,
     store: &mut ExprStore<PrismOp>,
 ) -> Result<ExprId, AllocError>

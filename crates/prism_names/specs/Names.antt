@@ -1,17 +1,15 @@
 -- What the names of a PRISM file stand for: formulas, modules and copies of modules (PRISM manual, "The PRISM Language":
 -- "Formulas and Labels", "Module Renaming").
-use Rattle.std.specs.Prelude.{List, [], ◌∷◌, map, length, Bool, Option, Some, None, is_some, if◌then◌else◌, bytes_eq}
+use Rattle.std.specs.Prelude.{List, [], ◌∷◌, map, length, Bool, Option, Some, None, is_some, if◌then◌else◌}
 use Rattle.std.specs.List.{find}
 use Rattle.std.specs.Option.{option_map}
 use Rattle.bridge_io.specs.declared.reason.Named.{Named}
 use Rattle.op_trees.specs.Seen.{Seen, seen, looked_up}
+use Rattle.op_trees.specs.Names.{is_called}
 use Rattle.process_core.specs.Ready.{Name}
 use Rattle.prism_tree.specs.declared.syntax.NamePair.{NamePair}
 use Rattle.prism_tree.specs.Operators.{prism_meaning}
 use Rattle.prism_tree.specs.Syntax.{Expression, Var, Command, Module, plain, copied, File}
-
-abbrev pub is_called : Name → Named → Bool
-is_called x n = bytes_eq n.name x
 
 -- ---- formulas
 -- the body of the first formula of this name

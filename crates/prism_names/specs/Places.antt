@@ -8,7 +8,8 @@ use Rattle.std.proofs.lemmas.Slice.Eq.{bytes_eq-Decides}
 use Rattle.op_trees.specs.Tree.{AllNames}
 use Rattle.op_trees.specs.Seen.{FallsTo}
 use Rattle.op_trees.specs.SeenLaws.{names_then}
-use Rattle.process_core.specs.Ready.{Name, if_some}
+use Rattle.basics.specs.Options.{if_some}
+use Rattle.process_core.specs.Ready.{Name}
 use Rattle.prism_tree.specs.Syntax.{Expression, Formula, File}
 use Rattle.prism_names.specs.Names.{formula_body}
 use Rattle.prism_names.specs.Order.{place_in, IsOrder}

@@ -1,17 +1,15 @@
 -- A reader that keeps tokens: what it has kept are the tokens up to an offset, and go on with the next.
-use Rattle.std.proofs.Common.{arith, ◌≡◌, ℕ, zero, suc, ◌+◌, ◌*◌, ◌-◌, ◌<◌, ◌≤◌, Bool, true, List, [], ◌∷◌, ◌++◌, map, length, refl, sym, ap, ap₂, subst, ◌∙◌}
-use Rattle.std.specs.Prelude.{Option, Some, None, ◌||◌, slice_get, if◌then◌else◌}
-use Rattle.std.specs.List.{list_all}
+use Rattle.std.proofs.Common.{arith, ◌≡◌, ℕ, zero, suc, ◌+◌, ◌*◌, ◌-◌, ◌≤◌, Bool, true, List, [], ◌∷◌, ◌++◌, map, length, refl, sym, ap, ap₂, subst, ◌∙◌}
+use Rattle.std.specs.Prelude.{Option, Some, None, slice_get, if◌then◌else◌}
 use Rattle.std.specs.Str.{IsAscii, is_utf8}
 use Rattle.std.proofs.lemmas.Str.{IsUtf8-from_ascii, is_utf8-from_IsUtf8}
 use Rattle.std.proofs.lemmas.List.{map-append, length-append}
-use Rattle.std.proofs.lemmas.Bool.{and_parts}
 use Rattle.prism_lex.specs.declared.token.Token.{Token}
 use Rattle.prism_lex.specs.declared.token.TokenKind.{TokenKind}
 use Rattle.prism_lex.specs.declared.token.TokenKind.TheVariants as K
-use Rattle.prism_lex.specs.Automaton.{is_letter, is_digit}
 use Rattle.prism_lex.specs.Tokens.{Lexeme, is_name, IsKind, lexeme_of, Continues, end_of}
 use Rattle.prism_lex.specs.Laws.{Reaches, NextGoesOn}
+use Rattle.prism_lex.proofs.NameTexts.{name_ascii}
 use Rattle.prism_exprs.specs.declared.tokens.Kept.{Kept}
 use Rattle.prism_exprs.specs.declared.tokens.Kept.TheVariants.{Word, Symbol, Ident, Quoted, Number}
 use Rattle.prism_exprs.specs.declared.tokens.Found.{Found}
@@ -20,22 +18,6 @@ use Rattle.prism_exprs.specs.Kept.{text_at, made, name_at, literal_at, in_row, l
 use Rattle.prism_parse.specs.Lexed.{kept_kind, IsKeptAs, Keeps}
 
 -- ---- a name is a text
-
-letter_small : (b : ℕ) → is_letter b ≡ true → b < 128
-letter_small b e = grind (arith, e)
-
-part_small : (b : ℕ) → (is_letter b || is_digit b) ≡ true → b < 128
-part_small b e = grind (arith, e)
-
-parts_ascii : (bs : List ℕ) → list_all (λ c. is_letter c || is_digit c) bs ≡ true → IsAscii bs
-parts_ascii [] e i = omega arith
-parts_ascii (b ∷ bs) e zero = part_small b (and_parts _ _ e).0
-parts_ascii (b ∷ bs) e (suc i) = parts_ascii bs (and_parts _ _ e).1 i
-
-name_ascii : (bs : List ℕ) → is_name bs ≡ true → IsAscii bs
-name_ascii [] e i = absurd cc
-name_ascii (b ∷ bs) e zero = letter_small b (and_parts _ _ e).0
-name_ascii (b ∷ bs) e (suc i) = parts_ascii bs (and_parts _ _ e).1 i
 
 before_quote : (bs : List ℕ) → IsAscii bs → IsAscii (bs ++ 34 ∷ [])
 before_quote [] h zero = omega arith

@@ -1,81 +1,55 @@
 -- The faults of a file without its places are its faults without theirs, so files that are the same but for places have faults or
 -- none alike.
-use Rattle.std.specs.Prelude.{◌≡◌, ℕ, zero, suc, max, List, [], ◌∷◌, ◌++◌, map, length, Bool, true, false, not, ◌&&◌, ◌||◌, Option, Some, None, is_some, nat_eq, bytes_eq, if◌then◌else◌, ◌+◌, ◌*◌, nat_lt}
+use Rattle.std.specs.Prelude.{◌≡◌, ℕ, zero, suc, max, List, [], ◌∷◌, ◌++◌, map, length, Bool, not, ◌&&◌, ◌||◌, Option, Some, None, is_some, nat_eq, bytes_eq, if◌then◌else◌, ◌+◌, ◌*◌, nat_lt}
 use Rattle.std.specs.List.{flat_map, filter, list_any, fold, sum, sum_by, find}
-use Rattle.std.specs.Option.{option_map}
+use Rattle.std.specs.Option.{option_map, option_or as or_other}
 use Rattle.std.proofs.Common.{refl, ap, ap₂, ◌∙◌, sym}
 use Rattle.std.proofs.lemmas.List.{length-map}
 use Rattle.std.proofs.Math.Path.{fun_ext}
 use Rattle.basics.specs.Lists.{append_parts, empty_map}
-use Rattle.basics.specs.Options.{is_some-map}
-use Rattle.bridge_io.specs.declared.reason.Named.{Named}
+use Rattle.basics.specs.Options.{is_some-map, if_some}
 use Rattle.bridge_io.specs.declared.reason.Reason.{Reason}
 use Rattle.bridge_io.specs.declared.reason.Reason.TheVariants.{TwiceNamed, Unknown, Cycle, RenameMissing, RenameOfRenamed, Nothing, TooLarge, WrongType, NotConstant, SyncGlobalWrite, WrittenTwice}
 use Rattle.bridge_io.specs.declared.reason.Fault.{Fault}
 use Rattle.op_trees.specs.Tree.{Truth, Number, Name as At, One, Two, Three, bare, node_count, height_of}
-use Rattle.op_trees.specs.declared.tree.Ty.{Ty}
-use Rattle.op_trees.specs.Types.{Types, type_in, types_looked_up, misfit_at}
-use Rattle.op_trees.specs.TypeLaws.{type-bare}
-use Rattle.op_trees.specs.Names.{offset_of, names_of, some_name}
+use Rattle.op_trees.specs.Types.{Types, type_in, types_looked_up}
+use Rattle.op_trees.specs.TypeLaws.{type-bare, noughts, misfit-bare}
+use Rattle.op_trees.specs.Names.{offset_of, names_of, some_name, bare_name, is_called}
 use Rattle.op_trees.specs.NameLaws.{offset-bare, some_name-bare, names-bare}
-use Rattle.process_core.specs.Ready.{Name, if_some, firsts}
+use Rattle.process_core.specs.Ready.{Name, firsts}
 use Rattle.process_core.specs.Often.{sum_by-map}
 use Rattle.prism_tree.specs.declared.syntax.NamePair.{NamePair}
 use Rattle.prism_tree.specs.declared.syntax.CopiedModule.{CopiedModule}
 use Rattle.prism_tree.specs.Syntax.{Expression, Const, Range, Var, Formula, Branch, Command, Module, plain, copied, Rewards, File}
 use Rattle.prism_tree.specs.Operators.{prism_meaning}
-use Rattle.prism_names.specs.Names.{is_called, renaming, module_name, module_called, Part, part_of, parts, formula_body}
+use Rattle.prism_names.specs.Names.{renaming, module_name, module_called, Part, part_of, parts, formula_body}
 use Rattle.prism_names.specs.Order.{whole}
 use Rattle.prism_names.specs.Flat.{flat}
 use Rattle.prism_names.specs.Laws.{flat_part}
-use Rattle.prism_print.specs.Same.{bare_name, bare_const, bare_range, bare_var, bare_formula, bare_label, bare_write, bare_branch, bare_command, bare_pair, bare_copy, bare_module, bare_item, bare_rewards, bare_file}
-use Rattle.prism_check.specs.Demands.{Demand, fixed, varying, written, wanted_by, const_demands, formula_demands, range_demands, type_by, var_type, var_demands, branch_demands, command_demands, part_demands, label_demands, item_demands, rewards_demands, outer_demands, all_demands, expression_of}
-use Rattle.name_rules.specs.Least.{fault_if, fault, moved_to}
+use Rattle.prism_print.specs.Same.{bare_const, bare_range, bare_var, bare_formula, bare_label, bare_write, bare_branch, bare_command, bare_pair, bare_copy, bare_module, bare_item, bare_rewards, bare_file}
+use Rattle.prism_check.specs.Demands.{Demand, fixed, varying, written, const_demands, formula_demands, range_demands, type_by, var_type, var_demands, branch_demands, command_demands, part_demands, label_demands, item_demands, rewards_demands, outer_demands, all_demands, expression_of}
+use Rattle.name_rules.specs.Least.{fault_if, fault, moved_to, or_else}
 use Rattle.name_rules.specs.Names.{is_among}
-use Rattle.name_rules.specs.Doubled.{doubled_after, doubled}
 use Rattle.prism_check.specs.NameFaults.{has_pair, renamed_var, module_vars, values, given_labels, doubled_pairs, doubled_names, names_used, unknown, some_used, is_lost, loses_name, unknown_in, unknown_names, declarations, circles, is_copy, copy_faults, name_faults}
 use Rattle.name_rules.specs.Uses.{used}
 use Rattle.name_rules.specs.Unknown.{unless_known}
+use Rattle.name_rules.proofs.Placeless.{placeless, at_nought, tested, doubled-bare, among-bare, unknown-bare as unless_known-bare}
 use Rattle.name_rules.specs.Circles.{Declared, uses_of, leads_to, is_circular, circular}
 use Rattle.prism_check.specs.SizeFaults.{nodes, height, command_count, part_actions, action_count, has_long_rewards, has_many_vectors, passes_limit, size_faults}
-use Rattle.prism_check.specs.TypeFaults.{part_variables, numbered_variables, variables, variable_called, or_else as or_other, declared_types, types, misfits, is_unwanted, type_faults_of, is_variable, has_variable, Target, own, global, foreign, target_of, target, wanted_at, write_faults, demand_faults, repeated_writes, part_faults, module_faults, numbered_faults, type_faults}
-use Rattle.prism_check.specs.Faults.{or_else, faults}
+use Rattle.op_trees.specs.Wanted.{is_unwanted, wanted_by}
+use Rattle.prism_check.specs.TypeFaults.{part_variables, numbered_variables, variables, variable_called, declared_types, types, misfits, type_faults_of, is_variable, has_variable, Target, own, global, foreign, target_of, target, wanted_at, write_faults, demand_faults, repeated_writes, part_faults, module_faults, numbered_faults, type_faults}
+use Rattle.prism_check.specs.Faults.{faults}
 use Rattle.prism_check.proofs.CleanFile.{no_either}
-use Rattle.prism_check.proofs.Each.{map_same, flat_map_same}
 use Rattle.prism_flat.specs.FlatLaws.{found_after}
-use Rattle.prism_places.proofs.Lists.{chosen_mapped, some_mapped, if_some-mapped, kept_mapped, any_mapped, joined, turned, gathered}
+use Rattle.basics.specs.Mapped.{chosen_mapped, some_mapped, kept_mapped, any_mapped, joined, turned, gathered, mapped, walked}
 use Rattle.prism_places.proofs.Names.{bare_part, module_name-bare, renaming-bare, is_formula-bare, called-bare, part-bare, parts-bare, bodies-bare}
 use Rattle.prism_places.proofs.Flat.{whole-bare, flat-bare, contents-bare}
 use Rattle.prism_places.proofs.Trees.{count-bare, height-bare, types-bare}
 use Rattle.prism_places.proofs.Form.{printable_too}
-use Rattle.prism_places.proofs.Order.{order_too}
+use Rattle.prism_places.proofs.Order.{if_some-mapped, order_too}
 use Rattle.prism_places.specs.PlacesLaws.{NamesFaultAlike, SizesFaultAlike, TypesFaultAlike, FaultsAlike, CommandsAlike, CleanAlike, CheckedAlike}
 
--- ---- faults without their places
-abbrev placeless : Fault → Fault
-placeless f = record { reason = f.reason; at = 0 }
-
-at_nought : (b : Bool) (at : ℕ) (r : Reason) → fault_if b 0 r ≡ map placeless (fault_if b at r)
-at_nought b at r = chosen_mapped (map placeless) b (fault at r ∷ []) []
-
--- a fault that comes where another test holds, which is the same
-tested : (b c : Bool) (at : ℕ) (r : Reason) → b ≡ c → fault_if b 0 r ≡ map placeless (fault_if c at r)
-tested b c at r e = ap (λ x. fault_if x 0 r) e ∙ at_nought c at r
-
 -- ---- names that are declared twice
-after-bare : (r : Reason) (earlier ns : List Named) → doubled_after r (map bare_name earlier) (map bare_name ns) ≡ map placeless (doubled_after r earlier ns)
-after-bare r earlier [] = refl
-after-bare r earlier (n ∷ ns) =
-    joined placeless _ _ _ _ (gathered placeless bare_name _ _ (λ m. at_nought (bytes_eq m.name n.name) (max m.at n.at) r) earlier)
-    (after-bare r (n ∷ earlier) ns)
-
-doubled-bare : (r : Reason) (us ns : List Named) → us ≡ map bare_name ns → doubled r us ≡ map placeless (doubled r ns)
-doubled-bare r us ns e = ap (doubled r) e ∙ after-bare r [] ns
-
--- what each name gives, and whether one of them is such a name
-among-bare : (us ns : List Named) → us ≡ map bare_name ns → is_among us ≡ is_among ns
-among-bare us ns e = ap is_among e ∙ fun_ext (λ x. any_mapped bare_name _ _ (λ n. refl) ns)
-
 has_pair-bare : (ps : List NamePair) → has_pair (map bare_pair ps) ≡ has_pair ps
 has_pair-bare ps = fun_ext (λ x. any_mapped bare_pair _ _ (λ p. refl) ps)
 
@@ -191,9 +165,8 @@ used-bare (written acts w) = ap (λ ns. bare_name w.name ∷ ns) (names-bare w.v
 module _ (file : File) where
   unknown-bare : (d : Demand) → unknown (bare_file file) (bare_demand d) ≡ map placeless (unknown file d)
   unknown-bare d =
-      ap₂ (λ known ns. flat_map (unless_known known) ns) (known-bare file) (used-bare d)
-      ∙ gathered placeless bare_name _ _
-      (λ n. at_nought (not (is_among (values file) n.name)) n.at Unknown) (names_used d)
+      ap (λ known. flat_map (unless_known known) (names_used (bare_demand d))) (known-bare file)
+      ∙ unless_known-bare (is_among (values file)) (names_used (bare_demand d)) (names_used d) (used-bare d)
 
   whole_name-bare : (p : Name → Bool) (e : Expression) → some_name p (whole (bare_file file) (bare e)) ≡ some_name p (whole file e)
   whole_name-bare p e = ap (some_name p) (whole-bare file e) ∙ some_name-bare p (whole file e)
@@ -231,7 +204,7 @@ bare_declared d = record { name = bare_name d.name; uses = d.uses }
 
 all_used-bare : (o : Option Expression) → used (option_map bare o) ≡ used o
 all_used-bare None = refl
-all_used-bare (Some e) = ap (map (λ n. n.name)) (names-bare e) ∙ map_same (λ n. n.name) bare_name (λ n. n.name) (λ n. refl) (names_of e)
+all_used-bare (Some e) = ap (map (λ n. n.name)) (names-bare e) ∙ mapped bare_name (λ n. n.name) (λ n. n.name) (λ n. refl) (names_of e)
 
 declarations-bare : (file : File) → declarations (bare_file file) ≡ map bare_declared (declarations file)
 declarations-bare file =
@@ -242,7 +215,7 @@ declarations-bare file =
 uses_of-bare : (ds : List Declared) (x : Name) → uses_of (map bare_declared ds) x ≡ uses_of ds x
 uses_of-bare ds x =
     ap (flat_map (λ (d : Declared). d.uses)) (kept_mapped bare_declared _ _ (λ d. refl) ds)
-    ∙ flat_map_same _ bare_declared _ (λ d. refl) (filter (λ d. is_called x d.name) ds)
+    ∙ walked bare_declared _ _ (λ d. refl) (filter (λ d. is_called x d.name) ds)
 
 leads-bare : (ds : List Declared) (n : ℕ) → leads_to (map bare_declared ds) n ≡ leads_to ds n
 leads-bare ds zero = refl
@@ -290,19 +263,19 @@ expression_of-bare (written acts w) = refl
 
 actions-bare : (p : Part) → part_actions (bare_part p) ≡ part_actions p
 actions-bare p =
-    flat_map_same _ bare_command _
+    walked bare_command _ _
     (λ c. ap if_some (some_mapped bare_name _ (λ a. p.rename a.name) (λ a. refl) c.action)) p.commands
 
 module _ (file : File) where
   nodes-bare : nodes (bare_file file) ≡ nodes file
   nodes-bare =
       ap sum (ap (map (λ d. node_count (expression_of d))) (all_demands-bare file)
-      ∙ map_same _ bare_demand _ (λ d. ap node_count (expression_of-bare d) ∙ count-bare (expression_of d)) (all_demands file))
+      ∙ mapped bare_demand _ _ (λ d. ap node_count (expression_of-bare d) ∙ count-bare (expression_of d)) (all_demands file))
 
   tallest-bare : height (bare_file file) ≡ height file
   tallest-bare =
       ap (fold max 0) (ap (map (λ d. height_of (expression_of d))) (all_demands-bare file)
-      ∙ map_same _ bare_demand _ (λ d. ap height_of (expression_of-bare d) ∙ height-bare (expression_of d)) (all_demands file))
+      ∙ mapped bare_demand _ _ (λ d. ap height_of (expression_of-bare d) ∙ height-bare (expression_of d)) (all_demands file))
 
   command_count-bare : command_count (bare_file file) ≡ command_count file
   command_count-bare =
@@ -312,7 +285,7 @@ module _ (file : File) where
 
   action_count-bare : action_count (bare_file file) ≡ action_count file
   action_count-bare =
-      ap (λ xs. length (firsts bytes_eq xs)) (ap (flat_map part_actions) (parts-bare file) ∙ flat_map_same _ bare_part _ actions-bare (parts file))
+      ap (λ xs. length (firsts bytes_eq xs)) (ap (flat_map part_actions) (parts-bare file) ∙ walked bare_part _ _ actions-bare (parts file))
 
   long_rewards-bare : has_long_rewards (bare_file file) ≡ has_long_rewards file
   long_rewards-bare =
@@ -334,7 +307,7 @@ size_faults-bare file = ap (λ b. fault_if b 0 TooLarge) (ap passes_limit (flat-
 -- ---- what the names are
 part_variables-bare : (i : ℕ) (p : Part) → part_variables i (bare_part p) ≡ part_variables i p
 part_variables-bare i p =
-    map_same _ bare_var _
+    mapped bare_var _ _
     (λ x. ap (λ t. record { owner = Some i; name = p.rename x.name.name; ty = t }) (var_type-bare x)) p.vars
 
 numbered_variables-bare : (i : ℕ) (ps : List Part) → numbered_variables i (map bare_part ps) ≡ numbered_variables i ps
@@ -344,7 +317,7 @@ numbered_variables-bare i (p ∷ ps) = ap₂ (λ a b. a ++ b) (part_variables-ba
 variables-bare : (file : File) → variables (bare_file file) ≡ variables file
 variables-bare file =
     ap₂ (λ a b. a ++ b)
-    (map_same _ bare_var _ (λ x. ap (λ t. record { owner = None; name = x.name.name; ty = t }) (var_type-bare x)) file.globals)
+    (mapped bare_var _ _ (λ x. ap (λ t. record { owner = None; name = x.name.name; ty = t }) (var_type-bare x)) file.globals)
     (ap (numbered_variables 0) (parts-bare file) ∙ numbered_variables-bare 0 (parts file))
 
 variable_called-bare : (file : File) → variable_called (bare_file file) ≡ variable_called file
@@ -367,19 +340,6 @@ name_types-bare file =
 -- a fault at the offset of an expression
 here-bare : (b c : Bool) (r : Reason) (e : Expression) → b ≡ c → fault_if b (offset_of (bare e)) r ≡ map placeless (fault_if c (offset_of e) r)
 here-bare b c r e h = ap (λ n. fault_if b n r) (offset-bare e) ∙ tested b c (offset_of e) r h
-
--- every offset is 0
-abbrev noughts : List ℕ → List ℕ
-noughts ns = map (λ n. 0) ns
-
-misfit-bare : (at : ℕ) (b c : Bool) (o p : Option Ty) → b ≡ c → o ≡ p → misfit_at 0 b o ≡ noughts (misfit_at at c p)
-misfit-bare at b c o p e h = ap₂ (misfit_at 0) e h ∙ same c p
-  where
-    same : (c : Bool) (p : Option Ty) → misfit_at 0 c p ≡ noughts (misfit_at at c p)
-    same true None = refl
-    same true (Some t) = refl
-    same false None = refl
-    same false (Some t) = refl
 
 module _ (ty : Types) where
   some_type-bare : (e : Expression) → is_some (type_in prism_meaning ty (bare e)) ≡ is_some (type_in prism_meaning ty e)
@@ -451,8 +411,8 @@ module _ (file : File) where
       ap (λ q. map (moved_to 0) (part_faults (bare_file file) i (flat_part (bare_file file) q))) (part-bare file (copied m))
       ∙ ap (λ q. map (moved_to 0) (part_faults (bare_file file) i q)) (contents-bare file p)
       ∙ ap (map (moved_to 0)) (part_faults-bare i (flat_part file p))
-      ∙ map_same _ placeless _ (λ f. refl) (part_faults file i (flat_part file p))
-      ∙ sym (map_same _ (moved_to m.name.at) _ (λ f. refl) (part_faults file i (flat_part file p)))
+      ∙ mapped placeless _ _ (λ f. refl) (part_faults file i (flat_part file p))
+      ∙ sym (mapped (moved_to m.name.at) _ _ (λ f. refl) (part_faults file i (flat_part file p)))
 
   numbered_faults-bare : (i : ℕ) (ms : List Module) → numbered_faults (bare_file file) i (map bare_module ms) ≡ map placeless (numbered_faults file i ms)
   numbered_faults-bare i [] = refl

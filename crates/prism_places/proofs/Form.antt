@@ -1,16 +1,18 @@
 -- The form of a file does not depend on its places.
 use Rattle.std.specs.Prelude.{◌≡◌, List, [], ◌∷◌, map, Option, Some, None}
-use Rattle.std.specs.List.{list_all}
+use Rattle.std.specs.List.{list_all, AllByRecursion as Each}
 use Rattle.std.specs.Option.{option_map}
 use Rattle.std.proofs.Common.{refl, sym, ap, subst, ◌∙◌}
-use Rattle.basics.specs.Lists.{empty_map}
+use Rattle.basics.specs.Lists.{empty_map, IsNotEmpty}
 use Rattle.op_trees.specs.Tree.{Truth, Number, Name, One, Two, Three, bare}
 use Rattle.prism_tree.specs.declared.syntax.NamePair.{NamePair}
 use Rattle.prism_tree.specs.declared.syntax.ItemOn.{ItemOn}
 use Rattle.prism_tree.specs.declared.syntax.ItemOn.TheVariants.{InState, Silent, Action}
 use Rattle.prism_tree.specs.Syntax.{Expression, Range, Var, Branch, Command, Module, plain, copied, Rewards, File}
-use Rattle.prism_print.specs.Printable.{Each, IfAny, IsIdentifier, IsTitle, IsPrintableExpression, IsPrintableConst, IsPrintableRange, IsPrintableVar, IsPrintableFormula, IsPrintableLabel, IsPrintableWrite, IsPrintableBranch, HasWeight, AreBranches, IsPrintableCommand, IsPrintablePair, IsNotEmpty, IsPrintableModule, IsPrintableOn, IsPrintableItem, IsPrintableRewards, IsPrintable}
-use Rattle.prism_print.specs.Same.{bare_name, bare_const, bare_range, bare_var, bare_formula, bare_label, bare_write, bare_branch, bare_command, bare_pair, bare_module, bare_on, bare_item, bare_rewards, bare_file}
+use Rattle.basics.specs.Options.{IfAny}
+use Rattle.prism_print.specs.Printable.{IsIdentifier, IsTitle, IsPrintableExpression, IsPrintableConst, IsPrintableRange, IsPrintableVar, IsPrintableFormula, IsPrintableLabel, IsPrintableWrite, IsPrintableBranch, HasWeight, AreBranches, IsPrintableCommand, IsPrintablePair, IsPrintableModule, IsPrintableOn, IsPrintableItem, IsPrintableRewards, IsPrintable}
+use Rattle.op_trees.specs.Names.{bare_name}
+use Rattle.prism_print.specs.Same.{bare_const, bare_range, bare_var, bare_formula, bare_label, bare_write, bare_branch, bare_command, bare_pair, bare_module, bare_on, bare_item, bare_rewards, bare_file}
 use Rattle.prism_flat.specs.Kept.{is_plain, IsWrittenOut}
 
 -- the one holds exactly where the other does

@@ -1,4 +1,3 @@
-pub mod Lists
 pub mod Trees
 pub mod Names
 pub mod Flat

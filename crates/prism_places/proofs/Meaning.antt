@@ -15,7 +15,8 @@ use Rattle.prism_tree.specs.declared.syntax.ItemOn.{ItemOn}
 use Rattle.prism_tree.specs.declared.syntax.ItemOn.TheVariants as On
 use Rattle.prism_tree.specs.Syntax.{Expression, Const, Range, Var, Branch, Command, Item, Rewards, Label, File}
 use Rattle.prism_tree.specs.Syntax as syntax
-use Rattle.prism_print.specs.Same.{bare_name, bare_const, bare_range, bare_var, bare_label, bare_write, bare_branch, bare_command, bare_on, bare_item, bare_rewards, bare_file}
+use Rattle.op_trees.specs.Names.{bare_name}
+use Rattle.prism_print.specs.Same.{bare_const, bare_range, bare_var, bare_label, bare_write, bare_branch, bare_command, bare_on, bare_item, bare_rewards, bare_file}
 use Rattle.prism_names.specs.Names.{unchanged, Part, parts, see, reading}
 use Rattle.process_core.specs.Instance.{Valuation, Between, Column, write_to}
 use Rattle.prism_flat.specs.Scene.{constant_called, constant_seen, constant_value, constant_within, constant, constant_names, domain_of, first_of, column, part_columns, columns_of, scene}
@@ -23,8 +24,7 @@ use Rattle.prism_flat.specs.Moment.{Moment, value_in, names_in, place_of, weight
 use Rattle.prism_flat.specs.FlatLaws.{model_alike, meaning_alike}
 use Rattle.prism_places.specs.PlacesLaws.{PlacesMeanNothing, PlacesBoundNothing, PlacesKeepScenes, PlacesKeepMoments}
 use Rattle.prism_flat.specs.FlatLaws.{found_after}
-use Rattle.prism_check.proofs.Each.{map_same, flat_map_same}
-use Rattle.prism_places.proofs.Lists.{some_mapped}
+use Rattle.basics.specs.Mapped.{some_mapped, mapped, walked}
 use Rattle.prism_places.proofs.Names.{bare_part, written_name-bare, parts-bare, reading-bare, reading_in-bare}
 
 -- ---- expressions
@@ -80,13 +80,13 @@ module _ (file : File) (cs : List Column) (rename : Name → Name) (names : Name
   update-bare : (b : Branch) → update_at (bare_file file) cs rename names (bare_branch b) ≡ update_at file cs rename names b
   update-bare b =
       ap₂ (λ w ws. record { weight = w; writes = ws; rewards = [] }) (weight-bare names b.weight)
-      (map_same _ bare_write _ write-bare b.writes)
+      (mapped bare_write _ _ write-bare b.writes)
 
   command-bare : (c : Command) → command_at (bare_file file) cs rename names (bare_command c) ≡ command_at file cs rename names c
   command-bare c =
       ap₂ {B = Option Name → Ready} (λ a g. g a) (action-bare rename c)
       (ap₂ (λ g us a. record { action = a; guard = g; updates = us }) (see-bare c.guard names)
-      (map_same _ bare_branch _ update-bare c.branches))
+      (mapped bare_branch _ _ update-bare c.branches))
 
 module _ (file : File) (v : Valuation) where
   -- ---- constants
@@ -110,20 +110,20 @@ module _ (file : File) (v : Valuation) where
   part_columns-bare : (p : Part) → part_columns (bare_file file) v (bare_part p) ≡ part_columns file v p
   part_columns-bare p =
       ap (λ names. map (column p.rename (names p.rename)) (map bare_var p.vars)) names-bare
-      ∙ map_same _ bare_var _ (column-bare p.rename (constant_names file v p.rename)) p.vars
+      ∙ mapped bare_var _ _ (column-bare p.rename (constant_names file v p.rename)) p.vars
 
   pub columns-bare : columns_of (bare_file file) v ≡ columns_of file v
   columns-bare =
       ap₂ (λ a b. a ++ b)
       (ap (λ names. map (column unchanged (names unchanged)) (map bare_var file.globals)) names-bare
-      ∙ map_same _ bare_var _ (column-bare unchanged (constant_names file v unchanged)) file.globals)
-      (ap (flat_map (part_columns (bare_file file) v)) (parts-bare file) ∙ flat_map_same _ bare_part _ part_columns-bare (parts file))
+      ∙ mapped bare_var _ _ (column-bare unchanged (constant_names file v unchanged)) file.globals)
+      (ap (flat_map (part_columns (bare_file file) v)) (parts-bare file) ∙ walked bare_part _ _ part_columns-bare (parts file))
 
   pub scene-bare : scene (bare_file file) v ≡ scene file v
   scene-bare =
       ap₂ (λ a b. record { constants = a; columns = b })
       (ap (λ names. map (λ c. constant_seen (v c.name.name) (names unchanged) c.value) (map bare_const file.constants)) names-bare
-      ∙ map_same _ bare_const _
+      ∙ mapped bare_const _ _
       (λ c. constant_seen-bare (v c.name.name) (constant_names file v unchanged) c.value) file.constants) columns-bare
 
   -- ---- at a state
@@ -136,22 +136,22 @@ module _ (file : File) (v : Valuation) where
     commands-bare : (p : Part) → part_at (bare_file file) v s (bare_part p) ≡ part_at file v s p
     commands-bare p =
         ap₂ (λ cs names. map (command_at (bare_file file) cs p.rename (names p.rename)) (map bare_command p.commands)) columns-bare state_names-bare
-        ∙ map_same _ bare_command _
+        ∙ mapped bare_command _ _
         (command-bare file (columns_of file v) p.rename (names_in file v s p.rename)) p.commands
 
     pub moment-bare : moment (bare_file file) v s ≡ moment file v s
     moment-bare =
         ap₂ {B = List (List Ready) → Moment} (λ m g. g m)
-        (ap (map (part_at (bare_file file) v s)) (parts-bare file) ∙ map_same _ bare_part _ commands-bare (parts file))
+        (ap (map (part_at (bare_file file) v s)) (parts-bare file) ∙ mapped bare_part _ _ commands-bare (parts file))
         (ap {B = List (List Ready) → Moment} (λ (names : (Name → Name) → Name → Seen) ms. record {
           modules = ms;
           labels = map (λ l. see l.body (names unchanged)) (map bare_label file.labels);
           rewards = map (λ r. map (item_at (names unchanged)) r.items) (map bare_rewards file.rewards);
         }) state_names-bare
         ∙ ap₂ (λ ls rs ms. record { modules = ms; labels = ls; rewards = rs })
-        (map_same _ bare_label _ (λ l. see-bare l.body (names_in file v s unchanged)) file.labels)
-        (map_same _ bare_rewards _
-        (λ r. map_same _ bare_item _ (item-bare (names_in file v s unchanged)) r.items) file.rewards))
+        (mapped bare_label _ _ (λ l. see-bare l.body (names_in file v s unchanged)) file.labels)
+        (mapped bare_rewards _ _
+        (λ r. mapped bare_item _ _ (item-bare (names_in file v s unchanged)) r.items) file.rewards))
 
 -- ---- files that are the same but for places
 module _ (f g : File) (e : bare_file f ≡ bare_file g) where

@@ -1,33 +1,36 @@
 -- An order of a file's formulas is one of each file that is the same but for places, where the formulas have different names.
-use Rattle.std.specs.Prelude.{◌≡◌, ℕ, zero, suc, get_or, ◌<◌, ◌≤◌, List, [], ◌∷◌, ◌++◌, map, length, true, Option, Some, None, is_some, slice_get}
-use Rattle.std.specs.List.{All}
+use Rattle.std.specs.Prelude.{◌≡◌, ℕ, zero, suc, get_or, ◌<◌, ◌≤◌, List, [], ◌∷◌, ◌++◌, map, length, Option, Some, None, is_some, slice_get}
+use Rattle.std.specs.List.{All, AllByRecursion as Each}
+use Rattle.std.specs.Option.{option_map}
 use Rattle.std.proofs.Common.{arith, refl, sym, ap, ap₂, subst, ◌∙◌, inl, inr}
 use Rattle.std.proofs.lemmas.List.{length-map}
 use Rattle.std.proofs.lemmas.Option.{slice_get-map}
-use Rattle.basics.specs.Options.{none_of}
+use Rattle.basics.specs.Options.{none_of, has_some, if_some}
+use Rattle.basics.specs.Mapped.{mapped}
 use Rattle.op_trees.specs.Tree.{Truth, Number, Name as At, One, Two, Three, AllNames, bare}
 use Rattle.op_trees.specs.SeenLaws.{names_then}
 use Rattle.process_core.specs.Product.{map-flat_map, flat_map_agree}
-use Rattle.process_core.specs.Ready.{Name, if_some}
+use Rattle.process_core.specs.Ready.{Name}
 use Rattle.prism_tree.specs.Syntax.{Expression, Formula, File}
 use Rattle.prism_names.specs.Names.{formula_body, is_formula}
 use Rattle.prism_names.specs.Places.{formula_names, at_places, stands, IsEarlier, IsListed, IsPlaceOrder}
-use Rattle.prism_print.specs.Printable.{Each}
 use Rattle.prism_print.specs.Same.{bare_formula, bare_file}
 use Rattle.prism_check.specs.NameFaults.{doubled_names}
 use Rattle.prism_check.proofs.PlaceOrder.{no_formula, first_of_name}
-use Rattle.prism_check.proofs.Each.{map_same}
-use Rattle.prism_places.proofs.Lists.{if_some-mapped}
 use Rattle.prism_places.proofs.Names.{is_formula-bare}
 
 -- ---- lists
+pub if_some-mapped : {A B : Type 0} (f : A → B) (o : Option A) → if_some (option_map f o) ≡ map f (if_some o)
+if_some-mapped f None = refl
+if_some-mapped f (Some x) = refl
+
 places-bare : (fs : List Formula) (places : List ℕ) → at_places (map bare_formula fs) places ≡ map bare_formula (at_places fs places)
 places-bare fs places =
     flat_map_agree _ _ (λ i. ap if_some (slice_get-map bare_formula fs i) ∙ if_some-mapped bare_formula (slice_get fs i)) places
     ∙ sym (map-flat_map bare_formula (λ i. if_some (slice_get fs i)) places)
 
 names-bare : (fs : List Formula) → formula_names (map bare_formula fs) ≡ formula_names fs
-names-bare fs = map_same _ bare_formula _ (λ f. refl) fs
+names-bare fs = mapped bare_formula _ _ (λ f. refl) fs
 
 -- ---- what holds of each name of a tree
 of_names-bare : (P : Name → Type 0) (e : Expression) → AllNames P (bare e) ≡ AllNames P e
@@ -42,9 +45,6 @@ of_names_too : (P : Name → Type 0) (d e : Expression) → bare d ≡ bare e �
 of_names_too P d e h = subst (λ A. A) (sym (of_names-bare P d) ∙ ap (AllNames P) h ∙ of_names-bare P e)
 
 -- ---- orders
-some_from : {A : Type 0} (o : Option A) → is_some o ≡ true → (x : A) × (o ≡ Some x)
-some_from None h = absurd cc
-some_from (Some x) h = (x, refl)
 
 -- what holds of each member of a list holds of one that is read
 each_read : {A : Type 0} (P : A → Type 0) (d : A) (xs : List A) (i : ℕ) (ys : List A) → ((j : ℕ) → j < length xs → P (get_or xs j d)) → Each P ys → Each P (if_some (slice_get xs i) ++ ys)
@@ -100,6 +100,6 @@ module _ (f g : File) (e : bare_file f ≡ bare_file g) where
       listed = listed_too [] (at_places f.formulas places) (at_places g.formulas places) (at_places_alike places) (each_first places) p.listed;
       covers =
           λ x b k.
-          let old = some_from (formula_body f x) (ap (λ t. t x) tests ∙ ap is_some k) in
+          let old = has_some (formula_body f x) (ap (λ t. t x) tests ∙ ap is_some k) in
           ap (λ ns. stands ns x) (sym (names_alike (at_places f.formulas places) (at_places g.formulas places) (at_places_alike places))) ∙ p.covers x old.0 old.1;
     }

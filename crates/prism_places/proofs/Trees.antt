@@ -9,7 +9,7 @@ use Rattle.op_trees.specs.SeenLaws.{seen-bare, seen-written_out}
 use Rattle.op_trees.specs.Tree.{Tree, Truth, Number, Name, One, Two, Three, bare, node_count, height_of, replaced, substituted, written_out, renamed}
 use Rattle.op_trees.specs.TypeLaws.{type-bare, type-written_out}
 use Rattle.op_trees.specs.Types.{Types, type_in, types_looked_up}
-use Rattle.prism_places.proofs.Lists.{some_turned}
+use Rattle.basics.specs.Mapped.{some_turned}
 
 module _ {O : Type 0} where
   -- ---- sizes

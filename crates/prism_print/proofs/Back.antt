@@ -3,7 +3,8 @@ use Rattle.std.specs.Prelude.{◌++◌, ◌∷◌}
 use Rattle.std.proofs.Common.{refl, ◌≡◌, ℕ, List, [], length, sym, subst, ◌∙◌, append-nil}
 use Rattle.prism_tree.specs.Syntax.{File}
 use Rattle.prism_print.specs.Text.{file_text}
-use Rattle.prism_print.specs.Printable.{Each, IsPrintable}
+use Rattle.std.specs.List.{AllByRecursion as Each}
+use Rattle.prism_print.specs.Printable.{IsPrintable}
 use Rattle.prism_print.specs.Same.{SpellsFile}
 use Rattle.prism_print.specs.Comments.{IsComment, lines_text, CommentedSpells}
 use Rattle.prism_print.proofs.Pieces.{Piece, text, flat, flat_text}

@@ -17,7 +17,9 @@ use Rattle.prism_tree.specs.Operators.{arity}
 use Rattle.prism_tree.specs.Syntax.{Expression, moved}
 use Rattle.prism_tree.specs.Lang.{Lang, token, token_with, gives, never, ◌>>=◌, ◌or◌, optional, many, folding, fold_left}
 use Rattle.prism_tree.specs.Grammar.{infix_at, infix_of, at_level, operator_at, joined_by, applied, operand, chain, prefixed, over_prefix, function_of, number_of, number_at, truth, parenthesised, argument, one_argument, two_arguments, arguments, name_or_call, extremum, prim, level, choice, conditional, expr_at, expr}
-use Rattle.prism_print.specs.Printable.{Each, IfAny, IsPrintableExpression}
+use Rattle.std.specs.List.{AllByRecursion as Each}
+use Rattle.basics.specs.Options.{IfAny}
+use Rattle.prism_print.specs.Printable.{IsPrintableExpression}
 
 -- the token's text is of its kind
 abbrev pub IsLexeme : Lexeme → Type 0
@@ -94,7 +96,7 @@ moved_good at (Truth from b) p = p
 moved_good at e p = p
 
 -- the operators between operands take two
-abbrev TakesTwo : Option (ℕ × PrismOp) → Type 0
+abbrev pub TakesTwo : Option (ℕ × PrismOp) → Type 0
 TakesTwo None = Unit {0}
 TakesTwo (Some p) = arity p.1 ≡ 2
 
@@ -115,11 +117,11 @@ infix_two S.Iff = refl
 infix_two S.Implies = refl
 infix_two s = tt
 
-kind_two : (k : TokenKind) → TakesTwo (infix_of k)
+pub kind_two : (k : TokenKind) → TakesTwo (infix_of k)
 kind_two (K.Symbol s) = infix_two s
 kind_two k = tt
 
-level_two : (n : ℕ) (q : Option (ℕ × PrismOp)) (o : PrismOp) → TakesTwo q → at_level n q ≡ Some o → arity o ≡ 2
+pub level_two : (n : ℕ) (q : Option (ℕ × PrismOp)) (o : PrismOp) → TakesTwo q → at_level n q ≡ Some o → arity o ≡ 2
 level_two n None o h e = absurd cc
 level_two n (Some p) o h e = go (p.0 == n) e
   where

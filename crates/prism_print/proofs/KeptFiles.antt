@@ -9,9 +9,13 @@ use Rattle.prism_tree.specs.declared.syntax.ItemOn.TheVariants.{InState}
 use Rattle.prism_tree.specs.Syntax.{Write, Branch, File}
 use Rattle.prism_tree.specs.Lang.{Lang, token, ◌>>◌, with_last, front}
 use Rattle.prism_tree.specs.Grammar.{name, named, unquoted, quoted, expr, const_type, const_item, range, var, global_item, formula_item, label_item, write, update, weighted, updates, one_branch, command, body, pair, copy, module_item, on_action, reward, rewards_item, Section, a_const, a_global, a_formula, a_module, a_label, a_rewards, empty, with_section, section, file_over}
-use Rattle.prism_print.specs.Printable.{Each, IfAny, IsIdentifier, IsTitle, IsPrintableConst, IsPrintableRange, IsPrintableVar, IsPrintableFormula, IsPrintableLabel, IsPrintableWrite, IsPrintableBranch, HasWeight, AreBranches, IsPrintableCommand, IsPrintablePair, IsNotEmpty, IsPrintableModule, IsPrintableOn, IsPrintableItem, IsPrintableRewards, IsPrintable}
+use Rattle.prism_tree.specs.Laws.{but_last_is}
+use Rattle.std.specs.List.{AllByRecursion as Each}
+use Rattle.basics.specs.Options.{IfAny}
+use Rattle.basics.specs.Lists.{IsNotEmpty}
+use Rattle.prism_print.specs.Printable.{IsIdentifier, IsTitle, IsPrintableConst, IsPrintableRange, IsPrintableVar, IsPrintableFormula, IsPrintableLabel, IsPrintableWrite, IsPrintableBranch, HasWeight, AreBranches, IsPrintableCommand, IsPrintablePair, IsPrintableModule, IsPrintableOn, IsPrintableItem, IsPrintableRewards, IsPrintable}
 use Rattle.prism_print.specs.Laws.{SpelledIsPrintable}
-use Rattle.prism_print.proofs.SpelledFiles.{V, but_last_is}
+use Rattle.prism_print.proofs.SpelledFiles.{V}
 use Rattle.prism_print.proofs.Keeping.{Keeps, then_keeps, gives_keeps, never_keeps, or_keeps, token_keeps, many_keeps, folding_keeps, optional_keeps, any_keeps, expr_keeps, token_lexemes}
 
 each_last : {A : Type 0} (P : A → Type 0) (xs : List A) (x : A) → Each P xs → P x → Each P (xs ++ x ∷ [])

@@ -1,7 +1,7 @@
 -- Templates whose tokens cannot run into one another: a test that computes, and what it means.
 use Rattle.std.proofs.Common.{◌≡◌, ℕ, Bool, true, false, cond, List, [], ◌∷◌, ◌++◌, refl, sym, ap, subst, ◌∙◌, append_assoc, arith}
 use Rattle.std.specs.Prelude.{◌||◌, ◌&&◌, not, codes}
-use Rattle.std.specs.List.{list_all}
+use Rattle.std.specs.List.{list_all, AllByRecursion as Each}
 use Rattle.std.proofs.lemmas.Bool.{and_from}
 use Rattle.basics.specs.Booleans.{first_true, second_true}
 use Rattle.op_trees.specs.declared.tree.Ty.{Ty}
@@ -30,7 +30,8 @@ use Rattle.frac_core.specs.Numeral.{minus_text, numeral_text}
 use Rattle.frac_core.specs.Text.{number_text}
 use Rattle.frac_core.proofs.Back.{text_back}
 use Rattle.prism_print.specs.Text.{operator_text, is_function, is_node, type_text, listed}
-use Rattle.prism_print.specs.Printable.{Each, IsLiteral, IsPrintableExpression}
+use Rattle.frac_core.specs.Decimal.{IsLiteral}
+use Rattle.prism_print.specs.Printable.{IsPrintableExpression}
 use Rattle.prism_print.proofs.Stands.{Calm, at_end, at_byte, is_stop, Plain, is_plain, Stands, symbol_text, is_open, symbol_stands, symbol_calm, accepted_stands, accepted_plain_text}
 use Rattle.prism_print.proofs.Pieces.{Piece, printed, blank, text, mark, operator_kind, sign, spaced, within, called, pieces, Element, a_word, a_type, a_symbol, a_name, a_title, an_expression, a_blank, word_text, type_word, quoted_text, flat}
 use Rattle.prism_print.proofs.Lexed.{Spaced}

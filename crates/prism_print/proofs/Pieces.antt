@@ -93,7 +93,7 @@ text_within false ps t e = e
 text_spaced : (p : Piece) (ps : List Piece) (t : List ℕ) → text ps ≡ t → text (spaced p ps) ≡ codes " " ++ (bytes_of p ++ (codes " " ++ t))
 text_spaced p ps t e = ap (λ (u : List ℕ). codes " " ++ (bytes_of p ++ (codes " " ++ u))) e
 
-text_both : (ps qs : List Piece) (t u : List ℕ) → text ps ≡ t → text qs ≡ u → text (ps ++ qs) ≡ t ++ u
+pub text_both : (ps qs : List Piece) (t u : List ℕ) → text ps ≡ t → text qs ≡ u → text (ps ++ qs) ≡ t ++ u
 text_both ps qs t u e f = text_append ps qs ∙ ap (λ (x : List ℕ). x ++ text qs) e ∙ ap (λ (x : List ℕ). t ++ x) f
 
 text_called : (o : PrismOp) (ps qs : List Piece) (t u : List ℕ) → text ps ≡ t → text qs ≡ u → text (called o ps qs) ≡ operator_text o ++ (codes "(" ++ (t ++ (codes ", " ++ (u ++ codes ")"))))

@@ -4,7 +4,7 @@ use Rattle.std.specs.Prelude.{codes}
 use Rattle.std.specs.Option.{option_map}
 use Rattle.std.proofs.lemmas.List.{map-append}
 use Rattle.std.proofs.Math.Seq.{append_snoc}
-use Rattle.basics.specs.Lists.{cons_same}
+use Rattle.basics.specs.Lists.{cons_same, IsNotEmpty}
 use Rattle.bridge_io.specs.declared.reason.Named.{Named}
 use Rattle.op_trees.specs.declared.tree.Ty.{Ty}
 use Rattle.op_trees.specs.declared.tree.Ty.TheVariants as T
@@ -18,12 +18,16 @@ use Rattle.prism_tree.specs.declared.syntax.ItemOn.{ItemOn}
 use Rattle.prism_tree.specs.declared.syntax.ItemOn.TheVariants.{InState, Silent, Action}
 use Rattle.prism_tree.specs.Syntax.{Expression, Const, Range, Var, Formula, Label, Write, Branch, Command, Body, Module, plain, copied, Item, Rewards, File}
 use Rattle.prism_tree.specs.Lang.{Lang, gives, ◌>>=◌, ◌>>◌, ◌or◌, optional, many, fold_left, with_last, front}
-use Rattle.prism_tree.specs.Grammar.{name, named, but_last, unquoted, quoted, expr, int_too, const_type, const_item, range, var, global_item, formula_item, label_item, write, update, weighted, updates, one_branch, command, body, pair, copy, module_item, on_action, reward, rewards_item, Section, a_const, a_global, a_formula, a_module, a_label, a_rewards, empty, with_section, section, file_over, word, symbol}
+use Rattle.prism_tree.specs.Grammar.{name, named, unquoted, quoted, expr, int_too, const_type, const_item, range, var, global_item, formula_item, label_item, write, update, weighted, updates, one_branch, command, body, pair, copy, module_item, on_action, reward, rewards_item, Section, a_const, a_global, a_formula, a_module, a_label, a_rewards, empty, with_section, section, file_over, word, symbol}
+use Rattle.prism_tree.specs.Laws.{but_last_is, fold_last}
 use Rattle.prism_print.specs.Text.{type_text, listed}
-use Rattle.prism_print.specs.Printable.{Each, IfAny, IsPrintableExpression, IsPrintableConst, IsPrintableRange, IsPrintableVar, IsPrintableFormula, IsPrintableLabel, IsPrintableWrite, IsPrintableBranch, HasWeight, AreBranches, IsPrintableCommand, IsPrintableBody, IsPrintablePair, IsNotEmpty, IsPrintableCopy, IsPrintableModule, IsPrintableItem, IsPrintableRewards, IsPrintable}
-use Rattle.prism_print.specs.Same.{bare_name, bare_const, bare_range, bare_var, bare_formula, bare_label, bare_write, bare_branch, bare_command, bare_pair, bare_module, bare_on, bare_item, bare_rewards, bare_file}
+use Rattle.std.specs.List.{AllByRecursion as Each}
+use Rattle.basics.specs.Options.{IfAny}
+use Rattle.prism_print.specs.Printable.{IsPrintableExpression, IsPrintableConst, IsPrintableRange, IsPrintableVar, IsPrintableFormula, IsPrintableLabel, IsPrintableWrite, IsPrintableBranch, HasWeight, AreBranches, IsPrintableCommand, IsPrintableBody, IsPrintablePair, IsPrintableCopy, IsPrintableModule, IsPrintableItem, IsPrintableRewards, IsPrintable}
+use Rattle.op_trees.specs.Names.{bare_name}
+use Rattle.prism_print.specs.Same.{bare_const, bare_range, bare_var, bare_formula, bare_label, bare_write, bare_branch, bare_command, bare_pair, bare_module, bare_on, bare_item, bare_rewards, bare_file}
 use Rattle.prism_print.proofs.Pieces.{Piece, printed, blank, mark, pieces, Element, type_word, quoted_text, flat, flat_append}
-use Rattle.prism_print.proofs.Spelling.{Writes, then_writes, none_writes, token_writes, blank_writes, gives_writes, left_writes, right_writes, weaken, made_writes, many_none, many_one, many_both, folding_writes, fold_last}
+use Rattle.prism_print.proofs.Spelling.{Writes, then_writes, none_writes, token_writes, blank_writes, gives_writes, left_writes, right_writes, weaken, made_writes, many_none, many_one, many_both, folding_writes}
 use Rattle.prism_print.proofs.SpelledTrees.{Same, expr_writes}
 use Rattle.prism_print.proofs.Templates.{line, indent, line_end, const_with, const_parts, var_with, var_parts, formula_parts, label_parts, write_parts, and_between, update_parts, weight_with, branch_parts, plus_between, branches_parts, command_parts, before_parts, end_parts, commands_parts, vars_parts, pair_parts, comma_between, copy_end, module_parts, on_parts, reward_parts, item_parts, rewards_end, items_parts, title_with, rewards_parts, global_lead, constants_parts, globals_parts, formulas_parts, modules_parts, labels_parts, structures_parts, file_parts}
 
@@ -51,11 +55,6 @@ more_writes {A} M bare y xs ps l = folding_writes M with_last (y ∷ []) l (λ y
 name_writes : (x : Named) → Writes name (λ y. bare_name y ≡ bare_name x) (printed K.Ident x.name ∷ [])
 unfolding name
 name_writes x = token_writes K.Ident x.name (λ t h. gives_writes (named t.text t.at) (ap (λ (u : List ℕ). named u 0) h))
-
-pub but_last_is : (x : List ℕ) (b : ℕ) → but_last (x ++ b ∷ []) ≡ x
-but_last_is [] b = refl
-but_last_is (c ∷ []) b = refl
-but_last_is (c ∷ d ∷ x) b = ap (λ (u : List ℕ). c ∷ u) (but_last_is (d ∷ x) b)
 
 title_writes : (x : Named) → Writes quoted (λ y. bare_name y ≡ bare_name x) (printed K.Quoted (quoted_text x.name) ∷ [])
 unfolding quoted

@@ -26,7 +26,7 @@ use Rattle.prism_print.proofs.Spelling.{Writes, then_writes, none_writes, token_
 abbrev pub Same : Expression → Expression → Type 0
 Same e x = bare x ≡ bare e
 
-bare_moved : (at : ℕ) (e : Expression) → bare (moved at e) ≡ bare e
+pub bare_moved : (at : ℕ) (e : Expression) → bare (moved at e) ≡ bare e
 bare_moved at (Truth from b) = refl
 bare_moved at e = refl
 

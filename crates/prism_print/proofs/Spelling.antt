@@ -2,7 +2,7 @@
 use Rattle.std.proofs.Common.{◌≡◌, ℕ, List, [], ◌∷◌, ◌++◌, Option, Some, refl, sym, ap, subst, ◌∙◌, append_assoc, append-nil, inl, inr}
 use Rattle.prism_lex.specs.declared.token.TokenKind.{TokenKind}
 use Rattle.prism_lex.specs.Tokens.{Lexeme}
-use Rattle.prism_tree.specs.Lang.{Lang, token, token_with, gives, ◌>>=◌, ◌or◌, many, folding, fold_left, with_last}
+use Rattle.prism_tree.specs.Lang.{Lang, token, token_with, gives, ◌>>=◌, ◌or◌, many, folding, fold_left}
 use Rattle.prism_print.proofs.Pieces.{Piece, printed, blank}
 
 -- the tokens are those of the pieces, wherever they stand
@@ -118,7 +118,3 @@ many_both L {ps = ps} {qs = qs} l m f = record {
 pub folding_writes : {S A : Type 0} (L : Lang A) {P : List A → Type 0} {Q : S → Type 0} {ps : List Piece} (f : S → A → S) (s : S) → Writes (many L) P ps → ((xs : List A) → P xs → Q (fold_left f s xs)) → Writes (folding f L s) Q ps
 unfolding folding
 folding_writes L f s l q = made_writes (λ xs. fold_left f s xs) q l
-
-pub fold_last : {A : Type 0} (xs ys : List A) → fold_left with_last xs ys ≡ xs ++ ys
-fold_last xs [] = sym (append-nil xs)
-fold_last xs (y ∷ ys) = fold_last (xs ++ y ∷ []) ys ∙ append_assoc xs (y ∷ []) ys

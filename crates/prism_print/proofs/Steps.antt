@@ -6,9 +6,6 @@ use Rattle.prism_tree.specs.declared.syntax.PrismWrite.{PrismWrite}
 use Rattle.prism_tree.specs.Syntax.{write_of}
 use Rattle.prism_print.specs.Text.{write_text, update_text, listed}
 
-four_joined : (a b c d : List ℕ) → ((a ++ b) ++ c) ++ d ≡ a ++ (b ++ (c ++ d))
-four_joined a b c d = simp append_assoc
-
 six_joined : (a b c d e f : List ℕ) → ((((a ++ b) ++ c) ++ d) ++ e) ++ f ≡ a ++ (b ++ (c ++ (d ++ (e ++ f))))
 six_joined a b c d e f = simp append_assoc
 

@@ -12,7 +12,9 @@ use Rattle.prism_tree.specs.declared.syntax.ItemOn.{ItemOn}
 use Rattle.prism_tree.specs.declared.syntax.ItemOn.TheVariants.{InState, Silent, Action}
 use Rattle.prism_tree.specs.Syntax.{Expression, Const, Range, Var, Formula, Label, Write, Branch, Command, Body, Module, plain, copied, Item, Rewards, File}
 use Rattle.prism_print.specs.Text.{expression_text, behind, listed, type_text, const_text, range_text, var_text, formula_text, label_text, write_text, update_text, weight_text, branch_text, action_text, command_text, before_commands, body_text, pair_text, copy_text, module_text, on_text, item_text, title_text, rewards_text, file_text}
-use Rattle.prism_print.specs.Printable.{Each, IfAny, IsPrintableExpression, IsPrintableConst, IsPrintableRange, IsPrintableVar, IsPrintableFormula, IsPrintableLabel, IsPrintableWrite, IsPrintableBranch, IsPrintableCommand, IsPrintableBody, IsPrintablePair, IsPrintableCopy, IsPrintableModule, IsPrintableOn, IsPrintableItem, IsPrintableRewards, IsPrintable, IsIdentifier, IsTitle}
+use Rattle.std.specs.List.{AllByRecursion as Each}
+use Rattle.basics.specs.Options.{IfAny}
+use Rattle.prism_print.specs.Printable.{IsPrintableExpression, IsPrintableConst, IsPrintableRange, IsPrintableVar, IsPrintableFormula, IsPrintableLabel, IsPrintableWrite, IsPrintableBranch, IsPrintableCommand, IsPrintableBody, IsPrintablePair, IsPrintableCopy, IsPrintableModule, IsPrintableOn, IsPrintableItem, IsPrintableRewards, IsPrintable, IsIdentifier, IsTitle}
 use Rattle.prism_print.proofs.Pieces.{Element, a_word, a_type, a_symbol, a_name, a_title, an_expression, a_blank, elements_text, elements_append}
 use Rattle.prism_print.proofs.Neat.{Front, nothing, neat, neat_append, listed_neat, IsProperTemplate, listed_proper}
 

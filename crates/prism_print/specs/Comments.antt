@@ -1,10 +1,10 @@
 -- Comments before a file (PRISM manual, "The PRISM Language": comments begin with // and go to the end of the line).
 use Rattle.std.specs.Prelude.{◌≡◌, ℕ, true, List, [], ◌∷◌, ◌++◌}
-use Rattle.std.specs.List.{flat_map}
+use Rattle.std.specs.List.{flat_map, AllByRecursion as Each}
 use Rattle.prism_lex.specs.Gaps.{has_no_lf}
 use Rattle.prism_tree.specs.Syntax.{File}
 use Rattle.prism_print.specs.Text.{file_text}
-use Rattle.prism_print.specs.Printable.{Each, IsPrintable}
+use Rattle.prism_print.specs.Printable.{IsPrintable}
 use Rattle.prism_print.specs.Same.{SpellsFile}
 
 -- The line is a comment: it begins with // and has no line feed.

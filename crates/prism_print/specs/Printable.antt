@@ -1,8 +1,10 @@
 -- Which files are spelled by their canonical text.
-use Rattle.std.specs.Prelude.{◌≡◌, true, false, List, [], ◌∷◌, Option, Some, None}
+use Rattle.std.specs.Prelude.{◌≡◌, true, List, [], ◌∷◌, Some}
+use Rattle.std.specs.List.{AllByRecursion as Each}
+use Rattle.basics.specs.Options.{IfAny}
+use Rattle.basics.specs.Lists.{IsNotEmpty}
 use Rattle.bridge_io.specs.declared.reason.Named.{Named}
-use Rattle.frac_core.specs.declared.decimal.Decimal.{Decimal}
-use Rattle.frac_core.specs.Decimal.{is_normal}
+use Rattle.frac_core.specs.Decimal.{IsLiteral}
 use Rattle.op_trees.specs.Tree.{Truth, Number, Name, One, Two, Three}
 use Rattle.prism_lex.specs.declared.token.TokenKind.TheVariants.{Ident}
 use Rattle.prism_lex.specs.Tokens.{IsKind, is_name}
@@ -13,15 +15,6 @@ use Rattle.prism_tree.specs.declared.syntax.ItemOn.TheVariants.{InState, Silent,
 use Rattle.prism_tree.specs.Operators.{arity}
 use Rattle.prism_tree.specs.Syntax.{Expression, Const, Range, Var, Formula, Label, Write, Branch, Command, Body, Module, plain, copied, Item, Rewards, File}
 
--- a fact of each member of a list, and of what may be missing
-abbrev pub Each : {A : Type 0} → (A → Type 0) → List A → Type 0
-Each P [] = Unit {0}
-Each P (x ∷ xs) = P x × Each P xs
-
-abbrev pub IfAny : {A : Type 0} → (A → Type 0) → Option A → Type 0
-IfAny P None = Unit {0}
-IfAny P (Some x) = P x
-
 -- an identifier, which is not reserved
 abbrev pub IsIdentifier : Named → Type 0
 IsIdentifier x = IsKind x.name Ident
@@ -29,10 +22,6 @@ IsIdentifier x = IsKind x.name Ident
 -- what a quoted name may hold
 abbrev pub IsTitle : Named → Type 0
 IsTitle x = is_name x.name ≡ true
-
--- in normal form and not negative
-abbrev pub IsLiteral : Decimal → Type 0
-IsLiteral d = (is_normal d ≡ true) × (d.negative ≡ false)
 
 -- Names are identifiers, literals as above, and each node has as many operands as its operator.
 abbrev pub IsPrintableExpression : Expression → Type 0
@@ -81,10 +70,6 @@ IsPrintableBody m = IsIdentifier m.name × Each IsPrintableVar m.vars × Each Is
 
 abbrev pub IsPrintablePair : NamePair → Type 0
 IsPrintablePair p = IsIdentifier p.old × IsIdentifier p.new
-
-abbrev pub IsNotEmpty : {A : Type 0} → List A → Type 0
-IsNotEmpty [] = ⊥
-IsNotEmpty (x ∷ xs) = Unit {0}
 
 -- There is a pair.
 abbrev pub IsPrintableCopy : CopiedModule → Type 0

@@ -1,8 +1,8 @@
 -- The same file, offsets aside, and the texts that spell it.
 use Rattle.std.specs.Prelude.{◌≡◌, ℕ, List, map}
 use Rattle.std.specs.Option.{option_map}
-use Rattle.bridge_io.specs.declared.reason.Named.{Named}
 use Rattle.op_trees.specs.Tree.{bare}
+use Rattle.op_trees.specs.Names.{bare_name}
 use Rattle.prism_tree.specs.declared.syntax.CopiedModule.{CopiedModule}
 use Rattle.prism_tree.specs.declared.syntax.NamePair.{NamePair}
 use Rattle.prism_tree.specs.declared.syntax.ItemOn.{ItemOn}
@@ -11,9 +11,6 @@ use Rattle.prism_tree.specs.Syntax.{Const, Range, Var, Formula, Label, Write, Br
 use Rattle.prism_tree.specs.Faults.{Spells}
 
 -- Two files are the same where they are equal with every offset 0.
-abbrev pub bare_name : Named → Named
-bare_name x = record { name = x.name; at = 0 }
-
 abbrev pub bare_const : Const → Const
 bare_const c = record { name = bare_name c.name; ty = c.ty; value = option_map bare c.value }
 

@@ -8,7 +8,7 @@ ghost use Rattle.prism_print.specs.Text.{action_text, weight_text, update_text};
 
 use crate::parts::{Canonical, Part, write_list, write_parts};
 use bridge_io::Named;
-use prism_tree::{Pe, PrismBranch, PrismCommand, PrismWrite};
+use prism_tree::{PrismBranch, PrismCommand, PrismExpr, PrismWrite};
 use std::alloc::AllocError;
 
 impl Canonical for PrismWrite {
@@ -42,7 +42,7 @@ fn write_update(out: &mut Vec<u8>, writes: &[PrismWrite]) -> Result<(), AllocErr
 }
 
 /// Writes a probability, where there is one.
-fn write_weight(out: &mut Vec<u8>, weight: &Option<Pe>) -> Result<(), AllocError>
+fn write_weight(out: &mut Vec<u8>, weight: &Option<PrismExpr>) -> Result<(), AllocError>
     ensures { OnOk result (out.new.items ≡ out.old.items ++ weight_text (option_map tree weight.now)) }
 {
     match weight {

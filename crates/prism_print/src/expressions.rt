@@ -6,7 +6,7 @@ ghost use Rattle.prism_print.specs.Text.{operator_text, is_function, is_node, en
 
 use frac_core::write_number;
 use op_trees::Expr;
-use prism_tree::{Pe, PrismOp};
+use prism_tree::{PrismExpr, PrismOp};
 use std::alloc::AllocError;
 
 fn operator_text(op: PrismOp) -> &'static [u8]
@@ -50,7 +50,7 @@ fn is_function(op: PrismOp) -> bool
 
 /// Whether an expression stands in parentheses where it is an operand: an operator that isn't written as a function (PRISM manual,
 /// "Expressions").
-pub fn is_node(e: &Pe) -> bool
+pub fn is_node(e: &PrismExpr) -> bool
     ensures { result ≡ is_node (tree e.now) }
 {
     match e {
@@ -62,7 +62,7 @@ pub fn is_node(e: &Pe) -> bool
 
 /// Writes an expression in parentheses.
 #[cycle(expression)]
-fn write_enclosed(out: &mut Vec<u8>, e: &Pe) -> Result<(), AllocError>
+fn write_enclosed(out: &mut Vec<u8>, e: &PrismExpr) -> Result<(), AllocError>
     ensures { OnOk result (out.new.items ≡ out.old.items ++ enclosed true (expression_text (tree e.now))) }
 {
     out.extend_from_slice(b"(")?;
@@ -72,7 +72,7 @@ fn write_enclosed(out: &mut Vec<u8>, e: &Pe) -> Result<(), AllocError>
 
 /// Writes an operand, in parentheses where it is an operator node.
 #[cycle(expression)]
-fn write_operand(out: &mut Vec<u8>, e: &Pe) -> Result<(), AllocError>
+fn write_operand(out: &mut Vec<u8>, e: &PrismExpr) -> Result<(), AllocError>
     ensures { OnOk result (out.new.items ≡ out.old.items ++ operand_text (tree e.now)) }
 {
     if is_node(e) {
@@ -85,7 +85,7 @@ fn write_operand(out: &mut Vec<u8>, e: &Pe) -> Result<(), AllocError>
 /// Writes the canonical text of an expression at the end of `out` (PRISM manual, "Expressions"). An `Err` is want of memory; what
 /// stands there then isn't said.
 #[cycle(expression)]
-pub fn write_expression(out: &mut Vec<u8>, e: &Pe) -> Result<(), AllocError>
+pub fn write_expression(out: &mut Vec<u8>, e: &PrismExpr) -> Result<(), AllocError>
     ensures { OnOk result (out.new.items ≡ out.old.items ++ expression_text (tree e.now)) }
 {
     match e {

@@ -8,7 +8,7 @@ ghost use Rattle.prism_print.specs.Parts.{part_text};
 
 use crate::expressions::write_expression;
 use bridge_io::Text;
-use prism_tree::Pe;
+use prism_tree::PrismExpr;
 use std::alloc::AllocError;
 
 /// What has a canonical text.
@@ -46,9 +46,9 @@ pub enum Part<'a> {
     /// A name.
     Name(&'a Text),
     /// An expression.
-    Expression(&'a Pe),
+    Expression(&'a PrismExpr),
     /// An expression behind a text, where there is one.
-    Behind(&'a [u8], &'a Option<Pe>),
+    Behind(&'a [u8], &'a Option<PrismExpr>),
 }
 
 impl<'a> Canonical for Part<'a> {
@@ -65,7 +65,7 @@ impl<'a> Canonical for Part<'a> {
 }
 
 /// Writes an expression behind a text, where there is one.
-fn write_behind(out: &mut Vec<u8>, text: &[u8], value: &Option<Pe>) -> Result<(), AllocError>
+fn write_behind(out: &mut Vec<u8>, text: &[u8], value: &Option<PrismExpr>) -> Result<(), AllocError>
     ensures { OnOk result (out.new.items ≡ out.old.items ++ behind text.now (option_map tree value.now)) }
 {
     match value {

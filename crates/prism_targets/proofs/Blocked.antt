@@ -7,14 +7,14 @@ use Rattle.std.proofs.lemmas.List.{length-map}
 use Rattle.std.proofs.lemmas.List.Elements.{All-nil, All-cons, All-weaker, All-map, All-filter, All-append, filter_passes}
 use Rattle.std.proofs.lemmas.List.Concat.{flat_map-append}
 use Rattle.std.proofs.Math.Bool.{or-false}
-use Rattle.basics.specs.Members.{none_passes}
+use Rattle.basics.specs.Members.{none_passes, all_get}
 use Rattle.basics.specs.Numbers.{nat_eq-self}
 use Rattle.bridge_io.specs.declared.reason.Named.{Named}
 use Rattle.op_trees.specs.Tree.{capped}
 use Rattle.process_core.specs.Ready.{Name, same_label}
 use Rattle.jani_tree.specs.Syntax.{Edge, Automaton, Vector, File}
 use Rattle.jani_meaning.specs.Elements as jani
-use Rattle.jani_meaning.proofs.Columns.{numbered-append}
+use Rattle.jani_meaning.proofs.Columns.{numbered-append, numbered_at}
 use Rattle.process_core.specs.Instance.{only_if}
 use Rattle.prism_translation.specs.Elements.{Element, elements, edges_of, Placed, placed_edges, action_of, some_write, is_reward, rewards}
 use Rattle.prism_translation.specs.Targets.{part_of, is_named, names, edges_named, reward_writer, Target, targets_by, vector_targets, silent_targets, targets, serves, has_part, is_blocked}
@@ -25,9 +25,9 @@ use Rattle.prism_targets.specs.Tables.{places_of, has_action, is_plain, ranked_f
 use Rattle.prism_targets.specs.Serving.{edge_in, served_in}
 use Rattle.prism_targets.proofs.Numbered.{places_from, places_if, no_places, any_place}
 use Rattle.prism_targets.proofs.EdgeTables.{any_kept, numbers_kept}
-use Rattle.prism_targets.proofs.Members.{all_get, not_found, IsElement, all_elements, same_element}
+use Rattle.prism_targets.proofs.Members.{not_found, IsElement, all_elements, same_element}
 use Rattle.prism_targets.proofs.Serves.{count_targets, ended, within}
-use Rattle.prism_targets.proofs.Whole.{numbered_at, flat_kept, vector_is, el, here, served_all, earns_alone, silent_of}
+use Rattle.prism_targets.proofs.Whole.{flat_kept, vector_is, el, here, served_all, earns_alone, silent_of}
 
 -- ---- some edge is named
 -- where a member passes one test and the other, both are passed by some

@@ -14,7 +14,8 @@ use Rattle.process_core.specs.Ready.{Name}
 use Rattle.choice_laws.proofs.Walks.{any-flat_map, any_and, any_exchange, any_left, has_some}
 use Rattle.jani_tree.specs.Syntax.{Write, Location, Automaton, File}
 use Rattle.jani_meaning.specs.Elements as jani
-use Rattle.jani_meaning.specs.Elements.{Owned, is_called, is_owner, is_own, is_global, place_of, labels}
+use Rattle.op_trees.specs.Names.{is_called}
+use Rattle.jani_meaning.specs.Elements.{Owned, is_owner, is_own, is_global, place_of, labels}
 use Rattle.process_core.specs.Instance.{numbered}
 use Rattle.prism_translation.specs.Elements.{Element, elements, may_use}
 use Rattle.prism_translation.specs.Marks.{Given, given_by}

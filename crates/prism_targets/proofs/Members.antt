@@ -13,10 +13,6 @@ use Rattle.prism_translation.proofs.Numbered.{placed_from}
 use Rattle.prism_targets.proofs.Numbered.{no_places}
 
 -- ---- members at places
-pub all_get : {X : Type 0} (P : X → Type 0) (xs : List X) (i : ℕ) (x : X) → All P xs → slice_get xs i ≡ Some x → P x
-all_get P [] i x h e = absurd cc
-all_get P (y ∷ ys) zero x h e = subst P (let f : y ≡ x = cc in f) (All-head P y ys h)
-all_get P (y ∷ ys) (suc i) x h e = all_get P ys i x (All-tail P y ys h) e
 
 pub not_found : {X : Type 0} (p : X → Bool) (xs : List X) → find p xs ≡ None → All (λ x. p x ≡ false) xs
 not_found p [] h = All-nil (λ x. p x ≡ false)

@@ -7,7 +7,7 @@ use Rattle.std.proofs.lemmas.List.{length-map}
 use Rattle.std.proofs.lemmas.List.Elements.{All-weaker, All-filter, filter-append}
 use Rattle.std.proofs.lemmas.Slice.Eq.{bytes_eq-Decides}
 use Rattle.std.proofs.Math.Bool.{or-false, and-false}
-use Rattle.basics.specs.Members.{none_passes}
+use Rattle.basics.specs.Members.{none_passes, all_get}
 use Rattle.basics.specs.Numbers.{nat_eq-self}
 use Rattle.op_trees.specs.Tree.{capped}
 use Rattle.process_core.specs.Ready.{Name, same_label}
@@ -22,7 +22,7 @@ use Rattle.prism_translation.proofs.Numbered.{placed_from, at_element}
 use Rattle.prism_targets.specs.Tables.{places_of, has_action, Ranked, ranked, split_by, split_in, split_count, row_at, numbers_by, all_numbers}
 use Rattle.prism_targets.proofs.Numbered.{numbered-map, places_from, places_agree, places_if}
 use Rattle.prism_targets.proofs.EdgeTables.{numbers_kept}
-use Rattle.prism_targets.proofs.Members.{all_get, not_found, IsElement, all_elements, same_element, at_split, own_place, is_numbered}
+use Rattle.prism_targets.proofs.Members.{not_found, IsElement, all_elements, same_element, at_split, own_place, is_numbered}
 
 -- ---- tests
 pub within : (n : ℕ) → n ≤ 2 ^ 64 - 1 → capped n ≡ n

@@ -2,8 +2,7 @@
 use Rattle.std.specs.Prelude.{◌≡◌, List, [], ◌∷◌, Option, true, false, Some, None, is_some}
 use Rattle.std.proofs.Common.{refl, sym}
 use Rattle.bridge_io.specs.declared.reason.Fault.{Fault}
-use Rattle.jani_table.specs.Least.{soonest}
-use Rattle.jani_check.specs.Faults.{or_else}
+use Rattle.name_rules.specs.Least.{soonest, or_else}
 use Rattle.jani_check.proofs.Phases.{none_first}
 
 pub first_kind : (xs ys : List Fault) → is_some (soonest None xs) ≡ true → soonest None (or_else xs ys) ≡ soonest None xs

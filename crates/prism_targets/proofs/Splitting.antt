@@ -7,7 +7,7 @@ use Rattle.std.proofs.Math.Bool.{or-false, or_assoc}
 use Rattle.bridge_io.specs.declared.reason.Reason.TheVariants.{SharedWrite}
 use Rattle.bridge_io.specs.declared.reason.Fault.{Fault}
 use Rattle.jani_tree.specs.Syntax.{Write, Destination, Edge, Automaton, File}
-use Rattle.jani_check.specs.Least.{fault, fault_if}
+use Rattle.name_rules.specs.Least.{fault, fault_if}
 use Rattle.jani_meaning.specs.Elements as jani
 use Rattle.jani_meaning.specs.Elements.{Owned, lasting, place_of}
 use Rattle.process_core.specs.Instance.{numbered}

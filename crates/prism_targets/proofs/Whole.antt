@@ -13,8 +13,8 @@ use Rattle.bridge_io.specs.declared.reason.Named.{Named}
 use Rattle.process_core.specs.Ready.{Name, same_label}
 use Rattle.jani_tree.specs.Syntax.{Edge, Automaton, Vector, File}
 use Rattle.jani_meaning.specs.Elements as jani
-use Rattle.jani_meaning.proofs.Columns.{numbered-append}
-use Rattle.process_core.specs.Instance.{numbered, only_if}
+use Rattle.jani_meaning.proofs.Columns.{numbered-append, numbered_at}
+use Rattle.process_core.specs.Instance.{only_if}
 use Rattle.prism_translation.specs.Elements.{Element, elements, edges_of, Placed, placed_edges, action_of, rewards}
 use Rattle.prism_translation.specs.Targets.{part_of, is_named, reward_writer, Target, vector_targets, is_silent, silent_targets, targets, serves}
 use Rattle.prism_translation.proofs.Numbered.{placed_from, at_element, numbered_from, numbers_from, numbers_below}
@@ -25,8 +25,6 @@ use Rattle.prism_targets.proofs.Members.{IsElement, all_elements, is_numbered}
 use Rattle.prism_targets.proofs.Serves.{p, q, a, place_among, before_all, rank_is, served_of, count_targets}
 
 -- ---- lists
-pub numbered_at : {X Y : Type 0} (f : ℕ → X → List Y) (i n : ℕ) (xs ys : List X) → i + length xs ≡ n → numbered f i (xs ++ ys) ≡ numbered f i xs ++ numbered f n ys
-numbered_at f i n xs ys e = numbered-append f i xs ys ∙ ap (λ m. numbered f i xs ++ numbered f m ys) e
 
 pub middle : {X : Type 0} (P : X → Type 0) (xs ys : List X) (y : X) → All P (xs ++ y ∷ ys) → P y
 middle P [] ys y h = All-head P y ys h

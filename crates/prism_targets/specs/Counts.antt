@@ -6,8 +6,9 @@ use Rattle.bridge_io.specs.declared.reason.Reason.TheVariants.{SharedWrite}
 use Rattle.bridge_io.specs.declared.reason.Fault.{Fault}
 use Rattle.process_core.specs.Ready.{Name}
 use Rattle.jani_tree.specs.Syntax.{Automaton, Destination, Write, File}
-use Rattle.jani_meaning.specs.Elements.{Owned, is_called, place_of}
-use Rattle.jani_check.specs.Least.{fault_if}
+use Rattle.op_trees.specs.Names.{is_called}
+use Rattle.jani_meaning.specs.Elements.{Owned, place_of}
+use Rattle.name_rules.specs.Least.{fault_if}
 use Rattle.process_core.specs.Instance.{numbered}
 use Rattle.prism_translation.specs.Elements.{action_of, is_at}
 use Rattle.prism_translation.specs.Targets.{part_of, is_named, is_another}

@@ -18,7 +18,7 @@ use crate::parts::{is_another, part_of};
 use crate::splits::VectorSplit;
 use crate::sums::Sums;
 use bridge_io::Named;
-use jani_tree::{JaniDestination, JaniEdge, JaniWrite, Je};
+use jani_tree::{JaniDestination, JaniEdge, JaniExpr, JaniWrite};
 use op_trees::count;
 use std::alloc::{AllocError, Global};
 
@@ -234,7 +234,7 @@ fn writes_nodes(writes: &[JaniWrite]) -> u64
 }
 
 /// The nodes of an expression, if there is one.
-fn nodes_if(e: &Option<Je>) -> u64
+fn nodes_if(e: &Option<JaniExpr>) -> u64
     ensures { result ≡ capped (nodes_if (option_map tree e.now)) }
 {
     match e {

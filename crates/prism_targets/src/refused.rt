@@ -2,8 +2,7 @@
 
 ghost use Rattle.std.specs.Prelude.{◌≡◌, None, map, IfOk};
 ghost use Rattle.bridge_io.specs.declared.reason.Reason.TheVariants.{TooLarge};
-ghost use Rattle.jani_table.specs.Least.{soonest};
-ghost use Rattle.jani_check.specs.Least.{fault_if};
+ghost use Rattle.name_rules.specs.Least.{fault_if, soonest};
 ghost use Rattle.jani_tree.specs.Syntax.{automaton_of, file_of};
 ghost use Rattle.jani_meaning.specs.Elements.{elements, lasting as lasting_of, labels as labels_of, structures as structures_of};
 ghost use Rattle.name_table.specs.JaniParts.{owned_of};

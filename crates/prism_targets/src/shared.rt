@@ -1,8 +1,7 @@
 // Global variables that edges of two elements assign, where one of these edges has an action or assigns rewards.
 
 ghost use Rattle.std.specs.Prelude.{◌≡◌, ◌<◌, ◌&&◌, ℕ, None, map, is_none, nat_eq, vec_len, IfOk};
-ghost use Rattle.jani_table.specs.Least.{soonest};
-ghost use Rattle.jani_check.specs.Least.{fault_if};
+ghost use Rattle.name_rules.specs.Least.{fault_if, soonest};
 ghost use Rattle.bridge_io.specs.declared.reason.Reason.TheVariants.{SharedWrite};
 ghost use Rattle.jani_tree.specs.Syntax.{destination_of, write_of};
 ghost use Rattle.name_table.specs.JaniParts.{owned_of};
@@ -12,8 +11,8 @@ ghost use Rattle.prism_targets.specs.Code.{ranked_view, table_view, is_to_place,
 use crate::edges::{ElementEdges, RankedEdge};
 use crate::places::Places;
 use bridge_io::{Fault, Reason};
-use jani_table::sooner;
 use jani_tree::{JaniDestination, JaniWrite};
+use name_rules::sooner;
 use name_table::OwnedVar;
 use std::alloc::{AllocError, Global};
 

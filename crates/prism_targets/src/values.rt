@@ -4,7 +4,7 @@ ghost use Rattle.std.specs.Prelude.{◌≡◌, ◌+◌, List as ListOf, ℕ, len
 ghost use Rattle.std.specs.List.{filter, list_any, sum_by};
 ghost use Rattle.op_trees.specs.Tree.{capped};
 ghost use Rattle.jani_tree.specs.Syntax.{Automaton, automaton_of, location_of, write_of};
-ghost use Rattle.jani_meaning.specs.Elements.{is_called};
+ghost use Rattle.op_trees.specs.Names.{is_called};
 ghost use Rattle.prism_targets.specs.Counts.{crowded_from, is_crowded, some_crowded};
 ghost use Rattle.prism_targets.specs.Code.{AreCounts, sum_under, usable_in};
 

@@ -7,7 +7,8 @@ use Rattle.prism_flat.specs.FlatLaws.{is_written_out}
 use Rattle.prism_check.specs.Checked.{Checked, IsChecked}
 use Rattle.prism_check.proofs.CleanFile.{flat_is_checked}
 use Rattle.prism_places.specs.Flattened.{IsFlat}
-use Rattle.jani_check.specs.Faults.{or_else, faults}
+use Rattle.name_rules.specs.Least.{or_else}
+use Rattle.jani_check.specs.Faults.{faults}
 use Rattle.jani_check.specs.Faults as judged
 use Rattle.jani_check.proofs.Profiled.{places_aside, checked_is_writable}
 use Rattle.jani_translation.specs.Translated.{translated}

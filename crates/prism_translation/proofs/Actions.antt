@@ -10,7 +10,8 @@ use Rattle.std.proofs.Math.Bool.{or-false}
 use Rattle.basics.specs.Texts.{bytes_eq_comm}
 use Rattle.basics.specs.Members.{any-map, All-unmap, any_agree, any_two}
 use Rattle.process_core.specs.Process.{EquallyOften}
-use Rattle.process_core.specs.Ready.{Name, Ready, same_label, has_action, if_some, actions_of}
+use Rattle.basics.specs.Options.{if_some}
+use Rattle.process_core.specs.Ready.{Name, Ready, same_label, has_action, actions_of}
 use Rattle.process_core.proofs.Targets.{Distinct, firsts_distinct, any_firsts}
 use Rattle.choice_laws.proofs.Members.{same_members}
 use Rattle.choice_laws.proofs.Walks.{any-flat_map, any_agree_in, filter_none, any-filter, any_exchange, any_and, filter_all}

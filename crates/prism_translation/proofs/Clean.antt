@@ -1,27 +1,28 @@
 -- What the parts of a file without faults have, each by its check.
 use Rattle.std.specs.Prelude.{◌≡◌, ◌<◌, List, [], ◌∷◌, ◌++◌, length, false, ◌||◌, Option, Some, None, nat_eq}
-use Rattle.std.specs.List.{flat_map}
+use Rattle.std.specs.List.{flat_map, AllByRecursion as OfAll}
 use Rattle.std.proofs.Common.{refl, sym, ap, subst, ◌∙◌, arith}
 use Rattle.std.proofs.lemmas.List.{length-map}
 use Rattle.std.proofs.lemmas.Option.{slice_get_past}
 use Rattle.std.proofs.Math.Path.{fun_ext}
 use Rattle.std.proofs.Math.Bool.{or-false}
 use Rattle.basics.specs.Each.{each_then, empty_each}
-use Rattle.basics.specs.Lists.{append_right, append_left}
+use Rattle.basics.specs.Lists.{append_right, append_left, IsNotEmpty as HasItems}
 use Rattle.bridge_io.specs.declared.reason.Reason.TheVariants.{TwiceNamed, RepeatedAutomaton, BranchReward, WrittenTwice, Nothing}
+use Rattle.name_rules.proofs.Plain.{no_fault}
 use Rattle.jani_tree.specs.Syntax.{Var, Automaton, File}
-use Rattle.jani_tree.specs.Canonical.{OfAll}
-use Rattle.jani_tree.specs.Form.{HasItems, AutomatonRead}
-use Rattle.jani_check.specs.Things.{Name, or_else as else_thing, global_thing, beside}
+use Rattle.jani_tree.specs.Form.{AutomatonRead}
+use Rattle.std.specs.Option.{option_or as else_thing}
+use Rattle.jani_check.specs.Things.{Name, global_thing, beside}
 use Rattle.jani_check.specs.Demands.{Demand, automaton_demands, outer_demands}
 use Rattle.jani_check.specs.NameFaults.{is_among, doubled, doubled_after, var_names, global_names, location_names, automaton_names, doubled_in, doubled_names, unless_known, unknown_by, unknown_in, unknown_names, circles, repeated_elements, no_element, bad_vector, composition_faults, name_faults}
 use Rattle.jani_check.specs.TypeFaults.{var_faults, demand_faults, targets, repeated, edge_repeats, automaton_faults, clashing_writes, type_faults}
 use Rattle.jani_check.specs.ProfileFaults.{start_faults, demand_profile, some_differ, branch_rewards, automaton_profile, given_after, two_writers, profile_faults}
-use Rattle.jani_check.specs.Faults.{or_else, IsChecked}
+use Rattle.name_rules.specs.Least.{or_else}
+use Rattle.jani_check.specs.Faults.{IsChecked}
 use Rattle.jani_check.proofs.Profiled.{first_none, rest_none}
 use Rattle.jani_meaning.specs.Elements as jani
 use Rattle.name_table.specs.PrismAsks.{outside}
-use Rattle.prism_translation.proofs.Lists.{no_fault}
 use Rattle.prism_translation.proofs.Distinct.{AreDistinct, AreNew, once_each, distinct_names, distinct_front, distinct_rest, distinct_apart}
 use Rattle.prism_translation.proofs.Scopes.{vars_of, own_vars, const_names, NamesApart}
 

@@ -1,6 +1,6 @@
 -- Names that are declared once.
 use Rattle.std.specs.Prelude.{◌≡◌, ℕ, zero, suc, List, [], ◌∷◌, ◌++◌, map, Bool, true, false, ◌&&◌, ◌||◌, cond, max, Option, Some, None, bytes_eq, slice_get}
-use Rattle.std.specs.List.{find, flat_map, list_any, position}
+use Rattle.std.specs.List.{find, flat_map, list_any, position, AllByRecursion as OfAll}
 use Rattle.std.specs.Option.{option_map}
 use Rattle.std.proofs.Common.{refl, sym, ap, ◌∙◌}
 use Rattle.std.proofs.lemmas.Bool.{or_parts, or_from, both_ways, or_left, or_right, and_right}
@@ -12,10 +12,10 @@ use Rattle.basics.specs.Each.{each_then, each_with, map_each, none_each, each_no
 use Rattle.basics.specs.Lists.{append_right, append_left}
 use Rattle.bridge_io.specs.declared.reason.Named.{Named}
 use Rattle.bridge_io.specs.declared.reason.Reason.{Reason}
-use Rattle.jani_tree.specs.Canonical.{OfAll}
+use Rattle.name_rules.proofs.Plain.{no_fault}
 use Rattle.jani_check.specs.Things.{Name, is_called}
 use Rattle.jani_check.specs.NameFaults.{is_among, clash, doubled_after, doubled}
-use Rattle.prism_translation.proofs.Lists.{no_fault, place_zero, place_next}
+use Rattle.prism_translation.proofs.Lists.{place_zero, place_next}
 
 -- ---- each name once
 -- no name comes again

@@ -53,7 +53,7 @@ map_counting y k [] = refl
 map_counting y k (x ∷ xs) = ap (λ l. y ∷ l) (map_counting y (k + 1) xs)
 
 -- ---- rewards that are assigned one after another
-abbrev value_of : Reward → Fraction
+abbrev pub value_of : Reward → Fraction
 value_of r = unwrap_or (number_of r.value.value) nought
 
 abbrev after : (ℕ → Fraction) → List Reward → ℕ → Fraction
@@ -70,7 +70,7 @@ assigned_after n f (r ∷ rs) h =
 
 -- ---- sums of items
 -- the first member's value, else another
-abbrev first_of : {X Y : Type 0} → Y → (X → Y) → List X → Y
+abbrev pub first_of : {X Y : Type 0} → Y → (X → Y) → List X → Y
 first_of y f [] = y
 first_of y f (x ∷ xs) = f x
 

@@ -9,8 +9,10 @@ use Rattle.bridge_io.specs.declared.reason.Named.{Named}
 use Rattle.bridge_io.specs.declared.reason.Reason.TheVariants.{Unknown}
 use Rattle.process_core.specs.Instance.{numbered}
 use Rattle.jani_tree.specs.Syntax.{Automaton, File}
-use Rattle.jani_tree.specs.Canonical.{OfAll}
-use Rattle.jani_tree.proofs.Mapped.{any_mapped}
+use Rattle.std.specs.List.{AllByRecursion as OfAll}
+use Rattle.basics.specs.Mapped.{any_mapped}
+use Rattle.basics.specs.Options.{has_some}
+use Rattle.name_rules.proofs.Plain.{no_fault}
 use Rattle.jani_check.specs.Things.{is_called}
 use Rattle.jani_check.specs.Things as checked
 use Rattle.jani_check.specs.NameFaults.{is_among, automaton_names, unless_known}
@@ -18,7 +20,7 @@ use Rattle.jani_check.specs.Faults.{IsChecked}
 use Rattle.jani_check.proofs.Known.{found as found-some}
 use Rattle.jani_meaning.specs.Elements as jani
 use Rattle.prism_translation.specs.Elements.{Element, elements}
-use Rattle.prism_translation.proofs.Lists.{of_found, of_at, to_map, some_place, no_fault}
+use Rattle.prism_translation.proofs.Lists.{of_found, of_at, to_map}
 use Rattle.prism_translation.proofs.Scopes.{vars_of, own_vars, NamesApart}
 use Rattle.prism_translation.proofs.Clean.{IsJudgedIn, names_apart_outside, elements_known, judged_automata}
 
@@ -38,7 +40,7 @@ module _ (file : File) where
 
   pub is_automaton : (n : Named) → unless_known (is_among (automaton_names file)) n ≡ [] → (a : Automaton) × (checked.automaton_called file n.name ≡ Some a)
   is_automaton n e =
-      some_place (checked.automaton_called file n.name)
+      has_some (checked.automaton_called file n.name)
       (found-some (λ a. is_called n.name a.name) file.automata
       ∙ sym (any_mapped (λ a. a.name) (is_called n.name) (λ a. is_called n.name a.name) (λ a. refl) file.automata)
       ∙ not-false (is_among (automaton_names file) n.name) (no_fault (not (is_among (automaton_names file) n.name)) n.at Unknown e))

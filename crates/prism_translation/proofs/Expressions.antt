@@ -1,6 +1,6 @@
 -- The names in expressions of a file without faults are those of constants and of variables that are not transient.
 use Rattle.std.specs.Prelude.{◌≡◌, ℕ, List, [], Bool, true, false, not, ◌||◌}
-use Rattle.std.specs.List.{flat_map}
+use Rattle.std.specs.List.{flat_map, AllByRecursion as OfAll}
 use Rattle.std.proofs.lemmas.Bool.{or_parts, not-false}
 use Rattle.basics.specs.Each.{each_then, empty_each}
 use Rattle.basics.specs.Lists.{append_right}
@@ -11,15 +11,15 @@ use Rattle.op_trees.specs.Names.{offset_of, names_of, some_name}
 use Rattle.op_trees.specs.NameLaws.{none_named, names_with as both_names}
 use Rattle.prism_check.proofs.NamesIn.{listed_names}
 use Rattle.jani_tree.specs.Syntax.{Expression, Write, File}
-use Rattle.jani_tree.specs.Canonical.{OfAll, HasOperands}
-use Rattle.jani_check.specs.Least.{fault_if}
+use Rattle.jani_tree.specs.Canonical.{HasOperands}
+use Rattle.name_rules.specs.Least.{fault_if}
+use Rattle.name_rules.proofs.Plain.{no_fault}
 use Rattle.jani_check.specs.Things.{is_label, global_thing, beside, types_by}
 use Rattle.jani_check.specs.Demands.{fixed, varying, assigned, given}
 use Rattle.jani_check.specs.NameFaults.{unless_known}
 use Rattle.jani_check.specs.TypeFaults.{has_variable, type_faults_of}
 use Rattle.jani_check.specs.ProfileFaults.{read_fault, reads}
 use Rattle.prism_translation.specs.Sound.{IsConstant, IsKnown, NamesConstants, KnownExpression}
-use Rattle.prism_translation.proofs.Lists.{no_fault}
 use Rattle.prism_translation.proofs.Scopes.{own_vars, NamesApart, is_known_name, is_transient_name, is_variable_name, known_name, constant_name}
 use Rattle.prism_translation.proofs.Clean.{IsJudged}
 

@@ -14,7 +14,8 @@ use Rattle.op_trees.specs.Tree.{Two, AllNames}
 use Rattle.op_trees.specs.Seen.{Seen, known, seen, two_node}
 use Rattle.process_core.specs.Zip.{AllZip-append}
 use Rattle.process_core.specs.Product.{map-map}
-use Rattle.process_core.specs.Ready.{Values, Name, Write, Update, if_some}
+use Rattle.basics.specs.Options.{if_some}
+use Rattle.process_core.specs.Ready.{Values, Name, Write, Update}
 use Rattle.process_core.specs.Choices.{is_false, number_of, written}
 use Rattle.process_core.specs.Follow.{FollowsUpdate, FollowsReady}
 use Rattle.choice_laws.specs.Columns.{slot, stands, value_at}

@@ -1,16 +1,13 @@
 -- Lists of which each member has something, or nothing; and first members.
-use Rattle.std.specs.Prelude.{◌≡◌, ℕ, zero, suc, ◌+◌, ◌<◌, List, [], ◌∷◌, ◌++◌, map, length, Bool, true, false, not, ◌||◌, cond, Option, Some, None, is_some, nat_lt, slice_get}
-use Rattle.std.specs.List.{find, list_any, position, position_or_len}
+use Rattle.std.specs.Prelude.{◌≡◌, ℕ, zero, suc, ◌+◌, ◌<◌, List, [], ◌∷◌, ◌++◌, map, length, Bool, true, false, not, ◌||◌, cond, Some, None, nat_lt, slice_get}
+use Rattle.std.specs.List.{find, list_any, position, position_or_len, AllByRecursion as OfAll}
 use Rattle.std.specs.Option.{option_map}
-use Rattle.std.proofs.Common.{refl, sym, ap, ap₂, subst, ◌∙◌, arith}
+use Rattle.std.proofs.Common.{refl, ap, ap₂, subst, ◌∙◌, arith}
 use Rattle.std.proofs.lemmas.Bool.{lt-ltb, le-ltb, ltb-true, ltb-false}
 use Rattle.std.proofs.lemmas.Option.{same_Some}
 use Rattle.std.proofs.lemmas.List.Folds.{list_any-append}
 use Rattle.basics.specs.Each.{each_join}
-use Rattle.bridge_io.specs.declared.reason.Reason.{Reason}
 use Rattle.process_core.specs.Instance.{numbered}
-use Rattle.jani_tree.specs.Canonical.{OfAll}
-use Rattle.jani_check.specs.Least.{fault_if}
 
 -- ---- each member
 pub of_front : {A : Type 0} (P : A → Type 0) (xs ys : List A) → OfAll P (xs ++ ys) → OfAll P xs
@@ -46,9 +43,6 @@ to_numbered P Q f h k [] p = tt
 to_numbered P Q f h k (x ∷ xs) p = (h k x p.0, to_numbered P Q f h (k + 1) xs p.1)
 
 -- ---- nothing
-pub no_fault : (b : Bool) (at : ℕ) (r : Reason) → fault_if b at r ≡ [] → b ≡ false
-no_fault true at r e = absurd cc
-no_fault false at r e = refl
 
 -- ---- tests
 -- a test of the members of a numbered list
@@ -57,13 +51,6 @@ any-numbered q f p h k [] = refl
 any-numbered q f p h k (x ∷ xs) = list_any-append q (f k x) (numbered f (k + 1) xs) ∙ ap₂ (λ a b. a || b) (h k x) (any-numbered q f p h (k + 1) xs)
 
 -- ---- first members
-pub found_passes : {A : Type 0} (p : A → Bool) (xs : List A) (x : A) → find p xs ≡ Some x → p x ≡ true
-found_passes p [] x e = absurd cc
-found_passes p (y ∷ ys) x e = by_test (p y) refl e (λ k. found_passes p ys x k)
-  where
-    by_test : (b : Bool) → p y ≡ b → cond b (Some y) (find p ys) ≡ Some x → (find p ys ≡ Some x → p x ≡ true) → p x ≡ true
-    by_test true h k ih = let same : y ≡ x = cc in ap p (sym same) ∙ h
-    by_test false h k ih = ih k
 
 -- a place is where the first member that passes stands
 pub place_zero : {A : Type 0} (p : A → Bool) (x : A) (xs : List A) → p x ≡ true → position p (x ∷ xs) ≡ Some 0
@@ -86,7 +73,3 @@ place_next p x xs h =
     shifted i n false e =
         let high = ltb-false i n e in
         ap (λ b. cond b (Some (1 + i)) None) (le-ltb (1 + i) (suc n) (omega arith))
-
-pub some_place : {A : Type 0} (o : Option A) → is_some o ≡ true → (x : A) × (o ≡ Some x)
-some_place None e = absurd cc
-some_place (Some x) e = (x, refl)

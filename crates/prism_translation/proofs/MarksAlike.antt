@@ -15,7 +15,8 @@ use Rattle.op_trees.specs.declared.tree.Value.TheVariants as V
 use Rattle.op_trees.specs.Tree.{Three}
 use Rattle.op_trees.specs.Seen.{Seen, known, seen, lazy_node, two_node}
 use Rattle.process_core.specs.Product.{map-map, map-flat_map}
-use Rattle.process_core.specs.Ready.{Values, Name, if_some}
+use Rattle.basics.specs.Options.{if_some}
+use Rattle.process_core.specs.Ready.{Values, Name}
 use Rattle.process_core.specs.Bounds.{adds}
 use Rattle.process_core.specs.Choices.{number_of, all_defined, truth_of}
 use Rattle.process_core.specs.declared.data.Mark.TheVariants as M
@@ -36,7 +37,8 @@ use Rattle.prism_flat.specs.Process as prism_process
 use Rattle.jani_tree.specs.Syntax as syntax
 use Rattle.jani_tree.specs.Syntax.{Location, Automaton, File}
 use Rattle.jani_meaning.specs.Elements as jani
-use Rattle.jani_meaning.specs.Elements.{Owned, is_called, location_number, lasting}
+use Rattle.op_trees.specs.Names.{is_called}
+use Rattle.jani_meaning.specs.Elements.{Owned, location_number, lasting}
 use Rattle.jani_meaning.specs.Scene as jani_scene
 use Rattle.jani_meaning.specs.Moment as jani_moment
 use Rattle.jani_meaning.specs.Moment.{is_number, is_current, current_location, given_in, given_at, given_to, may_give, first_or}

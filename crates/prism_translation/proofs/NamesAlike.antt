@@ -32,7 +32,8 @@ use Rattle.prism_flat.specs.Moment as prism_moment
 use Rattle.jani_tree.specs.Syntax.{Expression, Const, File}
 use Rattle.jani_tree.specs.Canonical.{HasOperands}
 use Rattle.jani_meaning.specs.Elements as jani
-use Rattle.jani_meaning.specs.Elements.{is_called, lasting}
+use Rattle.op_trees.specs.Names.{is_called}
+use Rattle.jani_meaning.specs.Elements.{lasting}
 use Rattle.jani_meaning.specs.Scene as jani_scene
 use Rattle.jani_meaning.specs.Moment as jani_moment
 use Rattle.name_table.specs.declared.entry.Entry.{Entry}
@@ -123,7 +124,7 @@ module _ (file : File) (v w : Valuation) where
   called_there i l =
       let ds = map made_constant (zip file.constants names.constants) in
       let long : length ds ≡ count = length-map (zip file.constants names.constants) made_constant ∙ zip_length file.constants names.constants constants_long in
-      first_at (λ d. prism_names.is_called (name_at names.constants i) d.name) ds i (made_constant pair) (omega arith)
+      first_at (λ d. is_called (name_at names.constants i) d.name) ds i (made_constant pair) (omega arith)
       (ap (λ (d : prism.Const). bytes_eq d.name.name (name_at names.constants i)) (value_at_place i l) ∙ (bytes_eq-Decides (get_or names.constants i (nothing file)).name (name_at names.constants i)).1 (name_is i l))
       (λ j k. ap (λ (d : prism.Const). bytes_eq d.name.name (name_at names.constants i)) (value_at_place j (omega arith))
       ∙ ap (λ y. bytes_eq y (name_at names.constants i)) (name_is j (omega arith)) ∙ names_differ j i (omega arith) l (λ e. omega arith))

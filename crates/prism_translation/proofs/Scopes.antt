@@ -1,28 +1,26 @@
 -- What a name stands for in an element: by the checks of names, and by its places among the variables.
 use Rattle.std.specs.Prelude.{◌≡◌, ℕ, zero, suc, ◌+◌, ◌<◌, List, [], ◌∷◌, map, Bool, true, false, not, ◌&&◌, ◌||◌, Option, Some, None, is_some, nat_eq, slice_get, unwrap_or}
-use Rattle.std.specs.List.{filter, list_any, position}
-use Rattle.std.specs.Option.{option_map}
+use Rattle.std.specs.List.{filter, list_any, position, AllByRecursion as OfAll}
+use Rattle.std.specs.Option.{option_map, option_or as or_else}
 use Rattle.std.proofs.Common.{refl, sym, ap, ap₂, ◌∙◌, arith, inl, inr, eq-eqb}
 use Rattle.std.proofs.lemmas.Bool.{ne_eqb, or_parts, or_left, both_ways, false_from_ne_true}
 use Rattle.std.proofs.lemmas.List.Folds.{list_any-append}
 use Rattle.std.proofs.Math.Bool.{and-false, or-false}
-use Rattle.basics.specs.Options.{is_some-or, none_of}
+use Rattle.basics.specs.Options.{is_some-or, none_of, has_some}
 use Rattle.basics.specs.Members.{is_some-position}
 use Rattle.basics.specs.Each.{each_then, each_with, map_each}
 use Rattle.bridge_io.specs.declared.reason.Named.{Named}
 use Rattle.choice_laws.proofs.Walks.{any-filter}
 use Rattle.process_core.specs.Instance.{numbered}
 use Rattle.jani_tree.specs.Syntax.{VarKind, boolean, integer, number, real_bounded, one_sided, bounded, Const, Var, Automaton, File}
-use Rattle.jani_tree.proofs.Mapped.{any_mapped}
-use Rattle.jani_tree.specs.Canonical.{OfAll}
-use Rattle.jani_check.specs.Things.{Name, is_called, const_thing, var_thing, const_called, var_called, or_else, global_thing, beside, is_transient, is_reward}
+use Rattle.basics.specs.Mapped.{any_mapped}
+use Rattle.jani_check.specs.Things.{Name, is_called, const_thing, var_thing, const_called, var_called, global_thing, beside, is_transient, is_reward}
 use Rattle.jani_check.specs.Things as checked
 use Rattle.jani_check.specs.NameFaults.{is_among, var_names, global_names}
 use Rattle.jani_check.specs.TypeFaults.{is_variable}
 use Rattle.jani_check.proofs.Known.{found as found-some}
 use Rattle.jani_meaning.specs.Elements.{elements, Owned, owned_by, variables, is_boolean, lasting, is_own, is_global, place_of, structure_number}
 use Rattle.prism_translation.specs.Sound.{IsConstant, IsKnown}
-use Rattle.prism_translation.proofs.Lists.{some_place}
 use Rattle.prism_translation.proofs.Distinct.{AreDistinct, AreNew, not_among, tested, held, none_held, held_found, found_itself}
 
 -- ---- variables of an element
@@ -277,7 +275,7 @@ module _ (file : File) (k : ℕ) (apart : NamesApart file (own_vars file k)) whe
   pub constant_name : (x : Name) → is_known_name x ≡ true → is_variable_name x ≡ false → IsConstant file k x
   constant_name x known h =
       let parts = or_parts (is_lasting_name x) (is_transient_name x) h in
-      let found = some_place (position (λ d. is_called x d.name) file.constants)
+      let found = has_some (position (λ d. is_called x d.name) file.constants)
       (is_some-position (λ d. is_called x d.name) file.constants ∙ sym (found-some (λ d. is_called x d.name) file.constants)
       ∙ constant_found file (own_vars file k) apart const_thing var_thing is_variable variable_test (const_called file x) (var_called file.variables x) (var_called (own_vars file k) x)
       (known_stands file (own_vars file k) apart const_thing var_thing x ∙ known) h) in
@@ -287,5 +285,5 @@ module _ (file : File) (k : ℕ) (apart : NamesApart file (own_vars file k)) whe
   known_name x known h = by_test (is_lasting_name x) refl
     where
       by_test : (b : Bool) → is_lasting_name x ≡ b → IsKnown file k x
-      by_test true e = let there = some_place (place_of (lasting file) k x) (has_column x ∙ e) in inr (record { number = there.0; stands_there = there.1 })
+      by_test true e = let there = has_some (place_of (lasting file) k x) (has_column x ∙ e) in inr (record { number = there.0; stands_there = there.1 })
       by_test false e = inl (constant_name x known (ap₂ (λ a b. a || b) e h))

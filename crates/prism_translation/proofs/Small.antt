@@ -15,7 +15,8 @@ use Rattle.process_core.specs.Choices.{assigned}
 use Rattle.process_core.specs.Instance.{Valuation}
 use Rattle.jani_table.specs.Node.{array, no_nodes}
 use Rattle.jani_tree.specs.Syntax.{boolean, number, Var, Write, Location, Destination, Edge, Automaton, File}
-use Rattle.jani_meaning.specs.Elements.{is_called, location_number}
+use Rattle.op_trees.specs.Names.{is_called}
+use Rattle.jani_meaning.specs.Elements.{location_number}
 use Rattle.prism_translation.specs.Elements.{Element, Placed, placed_edges}
 use Rattle.prism_translation.specs.Names.{new_names}
 use Rattle.prism_translation.specs.Parts.{scope_of, whole_literal}

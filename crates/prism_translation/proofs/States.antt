@@ -1,28 +1,20 @@
 -- The states of a translated file go onto those of the file.
-use Rattle.std.specs.Prelude.{◌≡◌, ℕ, ◌+◌, ◌-◌, ◌<◌, List, [], map, length, Bool, true, false, not, ◌&&◌, nat_lt, get_or}
-use Rattle.std.specs.Ordering.{MatchOrdering}
-use Rattle.std.specs.declared.cmp.Ordering.{Ordering}
-use Rattle.std.specs.declared.cmp.Ordering.TheVariants as C
+use Rattle.std.specs.Prelude.{◌≡◌, ℕ, ◌+◌, ◌-◌, ◌<◌, List, [], map, length, Bool, true, false, nat_lt, get_or}
 use Rattle.std.proofs.Common.{refl, sym, ap, ap₂, ◌∙◌, arith, ltb-true, ltb-false, length-append}
 use Rattle.std.proofs.lemmas.Option.{get_or_from_slice_get}
 use Rattle.std.proofs.lemmas.List.{length-map}
 use Rattle.std.proofs.lemmas.Bool.{both_ways}
-use Rattle.basics.specs.Booleans.{first_true, second_true}
-use Rattle.frac_core.specs.Fraction.{Fraction, nought, compare, is_whole}
-use Rattle.frac_core.specs.Order.{Below, compare_ranks, compare_is}
-use Rattle.op_trees.specs.declared.tree.Value.{Value}
-use Rattle.op_trees.specs.declared.tree.Value.TheVariants as V
 use Rattle.process_core.specs.Ready.{Values}
 use Rattle.choice_laws.specs.Columns.{at_start, counting, stands, value_at}
 use Rattle.choice_laws.proofs.Columns.{read_at, value_absent, length-counting, value_at-map, listed}
-use Rattle.process_core.specs.Instance.{Valuation, Domain, Between, Column, is_in, is_state, is_greater, is_above, Truths, domain_at}
+use Rattle.process_core.specs.Instance.{Valuation, Domain, Between, Column, is_in, is_state, Truths, domain_at}
 use Rattle.prism_flat.specs.Scene as prism_scene
 use Rattle.jani_tree.specs.Syntax.{File}
 use Rattle.jani_meaning.specs.Elements as jani
 use Rattle.jani_meaning.specs.Elements.{lasting}
 use Rattle.jani_meaning.specs.Scene as jani_scene
 use Rattle.jani_meaning.specs.Scene.{location_column, counted}
-use Rattle.jani_meaning.proofs.Columns.{has_count}
+use Rattle.jani_meaning.proofs.Columns.{has_count, only_nought}
 use Rattle.prism_translation.specs.Elements.{Element, elements, has_several}
 use Rattle.prism_translation.specs.StateLaws.{columns, state_of}
 use Rattle.prism_translation.specs.Translated.{translated}
@@ -51,21 +43,6 @@ state_long file v s h =
     ∙ length-map (columns file) (column_name file v v [])
 
 -- ---- the only value of the location of an element without several
-not_greater : (o : Ordering) → not (is_greater o) ≡ true → C.Greater ≡ o → ⊥
-not_greater C.Less h e = absurd cc
-not_greater C.Equal h e = absurd cc
-not_greater C.Greater h e = absurd cc
-
-by_order : (q : Fraction) (o : Ordering) → MatchOrdering o (Below q nought) (q ≡ nought) (Below nought q) → not (is_greater o) ≡ true → not (is_above nought q) ≡ true → q ≡ nought
-by_order q C.Less m h k = absurd (not_greater (compare nought q) k (compare_is nought q C.Greater m))
-by_order q C.Equal m h k = m
-by_order q C.Greater m h k = absurd cc
-
-only_start : (u : Value) → is_in (Between (counted 0) (counted 0)) u ≡ true → u ≡ at_start
-only_start (V.Truth b) h = absurd cc
-only_start (V.Number q) h =
-    let both = second_true (is_whole q) (not (is_above nought q) && not (is_above q nought)) h in
-    ap V.Number (by_order q (compare q nought) (compare_ranks q nought) (second_true (not (is_above nought q)) (not (is_above q nought)) both) (first_true (not (is_above nought q)) (not (is_above q nought)) both))
 
 module _ (file : File) (v w : Valuation) (sound : FileIsSound file) (alike : GivesAlike file v w) where
   abbrev n : ℕ
@@ -164,7 +141,7 @@ module _ (file : File) (v w : Valuation) (sound : FileIsSound file) (alike : Giv
           let few = ltb-false 1 (length k.element.automaton.locations) k.few in
           let none : length k.element.automaton.locations - 1 ≡ 0 = omega arith in
           value_absent cols (back u) i e
-          ∙ sym (only_start (get_or u i at_start)
+          ∙ sym (only_nought (get_or u i at_start)
           (ap (λ m. is_in (Between (counted 0) (counted m)) (get_or u i at_start)) (sym none)
           ∙ ap (λ d. is_in d (get_or u i at_start)) (sym k.range_is)
           ∙ pass_at range_of_column is_in Truths jani_columns u (sym (state_is jani_columns u) ∙ h) i (let e = jani_columns_long in omega arith)))

@@ -11,7 +11,8 @@ use Rattle.prism_tree.specs.declared.syntax.ItemOn.TheVariants as On
 use Rattle.prism_tree.specs.Syntax as prism
 use Rattle.process_core.specs.Instance.{numbered}
 use Rattle.jani_tree.specs.Syntax.{Expression, Write, Destination, File}
-use Rattle.jani_meaning.specs.Elements.{Owned, is_called, structure_number}
+use Rattle.op_trees.specs.Names.{is_called}
+use Rattle.jani_meaning.specs.Elements.{Owned, structure_number}
 use Rattle.name_table.specs.PrismAsks.{NewNames, value_name, outside}
 use Rattle.jani_images.specs.Image.{image}
 use Rattle.prism_translation.specs.Elements.{Element, elements, has_several, Placed, may_use, is_at}

@@ -5,8 +5,7 @@ use Rattle.bridge_io.specs.declared.reason.Fault.{Fault}
 use Rattle.bridge_io.specs.declared.reason.Reason.TheVariants.{SharedWrite, TooLarge}
 use Rattle.op_trees.specs.Tree.{node_count}
 use Rattle.jani_tree.specs.Syntax.{Expression, Destination, Edge, File}
-use Rattle.jani_check.specs.Least.{fault, fault_if}
-use Rattle.jani_check.specs.Faults.{or_else}
+use Rattle.name_rules.specs.Least.{fault, fault_if, or_else}
 use Rattle.jani_meaning.specs.Elements.{Owned, labels}
 use Rattle.prism_translation.specs.Elements.{Element, elements, edges_of, Placed, placed_edges, some_write, is_to, is_reward, Lasting, lasting_variables, writers, may_use}
 use Rattle.prism_translation.specs.Targets.{targets, serves, serves_silently, is_blocked}

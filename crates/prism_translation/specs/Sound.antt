@@ -12,7 +12,8 @@ use Rattle.process_core.specs.Choices.{number_of, assigned}
 use Rattle.process_core.specs.Instance.{Valuation}
 use Rattle.jani_tree.specs.Syntax.{Const, Expression, VarKind, boolean, integer, number, real_bounded, one_sided, bounded, Location, Destination, Edge, Vector, File}
 use Rattle.jani_tree.specs.Canonical.{HasOperands}
-use Rattle.jani_meaning.specs.Elements.{Owned, is_called, location_number, lasting, place_of, labels, structures}
+use Rattle.op_trees.specs.Names.{is_called}
+use Rattle.jani_meaning.specs.Elements.{Owned, location_number, lasting, place_of, labels, structures}
 use Rattle.jani_meaning.specs.Moment.{reward_at}
 use Rattle.name_table.specs.PrismAsks.{name_at, outside}
 use Rattle.prism_translation.specs.Elements.{Element, elements, Placed, placed_edges, rewards, may_use}

@@ -1,14 +1,17 @@
 -- The constants, variables and edges of a file without faults: what their expressions name.
 use Rattle.std.specs.Prelude.{◌≡◌, ℕ, List, ◌++◌, map, Option, Some, None, slice_get, IfSome}
-use Rattle.std.specs.List.{flat_map, All, position}
+use Rattle.std.specs.List.{flat_map, All, position, AllByRecursion as OfAll}
 use Rattle.std.proofs.lemmas.List.Elements.{All-from_recursion}
 use Rattle.basics.specs.Each.{each_then, each_with, each_rest, each_of, map_each, each_join, each_filter}
 use Rattle.process_core.specs.Instance.{numbered}
 use Rattle.jani_tree.specs.Syntax.{Expression, VarKind, boolean, integer, number, real_bounded, one_sided, bounded, Const, Var, Location, Destination, Edge, File}
-use Rattle.jani_tree.specs.Canonical.{OfAll, OfSome}
-use Rattle.jani_tree.specs.Form.{HasItems, IsGiven, ExprForm, KindForm, ConstRead, VarRead, WriteRead, LocationRead, DestinationRead, EdgeRead}
+use Rattle.basics.specs.Lists.{IsNotEmpty as HasItems}
+use Rattle.jani_tree.specs.Form.{IsGiven, ExprForm, KindForm, ConstRead, VarRead, WriteRead, LocationRead, DestinationRead, EdgeRead}
 use Rattle.jani_check.specs.Things.{kind_type}
-use Rattle.jani_check.specs.Demands.{Demand, fixed, varying, assigned, given, if_some, wanted_by, const_demands, bound_demands, var_demands, location_demands, destination_demands, edge_demands}
+use Rattle.basics.specs.Options.{if_some, IfAny as OfSome}
+use Rattle.op_trees.specs.Names.{is_called}
+use Rattle.op_trees.specs.Wanted.{wanted_by}
+use Rattle.jani_check.specs.Demands.{Demand, fixed, varying, assigned, given, const_demands, bound_demands, var_demands, location_demands, destination_demands, edge_demands}
 use Rattle.jani_check.specs.Faults.{IsChecked}
 use Rattle.jani_check.proofs.Profiled.{operands}
 use Rattle.jani_meaning.specs.Elements as jani
@@ -99,7 +102,7 @@ module _ (file : File) (c : IsChecked file) where
       (each_of (IsJudged file (own_vars file (outside file))) const_demands file.constants
       (of_front (IsJudged file (own_vars file (outside file))) (flat_map const_demands file.constants) (flat_map var_demands file.variables) (demands_outside file c))))
 
-  pub constants_named : (i : ℕ) (d : Const) → slice_get file.constants i ≡ Some d → position (λ e. jani.is_called d.name.name e.name) file.constants ≡ Some i
+  pub constants_named : (i : ℕ) (d : Const) → slice_get file.constants i ≡ Some d → position (λ e. is_called d.name.name e.name) file.constants ≡ Some i
   constants_named i d e = stands_first (λ (x : Const). x.name) file.constants (names_apart_outside file c).constants i d e
 
   -- ---- variables

@@ -1,17 +1,17 @@
 -- What the locations of a file without faults give to transient variables, and how those begin.
 use Rattle.std.specs.Prelude.{◌≡◌, ℕ, ◌+◌, List, [], ◌∷◌, ◌++◌, map, Bool, true, false, not, ◌&&◌, ◌||◌, cond, Option, Some, None, is_some, bytes_eq, slice_get, unwrap_or, if◌then◌else◌}
-use Rattle.std.specs.List.{find, filter, flat_map, list_any, All}
-use Rattle.std.specs.Option.{option_map}
+use Rattle.std.specs.List.{find, filter, flat_map, list_any, All, AllByRecursion as OfAll}
+use Rattle.std.specs.Option.{option_map, option_or as or_else}
 use Rattle.std.proofs.Common.{refl, sym, ap, ap₂, ◌∙◌}
 use Rattle.std.proofs.lemmas.Bool.{eqb-true, and_parts, and_from, or_left, not-false, both_ways, false_from_ne_true, or_right, not-true}
 use Rattle.std.proofs.lemmas.Option.{same_Some}
 use Rattle.std.proofs.Math.Bool.{and-true}
 use Rattle.std.proofs.lemmas.List.Elements.{All-from_recursion}
 use Rattle.basics.specs.Texts.{bytes_eq-true}
-use Rattle.basics.specs.Options.{none_of}
+use Rattle.basics.specs.Options.{none_of, if_some}
 use Rattle.basics.specs.Each.{each_then, each_with, each_rest, each_join, empty_each}
-use Rattle.basics.specs.Members.{any_agree}
-use Rattle.basics.specs.Lists.{append_right, append_left}
+use Rattle.basics.specs.Members.{any_agree, found_passes}
+use Rattle.basics.specs.Lists.{append_right, append_left, IsNotEmpty as HasItems}
 use Rattle.bridge_io.specs.declared.reason.Named.{Named}
 use Rattle.bridge_io.specs.declared.reason.Reason.TheVariants.{TransientInitial, TransientTwoAutomata}
 use Rattle.frac_core.specs.declared.decimal.Decimal.{Decimal}
@@ -23,12 +23,12 @@ use Rattle.op_trees.specs.declared.tree.Ty.TheVariants as T
 use Rattle.op_trees.specs.Names.{offset_of}
 use Rattle.choice_laws.proofs.Walks.{any-flat_map, any-filter}
 use Rattle.process_core.specs.Instance.{numbered}
-use Rattle.jani_tree.specs.Canonical.{OfAll}
-use Rattle.jani_tree.specs.Form.{HasItems, IsGiven, VarRead}
+use Rattle.jani_tree.specs.Form.{IsGiven, VarRead}
 use Rattle.jani_tree.specs.Syntax.{Expression, VarKind, boolean, integer, number, real_bounded, one_sided, bounded, Var, Write, Location, Automaton, File}
-use Rattle.jani_tree.proofs.Mapped.{any_mapped}
-use Rattle.jani_check.specs.Things.{Name, is_called, kind_type, const_thing, var_thing, const_called, var_called, or_else, global_thing, is_transient}
-use Rattle.jani_check.specs.Demands.{if_some, var_demands, location_demands, edge_demands}
+use Rattle.basics.specs.Mapped.{any_mapped}
+use Rattle.name_rules.proofs.Plain.{no_fault}
+use Rattle.jani_check.specs.Things.{Name, is_called, kind_type, const_thing, var_thing, const_called, var_called, global_thing, is_transient}
+use Rattle.jani_check.specs.Demands.{var_demands, location_demands, edge_demands}
 use Rattle.jani_check.specs.NameFaults.{is_among, var_names, automaton_names, unless_known}
 use Rattle.jani_check.specs.TypeFaults.{targets}
 use Rattle.jani_check.specs.ProfileFaults.{is_first, first_fault, start_faults, given_by, given_again, given_after}
@@ -39,7 +39,7 @@ use Rattle.jani_meaning.specs.Elements.{Owned, owned_by, is_boolean, is_label, i
 use Rattle.prism_translation.specs.Elements.{Element, elements, may_use}
 use Rattle.prism_translation.specs.Marks.{Given, given_by as given_values}
 use Rattle.prism_translation.specs.Sound.{KnownExpression, AtMostOne, is_some_given, SoundLocations, given_there, HasOneGiver, StartsWithTruth, StartsWithNought, MarksAreSound}
-use Rattle.prism_translation.proofs.Lists.{of_front, to_map, of_numbered, no_fault, any-numbered, found_passes}
+use Rattle.prism_translation.proofs.Lists.{of_front, to_map, of_numbered, any-numbered}
 use Rattle.prism_translation.proofs.Distinct.{AreDistinct, not_among, stands_first, found_itself}
 use Rattle.prism_translation.proofs.Scopes.{own_vars, const_names}
 use Rattle.prism_translation.proofs.Clean.{IsJudged, names_apart_outside, elements_known, elements_once, starts_outside, given_once}

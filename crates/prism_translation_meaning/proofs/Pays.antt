@@ -1,6 +1,6 @@
 -- All destinations of an edge pay the same.
 use Rattle.std.specs.Prelude.{◌≡◌, ℕ, ◌+◌, ◌<◌, List, [], ◌∷◌, ◌++◌, map, length, Bool, true, false, not, ◌&&◌, ◌||◌, cond, Option, Some, None, is_some, is_none, unwrap_or, nat_eq, get_or, if◌then◌else◌}
-use Rattle.std.specs.List.{find, filter, flat_map, list_any, All}
+use Rattle.std.specs.List.{find, filter, flat_map, list_any, All, AllByRecursion as OfAll}
 use Rattle.std.specs.Option.{option_map}
 use Rattle.std.proofs.Common.{refl, sym, ap, ap₂, ◌∙◌, arith}
 use Rattle.std.proofs.lemmas.Bool.{and_parts, or_parts, or_left, or_right, both_ways}
@@ -13,17 +13,18 @@ use Rattle.basics.specs.Numbers.{nat_eq_comm}
 use Rattle.basics.specs.Texts.{bytes_eq-true}
 use Rattle.basics.specs.Booleans.{same_test}
 use Rattle.basics.specs.Each.{each_then, each_with, none_each}
+use Rattle.basics.specs.Members.{found_passes}
 use Rattle.frac_core.specs.Fraction.{Fraction, nought}
 use Rattle.op_trees.specs.Seen.{Seen}
 use Rattle.process_core.specs.Choices.{number_of, assigned}
 use Rattle.process_core.specs.Ready.{Values, Reward}
 use Rattle.choice_laws.proofs.Walks.{any-filter}
 use Rattle.process_core.specs.Instance.{Valuation, numbered}
-use Rattle.jani_tree.specs.Canonical.{OfAll}
-use Rattle.jani_tree.specs.Form.{HasItems, EdgeRead}
+use Rattle.basics.specs.Lists.{IsNotEmpty as HasItems}
+use Rattle.jani_tree.specs.Form.{EdgeRead}
 use Rattle.jani_tree.specs.Syntax.{Expression, Write, Destination, Edge, Automaton, File}
 use Rattle.jani_check.specs.Things.{is_called, global_thing, beside}
-use Rattle.jani_check.specs.Demands.{if_some}
+use Rattle.basics.specs.Options.{if_some}
 use Rattle.jani_check.specs.TypeFaults.{targets}
 use Rattle.jani_check.specs.ProfileFaults.{same_tree, value_for, rewards_by, lacks, differ, some_differ}
 use Rattle.jani_check.specs.Faults.{IsChecked}
@@ -33,12 +34,13 @@ use Rattle.jani_meaning.specs.Elements.{structure_number}
 use Rattle.prism_translation.specs.Elements.{Element, elements, placed_edges, is_at}
 use Rattle.prism_translation.specs.Marks.{first_writes, assigned_to}
 use Rattle.prism_translation.specs.Sound.{AtMostOne, rewards_of, any_undef, PaysAlike, EdgesPayAlike}
-use Rattle.prism_translation.proofs.Lists.{to_numbered, found_passes}
+use Rattle.prism_translation.proofs.Lists.{to_numbered}
 use Rattle.prism_translation.proofs.Distinct.{AreDistinct}
 use Rattle.prism_translation.proofs.Scopes.{own_vars, NamesApart, has_number, is_reward_name}
 use Rattle.prism_translation.proofs.Elements.{IsElement, elements_are, judged_element}
 use Rattle.prism_translation_meaning.proofs.SameTrees.{seen_alike}
-use Rattle.prism_translation_meaning.proofs.Rewards.{at_is, is_there, number, values_at, one_value, chosen, assigned_length, assigned_at, first_of}
+use Rattle.prism_translation.proofs.Earned.{first_of}
+use Rattle.prism_translation_meaning.proofs.Rewards.{at_is, is_there, number, values_at, one_value, chosen, assigned_length, assigned_at}
 
 -- the one of a list that passes, where one at most does
 one_left : {A B : Type 0} (p q : A → Bool) (f : A → B) (xs : List A) (x : A) → find p xs ≡ Some x → q x ≡ true → AtMostOne (map f (filter q xs)) → map f (filter q xs) ≡ f x ∷ []

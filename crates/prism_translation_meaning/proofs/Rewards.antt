@@ -1,6 +1,6 @@
 -- What the destinations of an edge assign to reward structures.
-use Rattle.std.specs.Prelude.{◌≡◌, ℕ, ◌<◌, List, [], ◌∷◌, map, length, Bool, true, false, cond, Option, Some, None, is_none, unwrap_or, nat_eq, slice_set, get_or, if◌then◌else◌}
-use Rattle.std.specs.List.{filter, position}
+use Rattle.std.specs.Prelude.{◌≡◌, ℕ, ◌<◌, List, [], ◌∷◌, map, length, Bool, true, false, cond, Option, Some, None, is_none, nat_eq, slice_set, get_or, if◌then◌else◌}
+use Rattle.std.specs.List.{filter, position, AllByRecursion as OfAll}
 use Rattle.std.specs.Option.{option_or}
 use Rattle.std.proofs.Common.{refl, sym, ap, subst, ◌∙◌, arith, eq-eqb}
 use Rattle.std.proofs.lemmas.Bool.{eqb-true, eqb-false, and_parts, or_parts, both_ways, false_from_ne_true}
@@ -10,11 +10,10 @@ use Rattle.std.proofs.lemmas.List.Elements.{All-from_recursion}
 use Rattle.basics.specs.Each.{each_unit}
 use Rattle.basics.specs.Texts.{bytes_eq-true, bytes_eq-self}
 use Rattle.bridge_io.specs.declared.reason.Named.{Named}
-use Rattle.frac_core.specs.Fraction.{Fraction, nought}
-use Rattle.process_core.specs.Choices.{number_of, assigned}
+use Rattle.frac_core.specs.Fraction.{Fraction}
+use Rattle.process_core.specs.Choices.{assigned}
 use Rattle.process_core.specs.Ready.{Name, Reward}
 use Rattle.choice_laws.proofs.Walks.{filter_none}
-use Rattle.jani_tree.specs.Canonical.{OfAll}
 use Rattle.jani_tree.specs.Syntax.{Expression, Write, File, boolean}
 use Rattle.jani_check.specs.Things.{is_called}
 use Rattle.jani_check.specs.NameFaults.{is_among}
@@ -23,6 +22,7 @@ use Rattle.jani_meaning.specs.Elements.{Owned, structures, is_own, is_global, pl
 use Rattle.prism_translation.specs.Elements.{is_at}
 use Rattle.prism_translation.specs.Sound.{AtMostOne}
 use Rattle.prism_translation.proofs.Distinct.{AreDistinct}
+use Rattle.prism_translation.proofs.Earned.{value_of}
 
 -- ---- at most one
 pub most-map : {A B : Type 0} (f : A → B) (xs : List A) → AtMostOne xs → AtMostOne (map f xs)
@@ -88,8 +88,6 @@ module _ (file : File) (k : ℕ) where
   one_value j ws h = most-map (λ (w : Write). w.value) (filter (λ w. is_at j (number w)) ws) (one_write (λ w. is_at j (number w)) ws (one_name j) h)
 
 -- ---- rewards that are assigned one after another
-abbrev pub value_of : Reward → Fraction
-value_of r = unwrap_or (number_of r.value.value) nought
 
 abbrev pub chosen : ℕ → List Reward → Fraction → Fraction
 chosen i [] y = y
@@ -110,8 +108,3 @@ assigned_at (r ∷ rs) own i d l =
         let same : r.structure ≡ i = eqb-true r.structure i e in
         ap (λ j. get_or (slice_set own j (value_of r)) i d) same ∙ get_or-set_same own i (value_of r) d l
     by_test false e = get_or-set_other own r.structure i (value_of r) d (λ f. eqb-false r.structure i e (sym f))
-
--- the first member's value, else another
-abbrev pub first_of : {X Y : Type 0} → Y → (X → Y) → List X → Y
-first_of y f [] = y
-first_of y f (x ∷ xs) = f x

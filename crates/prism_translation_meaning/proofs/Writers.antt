@@ -1,6 +1,6 @@
 -- In each vector some element takes part, and edges of one element alone assign rewards.
 use Rattle.std.specs.Prelude.{◌≡◌, ℕ, suc, ◌+◌, List, [], ◌∷◌, map, length, Bool, true, false, not, ◌&&◌, ◌||◌, cond, Option, Some, None, is_some, nat_eq, slice_get, bytes_eq}
-use Rattle.std.specs.List.{find, list_any, All}
+use Rattle.std.specs.List.{find, list_any, All, AllByRecursion as OfAll}
 use Rattle.std.specs.Option.{option_map}
 use Rattle.std.proofs.Common.{refl, sym, ap, ap₂, ◌∙◌, arith}
 use Rattle.std.proofs.lemmas.Bool.{eqb-true, or_parts, not-false}
@@ -13,12 +13,12 @@ use Rattle.basics.specs.Each.{each_then, each_with}
 use Rattle.basics.specs.Members.{any_agree, any_never}
 use Rattle.bridge_io.specs.declared.reason.Named.{Named}
 use Rattle.bridge_io.specs.declared.reason.Reason.TheVariants.{BadVector, TwoRewardWriters}
+use Rattle.name_rules.proofs.Plain.{no_fault}
 use Rattle.choice_laws.proofs.Walks.{any-filter, any-flat_map}
 use Rattle.process_core.specs.Instance.{numbered}
-use Rattle.jani_tree.specs.Canonical.{OfAll}
 use Rattle.jani_tree.specs.Syntax.{Edge, Automaton, Vector, File}
 use Rattle.jani_check.specs.Things.{Name, is_called, is_reward as is_reward_thing, global_thing, beside}
-use Rattle.jani_check.specs.Demands.{if_some}
+use Rattle.basics.specs.Options.{if_some}
 use Rattle.jani_check.specs.NameFaults.{bad_vector}
 use Rattle.jani_check.specs.TypeFaults.{has_action, with_automaton, taken_part, participants}
 use Rattle.jani_check.specs.ProfileFaults.{assigns_reward, rewards_with, two_hold, two_writers}
@@ -27,7 +27,7 @@ use Rattle.jani_meaning.specs.Elements as jani
 use Rattle.prism_translation.specs.Elements.{Element, elements, placed_edges, action_of, some_write, is_reward, rewards}
 use Rattle.prism_translation.specs.Targets.{name_in, part_of, is_named, names, edges_named}
 use Rattle.prism_translation.specs.Sound.{HasPart, HasOneWriter}
-use Rattle.prism_translation.proofs.Lists.{any-numbered, no_fault}
+use Rattle.prism_translation.proofs.Lists.{any-numbered}
 use Rattle.prism_translation.proofs.Scopes.{has_number}
 use Rattle.prism_translation.proofs.Clean.{vectors_fit, one_writer_each}
 use Rattle.prism_translation.proofs.Elements.{IsElement, element, elements_are, own_are, judged_element}

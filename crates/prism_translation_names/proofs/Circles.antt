@@ -1,6 +1,6 @@
 -- No constant of a translated file depends on itself, since none does in the JANI file.
 use Rattle.std.proofs.Math.Path.{fun_ext}
-use Rattle.std.specs.List.{flat_map, filter, zip, list_any, position, position_or_len}
+use Rattle.std.specs.List.{flat_map, filter, zip, list_any, position, position_or_len, AllByRecursion as Each}
 use Rattle.std.specs.Prelude.{◌≡◌, ◌<◌, ◌≤◌, ℕ, zero, suc, ◌+◌, List, [], ◌∷◌, ◌++◌, map, length, Bool, true, false, not, ◌&&◌, ◌||◌, Option, Some, None, slice_get, get_or, bytes_eq, nat_eq, nat_lt, unwrap_or, cond, if◌then◌else◌, max}
 use Rattle.std.specs.Option.{option_map, option_or}
 use Rattle.std.proofs.Common.{refl, sym, ap, ap₂, subst, ◌∙◌, arith, eq-eqb, lt-ltb, ltb-true, append-nil}
@@ -16,13 +16,13 @@ use Rattle.basics.specs.Booleans.{not_both}
 use Rattle.basics.specs.Texts.{bytes_ne, bytes_eq-self}
 use Rattle.basics.specs.Lists.{append_parts, append_both}
 use Rattle.basics.specs.Each.{each_then, each_map, each_parts, empty_each}
-use Rattle.basics.specs.Members.{any-map, none_passes}
+use Rattle.basics.specs.Members.{any-map, none_passes, none_at_end}
 use Rattle.frac_core.specs.declared.decimal.Decimal.{Decimal}
 use Rattle.bridge_io.specs.declared.reason.Named.{Named}
 use Rattle.bridge_io.specs.declared.reason.Reason.{Reason}
 use Rattle.bridge_io.specs.declared.reason.Reason.TheVariants.{TwiceNamed, Cycle}
 use Rattle.op_trees.specs.Tree.{Truth, Number, Name as At, One, Two, Three}
-use Rattle.op_trees.specs.Names.{names_of}
+use Rattle.op_trees.specs.Names.{names_of, is_called}
 use Rattle.process_core.specs.Product.{map-map}
 use Rattle.process_core.specs.Ready.{Name}
 use Rattle.choice_laws.proofs.Walks.{any-filter}
@@ -30,17 +30,16 @@ use Rattle.prism_lex.specs.Tokens.{is_name}
 use Rattle.prism_tree.specs.declared.operator.PrismOp.TheVariants as P
 use Rattle.prism_tree.specs.Syntax as prism
 use Rattle.process_core.specs.Instance.{numbered}
-use Rattle.prism_print.specs.Printable.{Each}
 use Rattle.prism_check.specs.NameFaults as pc
 use Rattle.name_rules.specs.Uses.{used}
+use Rattle.name_rules.proofs.Plain.{no_fault, fault_none}
 use Rattle.prism_check.specs.NameFaults.{Declared, circles}
-use Rattle.prism_check.proofs.Each.{fault_none, no_fault}
 use Rattle.jani_tree.specs.Syntax.{Expression, Const, Var, Automaton, File}
 use Rattle.jani_check.specs.NameFaults as jc
 use Rattle.jani_check.specs.NameFaults.{global_names, var_names}
 use Rattle.jani_check.specs.Faults.{IsChecked}
 use Rattle.jani_meaning.specs.Elements as jani
-use Rattle.jani_meaning.specs.Elements.{owned_by, is_called, is_lasting, is_own, is_global, lasting, place_of}
+use Rattle.jani_meaning.specs.Elements.{owned_by, is_lasting, is_own, is_global, lasting, place_of}
 use Rattle.name_table.specs.declared.entry.Entry.{Entry}
 use Rattle.name_table.specs.PrismAsks.{NewNames, name_at, value_name, outside}
 use Rattle.jani_images.specs.Image.{unsigned, literal, image}
@@ -197,16 +196,9 @@ differ_parts (x ∷ xs) ys h =
     ((All-from_recursion (λ y. bytes_eq x y ≡ false) xs e.0, r.0), (e.1, r.1))
 
 -- ---- places
-absent : {X : Type 0} (p : X → Bool) (xs : List X) → list_any p xs ≡ false → position_or_len p xs ≡ length xs
-absent p [] h = refl
-absent p (x ∷ xs) h = by_test (p x) h (absent p xs)
-  where
-    by_test : (b : Bool) → (b || list_any p xs) ≡ false → (list_any p xs ≡ false → position_or_len p xs ≡ length xs) → cond (not b) (1 + position_or_len p xs) 0 ≡ suc (length xs)
-    by_test true g r = absurd cc
-    by_test false g r = let e = r g in omega arith
 
 nowhere_there : {X : Type 0} (p : X → Bool) (xs : List X) → list_any p xs ≡ false → position p xs ≡ None
-nowhere_there p xs h = let e = absent p xs h in ap (λ b. cond b (Some (position_or_len p xs)) None) (not_less (position_or_len p xs) (length xs) e)
+nowhere_there p xs h = let e = none_at_end p xs h in ap (λ b. cond b (Some (position_or_len p xs)) None) (not_less (position_or_len p xs) (length xs) e)
   where
     not_less : (a b : ℕ) → a ≡ b → nat_lt a b ≡ false
     not_less a b e = by_test (nat_lt a b) refl

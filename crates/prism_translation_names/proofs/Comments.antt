@@ -1,7 +1,7 @@
 -- The lines before a translated file are comments: each begins with // and has no line feed.
 use Rattle.std.proofs.Common.{◌≡◌, ℕ, ◌+◌, ◌≤◌, Bool, true, false, cond, List, [], ◌∷◌, ◌++◌, map, Option, Some, None, refl, subst, ◌∙◌, arith}
 use Rattle.std.specs.Prelude.{zero, suc, codes, not, ◌&&◌, ◌||◌, ◌==◌, ◌/◌, ◌%◌, nat_eq, nat_lt}
-use Rattle.std.specs.List.{flat_map, list_all}
+use Rattle.std.specs.List.{flat_map, list_all, AllByRecursion as Each}
 use Rattle.std.specs.Prelude.{length, drop}
 use Rattle.std.proofs.lemmas.Bool.Decides.{nat_tests}
 use Rattle.std.proofs.lemmas.List.Folds.{list_all-append}
@@ -13,7 +13,6 @@ use Rattle.prism_lex.specs.Tokens.{is_name}
 use Rattle.process_core.specs.Ready.{Name}
 use Rattle.process_core.specs.Instance.{only_if}
 use Rattle.prism_print.specs.Comments.{IsComment}
-use Rattle.prism_print.specs.Printable.{Each}
 use Rattle.bridge_io.specs.declared.reason.Named.{Named}
 use Rattle.jani_tree.specs.Syntax.{Const, Location, File}
 use Rattle.jani_meaning.specs.Elements.{lasting, labels, structures}

@@ -1,6 +1,6 @@
 -- No two names of a translated file that have to differ are the same.
 use Rattle.std.specs.List.{flat_map, All}
-use Rattle.std.specs.Prelude.{◌≡◌, ℕ, suc, ◌+◌, List, [], ◌∷◌, ◌++◌, map, length, Bool, true, false, not, Some, slice_get, get_or, bytes_eq, unwrap_or, max, codes}
+use Rattle.std.specs.Prelude.{◌≡◌, ℕ, suc, ◌+◌, List, [], ◌∷◌, ◌++◌, map, length, Bool, true, false, not, Some, slice_get, get_or, bytes_eq, unwrap_or, codes}
 use Rattle.std.proofs.Common.{refl, sym, ap, ap₂, subst, ◌∙◌, arith}
 use Rattle.std.specs.Option.{option_map}
 use Rattle.std.proofs.lemmas.Option.{slice_get-get_or}
@@ -10,19 +10,20 @@ use Rattle.std.proofs.lemmas.Bool.{or_parts}
 use Rattle.basics.specs.Booleans.{not_both}
 use Rattle.basics.specs.Texts.{bytes_ne, bytes_eq-self}
 use Rattle.basics.specs.Lists.{append_both}
-use Rattle.basics.specs.Each.{each_then, each_with, map_each, each_empty, each_any}
+use Rattle.basics.specs.Each.{each_empty, each_any}
 use Rattle.bridge_io.specs.declared.reason.Named.{Named}
 use Rattle.bridge_io.specs.declared.reason.Reason.{Reason}
 use Rattle.bridge_io.specs.declared.reason.Reason.TheVariants.{TwiceNamed}
+use Rattle.name_rules.proofs.Plain as plain
+use Rattle.name_rules.proofs.Plain.{Apart}
 use Rattle.process_core.specs.Product.{map-map}
-use Rattle.process_core.specs.Ready.{Name, if_some}
+use Rattle.basics.specs.Options.{if_some}
+use Rattle.process_core.specs.Ready.{Name}
 use Rattle.prism_tree.specs.Syntax as prism
 use Rattle.prism_tree.specs.Syntax.{plain, copied}
 use Rattle.prism_names.specs.Names.{module_name}
 use Rattle.process_core.specs.Instance.{numbered}
-use Rattle.prism_print.specs.Printable.{Each}
-use Rattle.prism_check.specs.NameFaults.{clash, doubled_after, doubled, values, given_labels, doubled_pairs, doubled_names}
-use Rattle.prism_check.proofs.Each.{fault_none}
+use Rattle.prism_check.specs.NameFaults.{doubled, values, given_labels, doubled_pairs, doubled_names}
 use Rattle.jani_tree.specs.Syntax.{Automaton, File}
 use Rattle.jani_meaning.specs.Elements as jani
 use Rattle.jani_meaning.specs.Elements.{Owned, labels, structures}
@@ -45,22 +46,12 @@ use Rattle.prism_translation_names.proofs.Values.{Differ, zip_named, values_diff
 abbrev names_of : List Named → List Name
 names_of ns = map (λ n. n.name) ns
 
-not_doubled_after : (r : Reason) (earlier ns : List Named) → Each (λ n. Each (λ m. bytes_eq m.name n.name ≡ false) earlier) ns → Differ (names_of ns) → doubled_after r earlier ns ≡ []
-not_doubled_after r earlier [] h d = refl
-not_doubled_after r earlier (n ∷ ns) h d =
-    append_both (flat_map (clash r n) earlier) (doubled_after r (n ∷ earlier) ns)
-    (each_empty (clash r n) earlier
-    (each_then (λ m. bytes_eq m.name n.name ≡ false) (λ m. clash r n m ≡ []) (λ m e. fault_none (bytes_eq m.name n.name) (max m.at n.at) r e) earlier h.0))
-    (not_doubled_after r (n ∷ earlier) ns
-    (each_with (λ m. bytes_eq n.name m.name ≡ false) (λ m. Each (λ k. bytes_eq k.name m.name ≡ false) earlier) (λ m. Each (λ k. bytes_eq k.name m.name ≡ false) (n ∷ earlier))
-    (λ m p q. (p, q)) ns (map_each (λ y. bytes_eq n.name y ≡ false) (λ m. m.name) ns (recursion_from_All (λ y. bytes_eq n.name y ≡ false) (names_of ns) d.0)) h.1) d.1)
-
-no_earlier : (ns : List Named) → Each (λ n. Each {A = Named} (λ m. bytes_eq m.name n.name ≡ false) []) ns
-no_earlier [] = tt
-no_earlier (n ∷ ns) = (tt, no_earlier ns)
+apart : (xs : List Name) → Differ xs → Apart xs
+apart [] d = tt
+apart (x ∷ xs) d = (recursion_from_All (λ y. bytes_eq x y ≡ false) xs d.0, apart xs d.1)
 
 not_doubled : (r : Reason) (ns : List Named) → Differ (names_of ns) → doubled r ns ≡ []
-not_doubled r ns d = not_doubled_after r [] ns (no_earlier ns) d
+not_doubled r ns d = plain.not_doubled r ns (apart (names_of ns) d)
 
 -- ---- names by their places
 -- the names of these entries are those from this place on

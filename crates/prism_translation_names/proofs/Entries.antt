@@ -15,7 +15,7 @@ use Rattle.name_table.specs.Rule.{may_be_called, is_identifier}
 use Rattle.name_table.specs.Entries.{Ask, count_of, entries_of}
 use Rattle.name_table.proofs.EntryLemmas.{Comes, was_kept, was_made, placed}
 use Rattle.name_table.proofs.Valid.{made_named, made_free, made_may}
-use Rattle.prism_print.specs.Printable.{Each}
+use Rattle.std.specs.List.{AllByRecursion as Each}
 
 -- ---- entries
 pub record IsValidName (e : Entry) : Type 0 where

@@ -1,18 +1,20 @@
 -- A PRISM file whose parts may be spelled, and whose names are declared: it may be spelled, and it has no unknown name.
 use Rattle.std.specs.Prelude.{◌≡◌, List, [], ◌++◌, map, Bool, true, not, Option, Some, None, is_some}
-use Rattle.std.specs.List.{flat_map}
+use Rattle.std.specs.List.{flat_map, AllByRecursion as Each}
 use Rattle.std.proofs.Common.{ap, sym, subst}
 use Rattle.basics.specs.Lists.{append_both}
 use Rattle.basics.specs.Each.{each_then, each_map, each_join, each_empty, each_flat}
 use Rattle.bridge_io.specs.declared.reason.Reason.TheVariants.{Unknown}
 use Rattle.op_trees.specs.declared.tree.Ty.{Ty}
 use Rattle.op_trees.specs.Names.{names_of}
-use Rattle.process_core.specs.Ready.{Name, if_some}
+use Rattle.name_rules.proofs.Plain.{fault_none}
+use Rattle.basics.specs.Options.{if_some, IfAny}
+use Rattle.process_core.specs.Ready.{Name}
 use Rattle.prism_tree.specs.Syntax.{Expression, Const, Range, Var, Label, Write, Branch, Command, Body, Module, plain, copied, Item, Rewards, File}
-use Rattle.prism_print.specs.Printable.{Each, IfAny, IsIdentifier, IsTitle, IsPrintableExpression, IsPrintableConst, IsPrintableRange, IsPrintableVar, IsPrintableFormula, IsPrintableLabel, IsPrintableWrite, IsPrintableBranch, AreBranches, IsPrintableCommand, IsPrintableModule, IsPrintableOn, IsPrintableItem, IsPrintableRewards, IsPrintable}
-use Rattle.prism_check.specs.Demands.{Demand, fixed, written, wanted_by, type_by, const_demands, range_demands, var_demands, branch_demands, command_demands, label_demands, item_demands, rewards_demands, formula_demands, outer_demands}
+use Rattle.prism_print.specs.Printable.{IsIdentifier, IsTitle, IsPrintableExpression, IsPrintableConst, IsPrintableRange, IsPrintableVar, IsPrintableFormula, IsPrintableLabel, IsPrintableWrite, IsPrintableBranch, AreBranches, IsPrintableCommand, IsPrintableModule, IsPrintableOn, IsPrintableItem, IsPrintableRewards, IsPrintable}
+use Rattle.op_trees.specs.Wanted.{wanted_by}
+use Rattle.prism_check.specs.Demands.{Demand, fixed, written, type_by, const_demands, range_demands, var_demands, branch_demands, command_demands, label_demands, item_demands, rewards_demands, formula_demands, outer_demands}
 use Rattle.prism_check.specs.NameFaults.{is_among, values, unless_known, unknown_by, unknown, unknown_in, unknown_names}
-use Rattle.prism_check.proofs.Each.{fault_none}
 use Rattle.prism_translation_names.proofs.Lists.{any_then}
 
 module _ (known : Name → Bool) where

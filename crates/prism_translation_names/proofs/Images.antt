@@ -16,11 +16,10 @@ use Rattle.std.specs.Prelude.{◌%◌, ◌≡◌, ℕ, List, [], ◌++◌, Bool,
 use Rattle.prism_tree.specs.Operators as prism
 use Rattle.prism_tree.specs.Syntax as trees
 use Rattle.prism_check.specs.NameFaults.{unless_known}
-use Rattle.prism_check.proofs.Each.{fault_none}
 use Rattle.jani_table.specs.declared.operator.JaniOp.{JaniOp}
 use Rattle.jani_table.specs.declared.operator.JaniOp.TheVariants as J
 use Rattle.jani_table.specs.Operators as jani
-use Rattle.jani_tree.specs.Form.{HasItems, ExprForm}
+use Rattle.jani_tree.specs.Form.{ExprForm}
 use Rattle.jani_tree.specs.Syntax.{Expression}
 use Rattle.bridge_io.specs.declared.reason.Named.{Named}
 use Rattle.bridge_io.specs.declared.reason.Reason.TheVariants.{Unknown}
@@ -28,7 +27,8 @@ use Rattle.jani_images.specs.Image.{prism_op, unsigned, literal, image}
 use Rattle.prism_translation.specs.Parts.{counted}
 use Rattle.std.proofs.lemmas.List.Concat.{flat_map-append}
 use Rattle.std.proofs.lemmas.Bool.{and_parts}
-use Rattle.basics.specs.Lists.{append_both}
+use Rattle.basics.specs.Lists.{append_both, IsNotEmpty as HasItems}
+use Rattle.name_rules.proofs.Plain.{fault_none}
 use Rattle.prism_translation_names.proofs.Good.{Good}
 
 pub arity_kept : (o : JaniOp) → prism.arity (prism_op o) ≡ jani.arity o

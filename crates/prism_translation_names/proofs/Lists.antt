@@ -3,12 +3,8 @@ use Rattle.std.proofs.Common.{refl, sym, subst, ◌∙◌, arith}
 use Rattle.std.specs.Prelude.{◌≡◌, ℕ, zero, suc, ◌+◌, List, [], ◌∷◌, Bool, true, false, Option, Some, None, slice_get}
 use Rattle.basics.specs.Each.{each_join}
 use Rattle.process_core.specs.Instance.{numbered, only_if}
-use Rattle.prism_print.specs.Printable.{Each, IfAny}
-use Rattle.jani_tree.specs.Canonical.{OfAll}
-
-pub from_all : {A : Type 0} (P : A → Type 0) (xs : List A) → OfAll P xs → Each P xs
-from_all P [] h = tt
-from_all P (x ∷ xs) h = (h.0, from_all P xs h.1)
+use Rattle.std.specs.List.{AllByRecursion as Each}
+use Rattle.basics.specs.Options.{IfAny}
 
 pub any_then : {A : Type 0} (P Q : A → Type 0) → ((x : A) → P x → Q x) → (o : Option A) → IfAny P o → IfAny Q o
 any_then P Q h None p = tt

@@ -8,10 +8,10 @@ use Rattle.std.proofs.lemmas.List.Elements.{All-nil}
 use Rattle.basics.specs.Each.{each_empty, each_any}
 use Rattle.basics.specs.Lists.{append_both}
 use Rattle.bridge_io.specs.declared.reason.Reason.TheVariants.{Nothing}
+use Rattle.name_rules.proofs.Plain.{fault_none}
 use Rattle.prism_tree.specs.Syntax.{plain}
 use Rattle.prism_flat.specs.Kept.{is_plain}
 use Rattle.prism_check.specs.NameFaults.{doubled_names, unknown_names, circles, copy_faults, no_module}
-use Rattle.prism_check.proofs.Each.{fault_none}
 use Rattle.jani_tree.specs.Syntax.{File}
 use Rattle.jani_meaning.specs.Elements as jani
 use Rattle.jani_meaning.specs.Elements.{structures}

@@ -8,7 +8,7 @@ use Rattle.basics.specs.Each.{each_take, each_drop}
 use Rattle.basics.specs.Lists.{slice_get-append_add, slice_get-front}
 use Rattle.prism_lex.specs.declared.token.TokenKind.TheVariants.{Ident}
 use Rattle.prism_lex.specs.Tokens.{IsKind}
-use Rattle.prism_print.specs.Printable.{Each}
+use Rattle.std.specs.List.{AllByRecursion as Each}
 use Rattle.jani_tree.specs.Syntax.{File}
 use Rattle.jani_meaning.specs.Elements.{lasting, labels, structures}
 use Rattle.name_table.specs.declared.class.NameClass.{NameClass}

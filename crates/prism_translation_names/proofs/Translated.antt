@@ -1,35 +1,34 @@
 -- The parts of a translated file may be spelled, and their names are declared.
-use Rattle.std.specs.List.{flat_map, filter, zip, list_any, fold}
+use Rattle.std.specs.List.{flat_map, filter, zip, list_any, fold, AllByRecursion as Each}
 use Rattle.std.specs.Prelude.{◌≡◌, ◌<◌, ℕ, ◌+◌, ◌-◌, List, [], ◌∷◌, ◌++◌, map, length, Bool, true, false, not, ◌&&◌, Option, Some, None, is_none, unwrap_or, if◌then◌else◌}
 use Rattle.std.proofs.Common.{refl, sym, ap, subst, ◌∙◌, arith}
 use Rattle.std.specs.Option.{option_map}
 use Rattle.std.proofs.lemmas.Option.{slice_get_within}
 use Rattle.std.proofs.lemmas.List.Elements.{recursion_from_All}
 use Rattle.std.proofs.lemmas.Bool.{and_parts}
-use Rattle.basics.specs.Lists.{append_parts}
-use Rattle.basics.specs.Each.{each_with, each_map, each_join, each_any, each_flat, each_filter, each_zip}
+use Rattle.basics.specs.Lists.{append_parts, IsNotEmpty as HasItems}
+use Rattle.basics.specs.Each.{each_with, each_map, each_join, each_any, each_flat, each_filter, each_zip, each_found, any_map}
 use Rattle.bridge_io.specs.declared.reason.Named.{Named}
 use Rattle.op_trees.specs.declared.tree.Ty.TheVariants as T
 use Rattle.op_trees.specs.Tree.{Truth, Number, Name as At, One, Two, Three}
 use Rattle.op_trees.specs.SeenLaws.{names_then}
-use Rattle.op_trees.specs.Names.{offset_of}
-use Rattle.process_core.specs.Ready.{Name, if_some}
+use Rattle.op_trees.specs.Names.{offset_of, is_called}
+use Rattle.basics.specs.Options.{if_some, if_some as if_there, IfAny}
+use Rattle.process_core.specs.Ready.{Name}
 use Rattle.prism_lex.specs.declared.token.TokenKind.TheVariants.{Ident}
 use Rattle.prism_lex.specs.Tokens.{IsKind}
 use Rattle.prism_tree.specs.declared.operator.PrismOp.TheVariants.{And, Equal, Ite}
 use Rattle.prism_tree.specs.Syntax as prism
 use Rattle.process_core.specs.Instance.{only_if}
-use Rattle.prism_print.specs.Printable.{Each, IfAny, HasWeight, AreBranches}
-use Rattle.prism_check.proofs.Each.{each_found, any_map, no_fault}
-use Rattle.jani_tree.specs.Form.{HasItems}
+use Rattle.prism_print.specs.Printable.{HasWeight, AreBranches}
 use Rattle.jani_tree.specs.Syntax.{Expression, VarKind, boolean, integer, number, real_bounded, one_sided, bounded, Const, Var, Write, Destination, Edge, Vector, File}
 use Rattle.jani_check.specs.Things.{kind_type}
-use Rattle.jani_check.specs.Demands.{if_some as if_there}
 use Rattle.jani_check.specs.ProfileFaults.{is_first, first_fault, start_faults}
 use Rattle.bridge_io.specs.declared.reason.Reason.TheVariants.{TransientInitial}
+use Rattle.name_rules.proofs.Plain.{no_fault}
 use Rattle.jani_check.specs.Faults.{IsChecked}
 use Rattle.jani_meaning.specs.Elements as jani
-use Rattle.jani_meaning.specs.Elements.{Owned, is_boolean, is_called, is_lasting, is_label, is_owner, lasting, labels, structures, structure_number, place_of, location_number, initial_number}
+use Rattle.jani_meaning.specs.Elements.{Owned, is_boolean, is_lasting, is_label, is_owner, lasting, labels, structures, structure_number, place_of, location_number, initial_number}
 use Rattle.name_table.specs.declared.entry.Entry.{Entry}
 use Rattle.name_table.specs.PrismAsks.{NewNames, name_at, value_name, outside}
 use Rattle.jani_images.specs.Image.{image}

@@ -23,12 +23,14 @@ use Rattle.choice_laws.proofs.Walks.{flat_map_agree_in}
 use Rattle.choice_laws.proofs.Members.{not_counted}
 use Rattle.prism_lex.specs.declared.token.TokenKind.TheVariants.{Ident}
 use Rattle.prism_lex.specs.Tokens.{IsKind}
+use Rattle.name_rules.proofs.Plain.{among_names}
 use Rattle.prism_tree.specs.Syntax as prism
 use Rattle.prism_tree.specs.Syntax.{plain}
 use Rattle.process_core.specs.Instance.{Valuation, only_if}
-use Rattle.prism_check.specs.NameFaults.{is_among, module_vars, values}
+use Rattle.prism_check.specs.NameFaults.{module_vars, values}
 use Rattle.jani_tree.specs.Syntax.{boolean, Const, File}
-use Rattle.jani_meaning.specs.Elements.{is_called, is_own, is_global, lasting, place_of}
+use Rattle.op_trees.specs.Names.{is_called}
+use Rattle.jani_meaning.specs.Elements.{is_own, is_global, lasting, place_of}
 use Rattle.name_table.specs.declared.entry.Entry.{Entry}
 use Rattle.name_table.specs.PrismAsks.{NewNames, name_at, value_name}
 use Rattle.prism_translation.specs.Elements.{Element, elements, has_several, Lasting, lasting_variables, shared, at_home}
@@ -60,9 +62,6 @@ differ_join (x ∷ xs) ys h k o = (
 )
 
 -- ---- lists of names
-among_names : (ns : List Named) (x : Name) → is_among ns x ≡ list_any (λ y. bytes_eq y x) (map (λ n. n.name) ns)
-among_names [] x = refl
-among_names (n ∷ ns) x = ap (λ b. bytes_eq n.name x || b) (among_names ns x)
 
 any_more : {X : Type 0} (p q : X → Bool) (xs : List X) → ((x : X) → p x ≡ true → q x ≡ true) → list_any p xs ≡ true → list_any q xs ≡ true
 any_more p q [] h k = absurd cc

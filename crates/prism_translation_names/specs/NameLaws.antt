@@ -6,7 +6,8 @@ use Rattle.bridge_io.specs.declared.reason.Named.{Named}
 use Rattle.prism_tree.specs.Syntax.{Rewards}
 use Rattle.prism_names.specs.Places.{IsPlaceOrder}
 use Rattle.prism_flat.specs.Kept.{IsWrittenOut}
-use Rattle.prism_print.specs.Printable.{Each, IsPrintable}
+use Rattle.std.specs.List.{AllByRecursion as Each}
+use Rattle.prism_print.specs.Printable.{IsPrintable}
 use Rattle.prism_check.specs.NameFaults.{circles, doubled_names, name_faults, no_module, unknown_names}
 use Rattle.jani_tree.specs.Syntax.{File}
 use Rattle.jani_check.specs.Faults.{IsChecked}

@@ -1,13 +1,12 @@
 -- Names that a JANI file without fault declares differ.
 use Rattle.std.specs.Prelude.{◌≡◌, List, [], ◌∷◌, max, false, bytes_eq}
-use Rattle.std.specs.List.{flat_map}
+use Rattle.std.specs.List.{flat_map, AllByRecursion as Each}
 use Rattle.basics.specs.Lists.{append_parts}
 use Rattle.basics.specs.Each.{each_then, each_with, empty_each, each_unit}
 use Rattle.bridge_io.specs.declared.reason.Named.{Named}
 use Rattle.bridge_io.specs.declared.reason.Reason.{Reason}
-use Rattle.prism_print.specs.Printable.{Each}
+use Rattle.name_rules.proofs.Plain.{no_fault}
 use Rattle.jani_check.specs.NameFaults.{clash, doubled_after}
-use Rattle.prism_translation.proofs.Lists.{no_fault}
 
 -- ---- names that differ
 abbrev pub Differs : Named → Named → Type 0

@@ -1,6 +1,6 @@
 -- What stands in modules has no fault of types, and commands write what they may.
 use Rattle.std.specs.Prelude.{◌≡◌, ◌⊎◌, ℕ, ◌<◌, [], ◌++◌, map, length, Bool, true, false, ◌&&◌, Option, Some, None, is_none, is_some, get_or, if◌then◌else◌}
-use Rattle.std.specs.List.{flat_map, filter, list_any, All}
+use Rattle.std.specs.List.{flat_map, filter, list_any, All, AllByRecursion as Each}
 use Rattle.std.specs.Option.{option_map}
 use Rattle.std.proofs.Common.{refl, sym, ap, ◌∙◌, subst, inl, inr}
 use Rattle.std.proofs.lemmas.List.{map-append}
@@ -11,14 +11,15 @@ use Rattle.basics.specs.Numbers.{nat_eq-self}
 use Rattle.bridge_io.specs.declared.reason.Reason.TheVariants.{SyncGlobalWrite}
 use Rattle.op_trees.specs.declared.tree.Ty.{Ty}
 use Rattle.op_trees.specs.declared.tree.Ty.TheVariants as T
-use Rattle.process_core.specs.Ready.{Name, if_some}
+use Rattle.basics.specs.Options.{if_some, IfAny}
+use Rattle.process_core.specs.Ready.{Name}
 use Rattle.process_core.specs.Product.{map-flat_map}
 use Rattle.choice_laws.proofs.Walks.{All-flat_map, has_any}
 use Rattle.prism_tree.specs.Syntax as prism
 use Rattle.process_core.specs.Instance.{only_if}
-use Rattle.prism_print.specs.Printable.{Each, IfAny}
 use Rattle.name_rules.specs.Least.{fault_if}
-use Rattle.prism_check.specs.Demands.{varying, written, wanted_by, var_type, var_demands, branch_demands, command_demands}
+use Rattle.op_trees.specs.Wanted.{wanted_by}
+use Rattle.prism_check.specs.Demands.{varying, written, var_type, var_demands, branch_demands, command_demands}
 use Rattle.prism_check.specs.TypeFaults as prism_types
 use Rattle.prism_check.specs.TypeFaults.{types, variable_called, type_faults_of, target_by, target_of, wanted_at, write_faults, demand_faults}
 use Rattle.jani_tree.specs.Syntax.{Write, Destination, Expression, File}

@@ -1,7 +1,7 @@
 -- What the names of a translated file are declared as: constants, the variables that last, and the locations of elements.
 use Rattle.std.specs.Prelude.{◌≡◌, ℕ, ◌+◌, ◌-◌, ◌<◌, List, [], ◌∷◌, ◌++◌, map, length, Bool, true, false, ◌&&◌, ◌||◌, cond, Option, Some, None, is_none, if◌then◌else◌, nat_eq, nat_lt, bytes_eq, slice_get, get_or}
 use Rattle.std.specs.List.{find, flat_map, list_any, zip, All}
-use Rattle.std.specs.Option.{option_map}
+use Rattle.std.specs.Option.{option_map, option_or as or_else}
 use Rattle.std.proofs.Common.{refl, sym, ap, ap₂, ◌∙◌, arith, lt-ltb, ltb-true, ltb-false}
 use Rattle.std.proofs.lemmas.Bool.{eqb-true}
 use Rattle.std.proofs.lemmas.Option.{slice_get-get_or, get_or_from_slice_get}
@@ -13,10 +13,11 @@ use Rattle.process_core.specs.Ready.{Name}
 use Rattle.choice_laws.specs.Columns.{stands}
 use Rattle.prism_tree.specs.Syntax as prism
 use Rattle.prism_tree.specs.Syntax.{plain}
-use Rattle.prism_names.specs.Names.{is_called, part_of}
+use Rattle.op_trees.specs.Names.{is_called}
+use Rattle.prism_names.specs.Names.{part_of}
 use Rattle.process_core.specs.Instance.{Valuation, only_if}
 use Rattle.prism_check.specs.Demands.{var_type}
-use Rattle.prism_check.specs.TypeFaults.{Variable, part_variables, numbered_variables, variables, variable_called, or_else, declared_types}
+use Rattle.prism_check.specs.TypeFaults.{Variable, part_variables, numbered_variables, variables, variable_called, declared_types}
 use Rattle.jani_tree.specs.Syntax.{Const, Automaton, File}
 use Rattle.jani_meaning.specs.Elements as jani
 use Rattle.jani_meaning.specs.Elements.{Owned, lasting, is_owner}

@@ -1,7 +1,7 @@
 -- The images of a file's expressions, and the expressions that are made, have the types that are wanted.
 use Rattle.std.specs.Prelude.{◌≡◌, ◌⊎◌, ◌<◌, ℕ, List, [], ◌∷◌, length, Bool, true, false, not, Option, Some, None, IsTrue, is_some, get_or, unwrap_or}
-use Rattle.std.specs.List.{fold, position, All}
-use Rattle.std.specs.Option.{option_map, option_or}
+use Rattle.std.specs.List.{fold, position, All, AllByRecursion as Each}
+use Rattle.std.specs.Option.{option_map, option_or, option_or as or_else}
 use Rattle.std.proofs.Common.{refl, sym, ap, ap₂, ◌∙◌, subst, inl, inr}
 use Rattle.std.proofs.lemmas.List.Elements.{All-filter, filter_passes}
 use Rattle.std.proofs.lemmas.List.Quantifiers.{position-Some}
@@ -13,27 +13,25 @@ use Rattle.op_trees.specs.Tree.{Two}
 use Rattle.op_trees.specs.SeenLaws.{names_then}
 use Rattle.op_trees.specs.Types as trees
 use Rattle.op_trees.specs.Types.{type_in}
-use Rattle.op_trees.specs.Names.{offset_of}
+use Rattle.op_trees.specs.Names.{offset_of, is_called}
 use Rattle.op_trees.specs.NameLaws.{names_with, named_none}
 use Rattle.op_trees.specs.TypeLaws.{names_typed}
+use Rattle.op_trees.specs.Wanted.{is_wanted, wanted_by}
 use Rattle.process_core.specs.Ready.{Name}
 use Rattle.prism_tree.specs.declared.operator.PrismOp.TheVariants.{And, Equal}
 use Rattle.prism_tree.specs.Operators.{prism_meaning}
 use Rattle.prism_tree.specs.Syntax as prism
-use Rattle.prism_print.specs.Printable.{Each}
 use Rattle.name_rules.specs.Least.{fault_if}
-use Rattle.prism_check.specs.Demands as prism_demands
 use Rattle.prism_check.specs.Demands.{fixed, varying, type_by, var_type}
-use Rattle.prism_check.specs.TypeFaults as prism_types
 use Rattle.prism_check.specs.TypeFaults.{types, variable_called, is_variable, type_faults_of, demand_faults}
 use Rattle.jani_table.specs.Operators.{jani_meaning}
 use Rattle.jani_tree.specs.Syntax.{Const, Var, VarKind, boolean, integer, number, real_bounded, one_sided, bounded, Expression, File}
 use Rattle.jani_check.specs.Things as things
-use Rattle.jani_check.specs.Things.{kind_type, const_thing, var_thing, const_called, var_called, or_else, global_thing, beside, thing_type, is_constant}
+use Rattle.jani_check.specs.Things.{kind_type, const_thing, var_thing, const_called, var_called, global_thing, beside, thing_type, is_constant}
 use Rattle.jani_check.specs.TypeFaults.{kind_fault}
 use Rattle.jani_check.specs.Faults.{IsChecked}
 use Rattle.jani_meaning.specs.Elements as jani
-use Rattle.jani_meaning.specs.Elements.{Owned, is_called, lasting, is_lasting}
+use Rattle.jani_meaning.specs.Elements.{Owned, lasting, is_lasting}
 use Rattle.name_table.specs.PrismAsks.{NewNames, name_at, value_name}
 use Rattle.jani_images.specs.Image.{image}
 use Rattle.prism_translation.specs.Elements.{Element, elements, has_several}
@@ -134,13 +132,13 @@ module _ (file : File) (checked : IsChecked file) where
       (λ x c. let r = anywhere vs k x c in (constant_kept k x r.0).0 ∙ r.1) e h.1)
 
   -- ---- demands
-  pub varying_clean : (i : ℕ) (w : Ty) (e : prism.Expression) → HasPrismType (types (translated file)) w e → demand_faults (translated file) i (varying (prism_demands.wanted_by w) e) ≡ []
+  pub varying_clean : (i : ℕ) (w : Ty) (e : prism.Expression) → HasPrismType (types (translated file)) w e → demand_faults (translated file) i (varying (wanted_by w) e) ≡ []
   varying_clean i w e h = no_type_faults (types (translated file)) w e h
 
-  pub fixed_clean : (i : ℕ) (vs : List Var) (k : ℕ) (w : Ty) (e : Expression) → IsFixed file vs w e → demand_faults (translated file) i (fixed (prism_demands.wanted_by w) (image (value_name file names k) e)) ≡ []
+  pub fixed_clean : (i : ℕ) (vs : List Var) (k : ℕ) (w : Ty) (e : Expression) → IsFixed file vs w e → demand_faults (translated file) i (fixed (wanted_by w) (image (value_name file names k) e)) ≡ []
   fixed_clean i vs k w e h =
       let new = image (value_name file names k) e in
-      append_both (type_faults_of (types (translated file)) (prism_demands.wanted_by w) new) _ (no_type_faults (types (translated file)) w new (fixed_image vs k w e h))
+      append_both (type_faults_of (types (translated file)) (wanted_by w) new) _ (no_type_faults (types (translated file)) w new (fixed_image vs k w e h))
       (ap (λ b. fault_if b (offset_of new) NotConstant)
       (named_none (is_variable (translated file)) new
       (image_names (λ y. is_variable (translated file) y ≡ false) (value_name file names k) e
@@ -160,7 +158,7 @@ module _ (file : File) (checked : IsChecked file) where
   pub as_truth : (e : prism.Expression) → HasPrismType (types (translated file)) T.Bool e → IsTruth e
   as_truth e h = h.is ∙ ap Some (bool h.type h.wanted)
     where
-      bool : (t : Ty) → prism_types.is_wanted (prism_demands.wanted_by T.Bool) t ≡ true → t ≡ T.Bool
+      bool : (t : Ty) → is_wanted (wanted_by T.Bool) t ≡ true → t ≡ T.Bool
       bool T.Bool k = refl
       bool T.Int k = absurd cc
       bool T.Real k = absurd cc

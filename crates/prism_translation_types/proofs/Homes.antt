@@ -12,7 +12,7 @@ use Rattle.bridge_io.specs.declared.reason.Reason.TheVariants.{SharedWrite}
 use Rattle.process_core.specs.Ready.{Name}
 use Rattle.choice_laws.proofs.Walks.{has_any}
 use Rattle.jani_tree.specs.Syntax.{Edge, Vector, File}
-use Rattle.jani_check.specs.Least.{fault}
+use Rattle.name_rules.specs.Least.{fault}
 use Rattle.jani_meaning.specs.Elements as jani
 use Rattle.jani_meaning.specs.Elements.{lasting}
 use Rattle.prism_translation.specs.Elements.{Element, elements, edges_of, Placed, placed_edges, same_place, some_write, is_reward, rewards, Lasting, lasting_variables, may_use, is_to, writers, home_by, home}

@@ -17,21 +17,20 @@ use Rattle.op_trees.specs.Standard.{standard_meaning}
 use Rattle.op_trees.specs.AlongLaws.{sort_one_alike, sort_two_alike, sort_three_alike}
 use Rattle.op_trees.specs.Names.{offset_of}
 use Rattle.op_trees.specs.NameLaws.{none_named}
+use Rattle.op_trees.specs.Wanted.{is_wanted, is_unwanted, wanted_by}
 use Rattle.process_core.specs.Ready.{Name}
 use Rattle.prism_tree.specs.declared.operator.PrismOp.TheVariants as P
 use Rattle.prism_tree.specs.Operators.{prism_meaning}
 use Rattle.prism_tree.specs.Operators as PrismTable
 use Rattle.prism_tree.specs.Syntax as prism
 use Rattle.name_rules.specs.Least as prism_least
-use Rattle.prism_check.specs.Demands as prism_demands
 use Rattle.prism_check.specs.TypeFaults as prism_types
 use Rattle.jani_table.specs.declared.operator.JaniOp.{JaniOp}
 use Rattle.jani_table.specs.declared.operator.JaniOp.TheVariants as J
 use Rattle.jani_table.specs.Operators.{jani_meaning}
 use Rattle.jani_table.specs.Operators as JaniTable
 use Rattle.jani_tree.specs.Syntax.{Expression}
-use Rattle.jani_check.specs.Least.{fault, fault_if}
-use Rattle.jani_check.specs.Demands as jani_demands
+use Rattle.name_rules.specs.Least.{fault, fault_if}
 use Rattle.jani_check.specs.TypeFaults as jani_types
 use Rattle.jani_images.proofs.ImageSeen.{same_op}
 use Rattle.jani_images.specs.Image.{prism_op, unsigned, literal, image}
@@ -87,39 +86,29 @@ typed_fits ty (Three at o a b c) h =
     (append_both (prism_types.misfits ty c) _ (typed_fits ty c s.2) (fits_at at _ (type_in prism_meaning ty (Three at o a b c)) h)))
 
 -- ---- what is wanted
-pub same_wanted : (w t : Ty) → prism_types.is_wanted (prism_demands.wanted_by w) t ≡ jani_types.is_wanted (jani_demands.wanted_by w) t
-same_wanted T.Bool T.Bool = refl
-same_wanted T.Bool T.Int = refl
-same_wanted T.Bool T.Real = refl
-same_wanted T.Int T.Bool = refl
-same_wanted T.Int T.Int = refl
-same_wanted T.Int T.Real = refl
-same_wanted T.Real T.Bool = refl
-same_wanted T.Real T.Int = refl
-same_wanted T.Real T.Real = refl
 
 -- an expression with a type that is wanted, of a JANI file and of a PRISM file
 pub record HasType (ty : Types) (w : Ty) (e : Expression) : Type 0 where
   pub type : Ty
   pub is : type_in jani_meaning ty e ≡ Some type
-  pub wanted : jani_types.is_wanted (jani_demands.wanted_by w) type ≡ true
+  pub wanted : is_wanted (wanted_by w) type ≡ true
 
 pub record HasPrismType (ty : Types) (w : Ty) (e : prism.Expression) : Type 0 where
   pub type : Ty
   pub is : type_in prism_meaning ty e ≡ Some type
-  pub wanted : prism_types.is_wanted (prism_demands.wanted_by w) type ≡ true
+  pub wanted : is_wanted (wanted_by w) type ≡ true
 
-pub has_type : (ty : Types) (w : Ty) (e : Expression) → jani_types.type_faults_of ty (jani_demands.wanted_by w) e ≡ [] → HasType ty w e
+pub has_type : (ty : Types) (w : Ty) (e : Expression) → jani_types.type_faults_of ty (wanted_by w) e ≡ [] → HasType ty w e
 has_type ty w e h =
     let t = type_in jani_meaning ty e in
-    let r = append_parts (map (λ at. fault at WrongType) (trees.misfits jani_meaning ty e)) (fault_if (jani_types.is_unwanted (jani_demands.wanted_by w) t) (offset_of e) WrongType) h in
+    let r = append_parts (map (λ at. fault at WrongType) (trees.misfits jani_meaning ty e)) (fault_if (is_unwanted (wanted_by w) t) (offset_of e) WrongType) h in
     let s = has_some t ((misfits_none jani_meaning ty e).0 (empty_map (λ at. fault at WrongType) (trees.misfits jani_meaning ty e) r.0)) in
     record {
       type = s.0;
       is = s.1;
       wanted =
-          not-false (jani_types.is_wanted (jani_demands.wanted_by w) s.0)
-          (sym (ap (jani_types.is_unwanted (jani_demands.wanted_by w)) s.1) ∙ unless (jani_types.is_unwanted (jani_demands.wanted_by w) t) (offset_of e) r.1);
+          not-false (is_wanted (wanted_by w) s.0)
+          (sym (ap (is_unwanted (wanted_by w)) s.1) ∙ unless (is_unwanted (wanted_by w) t) (offset_of e) r.1);
     }
   where
     unless : (b : Bool) (at : ℕ) → fault_if b at WrongType ≡ [] → b ≡ false
@@ -129,22 +118,22 @@ has_type ty w e h =
 pub is_typed : (ty : Types) (w : Ty) (e : Expression) → HasType ty w e → IsTrue (is_some (type_in jani_meaning ty e))
 is_typed ty w e h = subst (λ o. IsTrue (is_some o)) (sym h.is) refl
 
-pub no_type_faults : (ty : Types) (w : Ty) (e : prism.Expression) → HasPrismType ty w e → prism_types.type_faults_of ty (prism_demands.wanted_by w) e ≡ []
+pub no_type_faults : (ty : Types) (w : Ty) (e : prism.Expression) → HasPrismType ty w e → prism_types.type_faults_of ty (wanted_by w) e ≡ []
 no_type_faults ty w e h =
     append_both (map (λ at. prism_least.fault at WrongType) (prism_types.misfits ty e)) _
     (ap (map (λ at. prism_least.fault at WrongType)) (typed_fits ty e (subst (λ o. IsTrue (is_some o)) (sym h.is) refl)))
-    (ap (λ b. prism_least.fault_if b (offset_of e) WrongType) (ap (prism_types.is_unwanted (prism_demands.wanted_by w)) h.is ∙ ap not h.wanted))
+    (ap (λ b. prism_least.fault_if b (offset_of e) WrongType) (ap (is_unwanted (wanted_by w)) h.is ∙ ap not h.wanted))
 
 -- an image has what its expression has
 pub image_has_type : (new : Name → Name) (old types : Types) (w : Ty) (e : Expression) → HasType old w e → AllNames (λ x. types (new x) ≡ old x) e → HasPrismType types w (image new e)
-image_has_type new old types w e h n = record { type = h.type; is = typed_by new old types e n ∙ h.is; wanted = same_wanted w h.type ∙ h.wanted }
+image_has_type new old types w e h n = record { type = h.type; is = typed_by new old types e n ∙ h.is; wanted = h.wanted }
 
 -- what is an int may stand for a number
 pub as_number : (ty : Types) (w : Ty) (e : Expression) → (w ≡ T.Bool → ⊥) → HasType ty w e → HasType ty T.Real e
 as_number ty T.Bool e n h = absurd (n refl)
 as_number ty T.Int e n h = record { type = h.type; is = h.is; wanted = whole h.type h.wanted }
   where
-    whole : (t : Ty) → jani_types.is_wanted (jani_demands.wanted_by T.Int) t ≡ true → jani_types.is_wanted (jani_demands.wanted_by T.Real) t ≡ true
+    whole : (t : Ty) → is_wanted (wanted_by T.Int) t ≡ true → is_wanted (wanted_by T.Real) t ≡ true
     whole T.Bool k = absurd cc
     whole T.Int k = refl
     whole T.Real k = absurd cc

@@ -1,13 +1,12 @@
 -- What holds of the elements of a file without fault, of their edges, and of the edges that targets are made for.
 use Rattle.std.specs.Prelude.{◌≡◌, ℕ, ◌+◌, ◌<◌, List, [], ◌∷◌, map, length, Bool, true, false, not, ◌&&◌, Option, Some, None, slice_get, get_or}
-use Rattle.std.specs.List.{flat_map, filter, list_any, zip, All}
+use Rattle.std.specs.List.{flat_map, filter, list_any, zip, All, AllByRecursion as Each}
 use Rattle.std.proofs.Common.{refl, sym, ap, ◌∙◌, arith, subst}
 use Rattle.std.proofs.lemmas.Option.{slice_get-get_or}
 use Rattle.std.proofs.lemmas.List.Elements.{All-nil, All-cons, All-head, All-tail, All-append, All-filter, All-map, filter_passes}
 use Rattle.std.proofs.lemmas.Bool.{and_parts}
 use Rattle.choice_laws.proofs.Walks.{All-flat_map, found_has}
 use Rattle.process_core.specs.Instance.{numbered, only_if}
-use Rattle.prism_print.specs.Printable.{Each}
 use Rattle.jani_tree.specs.Syntax.{Edge, Vector, File}
 use Rattle.jani_check.specs.Faults.{IsChecked}
 use Rattle.jani_meaning.specs.Elements as jani

@@ -1,6 +1,6 @@
 -- No update writes a variable twice: an edge assigns to each once, and the locations have other names.
 use Rattle.std.specs.Prelude.{◌≡◌, ℕ, ◌+◌, ◌<◌, List, [], ◌∷◌, ◌++◌, map, max, length, Bool, true, false, Option, Some, None, bytes_eq, get_or}
-use Rattle.std.specs.List.{flat_map, filter, All}
+use Rattle.std.specs.List.{flat_map, filter, All, AllByRecursion as Each}
 use Rattle.std.proofs.Common.{refl, sym, ap, ◌∙◌, arith, subst}
 use Rattle.std.proofs.lemmas.List.Elements.{All-append, All-map, All-from_recursion}
 use Rattle.basics.specs.Texts.{bytes_ne, bytes_eq-self}
@@ -9,14 +9,13 @@ use Rattle.basics.specs.Each.{each_then, each_empty}
 use Rattle.bridge_io.specs.declared.reason.Named.{Named}
 use Rattle.bridge_io.specs.declared.reason.Reason.{Reason}
 use Rattle.bridge_io.specs.declared.reason.Reason.TheVariants.{WrittenTwice}
+use Rattle.name_rules.proofs.Plain.{fault_none}
 use Rattle.process_core.specs.Ready.{Name}
 use Rattle.choice_laws.proofs.Walks.{All-flat_map, flat_map_none}
 use Rattle.prism_tree.specs.Syntax as prism
 use Rattle.process_core.specs.Instance.{only_if}
-use Rattle.prism_print.specs.Printable.{Each}
 use Rattle.prism_check.specs.NameFaults.{clash, doubled_after, doubled}
 use Rattle.prism_check.specs.TypeFaults.{repeated_writes}
-use Rattle.prism_check.proofs.Each.{fault_none}
 use Rattle.jani_tree.specs.Syntax.{Write, Destination, File}
 use Rattle.jani_check.specs.TypeFaults.{targets, repeated}
 use Rattle.jani_check.specs.Faults.{IsChecked}

@@ -1,6 +1,6 @@
 -- What stands outside of modules has no fault of types: constants, global variables, labels and reward structures.
 use Rattle.std.specs.Prelude.{◌≡◌, ℕ, ◌<◌, List, [], ◌∷◌, ◌++◌, map, length, Bool, true, false, not, Option, Some, None, is_none, get_or, unwrap_or, if◌then◌else◌}
-use Rattle.std.specs.List.{flat_map, filter, zip, All}
+use Rattle.std.specs.List.{flat_map, filter, zip, All, AllByRecursion as Each}
 use Rattle.std.specs.Option.{option_map}
 use Rattle.std.proofs.Common.{refl, sym, ap, ap₂, ◌∙◌, subst}
 use Rattle.std.proofs.lemmas.Bool.{eqb-true, and_parts}
@@ -12,21 +12,22 @@ use Rattle.op_trees.specs.declared.tree.Ty.TheVariants as T
 use Rattle.op_trees.specs.Tree.{Three}
 use Rattle.op_trees.specs.Types as trees
 use Rattle.op_trees.specs.Types.{Types}
-use Rattle.process_core.specs.Ready.{Name, if_some}
+use Rattle.basics.specs.Options.{if_some, IfAny}
+use Rattle.process_core.specs.Ready.{Name}
 use Rattle.process_core.specs.Product.{flat_map-flat_map}
 use Rattle.choice_laws.proofs.Walks.{All-flat_map, flat_map_none}
 use Rattle.prism_tree.specs.declared.operator.PrismOp.TheVariants.{Ite}
 use Rattle.prism_tree.specs.Operators.{prism_meaning}
 use Rattle.prism_tree.specs.Syntax as prism
 use Rattle.process_core.specs.Instance.{numbered}
-use Rattle.prism_print.specs.Printable.{Each, IfAny}
-use Rattle.prism_check.specs.Demands as prism_demands
 use Rattle.prism_check.specs.Demands.{Demand, fixed, varying, type_by, const_demands, range_demands, var_demands, label_demands, item_demands, rewards_demands, outer_demands}
 use Rattle.prism_check.specs.TypeFaults.{types, demand_faults}
 use Rattle.jani_tree.specs.Syntax.{Var, VarKind, boolean, integer, number, real_bounded, one_sided, bounded, Expression, Write, Location, Destination, File}
 use Rattle.jani_check.specs.Things.{kind_type, thing_type}
 use Rattle.jani_check.specs.Faults.{IsChecked}
-use Rattle.jani_meaning.specs.Elements.{Owned, variables, is_called, is_boolean, is_lasting, lasting, is_label, labels, is_structure, structures, structure_number}
+use Rattle.op_trees.specs.Names.{is_called}
+use Rattle.op_trees.specs.Wanted.{wanted_by}
+use Rattle.jani_meaning.specs.Elements.{Owned, variables, is_boolean, is_lasting, lasting, is_label, labels, is_structure, structures, structure_number}
 use Rattle.name_table.specs.PrismAsks.{NewNames, name_at, value_name, outside}
 use Rattle.jani_images.specs.Image.{image}
 use Rattle.prism_translation.specs.Elements.{Element, elements, has_several, Placed, Lasting, lasting_variables, may_use, is_at, shared, home}
@@ -69,10 +70,10 @@ module _ (file : File) (checked : IsChecked file) where
 
   -- ---- values
   value_clean : (i : ℕ) (vs : List Var) (k : ℕ) (t : Ty) (o : Option Expression) → IfAny (IsFixed file vs t) o →
-      flat_map (demand_faults (translated file) i) (map (fixed (prism_demands.wanted_by t)) (if_some (option_map (image (value_name file names k)) o))) ≡ []
+      flat_map (demand_faults (translated file) i) (map (fixed (wanted_by t)) (if_some (option_map (image (value_name file names k)) o))) ≡ []
   value_clean i vs k t None h = refl
   value_clean i vs k t (Some e) h =
-      append_both (demand_faults (translated file) i (fixed (prism_demands.wanted_by t) (image (value_name file names k) e))) [] (fixed_clean file checked i vs k t e h) refl
+      append_both (demand_faults (translated file) i (fixed (wanted_by t) (image (value_name file names k) e))) [] (fixed_clean file checked i vs k t e h) refl
 
   consts_clean : flat_map (demand_faults (translated file) 0) (flat_map const_demands (translated file).constants) ≡ []
   consts_clean =
@@ -86,8 +87,8 @@ module _ (file : File) (checked : IsChecked file) where
   range_clean : (i : ℕ) (vs : List Var) (k : ℕ) (kind : VarKind) → IsFineKind file vs kind →
       flat_map (demand_faults (translated file) i) (range_demands (range_of file names (value_name file names k) kind)) ≡ []
   range_clean i vs k (bounded low high) h =
-      append_both (demand_faults (translated file) i (fixed (prism_demands.wanted_by T.Int) (image (value_name file names k) low))) _ (fixed_clean file checked i vs k T.Int low h.0)
-      (append_both (demand_faults (translated file) i (fixed (prism_demands.wanted_by T.Int) (image (value_name file names k) high))) [] (fixed_clean file checked i vs k T.Int high h.1) refl)
+      append_both (demand_faults (translated file) i (fixed (wanted_by T.Int) (image (value_name file names k) low))) _ (fixed_clean file checked i vs k T.Int low h.0)
+      (append_both (demand_faults (translated file) i (fixed (wanted_by T.Int) (image (value_name file names k) high))) [] (fixed_clean file checked i vs k T.Int high h.1) refl)
   range_clean i vs k boolean h = refl
   range_clean i vs k integer h = refl
   range_clean i vs k number h = refl
@@ -103,7 +104,7 @@ module _ (file : File) (checked : IsChecked file) where
       let kind = x.owned.var.kind in
       let vs = own_variables file k in
       flat_map_both (demand_faults (translated file) i) (range_demands (range_of file names (value_name file names k) kind)) _ (range_clean i vs k kind h.1.1)
-      (ap (λ t. flat_map (demand_faults (translated file) i) (map (fixed (prism_demands.wanted_by t)) (if_some (option_map (image (value_name file names k)) x.owned.var.start))))
+      (ap (λ t. flat_map (demand_faults (translated file) i) (map (fixed (wanted_by t)) (if_some (option_map (image (value_name file names k)) x.owned.var.start))))
       (kind_kept file names (value_name file names k) x.owned.var.transient kind h.0 h.1.0)
       ∙ value_clean i vs k (kind_type kind) x.owned.var.start h.1.2)
 
@@ -186,7 +187,7 @@ module _ (file : File) (checked : IsChecked file) where
       (All-map (λ b. flat_map (demand_faults (translated file) 0) (label_demands b) ≡ []) (λ p. label file names p.0 p.1.name) (zip (labels file) names.labels)
       (λ i d l. let o = (get_or (zip (labels file) names.labels) i d).0 in
       let body = label_body file names (first_value file names o) (given_to file o) in
-      append_both (demand_faults (translated file) 0 (varying (prism_demands.wanted_by T.Bool) body)) []
+      append_both (demand_faults (translated file) 0 (varying (wanted_by T.Bool) body)) []
       (varying_clean file checked 0 T.Bool body (has_truth file checked body (zipped_all (λ o. IsTruth file checked (label_body file names (first_value file names o) (given_to file o))) (labels file) names.labels label_truth i d l))) refl))
 
   -- ---- reward structures
@@ -258,8 +259,8 @@ module _ (file : File) (checked : IsChecked file) where
 
   item_clean : (i : prism.Item) → IsGoodItem i → flat_map (demand_faults (translated file) 0) (item_demands i) ≡ []
   item_clean i h =
-      append_both (demand_faults (translated file) 0 (varying (prism_demands.wanted_by T.Bool) i.guard)) _ (varying_clean file checked 0 T.Bool i.guard h.0)
-      (append_both (demand_faults (translated file) 0 (varying (prism_demands.wanted_by T.Real) i.value)) [] (varying_clean file checked 0 T.Real i.value h.1) refl)
+      append_both (demand_faults (translated file) 0 (varying (wanted_by T.Bool) i.guard)) _ (varying_clean file checked 0 T.Bool i.guard h.0)
+      (append_both (demand_faults (translated file) 0 (varying (wanted_by T.Real) i.value)) [] (varying_clean file checked 0 T.Real i.value h.1) refl)
 
   abbrev IsClean : prism.Rewards → Type 0
   IsClean r = flat_map (demand_faults (translated file) 0) (rewards_demands r) ≡ []

@@ -1,7 +1,7 @@
 -- What the names of an element stand for: constants and variables, by their places in the file.
 use Rattle.std.specs.Prelude.{◌≡◌, ◌⊎◌, ℕ, zero, suc, ◌+◌, ◌<◌, List, [], ◌∷◌, length, Bool, true, false, ◌&&◌, cond, Option, Some, None, IsTrue, is_none, is_some, slice_get, get_or, unwrap_or}
-use Rattle.std.specs.List.{find, filter, position, position_or_len, All}
-use Rattle.std.specs.Option.{option_map, option_or}
+use Rattle.std.specs.List.{find, filter, position, position_or_len, All, AllByRecursion as Each}
+use Rattle.std.specs.Option.{option_map, option_or, option_or as or_else}
 use Rattle.std.proofs.Common.{refl, sym, ap, subst, ◌∙◌, arith, lt-ltb, inl, inr}
 use Rattle.std.proofs.lemmas.Bool.{eqb-true, and_parts}
 use Rattle.std.proofs.lemmas.Option.{slice_get_within, get_or_from_slice_get}
@@ -9,24 +9,24 @@ use Rattle.std.proofs.lemmas.List.Elements.{All-nil, All-append, All-filter, All
 use Rattle.std.proofs.lemmas.List.Folds.{find_at}
 use Rattle.std.proofs.lemmas.List.Quantifiers.{position-Some}
 use Rattle.basics.specs.Texts.{bytes_eq-true}
+use Rattle.basics.specs.Options.{has_some}
 use Rattle.bridge_io.specs.declared.reason.Named.{Named}
 use Rattle.op_trees.specs.declared.tree.Ty.{Ty}
 use Rattle.op_trees.specs.declared.tree.Ty.TheVariants as T
 use Rattle.process_core.specs.Ready.{Name}
 use Rattle.process_core.specs.Instance.{numbered}
-use Rattle.prism_print.specs.Printable.{Each}
 use Rattle.jani_tree.specs.Syntax.{Const, Var, boolean, Automaton, File}
 use Rattle.jani_check.specs.Things as things
-use Rattle.jani_check.specs.Things.{kind_type, const_thing, var_thing, const_called, var_called, or_else, global_thing, beside, thing_type, is_constant, is_transient}
-use Rattle.jani_check.specs.Demands as jani_demands
+use Rattle.jani_check.specs.Things.{kind_type, const_thing, var_thing, const_called, var_called, global_thing, beside, thing_type, is_constant, is_transient}
 use Rattle.jani_check.specs.TypeFaults as jani_types
 use Rattle.jani_check.specs.Faults.{IsChecked}
 use Rattle.jani_meaning.specs.Elements as jani
-use Rattle.jani_meaning.specs.Elements.{is_called, Owned, owned_by, variables, is_lasting, lasting, is_own, is_owner, is_global, place_of}
+use Rattle.op_trees.specs.Names.{is_called}
+use Rattle.op_trees.specs.Wanted.{wanted_by}
+use Rattle.jani_meaning.specs.Elements.{Owned, owned_by, variables, is_lasting, lasting, is_own, is_owner, is_global, place_of}
 use Rattle.prism_translation.specs.Elements.{may_use}
 use Rattle.prism_translation.specs.Sound.{IsConstant}
 use Rattle.prism_translation_types.specs.TypeLaws.{own_variables, types_in, is_constant_in}
-use Rattle.prism_translation.proofs.Lists.{some_place}
 use Rattle.prism_translation.proofs.Scopes.{global_stands, own_stands, has_column, variable_test}
 use Rattle.prism_translation.proofs.Clean.{names_apart_outside}
 use Rattle.prism_translation.proofs.Elements.{judged_at, names_at}
@@ -156,10 +156,10 @@ one_or_other None None None h k = absurd cc
 
 -- what is assigned to a thing has to be of its type
 pub wanted_is : (c : Option Const) (v w : Option Var) (t : Ty) → option_map thing_type (or_else (or_else (option_map const_thing c) (option_map var_thing v)) (option_map var_thing w)) ≡ Some t →
-    jani_types.wanted_at (or_else (or_else (option_map const_thing c) (option_map var_thing v)) (option_map var_thing w)) ≡ jani_demands.wanted_by t
-wanted_is (Some d) v w t h = let e : d.ty ≡ t = cc in ap jani_demands.wanted_by e
-wanted_is None (Some u) w t h = let e : thing_type (var_thing u) ≡ t = cc in ap jani_demands.wanted_by e
-wanted_is None None (Some u) t h = let e : thing_type (var_thing u) ≡ t = cc in ap jani_demands.wanted_by e
+    jani_types.wanted_at (or_else (or_else (option_map const_thing c) (option_map var_thing v)) (option_map var_thing w)) ≡ wanted_by t
+wanted_is (Some d) v w t h = let e : d.ty ≡ t = cc in ap wanted_by e
+wanted_is None (Some u) w t h = let e : thing_type (var_thing u) ≡ t = cc in ap wanted_by e
+wanted_is None None (Some u) t h = let e : thing_type (var_thing u) ≡ t = cc in ap wanted_by e
 wanted_is None None None t h = absurd cc
 
 module _ (file : File) where
@@ -220,5 +220,5 @@ module _ (file : File) (checked : IsChecked file) where
 
   pub variable_known : (k : ℕ) (x : Name) → things.is_lasting (beside (global_thing file) (own_variables file k) x) ≡ true → KnownVariable k x
   variable_known k x h =
-      let there = some_place (place_of (lasting file) k x) (has_column file k (names_at file checked k) x ∙ h) in
+      let there = has_some (place_of (lasting file) k x) (has_column file k (names_at file checked k) x ∙ h) in
       record { number = there.0; stands_there = there.1; typed = variable_typed is_lasting k x there.0 there.1 }

@@ -1,6 +1,6 @@
 -- What a JANI file without fault has of its demands, part by part.
-use Rattle.std.specs.Prelude.{◌≡◌, ℕ, List, [], ◌∷◌, ◌++◌, map, true, false, Option, Some, None, IsTrue, is_some, unwrap_or}
-use Rattle.std.specs.List.{flat_map, All}
+use Rattle.std.specs.Prelude.{◌≡◌, ℕ, List, [], ◌++◌, map, true, false, Option, Some, None, IsTrue, is_some, unwrap_or}
+use Rattle.std.specs.List.{flat_map, All, AllByRecursion as Each}
 use Rattle.std.proofs.Common.{refl, sym, ap, subst, ◌∙◌}
 use Rattle.std.proofs.lemmas.List.Elements.{All-from_recursion}
 use Rattle.basics.specs.Lists.{append_parts}
@@ -14,14 +14,15 @@ use Rattle.op_trees.specs.Types.{Types}
 use Rattle.op_trees.specs.Names.{offset_of, names_of}
 use Rattle.op_trees.specs.NameLaws.{names_with, none_named}
 use Rattle.op_trees.specs.TypeLaws.{names_typed}
-use Rattle.prism_print.specs.Printable.{Each, IfAny}
 use Rattle.prism_check.proofs.NamesIn.{listed_names}
 use Rattle.jani_table.specs.Operators.{jani_meaning}
 use Rattle.jani_tree.specs.Syntax.{Expression, VarKind, boolean, integer, number, real_bounded, one_sided, bounded, Var, Write, Location, Destination, Edge, Automaton, File}
-use Rattle.jani_tree.specs.Canonical.{OfAll}
-use Rattle.jani_check.specs.Least.{fault, fault_if}
+use Rattle.name_rules.specs.Least.{fault, fault_if}
+use Rattle.name_rules.proofs.Plain.{no_fault}
 use Rattle.jani_check.specs.Things.{kind_type, const_called, var_called, global_thing, beside, types_by, is_constant, is_transient, is_label}
-use Rattle.jani_check.specs.Demands.{Demand, fixed, varying, assigned, given, if_some, wanted_by, const_demands, bound_demands, var_demands, location_demands, destination_demands, edge_demands, automaton_demands, outer_demands}
+use Rattle.basics.specs.Options.{if_some, IfAny}
+use Rattle.op_trees.specs.Wanted.{wanted_by}
+use Rattle.jani_check.specs.Demands.{Demand, fixed, varying, assigned, given, const_demands, bound_demands, var_demands, location_demands, destination_demands, edge_demands, outer_demands}
 use Rattle.jani_check.specs.TypeFaults.{kind_fault, var_faults, type_faults_of, is_variable, has_variable, wanted_at, repeated, edge_repeats}
 use Rattle.jani_check.specs.ProfileFaults.{read_fault, reads}
 use Rattle.jani_check.specs.Faults.{IsChecked}
@@ -31,14 +32,8 @@ use Rattle.name_table.specs.PrismAsks.{outside}
 use Rattle.prism_translation_types.specs.TypeLaws.{own_variables}
 use Rattle.prism_translation_types.proofs.Images.{HasType, has_type, is_typed}
 use Rattle.prism_translation_types.proofs.Scopes.{each_at, variables_all, own_are, constant_left, wanted_is}
-use Rattle.prism_translation.proofs.Lists.{no_fault}
 use Rattle.prism_translation.proofs.Clean.{IsJudged, IsJudgedIn, kinds_outside, judged_outside, none_outside}
 use Rattle.prism_translation.proofs.Elements.{judged_elements}
-
--- what holds of all, by the other record of that
-each_of_all : {A : Type 0} (P : A → Type 0) (xs : List A) → OfAll P xs → Each P xs
-each_of_all P [] h = tt
-each_of_all P (x ∷ xs) h = (h.0, each_of_all P xs h.1)
 
 module _ (file : File) where
   -- the types of names beside these variables
@@ -170,7 +165,7 @@ module _ (file : File) where
 
   automaton_fine : (a : Automaton) → IsJudgedIn file a.variables a → IsFineAutomaton a
   automaton_fine a j =
-      let m = each_of_all (IsMet a.variables) (automaton_demands a) j.demands in
+      let m = j.demands in
       let p = each_parts (IsMet a.variables) (flat_map var_demands a.variables) (flat_map location_demands a.locations ++ flat_map edge_demands a.edges) m in
       let q = each_parts (IsMet a.variables) (flat_map location_demands a.locations) (flat_map edge_demands a.edges) p.1 in
       record { vars = vars_fine a.variables a.variables j.kinds p.0; locations = location_fine a.variables a.locations q.0; edges = edges_fine a.variables a.edges q.1 j.repeats }
@@ -179,12 +174,11 @@ module _ (file : File) (checked : IsChecked file) where
   -- ---- elements
   pub elements_fine : Each (IsFineAutomaton file) (jani.elements file)
   elements_fine =
-      each_of_all (IsFineAutomaton file) (jani.elements file)
       (of_weaker (λ a. IsJudgedIn file a.variables a) (IsFineAutomaton file) (automaton_fine file) (jani.elements file) (judged_elements file checked))
 
   -- ---- what stands outside of automata
   outer_met : Each (IsMet file []) (outer_demands file)
-  outer_met = each_of_all (IsMet file []) (outer_demands file) (judged_outside file checked)
+  outer_met = (judged_outside file checked)
 
   pub constants_fine : Each (λ c. IfAny (IsFixed file [] c.ty) c.value) file.constants
   constants_fine =

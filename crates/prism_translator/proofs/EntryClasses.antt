@@ -1,19 +1,13 @@
 -- The entries of a file by their classes, taken from what the classes before leave.
-use Rattle.std.proofs.Common.{◌≡◌, ℕ, ◌+◌, List, length, take, drop, ap, ◌∙◌, drop-drop}
+use Rattle.std.proofs.Common.{◌≡◌, List, length, take, drop}
 use Rattle.jani_tree.specs.Syntax.{File}
 use Rattle.jani_meaning.specs.Elements.{lasting, labels, structures}
 use Rattle.name_table.specs.declared.entry.Entry.{Entry}
-use Rattle.name_table.specs.Asks.{some_from}
 use Rattle.name_table.specs.PrismAsks.{NewNames, names_by, locations_at, modules_at, labels_at, rewards_at}
+use Rattle.name_table.proofs.EntryLemmas.{further, part}
 
 abbrev pub made : List Entry → List Entry → List Entry → List Entry → List Entry → List Entry → List Entry → NewNames
 made cs vs ks ms ls rs us = record { constants = cs; variables = vs; locations = ks; modules = ms; labels = ls; rewards = rs; actions = us }
-
-further : (es xs ys : List Entry) (a n : ℕ) → xs ≡ drop a es → ys ≡ drop n xs → ys ≡ drop (a + n) es
-further es xs ys a n h k = k ∙ ap (λ (l : List Entry). drop n l) h ∙ drop-drop n a es
-
-part : (es xs r : List Entry) (a n : ℕ) → xs ≡ drop a es → r ≡ take n xs → r ≡ some_from a n es
-part es xs r a n h k = k ∙ ap (λ (l : List Entry). take n l) h
 
 -- what is dropped, and taken, by counts that are the lengths
 pub classes_are : (file : File) (es e1 e2 e3 e4 e5 e6 cs vs ks ms ls rs : List Entry) →

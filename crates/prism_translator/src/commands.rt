@@ -4,7 +4,7 @@ ghost use Rattle.std.specs.Prelude.{◌≡◌, ◌++◌, ◌∷◌, [], Some, ma
 ghost use Rattle.std.specs.List.{flat_map};
 ghost use Rattle.std.specs.Option.{option_map};
 ghost use Rattle.op_trees.specs.Tree.{tree};
-ghost use Rattle.process_core.specs.Ready.{if_some};
+ghost use Rattle.basics.specs.Options.{if_some};
 ghost use Rattle.prism_tree.specs.Syntax as prism;
 ghost use Rattle.jani_tree.specs.Syntax as jani;
 ghost use Rattle.jani_images.specs.Image.{image};
@@ -16,15 +16,15 @@ use crate::entries::{Names, name_at};
 use crate::image::image;
 use crate::parts::{counted, falsehood, instead, is_there, made, truth};
 use bridge_io::{List, Named};
-use jani_tree::{JaniDestination, JaniEdge, JaniWrite, Je};
+use jani_tree::{JaniDestination, JaniEdge, JaniExpr, JaniWrite};
 use op_trees::Expr;
-use prism_tree::{Pe, PrismBranch, PrismCommand, PrismOp, PrismWrite};
+use prism_tree::{PrismBranch, PrismCommand, PrismExpr, PrismOp, PrismWrite};
 use std::alloc::{AllocError, Global};
 
 // ---- guards
 
 /// Both hold.
-fn both(alloc: Global, a: Pe, b: Pe) -> Result<Pe, AllocError>
+fn both(alloc: Global, a: PrismExpr, b: PrismExpr) -> Result<PrismExpr, AllocError>
     ensures { IfOk result (λ r. tree r ≡ all_of (tree a ∷ tree b ∷ [])) }
 {
     let left = Box::new(alloc, a)?;
@@ -33,7 +33,7 @@ fn both(alloc: Global, a: Pe, b: Pe) -> Result<Pe, AllocError>
 }
 
 /// The element is at the edge's location, and its guard holds; what is missing is left out.
-fn guard(alloc: Global, names: &Names, el: &Element, e: &JaniEdge) -> Result<Pe, AllocError>
+fn guard(alloc: Global, names: &Names, el: &Element, e: &JaniEdge) -> Result<PrismExpr, AllocError>
     requires names { IsReady names.now }
     requires element { IsElement el.now }
     ensures { IfOk result (λ r. tree r ≡ guard (file_in names.now) (names_in names.now) (element_of el.now) (jani.edge_of e.now)) }
@@ -62,8 +62,8 @@ fn guard_alone(
     alloc: Global,
     names: &Names,
     el: &Element,
-    guard: &Option<Je>,
-) -> Result<Pe, AllocError>
+    guard: &Option<JaniExpr>,
+) -> Result<PrismExpr, AllocError>
     requires { IsReady names.now }
     ensures { IfOk result (λ r. tree r ≡ all_of (map (image (new (file_in names.now) (names_in names.now) (element_of el.now))) (if_some (option_map tree guard.now)))) }
 {
@@ -160,8 +160,8 @@ fn weight(
     names: &Names,
     el: &Element,
     single: bool,
-    given: &Option<Je>,
-) -> Result<Option<Pe>, AllocError>
+    given: &Option<JaniExpr>,
+) -> Result<Option<PrismExpr>, AllocError>
     requires { IsReady names.now }
     ensures { IfOk result (λ r. option_map tree r ≡
         weight (file_in names.now) (names_in names.now) (element_of el.now) single (option_map tree given.now)) }

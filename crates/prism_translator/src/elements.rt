@@ -3,7 +3,8 @@
 ghost use Rattle.std.specs.Prelude.{◌≡◌, List, ℕ, map, IfOk};
 ghost use Rattle.std.specs.List.{position};
 ghost use Rattle.jani_tree.specs.Syntax.{automaton_of, location_of};
-ghost use Rattle.jani_meaning.specs.Elements.{location_number, initial_number, is_called};
+ghost use Rattle.op_trees.specs.Names.{is_called};
+ghost use Rattle.jani_meaning.specs.Elements.{location_number, initial_number};
 ghost use Rattle.name_table.specs.JaniParts.{under};
 ghost use Rattle.prism_translation.specs.Elements.{has_several};
 ghost use Rattle.prism_translator.specs.Code.{element_of, IsElement, AreElements};

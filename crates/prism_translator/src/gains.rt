@@ -19,7 +19,7 @@ ghost use Rattle.prism_translator.specs.Gains.{gain_of, gain_with, gains_of, Are
 use crate::elements::Element;
 use crate::entries::Names;
 use gathering::NumberLists;
-use jani_tree::{JaniEdge, JaniWrite, Je};
+use jani_tree::{JaniEdge, JaniExpr, JaniWrite};
 use prism_targets::{Maker, Places, Target};
 use std::alloc::{AllocError, Global};
 
@@ -28,7 +28,7 @@ use std::alloc::{AllocError, Global};
 pub(crate) struct Gain<'a> {
     pub(crate) target: usize,
     pub(crate) element: usize,
-    pub(crate) value: &'a Je,
+    pub(crate) value: &'a JaniExpr,
 }
 
 /// What the edges that targets are made for assign to each structure.

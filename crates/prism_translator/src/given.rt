@@ -4,7 +4,7 @@ ghost use Rattle.std.specs.Prelude.{◌≡◌, ◌++◌, List as ListOf, ℕ, ma
 ghost use Rattle.std.specs.List.{filter, flat_map, AllZip};
 ghost use Rattle.jani_tree.specs.Syntax as jani;
 ghost use Rattle.process_core.specs.Instance.{only_if};
-ghost use Rattle.jani_meaning.specs.Elements.{is_called};
+ghost use Rattle.op_trees.specs.Names.{is_called};
 ghost use Rattle.name_table.specs.JaniParts.{owned_of};
 ghost use Rattle.prism_translation.specs.Marks.{given_by};
 ghost use Rattle.gathering.specs.Lists.{list_under};
@@ -13,7 +13,7 @@ ghost use Rattle.prism_translator.specs.Given.{given_of, given_with, given_in, l
 
 use crate::elements::Element;
 use gathering::NameLists;
-use jani_tree::{JaniLocation, JaniWrite, Je};
+use jani_tree::{JaniExpr, JaniLocation, JaniWrite};
 use name_table::OwnedVar;
 use std::alloc::{AllocError, Global};
 
@@ -22,7 +22,7 @@ use std::alloc::{AllocError, Global};
 pub(crate) struct Given<'s, 'a> {
     pub(crate) element: &'s Element<'a>,
     pub(crate) location: usize,
-    pub(crate) value: &'a Je,
+    pub(crate) value: &'a JaniExpr,
 }
 
 /// What the locations of all elements give, by the names of the variables, and what those of each element do.

@@ -7,13 +7,18 @@ ghost use Rattle.jani_images.specs.Image.{image};
 ghost use Rattle.prism_translator.specs.Code.{file_in, names_in, IsReady};
 
 use crate::entries::Names;
-use jani_tree::Je;
+use jani_tree::JaniExpr;
 use prism_images::NewNames;
-use prism_tree::Pe;
+use prism_tree::PrismExpr;
 use std::alloc::{AllocError, Global};
 
 /// The image of an expression of an element. `Err` is want of memory.
-pub(crate) fn image(alloc: Global, names: &Names, element: usize, e: &Je) -> Result<Pe, AllocError>
+pub(crate) fn image(
+    alloc: Global,
+    names: &Names,
+    element: usize,
+    e: &JaniExpr,
+) -> Result<PrismExpr, AllocError>
     requires { IsReady names.now }
     ensures { IfOk result (λ r. tree r ≡ image (value_name (file_in names.now) (names_in names.now) element) (tree e.now)) }
 {

@@ -18,11 +18,11 @@ use crate::parts::{falsehood, image_if, instead, is_there, shorter};
 use bridge_io::List;
 use name_table::{Entry, OwnedVar};
 use op_trees::Expr;
-use prism_tree::{Pe, PrismLabel, PrismOp};
+use prism_tree::{PrismExpr, PrismLabel, PrismOp};
 use std::alloc::{AllocError, Global};
 
 /// The value that a location gives.
-pub(crate) fn given_image(alloc: Global, names: &Names, g: &Given) -> Result<Pe, AllocError>
+pub(crate) fn given_image(alloc: Global, names: &Names, g: &Given) -> Result<PrismExpr, AllocError>
     requires { IsReady names.now }
     ensures { IfOk result (λ r. tree r ≡ given_image (file_in names.now) (names_in names.now) (given_of g.now)) }
 {
@@ -30,7 +30,12 @@ pub(crate) fn given_image(alloc: Global, names: &Names, g: &Given) -> Result<Pe,
 }
 
 /// The value of a location where the element is at it, else another.
-fn label_step(alloc: Global, names: &Names, g: &Given, other: Pe) -> Result<Pe, AllocError>
+fn label_step(
+    alloc: Global,
+    names: &Names,
+    g: &Given,
+    other: PrismExpr,
+) -> Result<PrismExpr, AllocError>
     requires { IsReady names.now }
     ensures { IfOk result (λ r. tree r ≡ label_step (file_in names.now) (names_in names.now) (given_of g.now) (tree other)) }
 {
@@ -43,7 +48,12 @@ fn label_step(alloc: Global, names: &Names, g: &Given, other: Pe) -> Result<Pe, 
 }
 
 /// One value where a condition holds, else another.
-fn either(alloc: Global, condition: Pe, value: Pe, other: Pe) -> Result<Pe, AllocError>
+fn either(
+    alloc: Global,
+    condition: PrismExpr,
+    value: PrismExpr,
+    other: PrismExpr,
+) -> Result<PrismExpr, AllocError>
     ensures { IfOk result (λ r. tree r ≡ Three 0 Ite (tree condition) (tree value) (tree other)) }
 {
     let test = Box::new(alloc, condition)?;
@@ -53,7 +63,12 @@ fn either(alloc: Global, condition: Pe, value: Pe, other: Pe) -> Result<Pe, Allo
 }
 
 /// The value of the location that the element is at, else another.
-fn label_body(alloc: Global, names: &Names, given: &[Given], other: Pe) -> Result<Pe, AllocError>
+fn label_body(
+    alloc: Global,
+    names: &Names,
+    given: &[Given],
+    other: PrismExpr,
+) -> Result<PrismExpr, AllocError>
     requires { IsReady names.now }
     ensures { IfOk result (λ r. tree r ≡ label_body (file_in names.now) (names_in names.now) (tree other) (map given_of given.now)) }
 {
@@ -67,7 +82,7 @@ fn label_body(alloc: Global, names: &Names, given: &[Given], other: Pe) -> Resul
 }
 
 /// The first value of a transient variable, which is false where it has none.
-fn first_value(alloc: Global, names: &Names, var: &OwnedVar) -> Result<Pe, AllocError>
+fn first_value(alloc: Global, names: &Names, var: &OwnedVar) -> Result<PrismExpr, AllocError>
     requires { IsReady names.now }
     ensures { IfOk result (λ r. tree r ≡ first_value (file_in names.now) (names_in names.now) (owned_of var.now)) }
 {

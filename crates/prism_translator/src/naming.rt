@@ -3,7 +3,8 @@
 ghost use Rattle.std.specs.Prelude.{◌≡◌, List, ℕ, drop, take, length, map, IfOk};
 ghost use Rattle.std.specs.List.{position};
 ghost use Rattle.jani_tree.specs.Syntax.{file_of, const_of};
-ghost use Rattle.jani_meaning.specs.Elements.{is_called, lasting as lasting_of_file, labels as labels_of_file, structures as structures_of_file};
+ghost use Rattle.op_trees.specs.Names.{is_called};
+ghost use Rattle.jani_meaning.specs.Elements.{lasting as lasting_of_file, labels as labels_of_file, structures as structures_of_file};
 ghost use Rattle.name_table.specs.JaniParts.{under, owned_of};
 ghost use Rattle.name_table.specs.PrismAsks.{names_by};
 ghost use Rattle.prism_translator.specs.Code.{file_in, names_in, classes_in, IsReady};

@@ -17,10 +17,10 @@ use crate::entries::{Names, name_at};
 use crate::image::image;
 use bridge_io::{List, Named, Text};
 use frac_core::Decimal;
-use jani_tree::{JaniConst, JaniKind, Je};
+use jani_tree::{JaniConst, JaniExpr, JaniKind};
 use name_table::{Entry, OwnedVar};
 use op_trees::Expr;
-use prism_tree::{Pe, PrismConst, PrismOp, PrismRange, PrismVar};
+use prism_tree::{PrismConst, PrismExpr, PrismOp, PrismRange, PrismVar};
 use std::alloc::{AllocError, Global};
 
 // ---- names
@@ -48,21 +48,21 @@ pub(crate) fn instead(alloc: Global, old: &Named, name: &str) -> Result<Named, A
 // ---- expressions that are made
 
 /// The truth value true.
-pub(crate) fn truth() -> Pe
+pub(crate) fn truth() -> PrismExpr
     ensures { tree result ≡ truth }
 {
     Expr::Truth(0, true)
 }
 
 /// The truth value false.
-pub(crate) fn falsehood() -> Pe
+pub(crate) fn falsehood() -> PrismExpr
     ensures { tree result ≡ falsehood }
 {
     Expr::Truth(0, false)
 }
 
 /// A number that counts something.
-pub(crate) fn counted(n: usize) -> Pe
+pub(crate) fn counted(n: usize) -> PrismExpr
     ensures { tree result ≡ counted n }
 {
     Expr::Number(
@@ -82,7 +82,7 @@ pub(crate) fn is_there(
     names: &Names,
     element: usize,
     location: usize,
-) -> Result<Pe, AllocError>
+) -> Result<PrismExpr, AllocError>
     ensures { IfOk result (λ r. tree r ≡ is_there (file_in names.now) (names_in names.now) element location) }
 {
     let name = Text::copy_of(alloc, name_at(names.entries.locations, element))?;
@@ -96,8 +96,8 @@ pub(crate) fn image_if(
     alloc: Global,
     names: &Names,
     element: usize,
-    e: &Option<Je>,
-) -> Result<Option<Pe>, AllocError>
+    e: &Option<JaniExpr>,
+) -> Result<Option<PrismExpr>, AllocError>
     requires { IsReady names.now }
     ensures { IfOk result (λ r. option_map tree r ≡
         option_map (image (value_name (file_in names.now) (names_in names.now) element)) (option_map tree e.now)) }

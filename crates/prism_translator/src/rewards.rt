@@ -23,11 +23,11 @@ use crate::parts::{counted, instead, is_there, made, truth};
 use bridge_io::List;
 use gathering::NumberLists;
 use name_table::OwnedVar;
-use prism_tree::{ItemOn, Pe, PrismItem, PrismRewards};
+use prism_tree::{ItemOn, PrismExpr, PrismItem, PrismRewards};
 use std::alloc::{AllocError, Global};
 
 /// The element is at the location that gives a value, if it has several.
-fn given_where(alloc: Global, names: &Names, g: &Given) -> Result<Pe, AllocError>
+fn given_where(alloc: Global, names: &Names, g: &Given) -> Result<PrismExpr, AllocError>
     ensures { IfOk result (λ r. tree r ≡ given_where (file_in names.now) (names_in names.now) (given_of g.now)) }
 {
     if !g.element.has_several() {

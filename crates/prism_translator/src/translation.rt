@@ -3,7 +3,7 @@
 ghost use Rattle.std.specs.Prelude.{◌≡◌, [], None, map, IfOk, IfErr, OnOk};
 ghost use Rattle.std.specs.List.{All};
 ghost use Rattle.jani_tree.specs.Syntax.{file_of};
-ghost use Rattle.jani_table.specs.Least.{soonest};
+ghost use Rattle.name_rules.specs.Least.{soonest};
 ghost use Rattle.jani_tree.specs.Faults.{FailsFor};
 ghost use Rattle.prism_translation.specs.Names.{entries};
 ghost use Rattle.prism_translation.specs.Targets.{targets};

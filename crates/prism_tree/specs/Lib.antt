@@ -4,3 +4,4 @@ pub mod Syntax
 pub mod Lang
 pub mod Grammar
 pub mod Faults
+pub mod Laws

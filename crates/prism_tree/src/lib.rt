@@ -7,7 +7,7 @@ mod syntax;
 
 pub use operator::PrismOp;
 pub use syntax::{
-    CopiedModule, ItemOn, NamePair, Pe, PlainModule, PrismBranch, PrismCommand, PrismConst,
+    CopiedModule, ItemOn, NamePair, PlainModule, PrismBranch, PrismCommand, PrismConst, PrismExpr,
     PrismFile, PrismFormula, PrismItem, PrismLabel, PrismModule, PrismRange, PrismRewards,
     PrismVar, PrismWrite,
 };

@@ -6,7 +6,7 @@ use bridge_io::{List, Named};
 use op_trees::{Expr, Ty};
 
 /// An expression.
-pub type Pe = Expr<PrismOp>;
+pub type PrismExpr = Expr<PrismOp>;
 
 /// A file. The lists are in the order of the text, and `end` is the length of the text.
 #[derive(Drop)]
@@ -25,7 +25,7 @@ pub struct PrismFile {
 pub struct PrismConst {
     pub name: Named,
     pub ty: Ty,
-    pub value: Option<Pe>,
+    pub value: Option<PrismExpr>,
 }
 
 /// A variable, a bool where it has no range, with its initial value if the file gives one.
@@ -33,28 +33,28 @@ pub struct PrismConst {
 pub struct PrismVar {
     pub name: Named,
     pub range: Option<PrismRange>,
-    pub start: Option<Pe>,
+    pub start: Option<PrismExpr>,
 }
 
 /// The bounds of a variable.
 #[derive(Drop)]
 pub struct PrismRange {
-    pub low: Pe,
-    pub high: Pe,
+    pub low: PrismExpr,
+    pub high: PrismExpr,
 }
 
 /// A formula.
 #[derive(Drop)]
 pub struct PrismFormula {
     pub name: Named,
-    pub body: Pe,
+    pub body: PrismExpr,
 }
 
 /// A label; its name is kept without the quotes.
 #[derive(Drop)]
 pub struct PrismLabel {
     pub name: Named,
-    pub body: Pe,
+    pub body: PrismExpr,
 }
 
 /// A module, or a copy of another one.
@@ -91,14 +91,14 @@ pub struct NamePair {
 #[derive(Drop)]
 pub struct PrismCommand {
     pub action: Option<Named>,
-    pub guard: Pe,
+    pub guard: PrismExpr,
     pub branches: List<PrismBranch>,
 }
 
 /// An update with its probability, which is missing where the command has this one update alone.
 #[derive(Drop)]
 pub struct PrismBranch {
-    pub weight: Option<Pe>,
+    pub weight: Option<PrismExpr>,
     pub writes: List<PrismWrite>,
 }
 
@@ -106,7 +106,7 @@ pub struct PrismBranch {
 #[derive(Drop)]
 pub struct PrismWrite {
     pub name: Named,
-    pub value: Pe,
+    pub value: PrismExpr,
 }
 
 /// A reward structure; its name, if it has one, is kept without the quotes.
@@ -120,8 +120,8 @@ pub struct PrismRewards {
 #[derive(Drop)]
 pub struct PrismItem {
     pub on: ItemOn,
-    pub guard: Pe,
-    pub value: Pe,
+    pub guard: PrismExpr,
+    pub value: PrismExpr,
 }
 
 /// What a reward is given for: a state, a transition without action, or one with this action.

@@ -2,7 +2,7 @@
 use Rattle.std.proofs.Common.{◌≡◌, ℕ, ◌+◌, List, [], ◌∷◌, ◌++◌, map, Bool, true, false, not, ◌||◌, cond, if◌then◌else◌, slice_set, get_or, refl, sym, ap, ap₂, ◌∙◌, arith, suc, append_assoc, append-nil, subst}
 use Rattle.std.specs.List.{filter, list_any, position_or_len, All}
 use Rattle.std.proofs.lemmas.List.{map-append}
-use Rattle.std.proofs.lemmas.List.Elements.{filter-append, All-cons, All-head, All-tail, All-filter, filter_passes}
+use Rattle.std.proofs.lemmas.List.Elements.{filter-append, All-head, All-tail, All-filter, filter_passes}
 use Rattle.std.proofs.lemmas.List.Folds.{list_any-append}
 use Rattle.std.proofs.lemmas.Bool.{not-true, not_from_false}
 use Rattle.basics.specs.Members.{filter_none, any-map}
@@ -30,14 +30,6 @@ any_cond p false x xs = refl
 any_filter : {X : Type 0} (p q : X → Bool) → ((x : X) → p x ≡ true → q x ≡ true) → (xs : List X) → list_any p (filter q xs) ≡ list_any p xs
 any_filter p q h [] = refl
 any_filter p q h (x ∷ xs) = any_cond p (q x) x (filter q xs) ∙ or_kept (p x) (q x) _ _ (h x) (any_filter p q h xs)
-
-cond_nil : {X : Type 0} (b : Bool) (x : X) (xs : List X) → b ≡ false → xs ≡ [] → cond b (x ∷ xs) xs ≡ []
-cond_nil true x xs h e = absurd cc
-cond_nil false x xs h e = e
-
-passes_cond : {X : Type 0} (q : X → Bool) (b : Bool) (x : X) (xs : List X) → b ≡ q x → All (λ y. q y ≡ true) xs → All (λ y. q y ≡ true) (cond b (x ∷ xs) xs)
-passes_cond q true x xs e h = All-cons (λ y. q y ≡ true) x xs (sym e) h
-passes_cond q false x xs e h = h
 
 pub place-map : {X Y : Type 0} (p : X → Bool) (q : Y → Bool) (f : X → Y) → ((x : X) → q (f x) ≡ p x) → (xs : List X) → position_or_len q (map f xs) ≡ position_or_len p xs
 place-map p q f h [] = refl

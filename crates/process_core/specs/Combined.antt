@@ -1,15 +1,14 @@
 -- Laws of combinations: their order and their parts, modules as vectors, and combinations that follow themselves.
 use Rattle.std.specs.Prelude.{◌≡◌, List, [], ◌∷◌, ◌++◌, map, Bool, true, false, Option, Some, None, if◌then◌else◌}
-use Rattle.std.specs.List.{flat_map, filter, list_any, AllZip}
+use Rattle.std.specs.List.{flat_map, filter, list_any}
 use Rattle.std.proofs.Common.{refl, sym, ap, ◌∙◌}
 use Rattle.std.proofs.lemmas.List.Concat.{flat_map-append}
 use Rattle.std.proofs.lemmas.List.Folds.{flat_map-map}
 use Rattle.process_core.specs.Process.{EquallyOften}
 use Rattle.process_core.specs.Product.{one_of_each, map-flat_map, flat_map_agree}
 use Rattle.process_core.specs.Often.{often_refl, often_same, often_trans, often-map, often-flat_map, often_parts}
-use Rattle.process_core.specs.Ready.{Values, Name, Update, Ready, Sum, Combination, has_action, actions_of, silent, together, sharing, of_modules, taking, of_elements, vector_of}
+use Rattle.process_core.specs.Ready.{Values, Name, Ready, Sum, Combination, has_action, actions_of, silent, together, sharing, of_modules, taking, of_elements, vector_of}
 use Rattle.process_core.specs.Choices.{choice_of, choices}
-use Rattle.process_core.specs.Follow.{FollowsUpdate, FollowsReady, FollowsCombination}
 
 -- the choices of two lists of combinations
 pub choices-append : (s : Values) (cs ds : List Combination) → choices s (cs ++ ds) ≡ choices s cs ++ choices s ds
@@ -53,33 +52,3 @@ of_modules_vectors rewards ms =
     (flat_map_agree (λ a. together (Some a) rewards (sharing a ms)) (λ a. together (Some a) rewards (taking (vector_of a ms).parts ms))
     (λ a. ap (together (Some a) rewards) (sym (taking_sharing a ms))) (actions_of ms)
     ∙ sym (flat_map-map (λ v. together v.result rewards (taking v.parts ms)) (λ a. vector_of a ms) (actions_of ms)))
-
--- ---- what follows itself
-pub FollowsUpdate_self : (u : Update) → FollowsUpdate (λ s. true) (λ s. s) u u
-FollowsUpdate_self u = record {
-  weight = refl;
-  undef = refl;
-  outside = refl;
-  rewards = λ own. refl;
-  target = λ s h. refl;
-  stays = λ s h. h;
-}
-
-each_self : {X : Type 0} (R : X → X → Type 0) → ((x : X) → R x x) → (xs : List X) → AllZip R xs xs
-each_self R h [] = tt
-each_self R h (x ∷ xs) = (h x, each_self R h xs)
-
-pub FollowsReady_self : (r : Ready) → FollowsReady (λ s. true) (λ s. s) r r
-FollowsReady_self r = record {
-  guard = refl;
-  updates = each_self (FollowsUpdate (λ s. true) (λ s. s)) FollowsUpdate_self r.updates;
-}
-
--- under another label
-pub FollowsCombination_self : (label : Option Name → Option Name) (c : Combination) →
-    FollowsCombination (λ s. true) (λ s. s) label c (record { label = label c.label; rewards = c.rewards; participants = c.participants })
-FollowsCombination_self label c = record {
-  labels = refl;
-  rewards = refl;
-  participants = each_self (FollowsReady (λ s. true) (λ s. s)) FollowsReady_self c.participants;
-}

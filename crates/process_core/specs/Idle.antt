@@ -52,7 +52,7 @@ guard_end rs a rewards =
 weighs_one : weighs_wrong (Some (unit ∷ [])) ≡ false
 weighs_one = ap not ((same_number_is (plus unit nought) unit).1 (plus_nought unit))
 
-same_kinds : (a b c d e f : Bool) → a ≡ b → c ≡ d → e ≡ f → ◌≡◌ {A = Kinds} (record { undef = a; range = c; weight = e }) (record { undef = b; range = d; weight = f })
+pub same_kinds : (a b c d e f : Bool) → a ≡ b → c ≡ d → e ≡ f → ◌≡◌ {A = Kinds} (record { undef = a; range = c; weight = e }) (record { undef = b; range = d; weight = f })
 same_kinds a b c d e f p q r = cc
 
 kinds_end : (c : Combination) (own : List Sum) (a : Option Name) (rewards : List Reward) → Earns c own rewards → kinds_of own (c.participants ++ idle a rewards ∷ []) ≡ kinds_of c.rewards c.participants

@@ -190,3 +190,11 @@ pub models_alike : (k l : Valuation → Scene) (a b : Valuation → Values → L
     model_of k a c ≡ model_of l b d
 models_alike k l a b c d scenes marks choices =
     ap (λ x. model_of x a c) (fun_ext scenes) ∙ ap₂ (model_of l) (fun_ext (λ v. fun_ext (marks v))) (fun_ext (λ v. fun_ext (choices v)))
+
+-- whether a fault is of a constant
+abbrev pub is_of_constant : FaultKind → Bool
+is_of_constant ConstUndef = true
+is_of_constant BoundUndef = false
+is_of_constant EmptyRange = false
+is_of_constant InitUndef = false
+is_of_constant InitOutside = false

@@ -5,6 +5,7 @@
 use Rattle.std.specs.Prelude.{ℕ, List, [], ◌∷◌, ◌++◌, map, Bool, not, Option, Some, None, if◌then◌else◌, bytes_eq}
 use Rattle.std.specs.Prelude.{true, false}
 use Rattle.std.specs.List.{flat_map, filter, list_any}
+use Rattle.basics.specs.Options.{if_some}
 use Rattle.frac_core.specs.Fraction.{Fraction}
 use Rattle.op_trees.specs.Seen.{Seen}
 use Rattle.op_trees.specs.declared.tree.Value.{Value}
@@ -66,10 +67,6 @@ has_action a r = same_label a r.action
 abbrev pub firsts : {X : Type 0} → (X → X → Bool) → List X → List X
 firsts same [] = []
 firsts same (x ∷ xs) = x ∷ filter (λ y. not (same x y)) (firsts same xs)
-
-abbrev pub if_some : {X : Type 0} → Option X → List X
-if_some None = []
-if_some (Some x) = x ∷ []
 
 -- the actions that occur, in order of first occurrence
 abbrev pub actions_of : List (List Ready) → List Name

@@ -17,11 +17,6 @@ AllZip-maps R S f g e [] (y ∷ ys) h = absurd h
 AllZip-maps R S f g e (x ∷ xs) [] h = absurd h
 AllZip-maps R S f g e (x ∷ xs) (y ∷ ys) h = (e x y h.0, AllZip-maps R S f g e xs ys h.1)
 
--- two maps over one list
-pub AllZip-both : {X U V : Type 0} (S : U → V → Type 0) (f : X → U) (g : X → V) → ((x : X) → S (f x) (g x)) → (xs : List X) → AllZip S (map f xs) (map g xs)
-AllZip-both S f g e [] = tt
-AllZip-both S f g e (x ∷ xs) = (e x, AllZip-both S f g e xs)
-
 pub AllZip-flat_map : {X Y U V : Type 0} (R : X → Y → Type 0) (S : U → V → Type 0) (f : X → List U) (g : Y → List V) → ((x : X) (y : Y) → R x y → AllZip S (f x) (g y)) →
     (xs : List X) (ys : List Y) → AllZip R xs ys → AllZip S (flat_map f xs) (flat_map g ys)
 AllZip-flat_map R S f g e [] [] h = tt

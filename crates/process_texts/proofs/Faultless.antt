@@ -19,9 +19,6 @@ a_byte k p = (refl, same k, refl)
     same k = eq-eqb k k refl
 
 module _ (p : Place) (w s : List ℕ) (h : IsString w s) where
-  last : Place
-  last = next (nexts h.inner (next p))
-
   a_string : string p w s (next (nexts h.inner (next p)))
   unfolding string ◌>>=◌ chars gives
   a_string = (

@@ -1,5 +1,5 @@
 -- What is read of a text as a name.
-use Rattle.std.proofs.Common.{◌≡◌, ℕ, zero, suc, ◌<◌, true, false, List, [], ◌∷◌, ◌++◌, length, Option, Some, None, Result, Ok, Err, refl, sym, ap, subst, ◌∙◌, arith, IsUtf8, slice_index, lit<, IfOk}
+use Rattle.std.proofs.Common.{◌≡◌, ℕ, zero, suc, ◌<◌, true, false, List, [], ◌∷◌, ◌++◌, Option, Some, None, Result, Ok, Err, refl, sym, ap, subst, ◌∙◌, arith, IsUtf8, slice_index, lit<, IfOk}
 use Rattle.bridge_io.specs.declared.reason.Fault.{Fault}
 use Rattle.std.proofs.lemmas.Bool.Decides.{nat_tests}
 use Rattle.std.proofs.lemmas.Str.{IsUtf8-append, IsUtf8-encode, IsUtf8-nil, IsUtf8-from_ascii}
@@ -42,12 +42,6 @@ pub string_fault : (w : List ℕ) (f : Fault) → IsLeast w f.at f.reason → (x
 string_fault w f h x s = no_fault w x s f.at f.reason h.fault
 
 -- ---- names
-no_quote_name : (w : List ℕ) (x : Name) → is_name w ≡ true → IsString w x → ⊥
-no_quote_name w x h s = let e : false ≡ true = sym (ap is_name s.text) ∙ h in cc
-
-pub too_long : (w : List ℕ) → is_name w ≡ true → 255 < length w → (x : Name) → SpellsName w x → ⊥
-too_long w h l x (n.plain a b e) = omega arith
-too_long w h l x (n.string s) = no_quote_name w x h s
 
 pub by_string : (w : List ℕ) (r : Option Name) → is_name w ≡ false → ReadsString w r → ReadsName w r
 by_string w (Some x) h s = n.string s

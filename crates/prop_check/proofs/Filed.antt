@@ -8,13 +8,12 @@ use Rattle.basics.specs.Lists.{append_left, append_right}
 use Rattle.bridge_io.specs.declared.reason.Reason.TheVariants.{TwiceNamed, Unknown}
 use Rattle.op_trees.specs.Tree.{Truth, Number, Name, One, Two, Three, AllNumbers, renamed}
 use Rattle.op_trees.specs.Names.{HasOperands}
-use Rattle.process_core.specs.Ready.{if_some}
+use Rattle.basics.specs.Options.{if_some}
 use Rattle.jani_tree.specs.Form.{IsNormal}
 use Rattle.prism_tree.specs.Operators.{arity}
 use Rattle.prism_tree.specs.Syntax.{Expression, Rewards, File}
-use Rattle.name_rules.specs.Least.{fault_if}
+use Rattle.name_rules.specs.Least.{fault_if, or_else}
 use Rattle.name_rules.specs.Doubled.{doubled}
-use Rattle.prism_check.specs.Faults.{or_else}
 use Rattle.prop_grammar.specs.declared.syntax.Structure.{Structure}
 use Rattle.prop_grammar.specs.Property.{Ask, greatest, least, bounded, greatest_reward, least_reward, Path, finally, globally, until, weak_until, finally_within, until_within}
 use Rattle.prop_grammar.specs.Syntax.{WrittenProperty}

@@ -1,5 +1,5 @@
 -- What the expressions have that tokens spell whose numbers are literals, whatever their names are.
-use Rattle.std.proofs.Common.{◌≡◌, ℕ, zero, suc, Bool, true, false, cond, List, [], ◌∷◌, ◌++◌, Option, Some, None, refl, sym, ap, subst, ◌∙◌, inl, inr}
+use Rattle.std.proofs.Common.{◌≡◌, ℕ, zero, suc, Bool, true, false, cond, List, [], ◌∷◌, ◌++◌, Option, Some, None, refl, sym, subst, inl, inr}
 use Rattle.std.specs.Prelude.{◌⊎◌, ◌==◌, codes}
 use Rattle.std.specs.List.{AllByRecursion as Each}
 use Rattle.std.specs.Str.{bytes_eq}
@@ -17,7 +17,8 @@ use Rattle.prism_tree.specs.declared.operator.PrismOp.TheVariants as O
 use Rattle.prism_tree.specs.Operators.{arity}
 use Rattle.prism_tree.specs.Syntax.{Expression, moved}
 use Rattle.prism_tree.specs.Lang.{Lang, token_with, gives, never, ◌>>=◌, ◌or◌, many, folding, fold_left}
-use Rattle.prism_tree.specs.Grammar.{infix_at, infix_of, at_level, operator_at, joined_by, applied, operand, chain, prefixed, over_prefix, function_of, number_of, number_at, truth, parenthesised, argument, one_argument, two_arguments, arguments, name_or_call, extremum, prim, level, choice, conditional, expr_at, expr}
+use Rattle.prism_tree.specs.Grammar.{infix_of, operator_at, joined_by, applied, operand, chain, prefixed, over_prefix, function_of, number_of, number_at, truth, parenthesised, argument, one_argument, two_arguments, arguments, name_or_call, extremum, prim, level, choice, conditional, expr_at, expr}
+use Rattle.prism_print.proofs.Keeping.{level_two, kind_two}
 use Rattle.prop_trees.specs.Form.{HasForm}
 
 -- a number's literal is in normal form
@@ -109,40 +110,6 @@ moved_good at (Name from x) p = leaf_name at x
 moved_good at (One from o a) p = record { literals = p.literals; operands = p.operands }
 moved_good at (Two from o a b) p = record { literals = p.literals; operands = p.operands }
 moved_good at (Three from o a b c) p = record { literals = p.literals; operands = p.operands }
-
--- the operators between operands take two
-abbrev TakesTwo : Option (ℕ × PrismOp) → Type 0
-TakesTwo None = Unit {0}
-TakesTwo (Some p) = arity p.1 ≡ 2
-
-infix_two : (s : Symbol) → TakesTwo (infix_at s)
-infix_two S.Star = refl
-infix_two S.Slash = refl
-infix_two S.Plus = refl
-infix_two S.Minus = refl
-infix_two S.Less = refl
-infix_two S.AtMost = refl
-infix_two S.AtLeast = refl
-infix_two S.Greater = refl
-infix_two S.Equal = refl
-infix_two S.Unequal = refl
-infix_two S.And = refl
-infix_two S.Or = refl
-infix_two S.Iff = refl
-infix_two S.Implies = refl
-infix_two s = tt
-
-kind_two : (k : TokenKind) → TakesTwo (infix_of k)
-kind_two (K.Symbol s) = infix_two s
-kind_two k = tt
-
-level_two : (n : ℕ) (q : Option (ℕ × PrismOp)) (o : PrismOp) → TakesTwo q → at_level n q ≡ Some o → arity o ≡ 2
-level_two n None o h e = absurd cc
-level_two n (Some p) o h e = go (p.0 == n) e
-  where
-    go : (t : Bool) → cond t (Some p.1) None ≡ Some o → arity o ≡ 2
-    go true e = let i : p.1 ≡ o = cc in sym (ap arity i) ∙ h
-    go false e = absurd cc
 
 number_good : (t : Lexeme) (k : TokenKind) (e : Expression) → KindHolds k → number_of t k ≡ Some e → Good e
 number_good t (K.Number d) e h f =

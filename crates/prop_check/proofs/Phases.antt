@@ -2,9 +2,8 @@
 use Rattle.std.specs.Prelude.{List, [], ◌∷◌, Some, None}
 use Rattle.std.proofs.Common.{◌≡◌, refl, ap}
 use Rattle.bridge_io.specs.declared.reason.Fault.{Fault}
-use Rattle.name_rules.specs.Least.{soonest}
+use Rattle.name_rules.specs.Least.{soonest, or_else}
 use Rattle.name_rules.proofs.Soonest.{soonest_none}
-use Rattle.prism_check.specs.Faults.{or_else}
 
 -- a fault of the first of two phases
 pub first_fault : (fs gs : List Fault) (f : Fault) → soonest None fs ≡ Some f → soonest None (or_else fs gs) ≡ Some f

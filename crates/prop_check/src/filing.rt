@@ -13,7 +13,7 @@ ghost use Rattle.prop_trees.specs.Trees.{ask_with, path_with};
 use crate::marks::marked_expression;
 use crate::scope::Scope;
 use bridge_io::{List, Named, Text};
-use prism_tree::Pe;
+use prism_tree::PrismExpr;
 use prop_grammar::{PathForm, Query, Structure, Written};
 use prop_trees::{Ask, Path, Property};
 use std::alloc::{AllocError, Global};
@@ -109,7 +109,11 @@ fn filed_path(alloc: Global, path: &PathForm) -> Result<Path, AllocError>
 }
 
 // Two expressions with names marked.
-fn marked_both(alloc: Global, a: &Pe, b: &Pe) -> Result<(Pe, Pe), AllocError>
+fn marked_both(
+    alloc: Global,
+    a: &PrismExpr,
+    b: &PrismExpr,
+) -> Result<(PrismExpr, PrismExpr), AllocError>
     ensures first { IfOk result (λ r. tree r.0 ≡ renamed filed_name (tree a.now)) }
     ensures second { IfOk result (λ r. tree r.1 ≡ renamed filed_name (tree b.now)) }
 {
@@ -119,7 +123,12 @@ fn marked_both(alloc: Global, a: &Pe, b: &Pe) -> Result<(Pe, Pe), AllocError>
 }
 
 // `a U<=k b`
-fn until_within(alloc: Global, k: &Pe, a: &Pe, b: &Pe) -> Result<Path, AllocError>
+fn until_within(
+    alloc: Global,
+    k: &PrismExpr,
+    a: &PrismExpr,
+    b: &PrismExpr,
+) -> Result<Path, AllocError>
     ensures { IfOk result
         (λ r. path_of r ≡ until_within (renamed filed_name (tree k.now)) (renamed filed_name (tree a.now)) (renamed filed_name (tree b.now))) }
 {

@@ -3,8 +3,7 @@
 ghost use Rattle.std.specs.Prelude.{◌≡◌, List, map, IfOk, None};
 ghost use Rattle.prop_grammar.specs.Syntax.{WrittenProperty, written_of};
 ghost use Rattle.prop_trees.specs.PrismFaults.{all_parts, faults, size_faults, type_faults};
-ghost use Rattle.prism_check.specs.Faults.{or_else};
-ghost use Rattle.name_rules.specs.Least.{soonest};
+ghost use Rattle.name_rules.specs.Least.{soonest, or_else};
 ghost use Rattle.prop_check.specs.Views.{part_of};
 
 use crate::names::judge_names;

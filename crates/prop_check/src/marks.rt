@@ -7,11 +7,11 @@ ghost use Rattle.prop_trees.specs.Names.{deadlock_name, filed_label, filed_name,
 use crate::labels::label_in;
 use bridge_io::Text;
 use op_trees::{Expr, OpMap, Shape, map_ops};
-use prism_tree::{Pe, PrismOp};
+use prism_tree::{PrismExpr, PrismOp};
 use std::alloc::{AllocError, Global};
 
 /// An expression in which each name of the model stands with a point before it. `Err` is want of memory.
-pub(crate) fn marked_expression(alloc: Global, e: &Pe) -> Result<Pe, AllocError>
+pub(crate) fn marked_expression(alloc: Global, e: &PrismExpr) -> Result<PrismExpr, AllocError>
     ensures { IfOk result (λ r. tree r ≡ renamed filed_name (tree e.now)) }
 {
     map_ops(alloc, e, &Marks)
@@ -29,7 +29,7 @@ impl OpMap<PrismOp, PrismOp> for Marks {
 
     ghost rebuilt = { λ m. marked_node };
 
-    fn rebuild(&self, alloc: Global, node: Shape<PrismOp, PrismOp>) -> Result<Pe, AllocError>
+    fn rebuild(&self, alloc: Global, node: Shape<PrismOp, PrismOp>) -> Result<PrismExpr, AllocError>
         ensures { IfOk result (λ r. tree r ≡ marked_node (shape node)) }
     {
         match node {

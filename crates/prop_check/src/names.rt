@@ -2,7 +2,7 @@
 
 ghost use Rattle.std.specs.Prelude.{◌≡◌, map, IfOk, None};
 ghost use Rattle.std.specs.List.{flat_map};
-ghost use Rattle.process_core.specs.Ready.{if_some};
+ghost use Rattle.basics.specs.Options.{if_some};
 ghost use Rattle.name_rules.specs.Least.{soonest};
 ghost use Rattle.name_rules.specs.Names.{named_by};
 ghost use Rattle.prop_grammar.specs.Syntax.{ask_of, written_of};

@@ -7,7 +7,7 @@ ghost use Rattle.prop_trees.specs.PrismFaults.{all_parts};
 ghost use Rattle.prop_trees.specs.Trees.{ask_parts, path_parts};
 ghost use Rattle.prop_check.specs.Views.{part_of, role_of, states};
 
-use prism_tree::Pe;
+use prism_tree::PrismExpr;
 use prop_grammar::{PathForm, Query, Written};
 use std::alloc::{AllocError, Global};
 
@@ -26,7 +26,7 @@ pub(crate) enum Role {
 #[derive(Clone, Copy)]
 pub(crate) struct Part<'a> {
     pub(crate) role: Role,
-    pub(crate) e: &'a Pe,
+    pub(crate) e: &'a PrismExpr,
 }
 
 /// Those of these properties, in their order. `Err` is want of memory.
@@ -77,7 +77,11 @@ fn add_path_parts<'a>(path: &'a PathForm, list: &mut Vec<Part<'a>>) -> Result<()
     }
 }
 
-fn add_states<'a>(a: &'a Pe, b: &'a Pe, list: &mut Vec<Part<'a>>) -> Result<(), AllocError>
+fn add_states<'a>(
+    a: &'a PrismExpr,
+    b: &'a PrismExpr,
+    list: &mut Vec<Part<'a>>,
+) -> Result<(), AllocError>
     ensures { OnOk result
         (map part_of list.new.items ≡ map part_of list.old.items ++ states (tree a.now) (tree b.now)) }
 {
@@ -85,7 +89,7 @@ fn add_states<'a>(a: &'a Pe, b: &'a Pe, list: &mut Vec<Part<'a>>) -> Result<(), 
     add(Role::State, b, list)
 }
 
-fn add<'a>(role: Role, e: &'a Pe, list: &mut Vec<Part<'a>>) -> Result<(), AllocError>
+fn add<'a>(role: Role, e: &'a PrismExpr, list: &mut Vec<Part<'a>>) -> Result<(), AllocError>
     ensures { OnOk result (map part_of list.new.items ≡ map part_of list.old.items ++ (role_of role, tree e.now) ∷ []) }
 {
     list.push(Part { role, e })?;

@@ -11,7 +11,7 @@ use crate::structures::Structures;
 use name_rules::Telling;
 use op_trees::{Names, Ty, Value};
 use prism_check::{CheckedPrism, FileNames, Size};
-use prism_tree::{Pe, PrismFile};
+use prism_tree::{PrismExpr, PrismFile};
 use prop_grammar::Structure;
 use std::alloc::{AllocError, Global};
 use std::marker::Model;
@@ -63,14 +63,14 @@ impl<'a> Scope<'a> {
     }
 
     /// Whether a variable occurs in an expression where its formulas are written out.
-    pub(crate) fn varies(&self, e: &Pe) -> bool
+    pub(crate) fn varies(&self, e: &PrismExpr) -> bool
         ensures { result ≡ has_variable self.now.file (tree e.now) }
     {
         self.names.varies(e)
     }
 
     /// How large an expression is where its formulas are written out.
-    pub(crate) fn size(&self, e: &Pe) -> Size
+    pub(crate) fn size(&self, e: &PrismExpr) -> Size
         ensures nodes { result.nodes ≡ capped (whole_nodes self.now.file (tree e.now)) }
         ensures height { result.height ≡ capped (whole_height self.now.file (tree e.now)) }
     {

@@ -15,9 +15,9 @@ use crate::parts::{Part, Role};
 use crate::scope::Scope;
 use bridge_io::{Fault, Reason};
 use name_rules::{sooner, sooner_if};
-use op_trees::{Expr, type_of};
-use prism_check::{Wanted, is_wanted, offset_of};
-use prism_tree::Pe;
+use op_trees::{Expr, Wanted, is_wanted, type_of};
+use prism_check::offset_of;
+use prism_tree::PrismExpr;
 
 /// The least fault of the types of these bounds and state formulas, if they have one.
 pub(crate) fn judge_types(scope: &Scope, parts: &[Part]) -> Option<Fault>
@@ -52,7 +52,7 @@ fn wanted_of(role: Role) -> Wanted
     }
 }
 
-fn judge_type(scope: &Scope, role: Role, e: &Pe, best: Option<Fault>) -> Option<Fault>
+fn judge_type(scope: &Scope, role: Role, e: &PrismExpr, best: Option<Fault>) -> Option<Fault>
     ensures { result ≡ soonest best (type_faults_of scope.now.file (role_of role) (tree e.now)) }
 {
     match type_of(e, scope) {
@@ -65,7 +65,7 @@ fn judge_type(scope: &Scope, role: Role, e: &Pe, best: Option<Fault>) -> Option<
 }
 
 // A bound names constants alone.
-fn judge_constant(scope: &Scope, e: &Pe, best: Option<Fault>) -> Option<Fault>
+fn judge_constant(scope: &Scope, e: &PrismExpr, best: Option<Fault>) -> Option<Fault>
     ensures { result ≡ soonest best (fault_if (varies scope.now.file (tree e.now)) (offset_of (tree e.now)) NotConstant) }
 {
     sooner_if(
@@ -77,14 +77,14 @@ fn judge_constant(scope: &Scope, e: &Pe, best: Option<Fault>) -> Option<Fault>
 }
 
 // Whether it names a label, or a variable where its formulas are written out.
-fn is_varying(scope: &Scope, e: &Pe) -> bool
+fn is_varying(scope: &Scope, e: &PrismExpr) -> bool
     ensures { result ≡ varies scope.now.file (tree e.now) }
 {
     names_label(e) || scope.varies(e)
 }
 
 // Whether it names a label.
-fn names_label(e: &Pe) -> bool
+fn names_label(e: &PrismExpr) -> bool
     ensures { result ≡ some_name has_quotes (tree e.now) }
 {
     match e {

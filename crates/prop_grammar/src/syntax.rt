@@ -2,7 +2,7 @@
 // has the byte offset of its first token.
 
 use bridge_io::{Named, Text};
-use prism_tree::Pe;
+use prism_tree::PrismExpr;
 
 /// How a probability is compared with its bound.
 #[derive(Clone, Copy)]
@@ -33,7 +33,7 @@ pub enum Query {
     /// `Pmin=?`
     PMin,
     /// `P>=p`, and the like
-    PBound(Compare, Pe),
+    PBound(Compare, PrismExpr),
     /// `R{"r"}max=?`
     RMax(Structure),
     /// `R{"r"}min=?`
@@ -44,17 +44,17 @@ pub enum Query {
 #[derive(Drop)]
 pub enum PathForm {
     /// `F e`
-    Finally(Pe),
+    Finally(PrismExpr),
     /// `G e`
-    Globally(Pe),
+    Globally(PrismExpr),
     /// `a U b`
-    Until(Pe, Pe),
+    Until(PrismExpr, PrismExpr),
     /// `a W b`
-    WeakUntil(Pe, Pe),
+    WeakUntil(PrismExpr, PrismExpr),
     /// `F<=k e`
-    FinallyWithin(Pe, Pe),
+    FinallyWithin(PrismExpr, PrismExpr),
     /// `a U<=k b`
-    UntilWithin(Pe, Pe, Pe),
+    UntilWithin(PrismExpr, PrismExpr, PrismExpr),
 }
 
 /// A property with its name, if it has one. In its expressions a name between quotes, its quotes included, is a label.

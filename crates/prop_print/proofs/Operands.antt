@@ -2,7 +2,7 @@
 use Rattle.std.proofs.Common.{◌≡◌, ℕ, Bool, true, false, cond, List, [], ◌∷◌, ◌++◌, Option, Some, None, refl, sym, ap, subst, ◌∙◌}
 use Rattle.std.specs.Prelude.{codes, ◌||◌, is_some, not, if◌then◌else◌}
 use Rattle.std.proofs.lemmas.Bool.{or_parts}
-use Rattle.op_trees.specs.Tree.{Truth, Number, Name as At, One, Two, Three, bare}
+use Rattle.op_trees.specs.Tree.{Truth, Number, Name as At, One, Two, Three}
 use Rattle.op_trees.specs.Names.{HasOperands}
 use Rattle.prism_lex.specs.declared.token.TokenKind.{TokenKind}
 use Rattle.prism_lex.specs.declared.token.TokenKind.TheVariants as K
@@ -16,7 +16,7 @@ use Rattle.prism_tree.specs.Grammar.{expr, prim, parenthesised, function_of}
 use Rattle.prism_print.specs.Text.{is_node, is_function}
 use Rattle.prism_print.proofs.Pieces.{Piece, printed, blank, mark, sign, spaced, within, called, pieces}
 use Rattle.prism_print.proofs.Spelling.{Match, Writes, then_writes, token_writes, gives_writes, left_writes, right_writes}
-use Rattle.prism_print.proofs.SpelledTrees.{Same, tree_writes, prim_writes, enclosed_writes}
+use Rattle.prism_print.proofs.SpelledTrees.{Same, tree_writes, prim_writes, enclosed_writes, bare_moved}
 use Rattle.prop_grammar.specs.Grammar.{bound, is_name, named_if, function_name_of, function_name}
 use Rattle.prop_grammar.specs.Faults.{IsNoFunctionName, operand}
 use Rattle.prop_print.specs.Text.{is_choice, is_function_name}
@@ -86,10 +86,6 @@ within_alone false e w h m = bare_alone e w (h refl).0 (h refl).1 m
 as_operand : {P : Expression → Type 0} {ps : List Piece} → Writes (prim expr) P ps → ((w : List Lexeme) → Match ps w → IsNoFunctionName w) → Writes operand P ps
 unfolding operand
 as_operand l h = record { spells = λ w m. let x = l.spells w m in (x.0, (x.1, h w m), x.2) }
-
-bare_moved : (at : ℕ) (e : Expression) → bare (moved at e) ≡ bare e
-bare_moved at (Truth from b) = refl
-bare_moved at e = refl
 
 enclosed_prim : (e : Expression) → HasOperands arity e → Writes (prim expr) (Same e) (within true (pieces e))
 unfolding prim parenthesised

@@ -10,7 +10,7 @@ use Rattle.prism_lex.specs.declared.symbols.Symbol.TheVariants as S
 use Rattle.prism_tree.specs.Syntax.{Expression}
 use Rattle.prism_print.specs.Text.{is_node, enclosed, expression_text}
 use Rattle.prism_print.proofs.Stands.{symbol_text}
-use Rattle.prism_print.proofs.Pieces.{Piece, printed, blank, text, text_append, mark, spaced, within, pieces, pieces_text}
+use Rattle.prism_print.proofs.Pieces.{Piece, printed, blank, text, text_append, mark, spaced, within, pieces, pieces_text, text_both}
 use Rattle.prop_grammar.specs.declared.syntax.Compare.{Compare}
 use Rattle.prop_grammar.specs.declared.syntax.Compare.TheVariants as C
 use Rattle.prop_grammar.specs.Property.{Ask, greatest, least, bounded, greatest_reward, least_reward, Path, finally, globally, until, weak_until, finally_within, until_within}
@@ -51,9 +51,6 @@ within_text true e =
     ap (λ (u : List ℕ). codes "(" ++ u) (text_append (pieces e) (mark S.RightParenthesis ∷ []) ∙ ap (λ (u : List ℕ). u ++ codes ")") (pieces_text e))
 within_text false e = pieces_text e
 
-joined_text : (ps qs : List Piece) (t u : List ℕ) → text ps ≡ t → text qs ≡ u → text (ps ++ qs) ≡ t ++ u
-joined_text ps qs t u e f = text_append ps qs ∙ ap₂ (λ (x y : List ℕ). x ++ y) e f
-
 -- ---- paths
 
 abbrev pub path_pieces : Path Expression → List Piece
@@ -68,21 +65,21 @@ path_pieces (until_within k a b) =
 -- a bound of steps, and an operand
 bound_text : (k e : Expression) → text (steps_pieces k ++ (blank (codes " ") ∷ operand_pieces e)) ≡ steps_text k ++ (codes " " ++ operand_text e)
 bound_text k e =
-    joined_text (steps_pieces k) (blank (codes " ") ∷ operand_pieces e) (steps_text k) (codes " " ++ operand_text e) (within_text (is_node k || is_function_name k) k)
+    text_both (steps_pieces k) (blank (codes " ") ∷ operand_pieces e) (steps_text k) (codes " " ++ operand_text e) (within_text (is_node k || is_function_name k) k)
     (ap (λ (u : List ℕ). codes " " ++ u) (within_text (is_choice e) e))
 
 path_is : (p : Path Expression) → text (path_pieces p) ≡ path_text p
 path_is (finally e) = ap (λ (u : List ℕ). codes "F " ++ u) (within_text (is_choice e) e)
 path_is (globally e) = ap (λ (u : List ℕ). codes "G " ++ u) (within_text (is_choice e) e)
 path_is (until a b) =
-    joined_text (operand_pieces a) (spaced (word_piece W.UWord) (operand_pieces b)) (operand_text a) (codes " U " ++ operand_text b) (within_text (is_choice a) a)
+    text_both (operand_pieces a) (spaced (word_piece W.UWord) (operand_pieces b)) (operand_text a) (codes " U " ++ operand_text b) (within_text (is_choice a) a)
     (ap (λ (u : List ℕ). codes " U " ++ u) (within_text (is_choice b) b))
 path_is (weak_until a b) =
-    joined_text (operand_pieces a) (spaced (word_piece W.WWord) (operand_pieces b)) (operand_text a) (codes " W " ++ operand_text b) (within_text (is_choice a) a)
+    text_both (operand_pieces a) (spaced (word_piece W.WWord) (operand_pieces b)) (operand_text a) (codes " W " ++ operand_text b) (within_text (is_choice a) a)
     (ap (λ (u : List ℕ). codes " W " ++ u) (within_text (is_choice b) b))
 path_is (finally_within k e) = ap (λ (u : List ℕ). codes "F<=" ++ u) (bound_text k e)
 path_is (until_within k a b) =
-    joined_text (operand_pieces a) (blank (codes " ") ∷ word_piece W.UWord ∷ mark S.AtMost ∷ (steps_pieces k ++ (blank (codes " ") ∷ operand_pieces b))) (operand_text a)
+    text_both (operand_pieces a) (blank (codes " ") ∷ word_piece W.UWord ∷ mark S.AtMost ∷ (steps_pieces k ++ (blank (codes " ") ∷ operand_pieces b))) (operand_text a)
     (codes " U<=" ++ (steps_text k ++ (codes " " ++ operand_text b))) (within_text (is_choice a) a) (ap (λ (u : List ℕ). codes " U<=" ++ u) (bound_text k b))
 
 -- ---- queries
@@ -142,13 +139,13 @@ all_pieces rewards ps = flat_map (property_pieces rewards) ps
 line_is : (x : Name) (ask path : List Piece) (t u : List ℕ) → text ask ≡ t → text path ≡ u →
     text (titled_pieces x ask path ++ end_pieces) ≡ quoted x ++ (codes ": " ++ (t ++ (codes " [ " ++ (u ++ codes " ];\n"))))
 line_is x ask path t u e f =
-    joined_text (titled_pieces x ask path) end_pieces (quoted x ++ (codes ": " ++ (t ++ (codes " [ " ++ (u ++ codes " ]"))))) (codes ";\n") titled refl ∙ regrouped
+    text_both (titled_pieces x ask path) end_pieces (quoted x ++ (codes ": " ++ (t ++ (codes " [ " ++ (u ++ codes " ]"))))) (codes ";\n") titled refl ∙ regrouped
   where
     titled : text (titled_pieces x ask path) ≡ quoted x ++ (codes ": " ++ (t ++ (codes " [ " ++ (u ++ codes " ]"))))
     titled =
         ap (λ (v : List ℕ). quoted x ++ (codes ": " ++ v))
-        (joined_text ask (spaced (mark S.LeftBracket) (path ++ (blank (codes " ") ∷ mark S.RightBracket ∷ []))) t (codes " [ " ++ (u ++ codes " ]")) e
-        (ap (λ (v : List ℕ). codes " [ " ++ v) (joined_text path (blank (codes " ") ∷ mark S.RightBracket ∷ []) u (codes " ]") f refl)))
+        (text_both ask (spaced (mark S.LeftBracket) (path ++ (blank (codes " ") ∷ mark S.RightBracket ∷ []))) t (codes " [ " ++ (u ++ codes " ]")) e
+        (ap (λ (v : List ℕ). codes " [ " ++ v) (text_both path (blank (codes " ") ∷ mark S.RightBracket ∷ []) u (codes " ]") f refl)))
 
     regrouped : (quoted x ++ (codes ": " ++ (t ++ (codes " [ " ++ (u ++ codes " ]"))))) ++ codes ";\n" ≡ quoted x ++ (codes ": " ++ (t ++ (codes " [ " ++ (u ++ codes " ];\n"))))
     regrouped =
@@ -162,4 +159,4 @@ property_is rewards p =
 
 pub all_is : (rewards : List Name) (ps : List PrismProperty) → text (all_pieces rewards ps) ≡ properties_text rewards ps
 all_is rewards [] = refl
-all_is rewards (p ∷ ps) = joined_text (property_pieces rewards p) (all_pieces rewards ps) _ _ (property_is rewards p) (all_is rewards ps)
+all_is rewards (p ∷ ps) = text_both (property_pieces rewards p) (all_pieces rewards ps) _ _ (property_is rewards p) (all_is rewards ps)

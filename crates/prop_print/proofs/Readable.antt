@@ -20,7 +20,7 @@ use Rattle.prism_tree.specs.Operators.{arity}
 use Rattle.prism_tree.specs.Syntax.{Expression}
 use Rattle.frac_core.specs.Text.{number_text}
 use Rattle.prism_print.specs.Text.{is_function, is_node}
-use Rattle.prism_print.specs.Printable.{IsLiteral}
+use Rattle.frac_core.specs.Decimal.{IsLiteral}
 use Rattle.prism_print.proofs.Stands.{Plain, Stands}
 use Rattle.prism_print.proofs.Pieces.{Piece, printed, blank, bytes_of, text, mark, operator_kind, sign, spaced, within, called, pieces}
 use Rattle.prism_print.proofs.Lexed.{Spaced}

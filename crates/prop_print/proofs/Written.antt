@@ -16,9 +16,9 @@ use Rattle.prism_tree.specs.Operators.{arity}
 use Rattle.prism_tree.specs.Syntax.{Expression}
 use Rattle.prism_tree.specs.Lang.{token_with, optional, many}
 use Rattle.prism_tree.specs.Grammar.{expr, symbol, named, unquoted}
+use Rattle.prism_tree.specs.Laws.{but_last_is}
 use Rattle.prism_print.proofs.Pieces.{Piece, printed, blank, mark}
 use Rattle.prism_print.proofs.Spelling.{Writes, then_writes, token_writes, token_with_writes, blank_writes, gives_writes, left_writes, right_writes, weaken, made_writes, many_none, many_one}
-use Rattle.prism_print.proofs.SpelledFiles.{but_last_is}
 use Rattle.prop_grammar.specs.declared.syntax.Compare.{Compare}
 use Rattle.prop_grammar.specs.declared.syntax.Compare.TheVariants as C
 use Rattle.prop_grammar.specs.declared.syntax.Structure.{Structure}

@@ -7,7 +7,7 @@ use Rattle.prism_lex.specs.declared.token.TokenKind.TheVariants.{Ident, Quoted}
 use Rattle.prism_lex.specs.Tokens.{IsKind, is_name}
 use Rattle.prism_tree.specs.Operators.{arity}
 use Rattle.prism_tree.specs.Syntax.{Expression}
-use Rattle.prism_print.specs.Printable.{IsLiteral}
+use Rattle.frac_core.specs.Decimal.{IsLiteral}
 use Rattle.prop_trees.specs.Trees.{Name, PrismProperty, parts}
 use Rattle.prop_trees.specs.Form.{AsksWell}
 use Rattle.prop_print.specs.Text.{plain}

@@ -1,18 +1,18 @@
 -- Bounds, and what stands behind a bound of steps.
-use Rattle.std.proofs.Common.{◌≡◌, Bool, false, List, [], ◌∷◌, ◌++◌, refl, sym, ap, subst, ◌∙◌, inl, inr, append_assoc}
+use Rattle.std.proofs.Common.{◌≡◌, Bool, false, List, [], ◌∷◌, ◌++◌, sym, ap, subst, ◌∙◌, inl, inr, append_assoc}
 use Rattle.std.specs.Prelude.{◌⊎◌}
 use Rattle.prism_lex.specs.declared.token.TokenKind.{TokenKind}
 use Rattle.prism_lex.specs.declared.token.TokenKind.TheVariants as K
 use Rattle.prism_lex.specs.declared.symbols.Symbol.TheVariants as S
 use Rattle.prism_lex.specs.Tokens.{Lexeme}
 use Rattle.prism_tree.specs.Syntax.{Expression}
-use Rattle.prism_tree.specs.Lang.{Lang, token_with, ◌>>=◌, ◌or◌}
+use Rattle.prism_tree.specs.Lang.{token_with, ◌>>=◌, ◌or◌}
 use Rattle.prism_exprs.specs.Reading.{Ends, none}
 use Rattle.prism_exprs.specs.Levels.{goes_on}
 use Rattle.prism_exprs.specs.Scope.{Scope, expressions}
 use Rattle.prism_exprs.proofs.Laws.{IsOne, HasWord, then_one, then_word, step_one, token_with_one, gives_one, gives_word, none_ends}
 use Rattle.prism_exprs.proofs.Choice.{or_word}
-use Rattle.prism_exprs.proofs.Exprs.{one_within, gives_follows}
+use Rattle.prism_exprs.proofs.Exprs.{gives_follows}
 use Rattle.prism_exprs.proofs.Outer.{expressions_one, expressions_word, expressions_opens}
 use Rattle.prop_grammar.specs.Grammar
 use Rattle.prop_grammar.specs.Grammar.{IsOpen, function_name, function_name_of}
@@ -46,9 +46,6 @@ name_and_call s w z v y a b p q e =
 
 function_name_one : (m : TokenKind → Bool) → IsOne function_name m
 function_name_one m = token_with_one function_name_of m
-
-none_within : (m : TokenKind → Bool) {L : Lang Expression} → IsOne L none → IsOne L m
-none_within m l = one_within (λ k h. refl) l
 
 pub bound_one : (s : Scope) → IsOne (in_scope Grammar.bound s) opens
 unfolding Grammar.bound ◌or◌

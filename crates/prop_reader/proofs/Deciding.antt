@@ -1,6 +1,6 @@
 -- A name of a function at the front of a list: whether it stands alone, and what that tells of bounds.
 use Rattle.std.proofs.Common.{◌≡◌, ℕ, ◌<◌, Bool, true, false, List, [], ◌∷◌, ◌++◌, Option, Some, None, refl, sym, ap, subst, ◌∙◌, arith, inl, inr, append-nil, append_assoc, length, map}
-use Rattle.std.specs.Prelude.{◌⊎◌, ◌&&◌, not, is_some, if◌then◌else◌, Result, Ok, Err, IfOk}
+use Rattle.std.specs.Prelude.{◌⊎◌, ◌&&◌, not, is_some, if◌then◌else◌, Result, Ok, Err}
 use Rattle.std.proofs.lemmas.List.{append_cancel_right}
 use Rattle.op_trees.specs.Tree.{Truth, Name, One, Two}
 use Rattle.prism_lex.specs.declared.token.TokenKind.{TokenKind}
@@ -39,10 +39,6 @@ pub test_open : (us : List Lexeme) → starts opens us ≡ false → Ends opens 
 test_open [] e = tt
 test_open (t ∷ us) e = e
 
-pub unopened_test : (us : List Lexeme) → Ends opens us → starts opens us ≡ false
-unopened_test [] e = refl
-unopened_test (t ∷ us) e = e
-
 named_test : (s : Lexeme) → IsFunction s → is_some (function_name_of s) ≡ true
 named_test s f =
     let G : TokenKind → Type 0 = λ k. is_some (if is_name k then named_if s (function_of s.text) else None) ≡ true in
@@ -70,9 +66,6 @@ sign k = record { kind = k; text = []; at = 0 }
 
 abbrev pub opening_token : Lexeme
 opening_token = record { kind = K.Symbol S.LeftParenthesis; text = []; at = 0 }
-
-abbrev opening : Lexeme
-opening = sign (K.Symbol S.LeftParenthesis)
 
 abbrev closing : Lexeme
 closing = sign (K.Symbol S.RightParenthesis)
@@ -338,10 +331,6 @@ unopened_stops s ts (At r c) a h = record {
 pub unopened_parses : {X : Type 0} (view : X → Expression) (ts : List Lexeme) (r : Result (X × Tokens) Stop) → starts opens ts ≡ false → ParsesIn view expressions goes_on ts r → ParsesIn view (λ s. Grammar.unopened (expressions s)) goes_on ts r
 unopened_parses view ts (Ok y) a p = λ s. unopened_reads s ts (seen y.1) (view y.0) a (p s)
 unopened_parses view ts (Err e) a p = λ s. unopened_stops s ts e a (p s)
-
-pub bound_parses : {X : Type 0} (view : X → Expression) (ts : List Lexeme) (r : Result (X × Tokens) Stop) → function_alone ts ≡ false → ParsesIn view operands none ts r → IfOk r (λ y. Ends opens (seen y.1)) → ParsesIn view (in_scope Grammar.bound) opens ts r
-bound_parses view ts (Ok y) a p e = λ s. bound_reads s ts (seen y.1) (view y.0) (p s) e
-bound_parses view ts (Err e) a p i = λ s. bound_stops s ts e a (p s)
 
 pub name_read : (f : Found → Lexeme) (found xs : List Found) (x : Found) (r : List Lexeme) (at : ℕ) (w v : List ℕ) → found ≡ x ∷ xs → function_name_of (f x) ≡ Some (Name at w) → v ≡ w → r ≡ map f xs → starts opens r ≡ false →
     Reads function_name opens (map f found) (Name at v) r

@@ -1,8 +1,8 @@
 -- Operands as they are read with the limit: which are bounds, and where one ends before a parenthesis.
-use Rattle.std.proofs.Common.{◌≡◌, ℕ, zero, suc, ◌<◌, ◌≤◌, Bool, true, false, List, [], ◌∷◌, ◌++◌, Option, Some, None, refl, sym, ap, subst, ◌∙◌, arith, inl, inr, append-nil, append_assoc, length, map}
-use Rattle.std.specs.Prelude.{◌⊎◌, if◌then◌else◌, Contains, nat_lt, Result, Ok, Err}
+use Rattle.std.proofs.Common.{◌≡◌, ℕ, zero, suc, ◌<◌, ◌≤◌, true, false, List, [], ◌∷◌, ◌++◌, Option, Some, None, refl, sym, ap, subst, ◌∙◌, arith, inl, inr, append-nil, append_assoc, length, map}
+use Rattle.std.specs.Prelude.{◌⊎◌, if◌then◌else◌, Contains, Result, Ok, Err}
 use Rattle.std.proofs.lemmas.List.{length-append, append_cancel_right}
-use Rattle.std.proofs.lemmas.Bool.{cases_lt, ltb-true, or_parts, or_from}
+use Rattle.std.proofs.lemmas.Bool.{cases_lt, or_parts, or_from}
 use Rattle.std.proofs.lemmas.List.Elements.{Contains-append_left, Contains-push}
 use Rattle.op_trees.specs.Tree.{Name}
 use Rattle.prism_lex.specs.declared.token.TokenKind.{TokenKind}
@@ -41,6 +41,7 @@ use Rattle.std.proofs.lemmas.List.{length-map, take-map}
 use Rattle.std.proofs.Math.Seq.{take-append_seam}
 use Rattle.prism_exprs.specs.declared.tokens.Found.{Found}
 use Rattle.prism_exprs.specs.Kept.{lexeme_at}
+use Rattle.prism_exprs.proofs.Symbols.{nothing_below}
 use Rattle.op_trees.specs.declared.tree.Expr.{Expr}
 use Rattle.op_trees.specs.Tree.{tree}
 use Rattle.prop_reader.specs.Parts.{IsNameAlone}
@@ -51,17 +52,9 @@ pub more_opens : (us : List Lexeme) → Ends (more 0) us → Ends opens us
 more_opens [] e = tt
 more_opens (t ∷ us) e = (or_parts (opens t.kind) (binds_below 0 (infix_of t.kind)) e).0
 
-none_below : (p : Option (ℕ × PrismOp)) → binds_below 0 p ≡ false
-none_below None = refl
-none_below (Some p) = decide (nat_lt p.0 0) refl
-  where
-    decide : (b : Bool) → nat_lt p.0 0 ≡ b → nat_lt p.0 0 ≡ false
-    decide true e = absurd (omega (arith, ltb-true p.0 0 e))
-    decide false e = e
-
 pub opens_more : (us : List Lexeme) → Ends opens us → Ends (more 0) us
 opens_more [] e = tt
-opens_more (t ∷ us) e = or_from (opens t.kind) (binds_below 0 (infix_of t.kind)) e (none_below (infix_of t.kind))
+opens_more (t ∷ us) e = or_from (opens t.kind) (binds_below 0 (infix_of t.kind)) e (nothing_below (infix_of t.kind))
 
 -- ---- an operand is a bound, or the name of a function
 
@@ -366,9 +359,6 @@ pub plain_stop : (e : Stop) (r : Tokens) (c d : Cause) → e ≡ At r c → c �
 plain_stop e r c d p q h =
     let F : Cause → Type 0 = λ x. IsPlainStop (At r x) in
     subst IsPlainStop (sym p) (subst F (sym q) h)
-
-pub stop_plain : (ts : List Lexeme) (e : Stop) (r : Tokens) (c : Cause) → e ≡ At r c → IsPlainStop e → IsPlainStop (At r c)
-stop_plain ts e r c p h = subst IsPlainStop p h
 
 pub alone_some : (ts : List Lexeme) (o : Option (Expr PrismOp × Tokens)) (y : Expr PrismOp × Tokens) → IsNameAlone ts o → o ≡ Some y → Reads function_name opens ts (tree y.0) (seen y.1)
 alone_some ts o y h e = let F : Option (Expr PrismOp × Tokens) → Type 0 = λ p. IsNameAlone ts p in subst F e h

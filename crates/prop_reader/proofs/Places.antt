@@ -6,7 +6,6 @@ use Rattle.bridge_io.specs.declared.reason.Reason.{Reason}
 use Rattle.bridge_io.specs.declared.reason.Reason.TheVariants.{Syntax}
 use Rattle.prism_lex.specs.declared.token.TokenKind.TheVariants as K
 use Rattle.prism_lex.specs.declared.words.Reserved.TheVariants as W
-use Rattle.prism_lex.specs.declared.symbols.Symbol.TheVariants as S
 use Rattle.prism_lex.specs.Tokens.{Lexeme}
 use Rattle.prism_exprs.specs.declared.tokens.Cause.{Cause}
 use Rattle.prism_exprs.specs.declared.tokens.Found.{Found}
@@ -20,7 +19,7 @@ use Rattle.prism_parse.proofs.Places.{ends_seen, none_left, some_left, cut_where
 use Rattle.prop_grammar.specs.Faults.{IsGrammarFault}
 use Rattle.prism_exprs.specs.Scope.{IsStopped, GoesOn}
 use Rattle.prop_reader.specs.Parts.{Refuses, properties_in}
-use Rattle.prop_reader.specs.Reasons.{bracketed, in_query, is_unbounded, behind_unbounded, form_reason, kept_reason, kept_unbounded, kept_bracketed, reason_at}
+use Rattle.prop_reader.specs.Reasons.{in_query, is_unbounded, behind_unbounded, form_reason, kept_reason, kept_unbounded, reason_at}
 use Rattle.prop_reader.proofs.Reasoning.{refused_at_token, refused_at_end}
 
 -- ---- what is seen of a kept token
@@ -40,15 +39,6 @@ unbounded_kept bytes literals at size (Symbol s) = refl
 unbounded_kept bytes literals at size Ident = of_name (is_utf8 (text_at bytes at size)) K.Ident (text_at bytes at size) at is_unbounded false refl refl
 unbounded_kept bytes literals at size Quoted = of_name (is_utf8 (text_at bytes at size)) K.Quoted (text_at bytes at size) at is_unbounded false refl refl
 unbounded_kept bytes literals at size (Number row) = of_literal bytes (in_row literals row size) at is_unbounded false (λ l. refl) refl
-
-pub bracketed_kept : (bytes : List ℕ) (literals : List Literal) (at size : ℕ) (k : Kept) (b : Bool) → bracketed b (lexeme_by bytes literals k at size).kind ≡ kept_bracketed b k
-bracketed_kept bytes literals at size (Word r) b = refl
-bracketed_kept bytes literals at size (Symbol S.LeftBracket) b = refl
-bracketed_kept bytes literals at size (Symbol S.RightBracket) b = refl
-bracketed_kept bytes literals at size (Symbol s) b = refl
-bracketed_kept bytes literals at size Ident b = of_name (is_utf8 (text_at bytes at size)) K.Ident (text_at bytes at size) at (bracketed b) b refl refl
-bracketed_kept bytes literals at size Quoted b = of_name (is_utf8 (text_at bytes at size)) K.Quoted (text_at bytes at size) at (bracketed b) b refl refl
-bracketed_kept bytes literals at size (Number row) b = of_literal bytes (in_row literals row size) at (bracketed b) b (λ l. refl) refl
 
 pub last_kept : (bytes : List ℕ) (literals : List Literal) (found front : List Found) (last : Found) → found ≡ front ++ last ∷ []
     → kept_unbounded last.kind ≡ behind_unbounded (map (lexeme_at bytes literals) found)

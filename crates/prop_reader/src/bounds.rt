@@ -15,7 +15,7 @@ use op_trees::Expr;
 use prism_exprs::{Cause, Found, Kept, Stop, Tokens, function_of, parse_outer, parse_outer_prim};
 use prism_items::{read_symbol, symbol_next};
 use prism_lex::Symbol;
-use prism_tree::Pe;
+use prism_tree::PrismExpr;
 use std::alloc::{AllocError, Global};
 
 /// The text of a token that is a name of a function.
@@ -37,7 +37,7 @@ fn function_text<'a>(tokens: Tokens<'a>, found: Found) -> Option<&'a str>
 fn read_function_name<'a>(
     alloc: Global,
     tokens: Tokens<'a>,
-) -> Result<Option<(Pe, Tokens<'a>)>, AllocError>
+) -> Result<Option<(PrismExpr, Tokens<'a>)>, AllocError>
     ensures { IfOk result (IsNameAlone (seen tokens.entry)) }
 {
     let Some((first, behind)) = tokens.found.split_first() else {
@@ -59,7 +59,7 @@ fn parse_before<'a>(
     alloc: Global,
     tokens: Tokens<'a>,
     rest: Tokens<'a>,
-) -> Result<(Pe, Tokens<'a>), Stop<'a>>
+) -> Result<(PrismExpr, Tokens<'a>), Stop<'a>>
     requires alone { function_alone (seen tokens) ≡ false }
     requires stopped { (s : Scope) → Halts s Y.Form (prims s) (more 0) (seen tokens) (seen rest) }
     ensures { ParsesIn tree operands none (seen tokens.entry) result }
@@ -88,7 +88,7 @@ fn parse_before<'a>(
 }
 
 /// `Prim`, but for a name of a function alone. Behind it a `(` may stand.
-fn parse_operand<'a>(alloc: Global, tokens: Tokens<'a>) -> Result<(Pe, Tokens<'a>), Stop<'a>>
+fn parse_operand<'a>(alloc: Global, tokens: Tokens<'a>) -> Result<(PrismExpr, Tokens<'a>), Stop<'a>>
     requires { function_alone (seen tokens) ≡ false }
     ensures { ParsesIn tree operands none (seen tokens.entry) result }
 {
@@ -108,14 +108,17 @@ fn parse_operand<'a>(alloc: Global, tokens: Tokens<'a>) -> Result<(Pe, Tokens<'a
 pub(crate) fn parse_bound<'a>(
     alloc: Global,
     tokens: Tokens<'a>,
-) -> Result<(Pe, Tokens<'a>), Stop<'a>>
+) -> Result<(PrismExpr, Tokens<'a>), Stop<'a>>
     ensures { ParsesIn tree (in_scope bound) opens (seen tokens.entry) result }
 {
     parse_outer_prim(alloc, tokens)
 }
 
 /// `E`, which does not begin with a parenthesis.
-fn parse_unopened<'a>(alloc: Global, tokens: Tokens<'a>) -> Result<(Pe, Tokens<'a>), Stop<'a>>
+fn parse_unopened<'a>(
+    alloc: Global,
+    tokens: Tokens<'a>,
+) -> Result<(PrismExpr, Tokens<'a>), Stop<'a>>
     requires { starts opens (seen tokens) ≡ false }
     ensures { ParsesIn tree (λ s. unopened (expressions s)) goes_on (seen tokens.entry) result }
 {
@@ -126,7 +129,7 @@ fn parse_unopened<'a>(alloc: Global, tokens: Tokens<'a>) -> Result<(Pe, Tokens<'
 fn parse_plain_within<'a>(
     alloc: Global,
     tokens: Tokens<'a>,
-) -> Result<((Pe, Pe), Tokens<'a>), Stop<'a>>
+) -> Result<((PrismExpr, PrismExpr), Tokens<'a>), Stop<'a>>
     requires { function_alone (seen tokens) ≡ false }
     ensures { ParsesIn (λ p. (tree p.0, tree p.1)) (in_scope within) goes_on (seen tokens.entry) result }
 {
@@ -136,7 +139,10 @@ fn parse_plain_within<'a>(
 }
 
 /// `Prim E`
-fn parse_within<'a>(alloc: Global, tokens: Tokens<'a>) -> Result<((Pe, Pe), Tokens<'a>), Stop<'a>>
+fn parse_within<'a>(
+    alloc: Global,
+    tokens: Tokens<'a>,
+) -> Result<((PrismExpr, PrismExpr), Tokens<'a>), Stop<'a>>
     ensures { ParsesIn (λ p. (tree p.0, tree p.1)) (in_scope within) goes_on (seen tokens.entry) result }
 {
     let alone = read_function_name(alloc, tokens)?;
@@ -153,7 +159,7 @@ fn parse_within<'a>(alloc: Global, tokens: Tokens<'a>) -> Result<((Pe, Pe), Toke
 pub(crate) fn parse_target<'a>(
     alloc: Global,
     tokens: Tokens<'a>,
-) -> Result<((Option<Pe>, Pe), Tokens<'a>), Stop<'a>>
+) -> Result<((Option<PrismExpr>, PrismExpr), Tokens<'a>), Stop<'a>>
     ensures { ParsesIn (λ p. (option_map tree p.0, tree p.1)) (in_scope target) goes_on (seen tokens.entry) result }
 {
     if symbol_next(tokens, Symbol::AtMost) {

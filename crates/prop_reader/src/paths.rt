@@ -15,11 +15,11 @@ use crate::bounds::parse_target;
 use prism_exprs::{Stop, Tokens, parse_outer};
 use prism_items::{read_symbol, read_word, word_next};
 use prism_lex::{Reserved, Symbol};
-use prism_tree::Pe;
+use prism_tree::PrismExpr;
 use prop_grammar::PathForm;
 use std::alloc::Global;
 
-fn finally_by(bound: Option<Pe>, target: Pe) -> PathForm
+fn finally_by(bound: Option<PrismExpr>, target: PrismExpr) -> PathForm
     ensures { path_of result ≡ finally_by (option_map tree bound) (tree target) }
 {
     match bound {
@@ -28,7 +28,7 @@ fn finally_by(bound: Option<Pe>, target: Pe) -> PathForm
     }
 }
 
-fn until_by(first: Pe, bound: Option<Pe>, target: Pe) -> PathForm
+fn until_by(first: PrismExpr, bound: Option<PrismExpr>, target: PrismExpr) -> PathForm
     ensures { path_of result ≡ until_by (tree first) (option_map tree bound) (tree target) }
 {
     match bound {
@@ -38,7 +38,10 @@ fn until_by(first: Pe, bound: Option<Pe>, target: Pe) -> PathForm
 }
 
 /// `E ']'`
-fn parse_closed_state<'a>(alloc: Global, tokens: Tokens<'a>) -> Result<(Pe, Tokens<'a>), Stop<'a>>
+fn parse_closed_state<'a>(
+    alloc: Global,
+    tokens: Tokens<'a>,
+) -> Result<(PrismExpr, Tokens<'a>), Stop<'a>>
     ensures { ParsesIn tree (λ s. bracket_behind (expressions s)) none (seen tokens.entry) result }
 {
     let (state, rest) = parse_outer(alloc, tokens)?;
@@ -50,7 +53,7 @@ fn parse_closed_state<'a>(alloc: Global, tokens: Tokens<'a>) -> Result<(Pe, Toke
 fn parse_closed_target<'a>(
     alloc: Global,
     tokens: Tokens<'a>,
-) -> Result<((Option<Pe>, Pe), Tokens<'a>), Stop<'a>>
+) -> Result<((Option<PrismExpr>, PrismExpr), Tokens<'a>), Stop<'a>>
     ensures { ParsesIn (λ p. (option_map tree p.0, tree p.1)) (in_scope (λ E B. bracket_behind (target E B))) none (seen tokens.entry) result }
 {
     let (goal, rest) = parse_target(alloc, tokens)?;
@@ -82,7 +85,7 @@ fn parse_always<'a>(alloc: Global, tokens: Tokens<'a>) -> Result<(PathForm, Toke
 /// `W E ']'` behind an expression.
 fn parse_weak<'a>(
     alloc: Global,
-    first: Pe,
+    first: PrismExpr,
     tokens: Tokens<'a>,
 ) -> Result<(PathForm, Tokens<'a>), Stop<'a>>
     ensures { ParsesIn path_of (in_scope (λ E B. bracket_behind (weak_after E B (tree first)))) none (seen tokens.entry) result }
@@ -95,7 +98,7 @@ fn parse_weak<'a>(
 /// `U E ']' | U<=Prim E ']'` behind an expression.
 fn parse_strong<'a>(
     alloc: Global,
-    first: Pe,
+    first: PrismExpr,
     tokens: Tokens<'a>,
 ) -> Result<(PathForm, Tokens<'a>), Stop<'a>>
     ensures { ParsesIn path_of (in_scope (λ E B. bracket_behind (strong_after E B (tree first)))) none (seen tokens.entry) result }
@@ -108,7 +111,7 @@ fn parse_strong<'a>(
 /// `U E ']' | U<=Prim E ']' | W E ']'` behind an expression.
 fn parse_after<'a>(
     alloc: Global,
-    first: Pe,
+    first: PrismExpr,
     tokens: Tokens<'a>,
 ) -> Result<(PathForm, Tokens<'a>), Stop<'a>>
     ensures { ParsesIn path_of (in_scope (λ E B. bracket_behind (after E B (tree first)))) none (seen tokens.entry) result }

@@ -21,7 +21,7 @@ use bridge_io::{List, Named};
 use prism_exprs::{Stop, Tokens};
 use prism_items::{read_symbol, read_word, word_next};
 use prism_lex::{Reserved, Symbol};
-use prism_tree::Pe;
+use prism_tree::PrismExpr;
 use prop_grammar::{Compare, PathForm, Query, Structure, Written};
 use std::alloc::Global;
 
@@ -82,7 +82,7 @@ fn parse_lowest<'a>(
 fn parse_comparison<'a>(
     alloc: Global,
     tokens: Tokens<'a>,
-) -> Result<((Compare, Pe), Tokens<'a>), Stop<'a>>
+) -> Result<((Compare, PrismExpr), Tokens<'a>), Stop<'a>>
     ensures { ParsesIn (λ p. bounded p.0 (tree p.1)) (in_scope compared_probability) opens (seen tokens.entry) result }
 {
     let (_word, rest) = read_word(tokens, Reserved::PWord)?;

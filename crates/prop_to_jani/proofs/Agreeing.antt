@@ -24,11 +24,11 @@ use Rattle.prism_names.specs.Order as plain
 use Rattle.prism_names.specs.Order.{whole_plain}
 use Rattle.prism_names.specs.Places.{at_places, formula_names}
 use Rattle.prism_flat.specs.Kept.{IsWrittenOut}
-use Rattle.prism_print.specs.Printable.{IfAny}
+use Rattle.basics.specs.Options.{IfAny}
 use Rattle.prism_check.specs.NameFaults.{is_among, given_labels, values}
 use Rattle.prism_tree.specs.Grammar.{unquoted}
 use Rattle.name_rules.specs.Doubled.{doubled}
-use Rattle.prism_check.proofs.Each.{no_fault}
+use Rattle.name_rules.proofs.Plain.{no_fault}
 use Rattle.prism_check.proofs.NamesIn.{listed_names, names_written_out}
 use Rattle.prism_flat.specs.FlatLaws.{is_written_out}
 use Rattle.name_table.specs.declared.entry.Entry.{Entry}

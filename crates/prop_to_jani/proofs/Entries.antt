@@ -3,7 +3,6 @@ use Rattle.std.proofs.Common.{◌≡◌, ℕ, ◌+◌, ◌-◌, refl, sym, ap, a
 use Rattle.std.proofs.lemmas.List.{drop-drop, length-map}
 use Rattle.prism_tree.specs.Syntax.{Label, File}
 use Rattle.prism_print.specs.Same.{bare_file, bare_label}
-use Rattle.prism_check.proofs.Each.{map_same}
 use Rattle.name_table.specs.declared.class.NameClass.TheVariants.{Property as OfProperty}
 use Rattle.name_table.specs.declared.class.Target.TheVariants.{Jani}
 use Rattle.name_table.specs.declared.entry.Entry.{Entry}
@@ -16,6 +15,7 @@ use Rattle.prop_trees.specs.Trees.{Name, PrismProperty}
 use Rattle.prop_grammar.specs.Grammar.{has_quotes}
 use Rattle.prism_tree.specs.Grammar.{unquoted}
 use Rattle.std.specs.Prelude.{if◌then◌else◌}
+use Rattle.basics.specs.Mapped.{mapped}
 use Rattle.prop_trees.specs.Names.{marked, Meant, of_model, is_initial, is_deadlock, nothing, meant}
 use Rattle.prop_to_jani.specs.ToJani.{label_names, new_meant, new_property_name, reward_names, property_asks, all_entries, property_entries}
 
@@ -80,7 +80,7 @@ module _ (f g : File) (same : bare_file f ≡ bare_file g) where
       (behind_model f ps ∙ ap (λ es. entries_after Jani es (property_asks ps)) (entries_alike f g same) ∙ sym (behind_model g ps))
 
   label_names-bare : (h : File) → label_names (bare_file h) ≡ label_names h
-  label_names-bare h = map_same (λ (l : Label). l.name.name) bare_label (λ (l : Label). l.name.name) (λ l. refl) h.labels
+  label_names-bare h = mapped bare_label (λ (l : Label). l.name.name) (λ (l : Label). l.name.name) (λ l. refl) h.labels
 
   labels_alike : label_names f ≡ label_names g
   labels_alike = sym (label_names-bare f) ∙ ap label_names same ∙ label_names-bare g

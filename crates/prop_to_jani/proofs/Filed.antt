@@ -15,7 +15,7 @@ use Rattle.prism_tree.specs.Syntax.{Expression, File}
 use Rattle.prism_tree.specs.Grammar.{unquoted}
 use Rattle.prism_names.specs.Names.{formula_body, reading}
 use Rattle.prism_names.specs.Order as plain
-use Rattle.prism_print.specs.Printable.{IfAny}
+use Rattle.basics.specs.Options.{IfAny}
 use Rattle.prism_check.specs.TypeFaults.{types, declared_types}
 use Rattle.prism_check.proofs.TypeOrder.{types_read}
 use Rattle.prop_grammar.specs.Grammar.{has_quotes}

@@ -3,9 +3,9 @@ use Rattle.std.proofs.Common.{◌≡◌, ℕ, Bool, true, false, not, List, [], 
 use Rattle.std.proofs.lemmas.Bool.{not-false}
 use Rattle.std.proofs.lemmas.Bool.Decides.{nat_tests}
 use Rattle.std.specs.Prelude.{nat_eq, if◌then◌else◌}
-use Rattle.std.specs.List.{flat_map, find}
+use Rattle.std.specs.List.{flat_map, find, AllByRecursion as Each}
 use Rattle.std.specs.Option.{option_map}
-use Rattle.basics.specs.Each.{each_then, empty_each}
+use Rattle.basics.specs.Each.{each_then, empty_each, each_found, any_map}
 use Rattle.basics.specs.Lists.{append_parts}
 use Rattle.basics.specs.Texts.{bytes_eq-true}
 use Rattle.bridge_io.specs.declared.reason.Fault.{Fault}
@@ -14,19 +14,21 @@ use Rattle.bridge_io.specs.declared.reason.Reason.TheVariants.{Unknown}
 use Rattle.op_trees.specs.Tree.{AllNames, Truth, Number, Name as At, One, Two, Three}
 use Rattle.prism_lex.specs.Tokens.{is_name}
 use Rattle.prism_tree.specs.Syntax.{Expression, Formula, File}
-use Rattle.prism_names.specs.Names.{is_called, formula_body}
+use Rattle.op_trees.specs.Names.{is_called}
+use Rattle.prism_names.specs.Names.{formula_body}
 use Rattle.prism_names.specs.Order.{IsOrder}
 use Rattle.prism_names.specs.Places.{at_places, formula_names, places_order}
-use Rattle.prism_print.specs.Printable.{Each, IfAny, IsPrintableExpression, IsPrintableFormula}
+use Rattle.basics.specs.Options.{IfAny}
+use Rattle.prism_print.specs.Printable.{IsPrintableExpression, IsPrintableFormula}
 use Rattle.name_rules.specs.Unknown.{unless_known}
+use Rattle.name_rules.proofs.Plain.{no_fault}
 use Rattle.prism_check.specs.Checked.{Checked, IsChecked}
 use Rattle.prism_check.specs.Demands.{formula_demands, outer_demands}
-use Rattle.prism_check.specs.Faults.{or_else}
+use Rattle.name_rules.specs.Least.{or_else}
 use Rattle.prism_check.specs.NameFaults.{is_among, names_of, values, unknown, unknown_names, circles, doubled_names, copy_faults, no_module, name_faults}
 use Rattle.prism_check.specs.SizeFaults.{size_faults}
 use Rattle.prism_check.specs.TypeFaults.{type_faults}
 use Rattle.prism_check.proofs.CleanFile.{no_either}
-use Rattle.prism_check.proofs.Each.{any_map, each_found, no_fault}
 use Rattle.prism_check.proofs.NamesIn.{listed_names}
 use Rattle.prop_grammar.specs.Grammar.{has_quotes}
 use Rattle.prop_trees.specs.Trees.{Name}

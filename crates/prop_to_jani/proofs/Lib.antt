@@ -9,7 +9,6 @@ mod Agreeing
 mod Valued
 mod Promised
 mod Lookups
-mod Quotes
 mod Entries
 mod Translating
 mod Bounding

@@ -1,22 +1,18 @@
 -- The table of new names: what stands under each old name.
-use Rattle.std.proofs.Common.{◌≡◌, ℕ, ◌+◌, ◌<◌, ◌≤◌, refl, sym, ap, ap₂, ◌∙◌, arith, Bool, true, false, ◌||◌, List, [], ◌∷◌, map, length, take, drop, get_or, min, Option, Some, None}
+use Rattle.std.proofs.Common.{◌≡◌, ℕ, ◌≤◌, refl, sym, ap, ◌∙◌, arith, Bool, true, false, List, [], ◌∷◌, map, length, take, drop, min, Option, Some, None}
 use Rattle.std.specs.Prelude.{if◌then◌else◌, nat_le, bytes_eq, unwrap_or}
 use Rattle.std.specs.Borrow.{Bor}
-use Rattle.std.specs.List.{list_all}
-use Rattle.std.specs.Str.{IsAscii, is_utf8}
-use Rattle.std.proofs.lemmas.Bool.{and_parts}
-use Rattle.std.proofs.lemmas.Bool.Decides.{nat_tests}
+use Rattle.std.specs.Str.{is_utf8}
 use Rattle.std.proofs.lemmas.List.{drop_all, drop-drop, drop-map}
 use Rattle.std.proofs.lemmas.Str.{IsUtf8-from_ascii, is_utf8-from_IsUtf8}
-use Rattle.std.proofs.lemmas.Str.Ascii.{IsAscii-nil, IsAscii-cons}
-use Rattle.basics.specs.Lists.{drop_item}
 use Rattle.basics.specs.Texts.{bytes_eq-true}
-use Rattle.prism_lex.specs.Automaton.{is_letter, is_digit}
 use Rattle.prism_lex.specs.Tokens.{is_name}
+use Rattle.prism_lex.proofs.NameTexts.{name_ascii}
 use Rattle.prism_tree.specs.Syntax.{Label, File}
 use Rattle.prism_tree.specs.Grammar.{unquoted}
-use Rattle.prism_print.specs.Printable.{Each, IsPrintableLabel}
-use Rattle.jani_check.specs.Things.{or_else}
+use Rattle.std.specs.List.{AllByRecursion as Each}
+use Rattle.prism_print.specs.Printable.{IsPrintableLabel}
+use Rattle.std.specs.Option.{option_or as or_else}
 use Rattle.name_table.specs.declared.entry.Entry.{Entry}
 use Rattle.name_table.specs.Asks.{variables, value_names, entries, labels_at, new_name, new_names}
 use Rattle.prop_grammar.specs.Grammar.{has_quotes}
@@ -27,20 +23,6 @@ use Rattle.prop_to_jani.specs.ToJani.{label_names, new_model_name, new_meant, ne
 use Rattle.prop_to_jani.specs.Code.{found, new_in, label_in, model_in, meant_in, name_in}
 
 -- ---- one name more
-else_found : (o : Option Name) (b : Bool) (n : Name) (rest : Option Name) → or_else (or_else o (if b then Some n else None)) rest ≡ or_else o (if b then Some n else rest)
-else_found (Some z) b n rest = refl
-else_found None true n rest = refl
-else_found None false n rest = refl
-
-pub found_next : (olds : List (Bor Name)) (news : List Name) (total : Option Name) (i : ℕ) (y : Bor Name) (n : Name) (old new : Option Name) (x : Name) →
-    i < length olds → i < length news → y ≡ get_or olds i y → n ≡ get_or news i n → new ≡ or_else old (if bytes_eq y.now x then Some n else None) →
-    or_else old (found (map (λ z. z.now) (drop i olds)) (drop i news) x) ≡ total →
-    or_else new (found (map (λ z. z.now) (drop (i + 1) olds)) (drop (i + 1) news) x) ≡ total
-found_next olds news total i y n old new x h k e f added so_far =
-    ap (λ o. or_else o (found (map (λ z. z.now) (drop (i + 1) olds)) (drop (i + 1) news) x)) added
-    ∙ else_found old (bytes_eq y.now x) n _
-    ∙ sym (ap₂ (λ l m. or_else old (found (map (λ z. z.now) l) m x)) (drop_item olds i y h e) (drop_item news i n k f))
-    ∙ so_far
 
 or_none : (o : Option Name) → o ≡ or_else o None
 or_none None = refl
@@ -76,19 +58,8 @@ name_taken f (y ∷ ys) [] x = refl
 name_taken f (y ∷ ys) (e ∷ es) x = ap (λ n. if bytes_eq (f y) x then e.name else n) (name_taken f ys es x)
 
 -- ---- labels are texts
-byte_ascii : (b : ℕ) → (is_letter b || is_digit b) ≡ true → b < 128
-byte_ascii b h = grind (arith, nat_tests)
-
-letter_ascii : (b : ℕ) → is_letter b ≡ true → b < 128
-letter_ascii b h = byte_ascii b (ap (λ t. t || is_digit b) h)
-
-bytes_ascii : (bs : List ℕ) → list_all (λ c. is_letter c || is_digit c) bs ≡ true → IsAscii bs
-bytes_ascii [] h = IsAscii-nil
-bytes_ascii (b ∷ bs) h = let r = and_parts (is_letter b || is_digit b) _ h in IsAscii-cons b bs (byte_ascii b r.0) (bytes_ascii bs r.1)
-
 name_utf8 : (x : Name) → is_name x ≡ true → is_utf8 x ≡ true
-name_utf8 [] h = absurd cc
-name_utf8 (b ∷ bs) h = let r = and_parts (is_letter b) _ h in is_utf8-from_IsUtf8 (b ∷ bs) (IsUtf8-from_ascii (b ∷ bs) (IsAscii-cons b bs (letter_ascii b r.0) (bytes_ascii bs r.1)))
+name_utf8 x h = is_utf8-from_IsUtf8 x (IsUtf8-from_ascii x (name_ascii x h))
 
 no_label : (ls : List Label) (es : List Entry) (x : Name) → Each IsPrintableLabel ls → is_utf8 x ≡ false → new_name (map (λ l. l.name.name) ls) es x ≡ []
 no_label [] es x h u = refl

@@ -2,10 +2,6 @@
 use Rattle.std.proofs.Common.{◌≡◌, ℕ, zero, suc, refl, ap, ap₂, ◌∙◌, List, Option, Some, None}
 use Rattle.std.specs.Option.{option_map}
 use Rattle.op_trees.specs.Tree.{Tree, Truth, Number, Name, One, Two, Three, replaced, substituted, written_out, renamed}
-use Rattle.op_trees.specs.Rebuilt.{mapped}
-use Rattle.prism_tree.specs.Syntax.{Expression}
-use Rattle.prop_trees.specs.Names.{marked}
-use Rattle.prop_to_jani.specs.Code.{marked_node}
 
 module _ {O : Type 0} (new : List ℕ → List ℕ) where
   -- the body of a new name is that of the old one, with new names
@@ -38,12 +34,3 @@ module _ {O : Type 0} (new : List ℕ → List ℕ) where
   written_out-renamed bodies olds h (suc n) t =
       substituted-renamed (λ x. option_map (written_out bodies n) (bodies x)) (λ x. option_map (written_out olds n) (olds x))
       (λ x. ap (option_map (written_out bodies n)) (h x) ∙ written_body bodies olds n (written_out-renamed bodies olds h n) (olds x)) t
-
-pub mapped_marks : (e : Expression) → mapped marked_node e ≡ renamed marked e
-mapped_marks (Truth at b) = refl
-mapped_marks (Number at d) = refl
-mapped_marks (Name at x) = refl
-mapped_marks (One at o a) = ap (One at o) (mapped_marks a)
-mapped_marks (Two at o a b) = ap₂ (Two at o) (mapped_marks a) (mapped_marks b)
-mapped_marks (Three at o a b c) =
-    ap₂ {B = Expression → Expression} (λ r g. g r) (mapped_marks a) (ap₂ (λ s t r. Three at o r s t) (mapped_marks b) (mapped_marks c))

@@ -4,7 +4,7 @@ use Rattle.std.specs.Prelude.{◌≢◌, MatchOption, option_copied, nat_eq, byt
 use Rattle.std.specs.Borrow.{Bor}
 use Rattle.std.proofs.lemmas.Bool.Decides.{nat_tests}
 use Rattle.prop_trees.specs.Trees.{Name}
-use Rattle.prop_trees.specs.Names.{Meant, of_model, is_initial, is_deadlock, nothing, built_in, meant, initial_name, deadlock_name}
+use Rattle.prop_trees.specs.Names.{of_model, is_initial, is_deadlock, nothing, built_in, meant, initial_name, deadlock_name}
 use Rattle.prop_to_jani.specs.Code.{model_part}
 
 built_in_none : (x : Name) → model_part (built_in x) ≡ None
@@ -24,21 +24,3 @@ model_stripped (b ∷ x) None h = by_test (nat_eq b 46) refl
     by_test : (t : Bool) → nat_eq b 46 ≡ t → None ≡ model_part (if t then of_model x else built_in (b ∷ x))
     by_test true e = let s : b ≡ 46 = grind (arith, nat_tests, e) in absurd (h x (ap (λ n. n ∷ x) s))
     by_test false e = sym (built_in_none (b ∷ x))
-
--- a name without a point is one of the labels that every model has, or nothing
-pub not_of_model : (x : Name) → model_part (meant x) ≡ None → meant x ≡ built_in x
-not_of_model [] h = refl
-not_of_model (b ∷ x) h = by_test (nat_eq b 46) h
-  where
-    by_test : (t : Bool) → model_part (if t then of_model x else built_in (b ∷ x)) ≡ None → (if t then of_model x else built_in (b ∷ x)) ≡ built_in (b ∷ x)
-    by_test true k = absurd cc
-    by_test false k = refl
-
-pub of_model_is : (x y : Name) → model_part (meant x) ≡ Some y → meant x ≡ of_model y
-of_model_is x y h = by_case (meant x) h
-  where
-    by_case : (m : Meant) → model_part m ≡ Some y → m ≡ of_model y
-    by_case (of_model z) k = let s : z ≡ y = cc in ap of_model s
-    by_case is_initial k = absurd cc
-    by_case is_deadlock k = absurd cc
-    by_case nothing k = absurd cc

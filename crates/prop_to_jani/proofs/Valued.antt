@@ -2,9 +2,9 @@
 use Rattle.std.proofs.Common.{◌≡◌, ◌≢◌, ℕ, zero, suc, ◌+◌, refl, sym, subst, ◌∙◌, arith, false, List, [], ◌∷◌, map, length, Option, Some, None, slice_get}
 use Rattle.std.specs.Prelude.{IsTrue, is_some, bytes_eq}
 use Rattle.std.specs.Option.{option_map}
-use Rattle.std.specs.List.{IsDistinct, find}
+use Rattle.std.specs.List.{IsDistinct, find, AllByRecursion as Each}
 use Rattle.std.proofs.lemmas.List.{length-map}
-use Rattle.basics.specs.Each.{each_at, each_map}
+use Rattle.basics.specs.Each.{each_at, each_map, each_found, any_map}
 use Rattle.frac_core.specs.declared.decimal.Decimal.{Decimal}
 use Rattle.op_trees.specs.Tree.{Tree, Truth, Number, Name as At, One, Two, Three, AllNames, AllNumbers, replaced, substituted, written_out, renamed}
 use Rattle.op_trees.specs.NameLaws.{names_renamed}
@@ -17,11 +17,11 @@ use Rattle.prism_tree.specs.Operators.{prism_meaning}
 use Rattle.prism_tree.specs.OperatorLaws.{prism_lawful}
 use Rattle.prism_tree.specs.Syntax.{Expression, File}
 use Rattle.prism_names.specs.Flat.{flat, flat_rewards}
-use Rattle.prism_names.specs.Names.{is_called, formula_body}
+use Rattle.op_trees.specs.Names.{is_called}
+use Rattle.prism_names.specs.Names.{formula_body}
 use Rattle.prism_names.specs.Order as plain
-use Rattle.prism_print.specs.Printable as print
-use Rattle.prism_print.specs.Printable.{IfAny, IsPrintableExpression, IsPrintableFormula}
-use Rattle.prism_check.proofs.Each.{any_map, each_found}
+use Rattle.basics.specs.Options.{IfAny}
+use Rattle.prism_print.specs.Printable.{IsPrintableExpression, IsPrintableFormula}
 use Rattle.jani_table.specs.declared.operator.JaniOp.{JaniOp}
 use Rattle.jani_tree.specs.Form.{IsNormal}
 use Rattle.name_table.specs.declared.entry.Entry.{Entry}
@@ -103,12 +103,12 @@ literals (One at o a) p = literals a p.1
 literals (Two at o a b) p = (literals a p.1, literals b p.2)
 literals (Three at o a b c) p = (literals a p.1, literals b p.2, literals c p.3)
 
-body_numbers : (file : File) → print.Each IsPrintableFormula file.formulas → (x : Name) → IfAny (AllNumbers IsNormal) (formula_body file x)
+body_numbers : (file : File) → Each IsPrintableFormula file.formulas → (x : Name) → IfAny (AllNumbers IsNormal) (formula_body file x)
 body_numbers file h x =
     any_map IsPrintableFormula (AllNumbers IsNormal) (λ f. f.body) (λ f p. literals f.body p.1) (find (λ f. is_called x f.name) file.formulas)
     (each_found IsPrintableFormula (λ f. is_called x f.name) file.formulas h)
 
-pub translated_numbers : (file : File) → print.Each IsPrintableFormula file.formulas → (e : Expression) → AllNumbers IsNormal e → AllNumbers IsNormal (translated_expression file e)
+pub translated_numbers : (file : File) → Each IsPrintableFormula file.formulas → (e : Expression) → AllNumbers IsNormal e → AllNumbers IsNormal (translated_expression file e)
 translated_numbers file h e n =
     image_numbers (new_property_name (flat file)) (whole file e) (numbers_written_out IsNormal (body_of file) (λ x. of_meant (meant x)) (length file.formulas) e n)
   where

@@ -11,7 +11,8 @@ use Rattle.prism_tree.specs.declared.operator.PrismOp.{PrismOp}
 use Rattle.prism_tree.specs.Syntax.{Expression, File}
 use Rattle.prism_tree.specs.Grammar.{unquoted}
 use Rattle.prism_names.specs.Flat.{flat}
-use Rattle.prism_print.specs.Printable.{Each, IsPrintableLabel}
+use Rattle.std.specs.List.{AllByRecursion as Each}
+use Rattle.prism_print.specs.Printable.{IsPrintableLabel}
 use Rattle.prism_print.specs.Same.{bare_file}
 use Rattle.jani_table.specs.Node as json
 use Rattle.jani_tree.specs.Syntax as jani

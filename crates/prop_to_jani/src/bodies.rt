@@ -12,13 +12,13 @@ ghost use Rattle.prop_to_jani.specs.Code.{body_in, formula_in};
 use crate::names::{marked, model_name};
 use indexmap::IndexMap;
 use op_trees::{Bodies, Expr, OpMap, Shape, map_ops, substitute};
-use prism_tree::{Pe, PrismFormula, PrismOp};
+use prism_tree::{PrismExpr, PrismFormula, PrismOp};
 use std::alloc::{AllocError, Global};
 
 /// The bodies of formulas by their names. In an expression of a property a formula's name has a point before it.
 #[derive(Drop)]
 pub(crate) struct FormulaBodies<'a> {
-    bodies: IndexMap<&'a str, Pe>,
+    bodies: IndexMap<&'a str, PrismExpr>,
 }
 
 impl<'a> Bodies<PrismOp> for FormulaBodies<'a> {
@@ -26,7 +26,7 @@ impl<'a> Bodies<PrismOp> for FormulaBodies<'a> {
 
     ghost bodies = { body_in };
 
-    fn body(&self, name: &str) -> Option<&Pe> {
+    fn body(&self, name: &str) -> Option<&PrismExpr> {
         self.bodies.get(model_name(name)?)
     }
 }
@@ -40,7 +40,7 @@ impl<'a> FormulaBodies<'a> {
         }
     }
 
-    fn insert(&mut self, name: &'a str, body: Pe) -> Result<(), AllocError>
+    fn insert(&mut self, name: &'a str, body: PrismExpr) -> Result<(), AllocError>
         ensures { OnOk result
             ((x : List ℕ) → formula_in self.new x ≡ (if bytes_eq name.now x then Some (tree body) else formula_in self.old x)) }
     {
@@ -71,7 +71,11 @@ impl<'a> FormulaBodies<'a> {
 }
 
 /// A body with its names marked, in which those that have bodies are replaced.
-fn written_body(alloc: Global, body: &Pe, table: &FormulaBodies) -> Result<Pe, AllocError>
+fn written_body(
+    alloc: Global,
+    body: &PrismExpr,
+    table: &FormulaBodies,
+) -> Result<PrismExpr, AllocError>
     ensures { IfOk result (λ r. tree r ≡ substituted (body_in table.now) (renamed marked (tree body.now))) }
 {
     let own = map_ops(alloc, body, &Marking)?;
@@ -90,7 +94,7 @@ impl OpMap<PrismOp, PrismOp> for Marking {
 
     ghost rebuilt = { λ m. marked_node };
 
-    fn rebuild(&self, alloc: Global, node: Shape<PrismOp, PrismOp>) -> Result<Pe, AllocError>
+    fn rebuild(&self, alloc: Global, node: Shape<PrismOp, PrismOp>) -> Result<PrismExpr, AllocError>
         ensures { IfOk result (λ r. tree r ≡ marked_node (shape node)) }
     {
         match node {

@@ -12,11 +12,11 @@ use crate::bodies::FormulaBodies;
 use crate::members::{object, operation, string, with};
 use crate::names::{PropertyNames, model_name};
 use decimal_json::Json;
-use jani_tree::Je;
+use jani_tree::JaniExpr;
 use name_table::Entry;
 use op_trees::{Expr, substitute};
 use prism_images::image;
-use prism_tree::Pe;
+use prism_tree::PrismExpr;
 use std::alloc::{AllocError, Global};
 
 /// By what the properties of a model are translated: the new names of constants, variables and labels, the bodies of formulas, and the
@@ -30,7 +30,7 @@ pub(crate) struct Translator<'a, 'f, 'n, 'm> {
 
 impl<'a, 'f, 'n, 'm> Translator<'a, 'f, 'n, 'm> {
     /// The value of an expression's translation. `Err` is want of memory.
-    pub(crate) fn json(&self, alloc: Global, e: &Pe) -> Result<Json, AllocError>
+    pub(crate) fn json(&self, alloc: Global, e: &PrismExpr) -> Result<Json, AllocError>
         ensures { IfOk result (λ v. node v ≡ expression_node (translated_by self.now (tree e.now))) }
     {
         let new = self.translated(alloc, e)?;
@@ -38,7 +38,7 @@ impl<'a, 'f, 'n, 'm> Translator<'a, 'f, 'n, 'm> {
     }
 
     /// An expression with formulas written out and new names.
-    fn translated(&self, alloc: Global, e: &Pe) -> Result<Je, AllocError>
+    fn translated(&self, alloc: Global, e: &PrismExpr) -> Result<JaniExpr, AllocError>
         ensures { IfOk result (λ r. tree r ≡ translated_by self.now (tree e.now)) }
     {
         let whole = substitute(alloc, e, self.bodies)?;
@@ -47,7 +47,7 @@ impl<'a, 'f, 'n, 'm> Translator<'a, 'f, 'n, 'm> {
 }
 
 /// The value of an expression.
-fn expression_json(alloc: Global, e: &Je) -> Result<Json, AllocError>
+fn expression_json(alloc: Global, e: &JaniExpr) -> Result<Json, AllocError>
     ensures { IfOk result (λ v. node v ≡ expression_node (tree e.now)) }
 {
     match e {
@@ -55,11 +55,11 @@ fn expression_json(alloc: Global, e: &Je) -> Result<Json, AllocError>
         Expr::Number(at, d) => Ok(Json::Number(*at, *d)),
         Expr::Name(at, x) => name_json(alloc, *at, x.as_str()),
         Expr::One(at, op, a) => {
-            let members = operation(alloc, op.text());
+            let members = operation(alloc, op.text(), 2);
             object(*at, with(alloc, members, "exp", expression_json(alloc, a)))
         }
         Expr::Two(at, op, a, b) => {
-            let members = operation(alloc, op.text());
+            let members = operation(alloc, op.text(), 3);
             let members = with(alloc, members, "left", expression_json(alloc, a));
             object(
                 *at,
@@ -67,7 +67,7 @@ fn expression_json(alloc: Global, e: &Je) -> Result<Json, AllocError>
             )
         }
         Expr::Three(at, op, a, b, c) => {
-            let members = operation(alloc, op.text());
+            let members = operation(alloc, op.text(), 4);
             let members = with(alloc, members, "if", expression_json(alloc, a));
             let members = with(alloc, members, "then", expression_json(alloc, b));
             object(*at, with(alloc, members, "else", expression_json(alloc, c)))
@@ -90,8 +90,8 @@ fn other_json(alloc: Global, at: usize, name: &str) -> Result<Json, AllocError>
     ensures { IfOk result (λ v. node v ≡ name_node at name.now (built_in name.now)) }
 {
     match name {
-        "init" => object(at, operation(alloc, "initial")),
-        "deadlock" => object(at, operation(alloc, "deadlock")),
+        "init" => object(at, operation(alloc, "initial", 1)),
+        "deadlock" => object(at, operation(alloc, "deadlock", 1)),
         _ => string(alloc, at, name),
     }
 }

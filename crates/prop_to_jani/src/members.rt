@@ -19,11 +19,11 @@ pub(crate) fn string(alloc: Global, at: usize, s: &str) -> Result<Json, AllocErr
     Ok(Json::Str(at, Text::copy_of(alloc, s)?))
 }
 
-/// No members yet.
-pub(crate) fn no_members(alloc: Global) -> Members
+/// No members yet, and memory for `room` of them.
+pub(crate) fn no_members(alloc: Global, room: usize) -> Members
     ensures { IfOk result (λ ms. ms ≡ []) }
 {
-    Ok(List::new(alloc))
+    List::with_capacity(alloc, room)
 }
 
 /// One member more, at the end; its key stands at offset 0.
@@ -44,11 +44,11 @@ pub(crate) fn with(
     Ok(all)
 }
 
-/// The first member of an object that has an operator.
-pub(crate) fn operation(alloc: Global, op: &str) -> Members
+/// The first member of an object that has an operator, and memory for `room` members, this one among them.
+pub(crate) fn operation(alloc: Global, op: &str, room: usize) -> Members
     ensures { IfOk result (λ ms. map named_node ms ≡ member (codes "op") (word op.now) ∷ []) }
 {
-    with(alloc, no_members(alloc), "op", string(alloc, 0, op))
+    with(alloc, no_members(alloc, room), "op", string(alloc, 0, op))
 }
 
 /// The object at an offset that has these members.

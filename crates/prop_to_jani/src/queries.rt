@@ -15,7 +15,7 @@ use bridge_io::List;
 use decimal_json::Json;
 use jani_table::JaniOp;
 use name_table::Entry;
-use prism_tree::Pe;
+use prism_tree::PrismExpr;
 use prop_trees::{Ask, Compare, Path, Property};
 use std::alloc::{AllocError, Global};
 
@@ -32,7 +32,7 @@ impl<'a, 'f, 'n, 'm> Translator<'a, 'f, 'n, 'm> {
     {
         let values = self.values(alloc, &p.ask, &p.path);
         let holds = filter(alloc, fun_of(&p.ask), values);
-        let members = with(alloc, no_members(alloc), "name", string(alloc, 0, name));
+        let members = with(alloc, no_members(alloc, 2), "name", string(alloc, 0, name));
         object(0, with(alloc, members, "expression", holds))
     }
 
@@ -45,7 +45,7 @@ impl<'a, 'f, 'n, 'm> Translator<'a, 'f, 'n, 'm> {
             Ask::PMax => self.probability(alloc, "Pmax", path),
             Ask::PMin => self.probability(alloc, "Pmin", path),
             Ask::PBound(c, e) => {
-                let members = operation(alloc, compared_by(*c).text());
+                let members = operation(alloc, compared_by(*c).text(), 3);
                 let probability = self.probability(alloc, side_of(*c), path);
                 let members = with(alloc, members, "left", probability);
                 object(0, with(alloc, members, "right", self.json(alloc, e)))
@@ -59,7 +59,7 @@ impl<'a, 'f, 'n, 'm> Translator<'a, 'f, 'n, 'm> {
     fn probability(&self, alloc: Global, op: &str, path: &Path) -> Result<Json, AllocError>
         ensures { IfOk result (λ v. node v ≡ probability_node op.now (path_by self.now (path_of path.now))) }
     {
-        let members = operation(alloc, op);
+        let members = operation(alloc, op, 2);
         let path = object(0, self.path(alloc, path));
         object(0, with(alloc, members, "exp", path))
     }
@@ -75,7 +75,7 @@ impl<'a, 'f, 'n, 'm> Translator<'a, 'f, 'n, 'm> {
         ensures { IfOk result
             (λ v. node v ≡ reward_node op.now (structure_name (reward_names_in self.now) structure) (path_by self.now (path_of path.now))) }
     {
-        let members = operation(alloc, op);
+        let members = operation(alloc, op, 4);
         let structure = string(alloc, 0, self.structure(structure));
         let members = with(alloc, members, "exp", structure);
         let members = with(alloc, members, "accumulate", sums(alloc));
@@ -117,29 +117,34 @@ impl<'a, 'f, 'n, 'm> Translator<'a, 'f, 'n, 'm> {
     }
 
     /// Paths over one state formula.
-    fn one(&self, alloc: Global, op: &str, e: &Pe) -> Members
+    fn one(&self, alloc: Global, op: &str, e: &PrismExpr) -> Members
         ensures { IfOk result (λ ms. map named_node ms
             ≡ member (codes "op") (word op.now) ∷ member (codes "exp") (expression_node (translated_by self.now (tree e.now))) ∷ []) }
     {
-        with(alloc, operation(alloc, op), "exp", self.json(alloc, e))
+        with(alloc, operation(alloc, op, 2), "exp", self.json(alloc, e))
     }
 
     /// Paths over two state formulas.
-    fn two(&self, alloc: Global, op: &str, a: &Pe, b: &Pe) -> Members
+    fn two(&self, alloc: Global, op: &str, a: &PrismExpr, b: &PrismExpr) -> Members
         ensures { IfOk result (λ ms. map named_node ms
             ≡ member (codes "op") (word op.now) ∷ member (codes "left") (expression_node (translated_by self.now (tree a.now)))
             ∷ member (codes "right") (expression_node (translated_by self.now (tree b.now))) ∷ []) }
     {
-        let members = with(alloc, operation(alloc, op), "left", self.json(alloc, a));
+        let members = with(alloc, operation(alloc, op, 3), "left", self.json(alloc, a));
         with(alloc, members, "right", self.json(alloc, b))
     }
 
     /// Paths within a number of steps.
-    fn within(&self, alloc: Global, path: Members, steps: &Pe) -> Members
+    fn within(&self, alloc: Global, path: Members, steps: &PrismExpr) -> Members
         ensures { IfOk result (λ new. IsOkAnd path
             (λ old. map named_node new ≡ map named_node old ++ bound_by self.now (tree steps.now) ∷ [])) }
     {
-        let upper = with(alloc, no_members(alloc), "upper", self.json(alloc, steps));
+        let upper = with(
+            alloc,
+            no_members(alloc, 1),
+            "upper",
+            self.json(alloc, steps),
+        );
         with(alloc, path, "step-bounds", object(0, upper))
     }
 }
@@ -150,12 +155,12 @@ fn filter(alloc: Global, fun: &str, values: Result<Json, AllocError>) -> Result<
 {
     let members = with(
         alloc,
-        operation(alloc, "filter"),
+        operation(alloc, "filter", 4),
         "fun",
         string(alloc, 0, fun),
     );
     let members = with(alloc, members, "values", values);
-    let states = object(0, operation(alloc, "initial"));
+    let states = object(0, operation(alloc, "initial", 1));
     object(0, with(alloc, members, "states", states))
 }
 

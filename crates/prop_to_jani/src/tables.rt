@@ -2,7 +2,8 @@
 
 ghost use Rattle.std.specs.Prelude.{◌≡◌, ◌++◌, List, ℕ, IfOk, drop, map};
 ghost use Rattle.prism_tree.specs.Syntax.{const_of, file_of, label_of, var_of};
-ghost use Rattle.prism_print.specs.Printable.{Each, IsPrintableLabel};
+ghost use Rattle.std.specs.List.{AllByRecursion as Each};
+ghost use Rattle.prism_print.specs.Printable.{IsPrintableLabel};
 ghost use Rattle.name_table.specs.Asks.{entries, variables};
 ghost use Rattle.prop_trees.specs.Names.{marked};
 ghost use Rattle.prop_to_jani.specs.Code.{found, name_in, new_in};

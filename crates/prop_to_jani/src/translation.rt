@@ -11,7 +11,7 @@ ghost use Rattle.prism_tree.specs.Syntax.{file_of, var_of};
 ghost use Rattle.jani_table.specs.Node.{node};
 ghost use Rattle.jani_tree.specs.Canonical.{list_node};
 ghost use Rattle.name_table.specs.declared.class.Target.TheVariants.{Jani};
-ghost use Rattle.name_table.specs.Asks.{actions, asks, entries, new_names, variables};
+ghost use Rattle.name_table.specs.Asks.{actions, entries, new_names, variables};
 ghost use Rattle.name_table.specs.Gathered.{told};
 ghost use Rattle.prop_trees.specs.Form.{AreOfPrism};
 ghost use Rattle.prop_trees.specs.Names.{marked};
@@ -27,7 +27,7 @@ use crate::names::PropertyNames;
 use crate::tables::{marked_names, property_names};
 use bridge_io::{List, Text};
 use decimal_json::Json;
-use name_table::{Entry, NameClass, NameTable, Target, actions, ask_each, variables};
+use name_table::{Entry, NameClass, NameTable, Target, actions, ask_file, variables};
 use prism_check::CheckedPrism;
 use prism_places::flatten;
 use prism_tree::{PrismFile, PrismVar};
@@ -117,28 +117,8 @@ fn asked_table(
     ensures { IfOk result (λ t. (t.target ≡ Jani) × (t.entries ≡ entries (file_of file.now))) }
 {
     let mut table = NameTable::new(alloc, Target::Jani);
-    ask_all(&mut table, file, vars, acts)?;
+    ask_file(&mut table, file, vars, acts)?;
     Ok(table)
-}
-
-/// Asks for the names of all that the model declares.
-fn ask_all(
-    table: &mut NameTable,
-    file: &PrismFile,
-    vars: &[&PrismVar],
-    acts: &[&Text],
-) -> Result<(), AllocError>
-    requires vars { map (λ x. var_of x.now) vars.now ≡ variables (file_of file.now) }
-    requires acts { map (λ x. x.now) acts.now ≡ actions (file_of file.now) }
-    ensures { OnOk result (table.new ≡ told table.old (asks (file_of file.now))) }
-{
-    ask_each(table, NameClass::Constant, file.constants.as_slice())?;
-    ask_each(table, NameClass::Variable, vars)?;
-    ask_each(table, NameClass::Label, file.labels.as_slice())?;
-    ask_each(table, NameClass::Reward, file.rewards.as_slice())?;
-    ask_each(table, NameClass::Module, file.modules.as_slice())?;
-    ask_each(table, NameClass::Action, acts)?;
-    Ok(())
 }
 
 /// Asks for the names of properties.

@@ -10,9 +10,10 @@ use Rattle.bridge_io.specs.declared.reason.Named.{Named}
 use Rattle.bridge_io.specs.declared.reason.Reason.TheVariants.{TwiceNamed, Unknown}
 use Rattle.op_trees.specs.Tree.{AllNames}
 use Rattle.op_trees.specs.Names.{names_of}
-use Rattle.process_core.specs.Ready.{if_some}
+use Rattle.basics.specs.Options.{if_some}
 use Rattle.name_rules.specs.Doubled.{doubled}
 use Rattle.name_rules.specs.Unknown.{unless_known}
+use Rattle.name_rules.proofs.Plain.{no_fault}
 use Rattle.prism_check.proofs.NamesIn.{listed_names}
 use Rattle.jani_table.specs.Operators as operators
 use Rattle.jani_tree.specs.Syntax.{Expression, File}
@@ -25,7 +26,6 @@ use Rattle.name_table.specs.Entries.{Ask as Wanted, entries_of}
 use Rattle.name_table.specs.PrismAsks.{asks}
 use Rattle.name_table.proofs.EntryLemmas.{one_each}
 use Rattle.prism_translation.specs.Translated.{translated}
-use Rattle.prism_translation.proofs.Lists.{no_fault}
 use Rattle.prop_grammar.specs.Property.{Ask, greatest, least, bounded, greatest_reward, least_reward, Path, finally, globally, until, weak_until, finally_within, until_within}
 use Rattle.prop_trees.specs.Trees.{JaniProperty, Role, parts, structure_of, ask_parts, path_parts, ask_with, path_with, SameAsk, SamePath}
 use Rattle.prop_trees.specs.Form.{HasForm, JaniForm}

@@ -7,8 +7,8 @@ use Rattle.op_trees.specs.Tree.{AllNames}
 use Rattle.op_trees.specs.Seen.{Seen, known, known_names}
 use Rattle.op_trees.specs.SeenLaws.{names_then}
 use Rattle.prism_tree.specs.Grammar.{unquoted}
+use Rattle.prism_tree.specs.Laws.{but_last_is}
 use Rattle.prism_names.specs.Names.{reading}
-use Rattle.prism_print.proofs.SpelledFiles.{but_last_is}
 use Rattle.jani_tree.specs.Syntax.{Expression, Const, File}
 use Rattle.jani_tree.specs.Canonical.{HasOperands}
 use Rattle.jani_check.specs.Things.{global_thing}

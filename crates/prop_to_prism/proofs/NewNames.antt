@@ -6,7 +6,8 @@ use Rattle.std.specs.Prelude.{◌≢◌, MatchOption, nat_eq, bytes_eq, if◌the
 use Rattle.std.specs.List.{position}
 use Rattle.std.specs.Option.{option_or}
 use Rattle.jani_tree.specs.Syntax.{File}
-use Rattle.jani_meaning.specs.Elements.{is_called, labels, lasting, place_of}
+use Rattle.op_trees.specs.Names.{is_called}
+use Rattle.jani_meaning.specs.Elements.{labels, lasting, place_of}
 use Rattle.name_table.specs.declared.entry.Entry.{Entry}
 use Rattle.name_table.specs.PrismAsks.{NewNames, name_at, name_at_some, value_name, outside}
 use Rattle.prism_translator.specs.declared.entries.Names.{Names}

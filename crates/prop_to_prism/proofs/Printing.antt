@@ -7,7 +7,7 @@ use Rattle.basics.specs.Each.{each_then, each_with, each_parts, each_join, each_
 use Rattle.basics.specs.Lists.{append_left, empty_map}
 use Rattle.bridge_io.specs.declared.reason.Reason.TheVariants.{WrongType}
 use Rattle.frac_core.specs.declared.decimal.Decimal.{Decimal}
-use Rattle.frac_core.specs.Decimal.{is_normal}
+use Rattle.frac_core.specs.Decimal.{is_normal, IsLiteral}
 use Rattle.op_trees.specs.Tree.{Truth, Number, Name as At, One, Two, Three, AllNames, AllNumbers}
 use Rattle.op_trees.specs.Types.{misfits}
 use Rattle.op_trees.specs.TypeLaws.{misfits_none, names_typed}
@@ -17,7 +17,6 @@ use Rattle.op_trees.specs.Names as trees
 use Rattle.name_rules.specs.Least.{fault}
 use Rattle.prism_tree.specs.declared.operator.PrismOp.TheVariants as P
 use Rattle.prism_tree.specs.Operators as prism
-use Rattle.prism_print.specs.Printable.{IsLiteral}
 use Rattle.jani_table.specs.Operators as jani
 use Rattle.jani_table.specs.Operators.{jani_meaning}
 use Rattle.jani_tree.specs.Form.{IsNormal}

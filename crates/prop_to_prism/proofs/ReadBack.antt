@@ -14,9 +14,9 @@ use Rattle.bridge_io.specs.declared.reason.Named.{Named}
 use Rattle.choice_laws.proofs.Walks.{cons_parts}
 use Rattle.op_trees.specs.Tree.{Truth, Number, Name as At, One, Two, Three, AllNames, bare, renamed}
 use Rattle.op_trees.specs.SeenLaws.{names_then}
-use Rattle.process_core.specs.Ready.{if_some}
+use Rattle.basics.specs.Options.{if_some}
 use Rattle.process_core.proofs.Targets.{Distinct}
-use Rattle.name_rules.specs.Names.{is_called}
+use Rattle.op_trees.specs.Names.{is_called}
 use Rattle.prism_lex.specs.Tokens.{is_name}
 use Rattle.prism_tree.specs.Syntax.{Expression, Rewards}
 use Rattle.prism_tree.specs.Syntax as prism

@@ -1,7 +1,7 @@
 -- What the names that properties may read become: the new names of constants, of global variables and of global labels.
 use Rattle.std.specs.Prelude.{◌≡◌, ℕ, ◌<◌, [], length, Bool, true, false, not, ◌&&◌, ◌||◌, Option, Some, None, is_none, is_some, get_or, unwrap_or}
 use Rattle.std.specs.List.{filter, position, list_any, All}
-use Rattle.std.specs.Option.{option_or}
+use Rattle.std.specs.Option.{option_or, option_or as or_else}
 use Rattle.std.proofs.Common.{refl, sym, ap, ap₂, ◌∙◌, eq-eqb}
 use Rattle.std.proofs.lemmas.Bool.{both_ways, or_left}
 use Rattle.std.proofs.lemmas.List.Elements.{All-filter, All-from_recursion, filter_passes}
@@ -14,20 +14,21 @@ use Rattle.basics.specs.Texts.{bytes_eq-true}
 use Rattle.choice_laws.proofs.Walks.{any-filter}
 use Rattle.process_core.specs.Ready.{Name}
 use Rattle.process_core.specs.Instance.{numbered}
-use Rattle.jani_tree.proofs.Mapped.{any_mapped}
+use Rattle.basics.specs.Mapped.{any_mapped}
+use Rattle.basics.specs.Options.{has_some}
 use Rattle.jani_tree.specs.Syntax.{VarKind, boolean, integer, number, real_bounded, one_sided, bounded, Var, File}
 use Rattle.jani_check.specs.declared.things.Thing.{Thing}
 use Rattle.jani_check.specs.declared.things.Thing.TheVariants.{Constant, Variable, Transient}
-use Rattle.jani_check.specs.Things.{const_thing, var_thing, const_called, var_called, or_else, global_thing, beside, is_constant}
+use Rattle.jani_check.specs.Things.{const_thing, var_thing, const_called, var_called, global_thing, beside, is_constant}
 use Rattle.jani_check.specs.Things as things
 use Rattle.jani_check.specs.NameFaults.{is_among, global_names}
 use Rattle.jani_check.specs.Faults.{IsChecked}
-use Rattle.jani_meaning.specs.Elements.{elements, Owned, owned_by, is_called, is_boolean, is_label, lasting, labels, variables}
+use Rattle.op_trees.specs.Names.{is_called}
+use Rattle.jani_meaning.specs.Elements.{elements, Owned, owned_by, is_boolean, is_label, lasting, labels, variables}
 use Rattle.name_table.specs.PrismAsks.{NewNames, name_at, name_at_some, value_name, outside}
 use Rattle.prism_translation.specs.Elements.{may_use}
 use Rattle.prism_translation.proofs.Clean.{names_apart_outside}
 use Rattle.prism_translation.proofs.Elements.{judged_at}
-use Rattle.prism_translation.proofs.Lists.{some_place}
 use Rattle.prism_translation.proofs.Scopes.{known_stands, thing_held}
 use Rattle.prism_translation_types.specs.TypeLaws.{own_variables}
 use Rattle.prism_translation_types.proofs.Scopes.{no_constant, nobody, variables_all, Stands, stands_all, placed_at, constant_known, variable_known}
@@ -208,7 +209,7 @@ module _ (file : File) (checked : IsChecked file) where
   label_at : (x : Name) → things.is_label (thing x) ≡ true → LabelAt x
   label_at x h =
       let there = is_there things.is_label refl (thing x) h in
-      let place = some_place (position (λ o. is_called x o.var.name) (labels file)) (is_some-position (λ o. is_called x o.var.name) (labels file) ∙ some_label x h) in
+      let place = has_some (position (λ o. is_called x o.var.name) (labels file)) (is_some-position (λ o. is_called x o.var.name) (labels file) ∙ some_label x h) in
       let first = position-Some (λ o. is_called x o.var.name) (labels file) place.0 nobody place.1 in
       let called = bytes_eq-true (get_or (labels file) place.0 nobody).var.name.name x first.1 in
       record {

@@ -5,7 +5,7 @@ use Rattle.std.proofs.lemmas.Bool.Decides.{nat_tests}
 use Rattle.process_core.specs.Ready.{Name}
 use Rattle.prism_lex.specs.declared.token.TokenKind.TheVariants.{Ident}
 use Rattle.prism_lex.specs.Tokens.{IsKind, is_name}
-use Rattle.prism_print.specs.Printable.{Each}
+use Rattle.std.specs.List.{AllByRecursion as Each}
 use Rattle.jani_tree.specs.Syntax.{File}
 use Rattle.jani_meaning.specs.Elements.{lasting, labels, structures}
 use Rattle.name_table.specs.PrismAsks.{name_at}
@@ -14,7 +14,7 @@ use Rattle.name_table.proofs.EntryLemmas.{first_alone}
 use Rattle.prism_translation.specs.Targets.{targets}
 use Rattle.prism_translation.specs.Names.{action_ask}
 use Rattle.prism_translation_names.proofs.Entries.{IsValidName}
-use Rattle.prism_translation_names.proofs.Segments.{constants_part, variables_part, labels_part, rewards_part, constant_spelled, variable_spelled, labels_spelled, reward_spelled}
+use Rattle.prism_translation_names.proofs.Segments.{constants_part, variables_part, labels_part, rewards_part, constant_spelled, variable_spelled, labels_spelled}
 use Rattle.prop_grammar.specs.Grammar.{has_quotes}
 use Rattle.prop_to_prism.specs.ToPrism.{new_names}
 use Rattle.prop_to_prism.proofs.Entries.{constants_same, variables_same, labels_same, rewards_same}
@@ -56,6 +56,3 @@ module _ (file : File) where
 
   pub labels_are : Each IsValidName (new_names file).labels
   labels_are = subst (λ es. Each IsValidName es) (labels_same file first_alone made) (labels_spelled file)
-
-  pub reward_is : (i : ℕ) → i < length (structures file) → IsKind (name_at (new_names file).rewards i) Ident
-  reward_is i l = subst (λ es. IsKind (name_at es i) Ident) (rewards_same file first_alone made) (reward_spelled file i l)

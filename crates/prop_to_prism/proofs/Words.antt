@@ -9,7 +9,7 @@ use Rattle.process_core.specs.Ready.{Name}
 use Rattle.prism_lex.specs.declared.token.TokenKind.TheVariants.{Ident}
 use Rattle.prism_lex.specs.Tokens.{IsKind}
 use Rattle.prism_tree.specs.Grammar.{unquoted}
-use Rattle.prism_print.proofs.SpelledFiles.{but_last_is}
+use Rattle.prism_tree.specs.Laws.{but_last_is}
 use Rattle.jani_tree.specs.Syntax.{File}
 use Rattle.jani_check.specs.Things.{global_thing}
 use Rattle.jani_check.specs.Faults.{IsChecked}

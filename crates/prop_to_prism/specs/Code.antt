@@ -2,7 +2,8 @@
 use Rattle.std.specs.Prelude.{◌≡◌, ℕ, List, [], ◌∷◌, ◌++◌, map, Option, Some, None, bytes_eq, if◌then◌else◌, slice_get, unwrap_or, nat_eq}
 use Rattle.std.specs.List.{position}
 use Rattle.jani_tree.specs.Syntax.{File}
-use Rattle.jani_meaning.specs.Elements.{Owned, is_called}
+use Rattle.op_trees.specs.Names.{is_called}
+use Rattle.jani_meaning.specs.Elements.{Owned}
 use Rattle.name_table.specs.declared.entry.Entry.{Entry}
 use Rattle.name_table.specs.JaniParts.{under}
 use Rattle.name_table.specs.PrismAsks.{NewNames, names_by, outside}

@@ -4,7 +4,8 @@ use Rattle.std.specs.Prelude.{List, [], ◌∷◌, ◌++◌, map, length, drop, 
 use Rattle.std.specs.List.{filter, position, zip}
 use Rattle.jani_tree.specs.Syntax as jani
 use Rattle.jani_tree.specs.Syntax.{Const, File}
-use Rattle.jani_meaning.specs.Elements.{Owned, is_called, lasting, labels}
+use Rattle.op_trees.specs.Names.{is_called}
+use Rattle.jani_meaning.specs.Elements.{Owned, lasting, labels}
 use Rattle.name_table.specs.declared.class.NameClass.TheVariants.{Property as OfProperty}
 use Rattle.name_table.specs.declared.class.Target.TheVariants.{Prism}
 use Rattle.name_table.specs.declared.entry.Entry.{Entry}

@@ -2,7 +2,7 @@
 
 ghost use Rattle.std.specs.Prelude.{◌≡◌, List, ℕ, map, IfOk};
 ghost use Rattle.std.specs.List.{position};
-ghost use Rattle.jani_meaning.specs.Elements.{is_called};
+ghost use Rattle.op_trees.specs.Names.{is_called};
 ghost use Rattle.name_table.specs.JaniParts.{owned_of, under};
 ghost use Rattle.prism_translator.specs.Code.{IsReady};
 ghost use Rattle.prop_trees.specs.Names.{quoted};

@@ -13,13 +13,13 @@ ghost use Rattle.prop_to_prism.specs.Code.{name_in, names_of, written_property};
 
 use crate::names::PropertyNames;
 use jani_images::image;
-use jani_tree::Je;
+use jani_tree::JaniExpr;
 use name_table::Entry;
 use op_trees::Expr;
 use prism_exprs::function_of;
 use prism_print::{is_node, write_expression};
 use prism_translator::name_at;
-use prism_tree::Pe;
+use prism_tree::PrismExpr;
 use prop_grammar::Compare;
 use prop_trees::{JaniAsk, JaniPath, JaniProperty};
 use std::alloc::{AllocError, Global};
@@ -130,8 +130,8 @@ fn write_finally_within(
     alloc: Global,
     out: &mut Vec<u8>,
     names: &PropertyNames,
-    k: &Je,
-    e: &Je,
+    k: &JaniExpr,
+    e: &JaniExpr,
 ) -> Result<(), AllocError>
     ensures { OnOk result (out.new.items
         ≡ out.old.items ++ path_text (finally_within (image (name_in names.now) (tree k.now)) (image (name_in names.now) (tree e.now)))) }
@@ -145,9 +145,9 @@ fn write_until_within(
     alloc: Global,
     out: &mut Vec<u8>,
     names: &PropertyNames,
-    k: &Je,
-    a: &Je,
-    b: &Je,
+    k: &JaniExpr,
+    a: &JaniExpr,
+    b: &JaniExpr,
 ) -> Result<(), AllocError>
     ensures { OnOk result (out.new.items ≡ out.old.items
         ++ path_text (until_within (image (name_in names.now) (tree k.now)) (image (name_in names.now) (tree a.now)) (image (name_in names.now) (tree b.now)))) }
@@ -163,7 +163,7 @@ fn write_one(
     out: &mut Vec<u8>,
     names: &PropertyNames,
     word: &[u8],
-    e: &Je,
+    e: &JaniExpr,
 ) -> Result<(), AllocError>
     ensures { OnOk result (out.new.items ≡ out.old.items ++ (word.now ++ operand_text (image (name_in names.now) (tree e.now)))) }
 {
@@ -176,9 +176,9 @@ fn write_two(
     alloc: Global,
     out: &mut Vec<u8>,
     names: &PropertyNames,
-    a: &Je,
+    a: &JaniExpr,
     word: &[u8],
-    b: &Je,
+    b: &JaniExpr,
 ) -> Result<(), AllocError>
     ensures { OnOk result (out.new.items
         ≡ out.old.items ++ (operand_text (image (name_in names.now) (tree a.now)) ++ (word.now ++ operand_text (image (name_in names.now) (tree b.now))))) }
@@ -193,8 +193,8 @@ fn write_within(
     alloc: Global,
     out: &mut Vec<u8>,
     names: &PropertyNames,
-    k: &Je,
-    e: &Je,
+    k: &JaniExpr,
+    e: &JaniExpr,
 ) -> Result<(), AllocError>
     ensures { OnOk result (out.new.items
         ≡ out.old.items ++ (steps_text (image (name_in names.now) (tree k.now)) ++ (codes " " ++ operand_text (image (name_in names.now) (tree e.now))))) }
@@ -209,7 +209,7 @@ fn write_operand(
     alloc: Global,
     out: &mut Vec<u8>,
     names: &PropertyNames,
-    e: &Je,
+    e: &JaniExpr,
 ) -> Result<(), AllocError>
     ensures { OnOk result (out.new.items ≡ out.old.items ++ operand_text (image (name_in names.now) (tree e.now))) }
 {
@@ -222,7 +222,7 @@ fn write_probability(
     alloc: Global,
     out: &mut Vec<u8>,
     names: &PropertyNames,
-    e: &Je,
+    e: &JaniExpr,
 ) -> Result<(), AllocError>
     ensures { OnOk result (out.new.items ≡ out.old.items ++ probability_text (image (name_in names.now) (tree e.now))) }
 {
@@ -235,7 +235,7 @@ fn write_steps(
     alloc: Global,
     out: &mut Vec<u8>,
     names: &PropertyNames,
-    e: &Je,
+    e: &JaniExpr,
 ) -> Result<(), AllocError>
     ensures { OnOk result (out.new.items ≡ out.old.items ++ steps_text (image (name_in names.now) (tree e.now))) }
 {
@@ -243,7 +243,7 @@ fn write_steps(
     write_enclosed(out, is_node(&e) || is_function_name(&e), &e)
 }
 
-fn write_enclosed(out: &mut Vec<u8>, parentheses: bool, e: &Pe) -> Result<(), AllocError>
+fn write_enclosed(out: &mut Vec<u8>, parentheses: bool, e: &PrismExpr) -> Result<(), AllocError>
     ensures { OnOk result (out.new.items ≡ out.old.items ++ enclosed parentheses (expression_text (tree e.now))) }
 {
     if !parentheses {
@@ -254,14 +254,14 @@ fn write_enclosed(out: &mut Vec<u8>, parentheses: bool, e: &Pe) -> Result<(), Al
     out.extend_from_slice(b")")
 }
 
-fn is_choice(e: &Pe) -> bool
+fn is_choice(e: &PrismExpr) -> bool
     ensures { result ≡ is_choice (tree e.now) }
 {
     matches!(e, Expr::Three(_, _, _, _, _))
 }
 
 // Whether it is the name of a function.
-fn is_function_name(e: &Pe) -> bool
+fn is_function_name(e: &PrismExpr) -> bool
     ensures { result ≡ is_function_name (tree e.now) }
 {
     match e {

@@ -17,6 +17,7 @@ use Rattle.jani_tree.specs.Syntax.{Expression}
 use Rattle.jani_tree.specs.Jani as jani
 use Rattle.jani_tree.specs.Jani.{IsItems, IsOperation, IsText}
 use Rattle.jani_tree.proofs.Again.{op_again}
+use Rattle.jani_tree.proofs.Unique.{same_op as same_operation}
 use Rattle.prop_grammar.specs.declared.syntax.Compare.{Compare}
 use Rattle.prop_grammar.specs.declared.syntax.Compare.TheVariants as C
 use Rattle.prop_grammar.specs.Property.{Ask, greatest, least, bounded, greatest_reward, least_reward, Path, finally, globally, until, weak_until, finally_within, until_within}
@@ -144,11 +145,6 @@ head_is v (Three at o a b c) h = head_operation v at o _ h.0
 
 heads : (v : Node) (e f : Expression) → IsExpression v e → IsExpression v f → head_of e ≡ head_of f
 heads v e f p q = sym (head_is v e p) ∙ head_is v f q
-
--- the operators of two spelled nodes are one
-same_operation : (v : Node) (at at2 : ℕ) (o p : JaniOp) (k l : Kind) → IsOperation v at o k → IsOperation v at2 p l → (at ≡ at2) × (o ≡ p) × (k ≡ l)
-same_operation v at at2 o p k l i j =
-    let e : o ≡ p = cc (i.op, j.op) in (cc (i.offset, j.offset), e, cc (i.takes, j.takes, e))
 
 -- labels that every model has are no operators
 name_not_op : (at at2 : ℕ) (m : Meant) (o : JaniOp) → meant_head at m ≡ op_head at2 (Some (op_text o)) → ⊥

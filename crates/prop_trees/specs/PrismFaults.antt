@@ -10,19 +10,18 @@ use Rattle.bridge_io.specs.declared.reason.Reason.TheVariants.{TwiceNamed, Unkno
 use Rattle.op_trees.specs.declared.tree.Ty.TheVariants as T
 use Rattle.op_trees.specs.Tree.{renamed, node_count, height_of}
 use Rattle.op_trees.specs.Types.{Types, type_in, misfits}
-use Rattle.op_trees.specs.Names.{offset_of, some_name}
-use Rattle.process_core.specs.Ready.{if_some}
+use Rattle.op_trees.specs.Names.{offset_of, some_name, is_called}
+use Rattle.basics.specs.Options.{if_some}
 use Rattle.prism_tree.specs.Operators.{prism_meaning}
 use Rattle.prism_tree.specs.Syntax.{Expression, Rewards, File}
 use Rattle.prism_tree.specs.Grammar.{unquoted}
 use Rattle.prism_names.specs.Order.{whole}
-use Rattle.name_rules.specs.Names.{is_called}
-use Rattle.name_rules.specs.Least.{fault, fault_if}
-use Rattle.prism_check.specs.declared.demands.Wanted.{Wanted}
-use Rattle.prism_check.specs.declared.demands.Wanted.TheVariants as W
-use Rattle.prism_check.specs.Faults.{or_else}
+use Rattle.name_rules.specs.Least.{fault, fault_if, or_else}
+use Rattle.op_trees.specs.declared.wanted.Wanted.{Wanted}
+use Rattle.op_trees.specs.declared.wanted.Wanted.TheVariants as W
 use Rattle.prism_check.specs.NameFaults.{is_among, doubled, given_labels, values, names_of, unless_known}
-use Rattle.prism_check.specs.TypeFaults.{types, is_unwanted, has_variable}
+use Rattle.op_trees.specs.Wanted.{is_unwanted}
+use Rattle.prism_check.specs.TypeFaults.{types, has_variable}
 use Rattle.prop_grammar.specs.declared.syntax.Structure.{Structure}
 use Rattle.prop_grammar.specs.Syntax.{WrittenProperty}
 use Rattle.prop_grammar.specs.Grammar.{has_quotes}

@@ -1,7 +1,7 @@
 // The properties of a JANI file, as trees.
 
 use bridge_io::Text;
-use jani_tree::Je;
+use jani_tree::JaniExpr;
 use prop_grammar::Compare;
 
 /// What is asked. A reward structure is its number among the global numeric transients of the file.
@@ -12,7 +12,7 @@ pub enum JaniAsk {
     /// The least probability.
     PMin,
     /// Whether the probability is within a bound.
-    PBound(Compare, Je),
+    PBound(Compare, JaniExpr),
     /// The greatest reward until the paths reach their end.
     RMax(usize),
     /// The least reward until the paths reach their end.
@@ -23,17 +23,17 @@ pub enum JaniAsk {
 #[derive(Drop)]
 pub enum JaniPath {
     /// `F e`
-    Finally(Je),
+    Finally(JaniExpr),
     /// `G e`
-    Globally(Je),
+    Globally(JaniExpr),
     /// `a U b`
-    Until(Je, Je),
+    Until(JaniExpr, JaniExpr),
     /// `a W b`
-    WeakUntil(Je, Je),
+    WeakUntil(JaniExpr, JaniExpr),
     /// `F<=k e`
-    FinallyWithin(Je, Je),
+    FinallyWithin(JaniExpr, JaniExpr),
     /// `a U<=k b`
-    UntilWithin(Je, Je, Je),
+    UntilWithin(JaniExpr, JaniExpr, JaniExpr),
 }
 
 /// A property with its name, if it has one. In its expressions a name of the model, labels included, stands with a `.` before it; `init`

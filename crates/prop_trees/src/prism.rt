@@ -1,7 +1,7 @@
 // The properties of a PRISM file, as trees.
 
 use bridge_io::Text;
-use prism_tree::Pe;
+use prism_tree::PrismExpr;
 use prop_grammar::Compare;
 
 /// What is asked. A reward structure is its number among those of the file.
@@ -12,7 +12,7 @@ pub enum Ask {
     /// The least probability.
     PMin,
     /// Whether the probability is within a bound.
-    PBound(Compare, Pe),
+    PBound(Compare, PrismExpr),
     /// The greatest reward until the paths reach their end.
     RMax(usize),
     /// The least reward until the paths reach their end.
@@ -23,17 +23,17 @@ pub enum Ask {
 #[derive(Drop)]
 pub enum Path {
     /// `F e`
-    Finally(Pe),
+    Finally(PrismExpr),
     /// `G e`
-    Globally(Pe),
+    Globally(PrismExpr),
     /// `a U b`
-    Until(Pe, Pe),
+    Until(PrismExpr, PrismExpr),
     /// `a W b`
-    WeakUntil(Pe, Pe),
+    WeakUntil(PrismExpr, PrismExpr),
     /// `F<=k e`
-    FinallyWithin(Pe, Pe),
+    FinallyWithin(PrismExpr, PrismExpr),
     /// `a U<=k b`
-    UntilWithin(Pe, Pe, Pe),
+    UntilWithin(PrismExpr, PrismExpr, PrismExpr),
 }
 
 /// A property with its name, if it has one. In its expressions a name of the model, labels included, stands with a `.` before it; `init`

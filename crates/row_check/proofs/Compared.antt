@@ -21,11 +21,6 @@ use Rattle.row_check.specs.declared.merging.MergedChoice.{MergedChoice}
 use Rattle.row_check.specs.Merging.{Sums, equal_sums, unless_nought, Keeps}
 
 -- ---- two lists side by side
-pub length_zip : {A B : Type 0} (R : A → B → Type 0) (xs : List A) (ys : List B) → AllZip R xs ys → length xs ≡ length ys
-length_zip R [] [] h = refl
-length_zip R [] (y ∷ ys) h = absurd h
-length_zip R (x ∷ xs) [] h = absurd h
-length_zip R (x ∷ xs) (y ∷ ys) h = ap suc (length_zip R xs ys h.1)
 
 pub zip_at : {A B : Type 0} (R : A → B → Type 0) (xs : List A) (ys : List B) (i : ℕ) (d : A) (e : B) → AllZip R xs ys → i < length ys → R (get_or xs i d) (get_or ys i e)
 zip_at R [] [] i d e h k = absurd (omega arith)

@@ -1,5 +1,5 @@
 -- What texts are read as.
-use Rattle.std.proofs.Common.{◌≡◌, ◌≢◌, ℕ, zero, suc, ◌<◌, List, [], ◌∷◌, true, false, Option, Some, None, Result, Ok, Err, IfOk, nat_eq, get_or, ap, ◌∙◌, subst, arith}
+use Rattle.std.proofs.Common.{◌≡◌, ℕ, zero, suc, List, [], ◌∷◌, true, false, Option, Some, None, Result, Ok, Err, IfOk, ap, ◌∙◌, subst, arith}
 use Rattle.std.specs.declared.alloc.AllocError.{AllocError}
 use Rattle.std.specs.Str.{IsUtf8, IsAscii}
 use Rattle.std.specs.Str.Parse.{AllDigits}
@@ -32,20 +32,6 @@ number_utf8 text n h = IsUtf8-from_ascii text (digit_ascii text h.digits.1)
 pub not_utf8_number : (text : List ℕ) → ¬ (IsUtf8 text) → (n : ℕ) → ¬ (IsNumber text n)
 not_utf8_number text u n h = u (number_utf8 text n h)
 
-no_sign : (b : ℕ) (text : List ℕ) (n : ℕ) → b < 48 → begins_with b text ≡ true → IsNumber text n → ⊥
-no_sign b [] n l e h = absurd cc
-no_sign b (c ∷ text) n l e h =
-    let k = (tells_digits.parts c text h.digits.1).0 in
-    let same : c ≡ b = grind arith in
-    absurd (omega arith)
-
-pub plus_number : (text : List ℕ) → begins_with 43 text ≡ true → (n : ℕ) → ¬ (IsNumber text n)
-plus_number text e n h = no_sign 43 text n (omega arith) e h
-
-not_begun : (b : ℕ) (text : List ℕ) → 0 < b → begins_with b text ≡ false → get_or text 0 0 ≢ b
-not_begun b [] l e h = omega arith
-not_begun b (c ∷ text) l e h = let f : nat_eq c b ≡ true = ap (λ x. nat_eq x b) h ∙ nat_eq-self b in absurd cc
-
 -- ---- states and names
 pub state_read : (text : List ℕ) (o : Option State) → IsUtf8 text → ReadsState text o → ReadsText (IsStateText text) o
 state_read text (Some s) u h = record { utf8 = is_utf8-from_IsUtf8 text u; spells = h.0; narrow = h.1 }
@@ -70,9 +56,6 @@ pub name_unread : (text : List ℕ) → ¬ (IsUtf8 text) → ReadsText (IsNameTe
 name_unread text u = λ x k. u (IsUtf8-from_is_utf8 text k.utf8)
 
 -- ---- probabilities
-pub minus_probability : (text : List ℕ) → begins_with 45 text ≡ true → ReadsText (IsProbability text) None
-minus_probability [] e = absurd cc
-minus_probability (c ∷ text) e = λ x k. k.bare text (let same : c ≡ 45 = grind arith in ap (λ y. y ∷ text) same)
 
 pub probability_unread : (text : List ℕ) → ¬ (IsUtf8 text) → ReadsText (IsProbability text) None
 probability_unread text u = λ x k. u (IsUtf8-from_is_utf8 text k.utf8)

@@ -7,7 +7,7 @@ use Rattle.process_core.specs.Steps.{Process}
 use Rattle.process_core.specs.declared.data.State.{State}
 use Rattle.row_check.specs.declared.data.Counts.{Counts}
 use Rattle.row_check.specs.declared.data.ReadRows.{ReadRows}
-use Rattle.row_check.specs.Forms.{IsHeader, IsRowLine, IsCounts, IsBehindHeader, AreCountsFirst, Reads, ReadsItems, ReadsRowsOf, rows_said}
+use Rattle.row_check.specs.Forms.{IsHeader, IsRowLine, IsCounts, IsBehindHeader, AreCountsFirst, Reads, ReadsRowsOf, rows_said}
 
 module _ {C : Type 0} (Next : List C → List ℕ → C → Type 0) (items : List C) (whole here ls : List Line) (l : Line) (e : here ≡ l ∷ ls) where
   pub line_holds : (c : C) (new : List C) → new ≡ items ++ c ∷ [] → Next items l.text c → ((cs : List C) → Hold Next items here cs → Hold Next [] whole (items ++ cs)) → (cs : List C) → Hold Next new ls cs → Hold Next [] whole (new ++ cs)
@@ -68,11 +68,3 @@ module _ (ss : List State) (bytes : List ℕ) where
 module _ {C : Type 0} (Next : List C → List ℕ → C → Type 0) (ls : List Line) where
   pub made : {Y : Type 0} (make : List C → Y) (cs : List C) (y : Y) → AreRead Next ls (Ok cs) → y ≡ make cs → Reads (AreReadAs Next make ls) (Ok y)
   made make cs y h e = (cs, h, e)
-
-  pub not_made : {Y : Type 0} (make : List C → Y) (f : Refused) → ReadsItems (AreRead Next ls) (Err f) → Reads (AreReadAs Next make ls) (Err f)
-  not_made make (R.At f) h = h
-  not_made make (R.Memory m) h = tt
-
-  pub as_list : (f : Refused) → ReadsItems (AreRead Next ls) (Err f) → Reads (AreRead Next ls) (Err f)
-  as_list (R.At f) h = h
-  as_list (R.Memory m) h = tt

@@ -139,9 +139,6 @@ module _ (line : List ℕ) (a b c : ℕ) (rest weight label : List ℕ) (k : IsN
   pub no_row_label : ((o : Option Name) → ¬ IsLabelPart label o) → (r : Row) → ¬ IsRowText line r
   no_row_label n r h = n r.label (subst (λ t. IsLabelPart t r.label) (parts_same r h).1 h.label_is)
 
-  pub row_made : (x : Fraction) (o : Option Name) → IsProbability weight x → IsLabelPart label o → IsRowText line (record { source = a; choice = b; target = c; weight = x; label = o })
-  row_made x o p q = record { weight = weight; label = label; numbers = subst (IsNumbered line a b c) e k; weight_apart = apart; weight_is = p; label_is = q }
-
 module _ (values : OneValueText) (states : OneStateText) (names : OneNameText) where
   -- a row that may not come
   pub may_not_come : (n : ℕ) (before : List Row) (line : List ℕ) (r : Row) → IsRowText line r → ¬ MayCome n before r → (q : Row) → ¬ IsRowLine n before line q
@@ -163,8 +160,6 @@ row_if_keeps K r true o k e it f = let g : r ≡ it = cc in subst K g (k refl)
 row_if_keeps K r false o k e it f = absurd (let g : None ≡ Some it = sym e ∙ f in cc)
 
 -- ---- states
-pub no_colon : (before : List State) (line : List ℕ) → list_any (nat_eq 58) line ≡ false → (s : State) → ¬ IsStateLine before line s
-no_colon before line l s h = lacks_mark 58 line h.number h.state l h.parts
 
 module _ (before : List State) (line number state : List ℕ) (e : line ≡ number ++ 58 ∷ state) (l : list_any (nat_eq 58) number ≡ false) where
   state_parts : (s : State) (h : IsStateLine before line s) → (h.number ≡ number) × (h.state ≡ state)

@@ -4,6 +4,7 @@ use Rattle.std.specs.List.{list_any}
 use Rattle.std.specs.Ordering.{nat_cmp}
 use Rattle.std.specs.BTreeSet.{BTreeSet, contains}
 use Rattle.std.specs.BTreeMap.{is_at}
+use Rattle.std.proofs.lemmas.Bool.{false_from_ne_true}
 use Rattle.basics.specs.Numbers.{nat_eq-self, nat_eq_comm}
 use Rattle.basics.specs.Booleans.{first_true, second_true}
 use Rattle.basics.specs.Members.{any_push, any_agree}
@@ -77,10 +78,6 @@ later_last a (b ∷ rs) r h = later_on a b r (later a b h.0) (later_last b rs r 
 eq_true : (a b : ℕ) → nat_eq a b ≡ true → a ≡ b
 eq_true a b h = grind arith
 
-not_true : (b : Bool) → (b ≡ true → ⊥) → b ≡ false
-not_true true h = absurd (h refl)
-not_true false h = refl
-
 same_parts : (a b : Row) → same_choice a b ≡ true → (a.source ≡ b.source) × (a.choice ≡ b.choice)
 same_parts a b h = (eq_true a.source b.source (first_true (nat_eq a.source b.source) (nat_eq a.choice b.choice) h), eq_true a.choice b.choice (second_true (nat_eq a.source b.source) (nat_eq a.choice b.choice) h))
 
@@ -88,7 +85,7 @@ from_parts : (a b : Row) → a.source ≡ b.source → a.choice ≡ b.choice →
 from_parts a b e f = ap₂ (λ x y. x && y) (ap (nat_eq a.source) (sym e) ∙ nat_eq-self a.source) (ap (nat_eq a.choice) (sym f) ∙ nat_eq-self a.choice)
 
 passed : (q b r : Row) → Later q b → Follows b r → same_choice b r ≡ false → same_choice q r ≡ false
-passed q b r l f n = not_true (same_choice q r) (λ e. let s = same_parts q r e in by_cases s.0 s.1 l f)
+passed q b r l f n = false_from_ne_true (same_choice q r) (λ e. let s = same_parts q r e in by_cases s.0 s.1 l f)
   where
     differ : b.source ≡ r.source → b.choice ≡ r.choice → ⊥
     differ e g = let t = from_parts b r e g in cc

@@ -3,6 +3,7 @@ use Rattle.std.proofs.Common.{◌≡◌, ℕ, suc, ◌+◌, ◌<◌, List, [], �
 use Rattle.std.specs.List.{All}
 use Rattle.std.proofs.lemmas.List.{drop_more, get_or_read}
 use Rattle.std.proofs.lemmas.List.Elements.{All-head, All-tail}
+use Rattle.basics.specs.Booleans.{second_true}
 use Rattle.frac_core.specs.Fraction.{Fraction}
 use Rattle.process_core.specs.Process.{Branch, Outcome, Good, Bad, Choice}
 use Rattle.process_core.specs.Distribution.{IsProper}
@@ -46,16 +47,13 @@ step_not_yes p k s l t v (inl h) y = no_yes_excess k (p.excess s) v h y
 step_not_yes p k s l t v (inr h) y = let e : v ≡ No (Step (k + 1)) = h.1.1 in cc
 
 -- ---- a step leads to a state
-and_second : (a b : Bool) → (a && b) ≡ true → b ≡ true
-and_second true b h = h
-and_second false b h = cc
 
 branch_reaches : (is_state : Values → Bool) (t : Values) (bs : List (Branch Fraction Values)) → All (λ b. IsTrue (is_state b.target)) bs → any_leads_to t bs ≡ true → IsTrue (is_state t)
 branch_reaches is_state t [] h e = cc
 branch_reaches is_state t (b ∷ bs) h e = by_first (branch_reaches is_state t bs (All-tail (λ c. IsTrue (is_state c.target)) b bs h)) (is_positive b.probability && equal_states t b.target) refl e
   where
     by_first : (any_leads_to t bs ≡ true → IsTrue (is_state t)) → (r : Bool) → r ≡ (is_positive b.probability && equal_states t b.target) → (r || any_leads_to t bs) ≡ true → IsTrue (is_state t)
-    by_first ih true q f = subst (λ x. IsTrue (is_state x)) (sym ((equal_states_is t b.target).0 (and_second (is_positive b.probability) _ (sym q)))) (All-head (λ c. IsTrue (is_state c.target)) b bs h)
+    by_first ih true q f = subst (λ x. IsTrue (is_state x)) (sym ((equal_states_is t b.target).0 (second_true (is_positive b.probability) _ (sym q)))) (All-head (λ c. IsTrue (is_state c.target)) b bs h)
     by_first ih false q f = ih f
 
 outcome_reaches : (is_state : Values → Bool) (t : Values) (o : Outcome Fraction Values) → IsProper is_state o → leads_to t o ≡ true → IsTrue (is_state t)
@@ -67,7 +65,7 @@ step_reaches is_state l t [] h e = cc
 step_reaches is_state l t (c ∷ cs) h e = by_first (step_reaches is_state l t cs (All-tail (λ d. IsProper is_state d.outcome) c cs h)) (same_label l c.label && leads_to t c.outcome) refl e
   where
     by_first : (is_step cs l t ≡ true → IsTrue (is_state t)) → (r : Bool) → r ≡ (same_label l c.label && leads_to t c.outcome) → (r || is_step cs l t) ≡ true → IsTrue (is_state t)
-    by_first ih true q f = outcome_reaches is_state t c.outcome (All-head (λ d. IsProper is_state d.outcome) c cs h) (and_second (same_label l c.label) _ (sym q))
+    by_first ih true q f = outcome_reaches is_state t c.outcome (All-head (λ d. IsProper is_state d.outcome) c cs h) (second_true (same_label l c.label) _ (sym q))
     by_first ih false q f = ih f
 
 -- the state at place `k` is a state, whatever stands past the end

@@ -3,6 +3,7 @@ use Rattle.std.proofs.Common.{◌↔◌, ◌≡◌, ◌≢◌, ℕ, zero, suc, �
 use Rattle.std.specs.List.{All, list_any}
 use Rattle.std.proofs.lemmas.List.{get_or-take}
 use Rattle.std.proofs.lemmas.List.Elements.{All-head, All-tail, All-cons, All-nil}
+use Rattle.std.proofs.lemmas.Bool.{false_from_ne_true}
 use Rattle.process_core.specs.Bounds.{Excess, IsWide, IsTooMany}
 use Rattle.process_core.specs.Ready.{Values, Name}
 use Rattle.process_core.specs.Equal.{equal_states, equal_states_is}
@@ -120,10 +121,6 @@ yes_targets n k i (r ∷ rs) h =
     by_test true = refl
     by_test false = refl
 
-by_truth : (b : Bool) → (b ≡ true → ⊥) → b ≡ false
-by_truth true h = absurd (h refl)
-by_truth false h = refl
-
 module _ (p : Process) (r : ReadRows) (w : AreReadRows r) where
   module _ (h : JudgesRows p r None) where
     listed : (i : ℕ) → i < length r.states → JudgesListed p r.states i (get_or r.states i (record { values = [] })) None
@@ -163,7 +160,7 @@ module _ (p : Process) (r : ReadRows) (w : AreReadRows r) where
 
   module _ (a : AreRows p r) (n : AreNarrowRows p r) where
     new_state : (j : ℕ) → j < length r.states → stands_in (values_at r.states j) (take j r.states) ≡ false
-    new_state j l = by_truth _ (λ e.
+    new_state j l = false_from_ne_true _ (λ e.
         let f = stands_found (values_at r.states j) (take j r.states) (record { values = [] }) e in
         let i = f.0 in
         let in_front : i < j = let q = length-take j r.states in let g = f.1 in omega arith in

@@ -14,6 +14,7 @@ pub mod TrimmedChoices
 pub mod Items
 pub mod GroupLaws
 pub mod ComputedLaws
+pub mod ComputedParts
 pub mod MemberLaws
 pub mod Whole
 pub mod Longer

@@ -5,7 +5,8 @@ use Rattle.std.proofs.lemmas.List.{map-append}
 use Rattle.basics.specs.Lists.{drop_item}
 use Rattle.frac_core.specs.Fraction.{Fraction}
 use Rattle.op_trees.specs.declared.tree.EvalFail.{EvalFail}
-use Rattle.process_core.specs.Ready.{Name, Ready, Sum, has_action, if_some, actions_of, sharing, taking}
+use Rattle.basics.specs.Options.{if_some}
+use Rattle.process_core.specs.Ready.{Name, Ready, Sum, has_action, actions_of, sharing, taking}
 use Rattle.process_core.specs.Ready as core
 use Rattle.state_choices.specs.declared.data.Command.{Command}
 use Rattle.state_choices.specs.declared.data.Member.{Member}

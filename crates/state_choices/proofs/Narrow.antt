@@ -1,18 +1,15 @@
 -- Trimming changes nothing where nothing is wide.
-use Rattle.std.proofs.Common.{◌≡◌, List, [], ◌∷◌, map, Bool, true, false, not, ◌||◌, ◌&&◌, if◌then◌else◌, Option, None, refl, sym, ap, ap₂, ◌∙◌}
+use Rattle.std.proofs.Common.{◌≡◌, List, [], ◌∷◌, map, Bool, true, false, not, ◌||◌, ◌&&◌, if◌then◌else◌, None, refl, sym, ap, ap₂, ◌∙◌}
 use Rattle.std.specs.List.{list_any}
 use Rattle.std.proofs.lemmas.Bool.{or_parts}
 use Rattle.basics.specs.Members.{any-map, any_agree}
 use Rattle.op_trees.specs.Seen.{Seen}
-use Rattle.op_trees.specs.declared.tree.Value.{Value}
 use Rattle.process_core.specs.Ready.{Write, Reward, Update, Ready, Sum}
 use Rattle.process_core.specs.Choices.{is_false, weights_of}
 use Rattle.process_core.specs.Bounds.{has_wide_part, has_wide_sum, if_all, is_wide_participant}
 use Rattle.state_choices.specs.Trimmed.{trimmed_seen, trimmed_sum, trimmed_write, trimmed_reward, trimmed_update, trimmed}
 
 -- ---- narrow parts stay
-same_seen : (v w : Option Value) (a b : Bool) → v ≡ w → a ≡ b → ◌≡◌ {A = Seen} (record { value = v; wide = a }) (record { value = w; wide = b })
-same_seen v w a b d e = cc
 
 pub narrow_seen : (s : Seen) → s.wide ≡ false → trimmed_seen s ≡ s
 narrow_seen s h = ap (λ b. record { value = if b then None else s.value; wide = s.wide }) h

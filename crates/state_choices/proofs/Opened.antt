@@ -96,10 +96,6 @@ module _ {X : Type 0} (p : X → Bool) where
           nothing true = refl
           nothing false = refl
 
-  empty_map : {A B : Type 0} (f : A → B) (xs : List A) → is_empty (map f xs) ≡ is_empty xs
-  empty_map f [] = refl
-  empty_map f (x ∷ xs) = refl
-
   -- whether there is one of each
   pub is_empty-one_of_each : (xss : List (List X)) → is_empty (one_of_each xss) ≡ list_any is_empty xss
   is_empty-one_of_each [] = refl

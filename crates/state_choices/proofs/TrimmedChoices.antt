@@ -17,6 +17,7 @@ use Rattle.process_core.specs.Seen.{seen_choice}
 use Rattle.process_core.specs.declared.data.StepFail.{StepFail}
 use Rattle.process_core.specs.declared.data.StepFail.TheVariants as Fail
 use Rattle.process_core.specs.declared.data.Choice as code
+use Rattle.process_core.specs.Idle.{same_kinds}
 use Rattle.state_choices.specs.Counted.{is_wide_outcome}
 use Rattle.state_choices.specs.Groups.{Group, of_group, of_groups}
 use Rattle.state_choices.specs.Trimmed.{trimmed_sum, trimmed_update, trimmed, trimmed_combination, trimmed_group, TrimmingLaw}
@@ -42,9 +43,6 @@ kinds_by rewards uss = record {
   range = list_any (list_any has_outside) uss;
   weight = list_any (λ us. weighs_wrong (weights_of us)) uss;
 }
-
-same_kinds : (a b c p q r : Bool) → a ≡ p → b ≡ q → c ≡ r → ◌≡◌ {A = Kinds} (record { undef = a; range = b; weight = c }) (record { undef = p; range = q; weight = r })
-same_kinds a b c p q r d e f = cc
 
 kinds_from : (rewards : List Sum) (rs : List Ready) → kinds_of rewards rs ≡ kinds_by rewards (updates rs)
 kinds_from rewards rs =

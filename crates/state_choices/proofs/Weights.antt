@@ -12,10 +12,6 @@ use Rattle.state_choices.specs.declared.data.Update.{Update}
 use Rattle.state_choices.specs.Views.{seen_of, update_of}
 
 module _ {A X : Type 0} (f : A → Option X) (d : X) where
-  with_none : (o : Option X) → with_first o None ≡ None
-  with_none None = refl
-  with_none (Some x) = refl
-
   defined_none : (xs : List A) → list_any (λ x. is_none (f x)) xs ≡ true → all_defined (map f xs) ≡ None
   defined_none [] h = absurd cc
   defined_none (x ∷ xs) h = by_first (f x) h (defined_none xs)

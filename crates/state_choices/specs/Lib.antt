@@ -5,3 +5,4 @@ pub mod Flaws
 pub mod Trimmed
 pub mod Items
 pub mod Members
+pub mod Codes

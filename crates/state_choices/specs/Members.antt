@@ -3,7 +3,8 @@ use Rattle.std.specs.Prelude.{◌≡◌, List, [], ◌∷◌, ◌++◌, map, Opt
 use Rattle.std.specs.List.{filter, list_any, flat_map, AllZip}
 use Rattle.frac_core.specs.Fraction.{Fraction}
 use Rattle.op_trees.specs.declared.tree.EvalFail.{EvalFail}
-use Rattle.process_core.specs.Ready.{Name, Ready, Sum, has_action, if_some, actions_of, sharing, taking}
+use Rattle.basics.specs.Options.{if_some}
+use Rattle.process_core.specs.Ready.{Name, Ready, Sum, has_action, actions_of, sharing, taking}
 use Rattle.process_core.specs.Ready as core
 use Rattle.state_choices.specs.declared.data.Command.{Command}
 use Rattle.state_choices.specs.declared.data.Member.{Member}

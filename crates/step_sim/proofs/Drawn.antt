@@ -6,6 +6,7 @@ use Rattle.std.proofs.lemmas.Option.{slice_get-map, slice_get-get_or}
 use Rattle.std.proofs.Math.Nat.{mod-lt}
 use Rattle.std.proofs.lemmas.List.{length-map}
 use Rattle.rand_core.specs.Stream.{Stream, next_u64}
+use Rattle.basics.specs.Members.{all_get}
 use Rattle.frac_core.specs.Fraction.{Fraction, nought, unit, same_number}
 use Rattle.frac_core.specs.Sums.{total}
 use Rattle.process_core.specs.Process.{Choice, Good}
@@ -21,7 +22,6 @@ use Rattle.step_sim.specs.Words.{pair, rest, IsDrawnStep, StopsOrGoes}
 use Rattle.step_sim.specs.declared.walk.Step.{Step}
 use Rattle.step_sim.specs.declared.walk.Stop.{Stop}
 use Rattle.step_sim.specs.declared.walk.Stop.TheVariants as S
-use Rattle.step_sim.proofs.Moves.{at}
 
 -- The choices of a state are these; a word names this one of them, which has these branches.
 pub record Faces (p : Process) (s : Values) (cs : List choice.Choice) (v : ℕ) (c : choice.Choice) (bs : List branch.Branch) : Type 0 where
@@ -53,7 +53,7 @@ module _ (p : Process) (s : Values) (cs : List choice.Choice) (v : ℕ) (c : cho
 
   pub is_whole : IsProcess p → IsTrue (p.is_state s) → total (probabilities (map seen_branch bs)) ≡ unit
   is_whole law v =
-      let proper = at (λ (c : Choice Name Fraction Values). IsProper p.is_state c.outcome) (p.choices s) _ (seen_choice c) (law.proper s v) choice_here in
+      let proper = all_get (λ (c : Choice Name Fraction Values). IsProper p.is_state c.outcome) (p.choices s) _ (seen_choice c) (law.proper s v) choice_here in
       let good : IsDistribution p.is_state (map seen_branch bs) = subst (λ o. IsProper p.is_state (seen_outcome o)) h.good proper in
       good.whole
 

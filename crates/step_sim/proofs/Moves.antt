@@ -1,7 +1,7 @@
 -- A step that is taken is a move of the process, to one of its states.
 use Rattle.std.proofs.Common.{◌≡◌, ℕ, zero, suc, ◌%◌, List, [], ◌∷◌, length, Bool, true, false, IsTrue, Option, Some, None, Result, Ok, Err, refl, sym, subst, inl, inr, if◌then◌else◌}
 use Rattle.std.specs.List.{All, slice_get}
-use Rattle.std.proofs.lemmas.Option.{slice_get_within, get_or_from_slice_get}
+use Rattle.basics.specs.Members.{all_get}
 use Rattle.frac_core.specs.Fraction.{Fraction, nought, same_number}
 use Rattle.frac_core.specs.Laws.{same_number_is}
 use Rattle.frac_core.specs.Order.{AtMost, Below, AtMost_antisym, Below_from_not-AtMost}
@@ -20,9 +20,6 @@ member : {X : Type 0} (xs : List X) (i : ℕ) (x : X) → slice_get xs i ≡ Som
 member [] i x e = absurd cc
 member (y ∷ ys) zero x e = inl (let f : y ≡ x = cc in sym f)
 member (y ∷ ys) (suc i) x e = inr (member ys i x e)
-
-pub at : {X : Type 0} (P : X → Type 0) (xs : List X) (i : ℕ) (x : X) → All P xs → slice_get xs i ≡ Some x → P x
-at P xs i x h e = subst P (get_or_from_slice_get xs i x x e) (h i x (slice_get_within xs i x e))
 
 positive : (x : Fraction) → AtMost nought x → false ≡ same_number x nought → Below nought x
 positive x h z = Below_from_not-AtMost nought x (λ k. let e = (same_number_is x nought).1 (AtMost_antisym x nought k h) in cc)
@@ -51,10 +48,10 @@ module _ (p : Process) (s : Values) (t : Step) where
               choice = c;
               branch = b;
               among = member bs j b (sym e);
-              positive = positive b.probability (at (λ (b : Branch Fraction Values). AtMost nought b.probability) bs j b d.not_negative (sym e)) z;
+              positive = positive b.probability (all_get (λ (b : Branch Fraction Values). AtMost nought b.probability) bs j b d.not_negative (sym e)) z;
               target = refl;
             };
-            state = at (λ (b : Branch Fraction Values). IsTrue (p.is_state b.target)) bs j b d.targets (sym e);
+            state = all_get (λ (b : Branch Fraction Values). IsTrue (p.is_state b.target)) bs j b d.targets (sym e);
           })
 
   outcome_moves : (label : Option Name) (j : ℕ) (o : Outcome Fraction Values) → IsIn (record { label = label; outcome = o }) (p.choices s) → IsProper p.is_state o → by_outcome label j o ≡ Ok t → Moves p s t
@@ -64,7 +61,7 @@ module _ (p : Process) (s : Values) (t : Step) where
   choice_moves : (i j : ℕ) → All (λ (c : Choice Name Fraction Values). IsProper p.is_state c.outcome) (p.choices s) → (o : Option (Choice Name Fraction Values)) → o ≡ slice_get (p.choices s) i → by_choice i j o ≡ Ok t → Moves p s t
   choice_moves i j d None e h = absurd cc
   choice_moves i j d (Some c) e h =
-      outcome_moves c.label j c.outcome (member (p.choices s) i c (sym e)) (at (λ (c : Choice Name Fraction Values). IsProper p.is_state c.outcome) (p.choices s) i c d (sym e)) h
+      outcome_moves c.label j c.outcome (member (p.choices s) i c (sym e)) (all_get (λ (c : Choice Name Fraction Values). IsProper p.is_state c.outcome) (p.choices s) i c d (sym e)) h
 
   excess_moves : (e : Option Excess) (r : Result Step Stop) → within e r ≡ Ok t → r ≡ Ok t
   excess_moves None r h = h
@@ -85,7 +82,7 @@ module _ (p : Process) (s : Values) (t : Step) where
   drawn_choice_moves : (i w : ℕ) → All (λ (c : Choice Name Fraction Values). IsProper p.is_state c.outcome) (p.choices s) → (o : Option (Choice Name Fraction Values)) → o ≡ slice_get (p.choices s) i → drawn_choice i w o ≡ Ok t → Moves p s t
   drawn_choice_moves i w d None e h = absurd cc
   drawn_choice_moves i w d (Some c) e h =
-      drawn_outcome_moves c.label w c.outcome (member (p.choices s) i c (sym e)) (at (λ (c : Choice Name Fraction Values). IsProper p.is_state c.outcome) (p.choices s) i c d (sym e)) h
+      drawn_outcome_moves c.label w c.outcome (member (p.choices s) i c (sym e)) (all_get (λ (c : Choice Name Fraction Values). IsProper p.is_state c.outcome) (p.choices s) i c d (sym e)) h
 
   pub drawn_moves : (d : ℕ × ℕ) → IsProcess p → IsTrue (p.is_state s) → step_drawn p s d ≡ Ok t → Moves p s t
   drawn_moves d law v h = drawn_choice_moves (d.0 % length (p.choices s)) d.1 (law.proper s v) (slice_get (p.choices s) (d.0 % length (p.choices s))) refl h

@@ -1,5 +1,5 @@
 use Rattle.std.proofs.Common.{refl, sym, ◌∙◌, arith, inr}
-use Rattle.decimal_json.proofs.Glue.{measured_some, measured_none}
+use Rattle.decimal_json.proofs.StepLemmas.{measured_some, measured_none}
 use Rattle.decimal_json.proofs.Chains.{front_runs, front_stops, number_follows}
 use Rattle.decimal_json.proofs.Held.{if_none, tail_within, number_unended, number_breaks_off, number_too_far}
 use Rattle.decimal_json.proofs.ahead.whole_number.Goals as goal

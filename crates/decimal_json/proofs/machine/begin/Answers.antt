@@ -5,7 +5,7 @@ use Rattle.decimal_json.specs.declared.chars.Within.TheVariants.{Between}
 use Rattle.decimal_json.specs.Lang.{◌>>◌}
 use Rattle.decimal_json.specs.Grammar.{exactly}
 use Rattle.decimal_json.specs.States.{closes, in_string}
-use Rattle.decimal_json.proofs.Glue.{plain}
+use Rattle.decimal_json.proofs.StepLemmas.{plain}
 use Rattle.decimal_json.proofs.Steps as s
 use Rattle.decimal_json.proofs.machine.begin.Goals as goal
 

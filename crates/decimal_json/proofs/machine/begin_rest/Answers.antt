@@ -2,7 +2,7 @@ use Rattle.std.proofs.Common.{refl, sym, ap, ◌∙◌, reverse, arith, ne_eqb}
 use Rattle.std.specs.Prelude.{Some}
 use Rattle.decimal_json.specs.declared.machine.Mode.TheVariants as modes
 use Rattle.decimal_json.specs.States.{begin_items, begin_members}
-use Rattle.decimal_json.proofs.Glue.{number_begins, with_mark, bracket_fine, bracket_breaks}
+use Rattle.decimal_json.proofs.StepLemmas.{number_begins, with_mark, bracket_fine, bracket_breaks}
 use Rattle.decimal_json.proofs.Steps as s
 use Rattle.decimal_json.proofs.Growth as g
 use Rattle.decimal_json.proofs.machine.begin_rest.Goals as goal

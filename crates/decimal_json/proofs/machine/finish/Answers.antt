@@ -1,7 +1,7 @@
 use Rattle.std.proofs.Common.{reverse, arith}
 use Rattle.std.specs.Prelude.{Some, None}
 use Rattle.decimal_json.specs.declared.machine.Mode.TheVariants as modes
-use Rattle.decimal_json.proofs.Glue.{finish_as, as_mode, open_as, finishes_in, over_After, over_Word, not_over_Word}
+use Rattle.decimal_json.proofs.StepLemmas.{finish_as, as_mode, open_as, finishes_in, over_After, over_Word, not_over_Word}
 use Rattle.decimal_json.proofs.Steps as s
 use Rattle.decimal_json.proofs.machine.finish.Goals as goal
 

@@ -1,7 +1,7 @@
 use Rattle.std.proofs.Common.{refl, sym, ap, ◌∙◌, reverse, [], ◌∷◌, ◌++◌}
 use Rattle.decimal_json.specs.declared.brackets.Frame.{Frame}
 use Rattle.decimal_json.specs.States.{Goes, closes}
-use Rattle.decimal_json.proofs.Glue.{plain, pushed, after_space, after_none}
+use Rattle.decimal_json.proofs.StepLemmas.{plain, pushed, after_space, after_none}
 use Rattle.decimal_json.proofs.machine.in_after.Goals as goal
 
 pub returns-then-is_space-clause-goes : goal.returns-then-is_space-clause-goes

@@ -1,7 +1,7 @@
 use Rattle.std.proofs.Common.{reverse, arith, ne_eqb}
 use Rattle.decimal_json.specs.declared.tree.Json.TheVariants.{Array}
 use Rattle.decimal_json.specs.States.{begin_value, closes}
-use Rattle.decimal_json.proofs.Glue.{plain, open_array_comma, open_array_close}
+use Rattle.decimal_json.proofs.StepLemmas.{plain, open_array_comma, open_array_close}
 use Rattle.decimal_json.proofs.Steps as s
 use Rattle.decimal_json.proofs.machine.in_array.Goals as goal
 

@@ -2,7 +2,7 @@ use Rattle.std.proofs.Common.{refl, sym, ◌∙◌, reverse, arith, ne_eqb}
 use Rattle.decimal_json.specs.declared.brackets.Frame.TheVariants.{InObject}
 use Rattle.decimal_json.specs.Lang.{next, Turns}
 use Rattle.decimal_json.specs.States.{begin_value, begin_colon}
-use Rattle.decimal_json.proofs.Glue.{plain, pushed}
+use Rattle.decimal_json.proofs.StepLemmas.{plain, pushed}
 use Rattle.decimal_json.proofs.Steps as s
 use Rattle.decimal_json.proofs.machine.in_colon.Goals as goal
 

@@ -3,7 +3,7 @@ use Rattle.decimal_json.specs.declared.tree.Json.{Json}
 use Rattle.decimal_json.specs.declared.tree.Json.TheVariants.{Array}
 use Rattle.decimal_json.specs.declared.brackets.Frame.TheVariants.{InArray}
 use Rattle.decimal_json.specs.States.{Goes, begin_now, closes, begin_items}
-use Rattle.decimal_json.proofs.Glue.{plain, popped, goes_by}
+use Rattle.decimal_json.proofs.StepLemmas.{plain, popped, goes_by}
 use Rattle.decimal_json.proofs.Steps as s
 use Rattle.decimal_json.proofs.machine.in_first.Goals as goal
 

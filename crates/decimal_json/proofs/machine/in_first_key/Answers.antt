@@ -2,7 +2,7 @@ use Rattle.std.proofs.Common.{refl, sym, ◌∙◌, reverse, arith, [], ne_eqb}
 use Rattle.decimal_json.specs.declared.tree.Json.TheVariants.{Object}
 use Rattle.decimal_json.specs.declared.chars.Within.TheVariants.{Between}
 use Rattle.decimal_json.specs.States.{closes, begin_members, in_key}
-use Rattle.decimal_json.proofs.Glue.{plain}
+use Rattle.decimal_json.proofs.StepLemmas.{plain}
 use Rattle.decimal_json.proofs.Steps as s
 use Rattle.decimal_json.proofs.machine.in_first_key.Goals as goal
 

@@ -4,7 +4,7 @@ use Rattle.decimal_json.specs.States.{begin_colon, in_key}
 use Rattle.decimal_json.specs.Grammar.{names}
 use Rattle.decimal_json.specs.Grammar.{key_mark}
 use Rattle.std.specs.Prelude.{◌+◌}
-use Rattle.decimal_json.proofs.Glue.{plain, with_mark, key_fine, key_breaks, closes_is, closes_not, key_closes}
+use Rattle.decimal_json.proofs.StepLemmas.{plain, with_mark, key_fine, key_breaks, closes_is, closes_not, key_closes}
 use Rattle.decimal_json.proofs.Steps as s
 use Rattle.decimal_json.proofs.machine.in_key.Goals as goal
 

@@ -1,7 +1,7 @@
 use Rattle.std.proofs.Common.{refl, sym, ◌∙◌, reverse, arith, [], ne_eqb}
 use Rattle.decimal_json.specs.declared.chars.Within.TheVariants.{Between}
 use Rattle.decimal_json.specs.States.{begin_key, in_key}
-use Rattle.decimal_json.proofs.Glue.{plain}
+use Rattle.decimal_json.proofs.StepLemmas.{plain}
 use Rattle.decimal_json.proofs.Steps as s
 use Rattle.decimal_json.proofs.machine.in_next_key.Goals as goal
 

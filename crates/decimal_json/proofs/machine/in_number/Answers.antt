@@ -1,7 +1,7 @@
 use Rattle.std.proofs.Common.{◌≡◌, ℕ, true, refl, sym, ap, ◌∙◌, List}
 use Rattle.frac_core.specs.Numeral.{decimal_of}
 use Rattle.decimal_json.specs.Number.{is_end}
-use Rattle.decimal_json.proofs.Glue.{memory_numbers, number_goes, number_stuck, number_over, measured_none, measured_some, verdict_end, verdict_open}
+use Rattle.decimal_json.proofs.StepLemmas.{memory_numbers, number_goes, number_stuck, number_over, measured_none, measured_some, verdict_end, verdict_open}
 use Rattle.decimal_json.proofs.machine.in_number.Goals as goal
 
 pub returns-then-digits : goal.returns-then-digits

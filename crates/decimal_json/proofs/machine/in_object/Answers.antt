@@ -1,7 +1,7 @@
 use Rattle.std.proofs.Common.{◌∙◌, reverse, arith, ne_eqb}
 use Rattle.decimal_json.specs.declared.tree.Json.TheVariants.{Object}
 use Rattle.decimal_json.specs.States.{closes, begin_key}
-use Rattle.decimal_json.proofs.Glue.{plain, open_object_comma, open_object_close}
+use Rattle.decimal_json.proofs.StepLemmas.{plain, open_object_comma, open_object_close}
 use Rattle.decimal_json.proofs.Steps as s
 use Rattle.decimal_json.proofs.machine.in_object.Goals as goal
 

@@ -1,7 +1,7 @@
 use Rattle.std.proofs.Common.{refl, sym, ◌∙◌, reverse}
 use Rattle.decimal_json.specs.declared.tree.Json.TheVariants.{Str}
 use Rattle.decimal_json.specs.States.{closes, in_string}
-use Rattle.decimal_json.proofs.Glue.{plain, closes_is, closes_not, text_closes}
+use Rattle.decimal_json.proofs.StepLemmas.{plain, closes_is, closes_not, text_closes}
 use Rattle.decimal_json.proofs.Steps as s
 use Rattle.decimal_json.proofs.machine.in_text.Goals as goal
 

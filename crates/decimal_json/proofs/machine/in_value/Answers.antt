@@ -1,6 +1,6 @@
 use Rattle.std.proofs.Common.{refl, sym, ◌∙◌, reverse}
 use Rattle.decimal_json.specs.States.{begin_value}
-use Rattle.decimal_json.proofs.Glue.{plain, goes_by}
+use Rattle.decimal_json.proofs.StepLemmas.{plain, goes_by}
 use Rattle.decimal_json.proofs.Steps as s
 use Rattle.decimal_json.proofs.machine.in_value.Goals as goal
 

@@ -1,7 +1,7 @@
 use Rattle.std.proofs.Common.{refl, reverse}
 use Rattle.std.proofs.lemmas.List.{nil_from_length}
 use Rattle.decimal_json.specs.States.{in_word}
-use Rattle.decimal_json.proofs.Glue.{plain, word_from, word_bad_from, word_over}
+use Rattle.decimal_json.proofs.StepLemmas.{plain, word_from, word_bad_from, word_over}
 use Rattle.decimal_json.proofs.machine.in_word.Goals as goal
 
 pub returns-then-first-c : goal.returns-then-first-c

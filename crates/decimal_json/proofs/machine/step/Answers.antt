@@ -1,4 +1,4 @@
-use Rattle.decimal_json.proofs.Glue.{by_mode, number_steps}
+use Rattle.decimal_json.proofs.StepLemmas.{by_mode, number_steps}
 use Rattle.decimal_json.proofs.machine.step.Goals as goal
 
 pub returns-in-Value : goal.returns-in-Value

@@ -4,7 +4,7 @@ use Rattle.decimal_json.specs.declared.brackets.Frame.TheVariants.{InArray}
 use Rattle.decimal_json.specs.declared.machine.Mode.TheVariants as modes
 use Rattle.decimal_json.specs.declared.machine.State.{State}
 use Rattle.decimal_json.specs.States.{Along}
-use Rattle.decimal_json.proofs.Glue.{by_mode}
+use Rattle.decimal_json.proofs.StepLemmas.{by_mode}
 use Rattle.decimal_json.proofs.Chains.{tail_is, advances_memory, advances_behind}
 use Rattle.decimal_json.proofs.Whole.{whole_of, whole_along, whole_within, room_in, along_spaces, item_more, before_advances, advances_state}
 use Rattle.decimal_json.proofs.series.items_along.Goals as goal

@@ -1,6 +1,6 @@
 use Rattle.std.proofs.Common.{refl}
 use Rattle.decimal_json.specs.declared.machine.Mode.TheVariants as modes
-use Rattle.decimal_json.proofs.Glue.{by_mode}
+use Rattle.decimal_json.proofs.StepLemmas.{by_mode}
 use Rattle.decimal_json.proofs.Chains.{advances_first, key_opens}
 use Rattle.decimal_json.proofs.strides.next_key_along.Goals as goal
 

@@ -1,6 +1,6 @@
 use Rattle.std.proofs.Common.{refl, ◌+◌, arith}
 use Rattle.decimal_json.specs.declared.machine.Mode.TheVariants as modes
-use Rattle.decimal_json.proofs.Glue.{by_mode}
+use Rattle.decimal_json.proofs.StepLemmas.{by_mode}
 use Rattle.decimal_json.proofs.Chains.{advances_front, advances_behind, advances_memory, text_along}
 use Rattle.decimal_json.proofs.strides.text_along.Goals as goal
 

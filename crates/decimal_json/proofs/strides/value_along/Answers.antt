@@ -1,7 +1,7 @@
 use Rattle.std.proofs.Common.{List, refl, sym, ap, ◌∙◌}
 use Rattle.decimal_json.specs.declared.brackets.Frame.{Frame}
 use Rattle.decimal_json.specs.declared.machine.Mode.TheVariants as modes
-use Rattle.decimal_json.proofs.Glue.{by_mode}
+use Rattle.decimal_json.proofs.StepLemmas.{by_mode}
 use Rattle.decimal_json.proofs.Chains.{advances_first, advances_memory}
 use Rattle.decimal_json.proofs.Whole.{advances_state}
 use Rattle.decimal_json.proofs.strides.value_along.Goals as goal

@@ -1,9 +1,8 @@
 use Rattle.std.specs.Prelude.{◌≡◌, None}
 use Rattle.std.proofs.Common.{◌∙◌, sym}
 use Rattle.std.proofs.lemmas.Result.{IfOk-weaker}
-use Rattle.name_rules.specs.Least.{soonest}
+use Rattle.name_rules.specs.Least.{soonest, or_else}
 use Rattle.jani_tree.specs.Syntax.{file_of}
-use Rattle.jani_check.specs.Faults.{or_else}
 use Rattle.jani_check.specs.ProfileFaults.{profile_faults}
 use Rattle.jani_check.specs.TypeFaults.{type_faults}
 use Rattle.jani_check.proofs.Phases.{none_first}

@@ -1,5 +1,6 @@
 use Rattle.std.proofs.Common.{refl}
-use Rattle.name_rules.specs.Names.{has_name, is_called, named_by}
+use Rattle.op_trees.specs.Names.{is_called}
+use Rattle.name_rules.specs.Names.{has_name, named_by}
 use Rattle.name_rules.proofs.Clashes.{no_entry}
 use Rattle.name_rules.proofs.Maps.{none_in, one_in}
 use Rattle.jani_check.proofs.given.add_names.Goals as goal

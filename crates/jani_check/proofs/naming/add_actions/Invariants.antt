@@ -1,7 +1,7 @@
 use Rattle.std.specs.Prelude.{◌≡◌, ◌++◌, map, drop}
 use Rattle.std.specs.List.{flat_map}
 use Rattle.jani_tree.specs.Syntax.{edge_of}
-use Rattle.jani_check.specs.Demands.{if_some}
+use Rattle.basics.specs.Options.{if_some}
 use Rattle.name_rules.specs.Names.{named_by}
 use Rattle.jani_check.proofs.naming.add_actions.Given as goal
 

@@ -1,6 +1,6 @@
 use Rattle.std.specs.Prelude.{◌≡◌, map}
 use Rattle.std.specs.List.{flat_map}
-use Rattle.std.specs.Option.{option_map}
+use Rattle.std.specs.Option.{option_map, option_or as or_else}
 use Rattle.std.proofs.Common.{◌∙◌, ap}
 use Rattle.std.proofs.Math.Path.{fun_ext}
 use Rattle.std.proofs.lemmas.Result.{IfOk-weaker}
@@ -9,7 +9,7 @@ use Rattle.jani_tree.specs.Syntax.{automaton_of, var_of}
 use Rattle.jani_check.specs.Demands.{automaton_demands}
 use Rattle.jani_check.specs.Phases.{automaton_by}
 use Rattle.jani_check.specs.Scopes.{thing_under}
-use Rattle.jani_check.specs.Things.{beside, or_else, var_called, var_thing}
+use Rattle.jani_check.specs.Things.{beside, var_called, var_thing}
 use Rattle.jani_check.specs.Views.{demand_by}
 use Rattle.name_rules.proofs.Append.{three_parts}
 use Rattle.jani_check.proofs.phase.judge_automaton.Goals as goal

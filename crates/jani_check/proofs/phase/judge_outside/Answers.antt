@@ -5,7 +5,7 @@ use Rattle.name_rules.specs.Least.{soonest}
 use Rattle.jani_tree.specs.Syntax.{file_of}
 use Rattle.jani_check.specs.Demands.{outer_demands}
 use Rattle.jani_check.specs.Scopes.{thing_under}
-use Rattle.jani_check.specs.Things.{or_else}
+use Rattle.std.specs.Option.{option_or as or_else}
 use Rattle.jani_check.specs.Views.{demand_by}
 use Rattle.jani_check.proofs.Taking.{alone}
 use Rattle.jani_check.proofs.phase.judge_outside.Goals as goal

@@ -1,7 +1,7 @@
 use Rattle.std.specs.Prelude.{◌≡◌, ℕ, List, map, drop}
-use Rattle.std.specs.Option.{option_map}
+use Rattle.std.specs.Option.{option_map, option_or as or_else}
 use Rattle.jani_tree.specs.Syntax.{var_of}
-use Rattle.jani_check.specs.Things.{var_called, var_thing, or_else}
+use Rattle.jani_check.specs.Things.{var_called, var_thing}
 use Rattle.jani_check.specs.Tables.{under}
 use Rattle.jani_check.proofs.things.add_vars.Given as goal
 

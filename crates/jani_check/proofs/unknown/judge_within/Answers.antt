@@ -5,7 +5,7 @@ use Rattle.std.proofs.lemmas.Result.{IfOk-weaker}
 use Rattle.name_rules.specs.Least.{soonest}
 use Rattle.basics.specs.Lists.{flat_map_of}
 use Rattle.jani_tree.specs.Syntax.{automaton_of, edge_of, location_of}
-use Rattle.jani_check.specs.Demands.{if_some}
+use Rattle.basics.specs.Options.{if_some}
 use Rattle.jani_check.specs.NameFaults.{actions_used, edge_locations, location_names, locations_used, unknown_within, unless_known}
 use Rattle.name_rules.specs.Names.{is_among}
 use Rattle.name_rules.specs.Names.{has_name}

@@ -2,7 +2,7 @@ use Rattle.std.proofs.Common.{◌∙◌, ap, sym}
 use Rattle.std.specs.Prelude.{Some, None, bytes_eq, if◌then◌else◌}
 use Rattle.name_rules.specs.Names.{first_some, put_first, under}
 use Rattle.jani_tree.specs.Syntax.{location_of}
-use Rattle.jani_meaning.specs.Elements.{is_called}
+use Rattle.op_trees.specs.Names.{is_called}
 use Rattle.jani_instance.proofs.Placed.{position_more}
 use Rattle.jani_instance.proofs.acting.location_numbers.Goals as goal
 

@@ -2,7 +2,7 @@ use Rattle.std.proofs.Common.{◌≡◌, List, ℕ, map, take}
 use Rattle.std.specs.List.{position}
 use Rattle.name_rules.specs.Names.{under}
 use Rattle.jani_tree.specs.Syntax.{location_of}
-use Rattle.jani_meaning.specs.Elements.{is_called}
+use Rattle.op_trees.specs.Names.{is_called}
 use Rattle.jani_instance.proofs.acting.location_numbers.Given as goal
 
 abbrev pub invariant-loop-k : goal.invariant-loop-k

@@ -1,6 +1,6 @@
 use Rattle.std.proofs.Common.{◌∙◌, ap, subst}
 use Rattle.std.specs.List.{position}
-use Rattle.jani_meaning.specs.Elements.{is_called}
+use Rattle.op_trees.specs.Names.{is_called}
 use Rattle.jani_instance.specs.Actions.{AreNumbered, actions_among}
 use Rattle.jani_instance.proofs.acting.numbers_of.Goals as goal
 

@@ -1,5 +1,5 @@
 use Rattle.std.proofs.Common.{◌∙◌, sym, refl}
-use Rattle.jani_tree.proofs.Mapped.{position_mapped}
+use Rattle.basics.specs.Mapped.{position_mapped}
 use Rattle.jani_meaning.specs.Elements.{is_own}
 use Rattle.jani_instance.specs.Parts.{owned_at}
 use Rattle.jani_instance.proofs.build.own_structure.Goals as goal

@@ -1,9 +1,9 @@
 use Rattle.std.proofs.Common.{◌∙◌, ap, sym, refl}
 use Rattle.std.specs.Prelude.{bytes_eq, unwrap_or}
 use Rattle.std.specs.List.{position}
-use Rattle.jani_tree.proofs.Mapped.{position_mapped}
+use Rattle.basics.specs.Mapped.{position_mapped}
 use Rattle.jani_tree.specs.Syntax.{location_of}
-use Rattle.jani_meaning.specs.Elements.{is_called}
+use Rattle.op_trees.specs.Names.{is_called}
 use Rattle.jani_instance.proofs.columns.location_number.Goals as goal
 
 pub returns : goal.returns

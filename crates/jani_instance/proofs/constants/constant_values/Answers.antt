@@ -7,7 +7,7 @@ use Rattle.process_core.specs.Product.{map-map}
 use Rattle.process_core.specs.Ready.{Name}
 use Rattle.state_choices.specs.Trimmed.{computed}
 use Rattle.jani_tree.specs.Syntax.{Const, const_of}
-use Rattle.jani_meaning.specs.Elements.{is_called}
+use Rattle.op_trees.specs.Names.{is_called}
 use Rattle.jani_meaning.specs.Scene.{constant_seen}
 use Rattle.instance_start.specs.Columns.{value_at}
 use Rattle.instance_start.specs.Given.{given_by}

@@ -1,8 +1,8 @@
 use Rattle.std.proofs.Common.{◌∙◌, [], sym, ap, map, if◌then◌else◌}
 use Rattle.std.specs.Option.{option_map}
 use Rattle.state_choices.specs.Views.{update_of}
+use Rattle.state_choices.proofs.ComputedParts.{command_computed}
 use Rattle.jani_instance.specs.Views.{columns_of, guard_as, look_at, setting_of, update_seen}
-use Rattle.jani_instance.proofs.Trimming.{command_computed}
 use Rattle.jani_instance.proofs.edges.command_of.Goals as goal
 
 pub returns : goal.returns

@@ -5,7 +5,8 @@ use Rattle.std.proofs.lemmas.List.{length-map}
 use Rattle.name_rules.specs.Names.{under}
 use Rattle.instance_start.specs.declared.data.Place.TheVariants.{Variable}
 use Rattle.jani_tree.specs.Syntax.{file_of}
-use Rattle.jani_meaning.specs.Elements.{automaton_called, is_called, is_own}
+use Rattle.op_trees.specs.Names.{is_called}
+use Rattle.jani_meaning.specs.Elements.{automaton_called, is_own}
 use Rattle.jani_instance.specs.Actions.{located_at}
 use Rattle.jani_instance.specs.Parts.{automaton_at, owned_at}
 use Rattle.jani_instance.specs.declared.parts.Part.{Part}

@@ -10,13 +10,14 @@ use Rattle.jani_instance.specs.Built.{IsNamedElementOf}
 use Rattle.jani_instance.specs.Parts.{automaton_at}
 use Rattle.jani_instance.specs.declared.acting.Basis.{Basis}
 use Rattle.jani_instance.specs.declared.parts.Part.{Part}
-use Rattle.jani_instance.proofs.Numbering.{built_more, got_at, zip_at, zip_length}
+use Rattle.jani_instance.proofs.Numbering.{built_more, got_at, zip_at}
 use Rattle.std.proofs.Common.{ℕ, get_or}
+use Rattle.basics.specs.Members.{length_zip}
 use Rattle.jani_instance.proofs.located.elements.Goals as goal
 
 has_table : (b : Basis) → IsBasis b → (i : ℕ) → i < length b.parts.now → i < length b.actions.now
 has_table b h i l =
-    subst (λ n. i < n) (sym (length-map b.parts.now automaton_at) ∙ ap length h.parts ∙ zip_length IsNumbered (elements (file_of b.file.now)) b.actions.now h.acts) l
+    subst (λ n. i < n) (sym (length-map b.parts.now automaton_at) ∙ ap length h.parts ∙ length_zip IsNumbered (elements (file_of b.file.now)) b.actions.now h.acts) l
 
 is_there : (b : Basis) → IsBasis b → (i : ℕ) (p : Part) → i < length b.parts.now → p ≡ get_or b.parts.now i p → slice_get (elements (file_of b.file.now)) i ≡ Some (automaton_at p)
 is_there b h i p l e = ap (λ as_. slice_get as_ i) (sym h.parts) ∙ slice_get-map automaton_at b.parts.now i ∙ ap (option_map automaton_at) (got_at b.parts.now i p l e)

@@ -4,7 +4,7 @@ use Rattle.std.specs.Prelude.{map, take}
 use Rattle.name_rules.specs.Names.{first_some, put_first, under}
 use Rattle.instance_start.specs.declared.data.Place.TheVariants.{Constant}
 use Rattle.jani_tree.specs.Syntax.{const_of}
-use Rattle.jani_meaning.specs.Elements.{is_called}
+use Rattle.op_trees.specs.Names.{is_called}
 use Rattle.jani_instance.specs.Constants.{constant_place}
 use Rattle.jani_instance.proofs.Placed.{first_some_assoc, placed_more}
 use Rattle.std.proofs.Common.{refl}

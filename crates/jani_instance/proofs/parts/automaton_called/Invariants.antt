@@ -1,6 +1,6 @@
 use Rattle.std.proofs.Common.{◌≡◌, map, drop}
 use Rattle.std.specs.List.{find}
-use Rattle.jani_meaning.specs.Elements.{is_called}
+use Rattle.op_trees.specs.Names.{is_called}
 use Rattle.jani_tree.specs.Syntax.{automaton_of}
 use Rattle.jani_instance.proofs.parts.automaton_called.Given as goal
 

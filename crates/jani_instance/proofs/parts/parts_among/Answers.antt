@@ -3,7 +3,8 @@ use Rattle.std.specs.Prelude.{unwrap_or}
 use Rattle.std.specs.List.{find}
 use Rattle.gathering.proofs.Loops.{map_more}
 use Rattle.jani_tree.specs.Syntax.{automaton_of}
-use Rattle.jani_meaning.specs.Elements.{is_called, nothing_called}
+use Rattle.op_trees.specs.Names.{is_called}
+use Rattle.jani_meaning.specs.Elements.{nothing_called}
 use Rattle.jani_instance.specs.Parts.{automaton_among, automaton_at}
 use Rattle.jani_instance.proofs.parts.parts_among.Goals as goal
 

@@ -4,7 +4,7 @@ use Rattle.std.specs.List.{find}
 use Rattle.gathering.proofs.Loops.{map_more}
 use Rattle.op_trees.specs.Tree.{tree}
 use Rattle.process_core.specs.Product.{map-map}
-use Rattle.jani_meaning.specs.Elements.{is_called}
+use Rattle.op_trees.specs.Names.{is_called}
 use Rattle.jani_tree.specs.Syntax.{location_of, write_of}
 use Rattle.jani_instance.specs.Transients.{given_by_location}
 use Rattle.jani_instance.proofs.transients.given_values.Goals as goal

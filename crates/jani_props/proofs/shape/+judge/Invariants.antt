@@ -1,6 +1,6 @@
 use Rattle.std.proofs.Common.{◌≡◌, drop}
 use Rattle.jani_table.specs.Node.{nodes, fields}
-use Rattle.jani_table.specs.Least.{soonest}
+use Rattle.name_rules.specs.Least.{soonest}
 use Rattle.name_rules.specs.Names.{has_name}
 use Rattle.jani_props.specs.Shape.{items_faults, members_faults}
 use Rattle.jani_props.proofs.shape.+judge.Given as goal

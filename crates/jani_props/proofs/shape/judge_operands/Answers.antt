@@ -1,6 +1,6 @@
 use Rattle.std.proofs.Common.{ap, ◌∙◌}
 use Rattle.jani_table.specs.Node.{fields}
-use Rattle.jani_table.specs.Least.{soonest}
+use Rattle.name_rules.specs.Least.{soonest}
 use Rattle.jani_props.specs.Table.{operand_row}
 use Rattle.jani_props.specs.Shape.{row_faults}
 use Rattle.jani_props.proofs.Walk.{rows_next}

@@ -2,7 +2,7 @@ use Rattle.std.proofs.Common.{◌∙◌, sym, ap}
 use Rattle.decimal_json.specs.declared.tree.Json.TheVariants.{Array, Object}
 use Rattle.jani_table.specs.Node.{nodes}
 use Rattle.jani_table.specs.Table.{known_form}
-use Rattle.jani_table.specs.Least.{soonest}
+use Rattle.name_rules.specs.Least.{soonest}
 use Rattle.jani_table.specs.Faults.{list_faults}
 use Rattle.jani_table.proofs.shape.+judge.Goals as goal
 use Rattle.jani_table.proofs.shape.+judge.Goals.{then-not-is_null_part, else-not-is_null_part, in-Some-known_form, in-None-known_form}

@@ -1,6 +1,6 @@
 use Rattle.std.proofs.Common.{◌≡◌, drop}
 use Rattle.jani_table.specs.Node.{fields}
-use Rattle.jani_table.specs.Least.{soonest}
+use Rattle.name_rules.specs.Least.{soonest}
 use Rattle.jani_table.specs.Faults.{missing_faults}
 use Rattle.jani_table.proofs.shape.judge_missing.Given as goal
 

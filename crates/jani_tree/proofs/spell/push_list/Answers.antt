@@ -1,7 +1,7 @@
 use Rattle.std.specs.Prelude.{codes}
 use Rattle.jani_tree.proofs.Pieces.{ends, list_some}
 use Rattle.std.proofs.Common.{subst, sym, ◌∙◌}
-use Rattle.jani_tree.specs.Canonical.{OfAll}
+use Rattle.std.specs.List.{AllByRecursion as OfAll}
 use Rattle.jani_tree.specs.Text.{KeptNode}
 use Rattle.jani_tree.proofs.Kept.{written, kept_seen}
 use Rattle.jani_tree.proofs.spell.push_list.Goals as goal

@@ -1,7 +1,7 @@
 use Rattle.std.proofs.Common.{◌≡◌, ◌++◌, drop}
 use Rattle.std.specs.Prelude.{map}
 use Rattle.decimal_json.specs.Text.{behind_commas}
-use Rattle.jani_tree.specs.Canonical.{OfAll}
+use Rattle.std.specs.List.{AllByRecursion as OfAll}
 use Rattle.jani_tree.specs.Text.{KeptNode, node_text}
 use Rattle.jani_tree.proofs.spell.push_more.Given as goal
 

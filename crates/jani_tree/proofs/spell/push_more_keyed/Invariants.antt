@@ -1,7 +1,8 @@
 use Rattle.std.proofs.Common.{◌≡◌, ◌++◌, drop}
 use Rattle.std.specs.Prelude.{map}
 use Rattle.decimal_json.specs.Text.{behind_commas}
-use Rattle.jani_tree.specs.Canonical.{OfAll, name_node}
+use Rattle.std.specs.List.{AllByRecursion as OfAll}
+use Rattle.jani_tree.specs.Canonical.{name_node}
 use Rattle.jani_tree.specs.Pieces.{keyed_text}
 use Rattle.jani_tree.specs.Text.{KeptNode}
 use Rattle.jani_tree.proofs.spell.push_more_keyed.Given as goal

@@ -1,7 +1,8 @@
 use Rattle.std.proofs.Common.{sym, subst}
 use Rattle.std.specs.Option.{option_map}
 use Rattle.op_trees.specs.Tree.{tree}
-use Rattle.jani_tree.specs.Canonical.{OfSome, boxed_node}
+use Rattle.basics.specs.Options.{IfAny as OfSome}
+use Rattle.jani_tree.specs.Canonical.{boxed_node}
 use Rattle.jani_tree.specs.Text.{KeptNode}
 use Rattle.jani_tree.proofs.Kept.{written, kept_boxed}
 use Rattle.jani_tree.proofs.spell.push_some_boxed.Goals as goal

@@ -5,4 +5,4 @@ use Rattle.name_table.proofs.Joined.{from_none}
 use Rattle.name_table.proofs.asking.flat_names.Goals as goal
 
 pub returns : goal.returns
-returns c = from_none Jani c.new-table.result c.ask_all.new.table (asks (file_of c.args.file.now)) c.new-table.ensures c.in_ok-ask_all.ensures
+returns c = from_none Jani c.new-table.result c.ask_file.new.table (asks (file_of c.args.file.now)) c.new-table.ensures c.in_ok-ask_file.ensures

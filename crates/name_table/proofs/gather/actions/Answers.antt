@@ -3,7 +3,8 @@ use Rattle.std.specs.Prelude.{bytes_eq}
 use Rattle.std.specs.Borrow.{Bor}
 use Rattle.std.specs.List.{flat_map}
 use Rattle.process_core.specs.Product.{map-map}
-use Rattle.process_core.specs.Ready.{firsts, if_some}
+use Rattle.basics.specs.Options.{if_some}
+use Rattle.process_core.specs.Ready.{firsts}
 use Rattle.prism_tree.specs.Syntax.{Body, Command, module_of}
 use Rattle.name_table.specs.Asks.{contents, action_of}
 use Rattle.name_table.specs.Gathered.{body_in}

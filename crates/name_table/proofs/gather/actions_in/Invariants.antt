@@ -1,6 +1,6 @@
 use Rattle.std.proofs.Common.{◌≡◌, map, take}
 use Rattle.std.specs.List.{flat_map}
-use Rattle.process_core.specs.Ready.{if_some}
+use Rattle.basics.specs.Options.{if_some}
 use Rattle.prism_tree.specs.Syntax.{command_of}
 use Rattle.name_table.specs.Asks.{action_of}
 use Rattle.name_table.proofs.gather.actions_in.Given as goal

@@ -7,7 +7,8 @@ use Rattle.basics.specs.Options.{is_some-map}
 use Rattle.bridge_io.specs.declared.reason.Named.{Named}
 use Rattle.jani_tree.specs.declared.syntax.JaniAutomaton.{JaniAutomaton}
 use Rattle.jani_tree.specs.Syntax.{Automaton, automaton_of, file_of}
-use Rattle.jani_meaning.specs.Elements.{is_called, nothing_called, automaton_called}
+use Rattle.op_trees.specs.Names.{is_called}
+use Rattle.jani_meaning.specs.Elements.{nothing_called, automaton_called}
 use Rattle.name_table.specs.JaniParts.{under, element_under}
 use Rattle.name_table.proofs.JaniGathering.{element_there}
 use Rattle.name_table.proofs.jani_parts.element_automata.Goals as goal

@@ -3,7 +3,8 @@ use Rattle.std.proofs.Common.{◌∙◌, ap, ap₂}
 use Rattle.bridge_io.specs.declared.reason.Reason.TheVariants.{WrongType}
 use Rattle.op_trees.specs.Tree.{tree}
 use Rattle.name_rules.specs.Least.{fault_if}
-use Rattle.prism_check.specs.TypeFaults.{is_unwanted, misfits}
+use Rattle.op_trees.specs.Wanted.{is_unwanted}
+use Rattle.prism_check.specs.TypeFaults.{misfits}
 use Rattle.prism_check.specs.Typing.{soonest_at, type_of, wrong}
 use Rattle.prism_check.proofs.TypesPlaced.{at_then}
 use Rattle.prism_check.proofs.typing.judge_type.Goals as goal

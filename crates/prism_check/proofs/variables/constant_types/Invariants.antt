@@ -2,7 +2,7 @@ use Rattle.std.specs.Prelude.{◌≡◌, ℕ, List, map, drop}
 use Rattle.std.specs.List.{find}
 use Rattle.std.specs.Option.{option_map}
 use Rattle.prism_tree.specs.Syntax.{const_of}
-use Rattle.prism_names.specs.Names.{is_called}
+use Rattle.op_trees.specs.Names.{is_called}
 use Rattle.name_rules.specs.Names.{first_some, under}
 use Rattle.prism_check.proofs.variables.constant_types.Given as goal
 

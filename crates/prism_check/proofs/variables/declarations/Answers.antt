@@ -3,7 +3,7 @@ use Rattle.std.specs.List.{find}
 use Rattle.std.specs.Option.{option_map}
 use Rattle.std.proofs.Common.{◌∙◌, ap}
 use Rattle.prism_tree.specs.Syntax.{const_of}
-use Rattle.prism_names.specs.Names.{is_called}
+use Rattle.op_trees.specs.Names.{is_called}
 use Rattle.prism_check.proofs.variables.declarations.Goals as goal
 
 pub returns : goal.returns

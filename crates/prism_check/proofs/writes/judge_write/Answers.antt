@@ -1,6 +1,6 @@
 use Rattle.std.specs.Prelude.{List, ◌++◌}
 use Rattle.bridge_io.specs.declared.reason.Fault.{Fault}
-use Rattle.prism_check.specs.declared.demands.Wanted.{Wanted}
+use Rattle.op_trees.specs.declared.wanted.Wanted.{Wanted}
 use Rattle.std.proofs.Common.{◌∙◌, ap}
 use Rattle.op_trees.specs.Tree.{tree}
 use Rattle.prism_check.specs.TypeFaults.{Target, type_faults_of, wanted_at, write_faults}

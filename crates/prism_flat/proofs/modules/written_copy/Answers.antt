@@ -3,7 +3,8 @@ use Rattle.std.specs.List.{find}
 use Rattle.std.specs.Option.{option_map}
 use Rattle.std.proofs.Common.{◌∙◌, ap, ap₂, sym}
 use Rattle.prism_tree.specs.Syntax.{body_of, file_of, module_of, plain}
-use Rattle.prism_names.specs.Names.{is_called, module_called, module_name, renaming}
+use Rattle.op_trees.specs.Names.{is_called}
+use Rattle.prism_names.specs.Names.{module_called, module_name, renaming}
 use Rattle.prism_flat.specs.Tables.{body_in, name_in}
 use Rattle.prism_flat.proofs.Contents.{copy_as, if_ok}
 use Rattle.prism_flat.proofs.modules.written_copy.Goals as goal

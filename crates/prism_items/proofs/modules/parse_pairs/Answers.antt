@@ -5,16 +5,17 @@ use Rattle.prism_tree.specs.Lang.{with_last}
 use Rattle.prism_exprs.specs.Reading.{is_kind}
 use Rattle.prism_exprs.proofs.Choice.{folding_word}
 use Rattle.prism_items.specs.Parts.{further_pair, several_pairs, in_scope}
-use Rattle.prism_items.proofs.Leading.{begin, step, halt, leaves}
+use Rattle.prism_items.proofs.Leading.{begin, step, halt}
 use Rattle.prism_items.proofs.Updating.{read_as}
 use Rattle.prism_items.proofs.Building.{map_same, pair_one, further_pair_one, further_pair_begun}
 use Rattle.prism_exprs.proofs.Loops.{reads_shorter}
+use Rattle.prism_exprs.proofs.Outer.{leaves_in}
 use Rattle.prism_items.specs.Files.{plain}
 use Rattle.prism_items.proofs.Leading.{listed, pushed, loop_next, loop_stops, loop_done}
 use Rattle.prism_items.proofs.modules.parse_pairs.Goals as goal
 
 pub returns-in_err-first : goal.returns-in_err-first
-returns-in_err-first c = leaves _ _ _ _ _ _ c.from_residual.ensures (λ s. halt _ _ s (begin (in_scope several_pairs s) (is_kind (K.Symbol S.Comma)) _) (λ _. folding_word with_last _ _) _ (c.in_err-first.ensures s))
+returns-in_err-first c = leaves_in _ _ _ _ _ _ c.from_residual.ensures (λ s. halt _ _ s (begin (in_scope several_pairs s) (is_kind (K.Symbol S.Comma)) _) (λ _. folding_word with_last _ _) _ (c.in_err-first.ensures s))
 
 pub each-init : goal.each-init
 each-init c = λ s. listed (λ x. x) (in_scope further_pair s) (c.in_ok-first.first ∷ []) _ (c.in_ok-push.ensures.ok ∙ ap (λ (u : List _). u ++ c.in_ok-first.first ∷ []) c.new-pairs.ensures) (step _ _ (begin (in_scope several_pairs s) (is_kind (K.Symbol S.Comma)) _) (pair_one s) (c.in_ok-first.ensures s))
@@ -26,7 +27,7 @@ pub each-preserved : goal.each-preserved
 each-preserved c = λ s. pushed (λ x. x) (in_scope further_pair s) c.each.pairs _ c.in_ok-pair.pair c.in_ok-push-2.ensures.ok (loop_next with_last (in_scope further_pair s) _ _ (further_pair_begun s) (further_pair_one s) (c.each.invariant s) (sym c.symbol_next.ensures ∙ c.each-test.true) (c.in_ok-pair.ensures s))
 
 pub returns-in_err-pair : goal.returns-in_err-pair
-returns-in_err-pair c = leaves _ _ _ _ _ _ c.from_residual-in_err-pair.ensures (λ s. loop_stops with_last (in_scope further_pair s) _ s _ (c.each.invariant s) (sym c.symbol_next.ensures ∙ c.each-test.true) (c.in_err-pair.ensures s))
+returns-in_err-pair c = leaves_in _ _ _ _ _ _ c.from_residual-in_err-pair.ensures (λ s. loop_stops with_last (in_scope further_pair s) _ s _ (c.each.invariant s) (sym c.symbol_next.ensures ∙ c.each-test.true) (c.in_err-pair.ensures s))
 
 pub returns : goal.returns
 returns c = λ s. read_as _ (map_same _) (loop_done with_last (in_scope further_pair s) _ (c.each.invariant s) (sym c.symbol_next.ensures ∙ c.each-test.false))

@@ -5,9 +5,9 @@ use Rattle.prism_tree.specs.Lang.{with_last}
 use Rattle.prism_tree.specs.Grammar.{reward}
 use Rattle.prism_tree.specs.Syntax.{item_of}
 use Rattle.prism_items.specs.Parts.{in_scope, all_but}
-use Rattle.prism_items.proofs.Leading.{leaves}
 use Rattle.prism_items.proofs.Rewarding.{reward_one, reward_begun}
 use Rattle.prism_exprs.proofs.Loops.{reads_shorter}
+use Rattle.prism_exprs.proofs.Outer.{leaves_in}
 use Rattle.prism_items.specs.Files.{plain}
 use Rattle.prism_items.proofs.Leading.{listed, pushed, many_begin, loop_next, loop_stops, loop_done}
 use Rattle.prism_items.proofs.rewards.parse_items.Goals as goal
@@ -22,7 +22,7 @@ pub each-preserved : goal.each-preserved
 each-preserved c = λ s. pushed item_of (in_scope reward s) c.each.items _ c.in_ok-item.item c.in_ok-push.ensures.ok (loop_next with_last (in_scope reward s) _ _ (reward_begun s) (reward_one s) (c.each.invariant s) (sym c.other_next.ensures ∙ c.each-test.true) (c.in_ok-item.ensures s))
 
 pub returns-in_err-item : goal.returns-in_err-item
-returns-in_err-item c = leaves _ _ _ _ _ _ c.from_residual.ensures (λ s. loop_stops with_last (in_scope reward s) _ s _ (c.each.invariant s) (sym c.other_next.ensures ∙ c.each-test.true) (c.in_err-item.ensures s))
+returns-in_err-item c = leaves_in _ _ _ _ _ _ c.from_residual.ensures (λ s. loop_stops with_last (in_scope reward s) _ s _ (c.each.invariant s) (sym c.other_next.ensures ∙ c.each-test.true) (c.in_err-item.ensures s))
 
 pub returns : goal.returns
 returns c = λ s. (loop_done with_last (in_scope reward s) _ (c.each.invariant s) (sym c.other_next.ensures ∙ c.each-test.false))

@@ -2,13 +2,14 @@ use Rattle.std.proofs.Common.{◌∙◌, ap, map, length, Vec, Global}
 use Rattle.std.proofs.lemmas.List.{length-map}
 use Rattle.state_choices.specs.Views.{sum_of}
 use Rattle.state_choices.specs.Trimmed.{computed_sum, trimmed}
+use Rattle.state_choices.proofs.ComputedParts.{same_group}
 use Rattle.instance_start.specs.Columns.{column_of}
 use Rattle.expr_store.specs.Views.{seen_by, same_by, same_then}
 use Rattle.prism_meaning.specs.declared.data.PreparedCommand.{PreparedCommand}
 use Rattle.prism_meaning.specs.Prepared.{command_by, sum_by}
 use Rattle.prism_meaning.specs.Views.{cut}
 use Rattle.prism_meaning.proofs.Cutting.{cut_flat}
-use Rattle.prism_meaning.proofs.Trimming.{same_group, sums_seen, lists_seen}
+use Rattle.prism_meaning.proofs.Trimming.{sums_seen, lists_seen}
 use Rattle.prism_meaning.proofs.groups.evaluated_under.Goals as goal
 
 pub returns : goal.returns

@@ -1,9 +1,9 @@
 use Rattle.std.proofs.Common.{◌∙◌, ap, map, length, Vec, Global}
 use Rattle.gathering.proofs.Loops.{map_more}
 use Rattle.state_choices.specs.Views.{command_of, group_of, sum_of}
+use Rattle.state_choices.proofs.ComputedParts.{same_group}
 use Rattle.prism_meaning.specs.declared.data.PreparedCommand.{PreparedCommand}
 use Rattle.prism_meaning.specs.Views.{cut, evaluated_of}
-use Rattle.prism_meaning.proofs.Trimming.{same_group}
 use Rattle.prism_meaning.proofs.groups.groups.Goals as goal
 
 pub loop-one-preserved : goal.loop-one-preserved

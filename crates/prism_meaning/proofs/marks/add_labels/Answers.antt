@@ -1,5 +1,6 @@
 use Rattle.std.proofs.Common.{◌∙◌, ◌∷◌, [], ◌++◌, refl, sym, ap, get_or}
 use Rattle.std.proofs.lemmas.List.{get_or_default}
+use Rattle.basics.specs.Lists.{each_one}
 use Rattle.process_core.specs.Answers.{only_wide}
 use Rattle.process_core.specs.Choices.{truth_of}
 use Rattle.process_core.specs.declared.data.Mark.TheVariants.{Truth}
@@ -7,7 +8,7 @@ use Rattle.state_choices.specs.Trimmed.{computed}
 use Rattle.state_choices.proofs.Gathering.{gathered_none, gathered_more, gathered_all}
 use Rattle.expr_store.specs.Views.{seen_by, same_by, same_none, same_then}
 use Rattle.expr_store.specs.declared.node.ExprId.{ExprId}
-use Rattle.prism_meaning.proofs.Found.{each_one, narrow_seen, value_seen}
+use Rattle.prism_meaning.proofs.Found.{narrow_seen, value_seen}
 use Rattle.prism_meaning.proofs.marks.add_labels.Goals as goal
 
 pub loop-label-init : goal.loop-label-init

@@ -1,6 +1,7 @@
 use Rattle.std.proofs.Common.{◌≡◌, ◌∙◌, ◌∷◌, [], ◌++◌, Bool, Vec, Global, map, refl, sym, ap}
 use Rattle.std.specs.List.{list_any}
 use Rattle.std.proofs.lemmas.List.Folds.{list_any_at}
+use Rattle.basics.specs.Lists.{each_one}
 use Rattle.process_core.specs.Answers.{only_wide}
 use Rattle.process_core.specs.declared.data.Mark.TheVariants.{Number}
 use Rattle.state_choices.proofs.Answering.{handed_on, narrow_then}
@@ -8,7 +9,6 @@ use Rattle.state_choices.proofs.Gathering.{gathered_none, gathered_more, gathere
 use Rattle.expr_store.specs.Views.{seen_by, same_by, same_none, same_then}
 use Rattle.prism_meaning.specs.Prepared.{sum_by}
 use Rattle.prism_meaning.specs.declared.data.PreparedItem.{PreparedItem}
-use Rattle.prism_meaning.proofs.Found.{each_one}
 use Rattle.prism_meaning.proofs.marks.add_rewards.Goals as goal
 
 pub loop-items-init : goal.loop-items-init

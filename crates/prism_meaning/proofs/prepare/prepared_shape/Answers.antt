@@ -3,11 +3,12 @@ use Rattle.process_core.specs.Product.{map-map}
 use Rattle.process_core.specs.Ready.{Ready, Sum}
 use Rattle.state_choices.specs.Groups.{Group}
 use Rattle.state_choices.specs.Trimmed.{trimmed, trimmed_sum}
+use Rattle.state_choices.proofs.ComputedParts.{same_group}
 use Rattle.expr_store.specs.Alike.{IsMade, made_both}
 use Rattle.prism_meaning.specs.Prepared.{command_by, sum_by}
 use Rattle.prism_meaning.specs.Shapes.{command_under, sum_under}
 use Rattle.prism_meaning.proofs.Preparing.{made_agree, maps_seen}
-use Rattle.prism_meaning.proofs.Trimming.{lists_seen, same_group}
+use Rattle.prism_meaning.proofs.Trimming.{lists_seen}
 use Rattle.expr_store.specs.Views.{nodes}
 use Rattle.prism_meaning.specs.Views.{columns_in, commands_of, items_of, places_in}
 use Rattle.prism_tree.specs.Operators.{prism_meaning}

@@ -1,6 +1,6 @@
 use Rattle.std.proofs.Common.{◌≡◌, map, take}
 use Rattle.std.specs.List.{flat_map}
-use Rattle.process_core.specs.Ready.{if_some}
+use Rattle.basics.specs.Options.{if_some}
 use Rattle.prism_flat.specs.Moment.{action_of}
 use Rattle.prism_names.specs.Names.{unchanged}
 use Rattle.prism_tree.specs.Syntax.{module_of}

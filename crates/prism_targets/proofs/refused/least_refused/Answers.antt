@@ -2,8 +2,7 @@ use Rattle.std.specs.Prelude.{◌≡◌, List, Option, None, map, is_some}
 use Rattle.std.proofs.Common.{◌∙◌, ap, ap₂, sym}
 use Rattle.bridge_io.specs.declared.reason.Fault.{Fault}
 use Rattle.bridge_io.specs.declared.reason.Reason.TheVariants.{TooLarge}
-use Rattle.jani_table.specs.Least.{soonest}
-use Rattle.jani_check.specs.Least.{fault_if}
+use Rattle.name_rules.specs.Least.{fault_if, soonest}
 use Rattle.jani_tree.specs.Syntax.{File, file_of}
 use Rattle.jani_meaning.specs.Elements.{Owned, lasting}
 use Rattle.prism_translation.specs.Elements.{elements}

@@ -1,5 +1,5 @@
 use Rattle.std.specs.Prelude.{◌≡◌, None, map, drop}
-use Rattle.jani_table.specs.Least.{soonest}
+use Rattle.name_rules.specs.Least.{soonest}
 use Rattle.name_table.specs.JaniParts.{owned_of}
 use Rattle.prism_targets.specs.Counts.{split_faults}
 use Rattle.prism_targets.specs.Code.{writing_at}

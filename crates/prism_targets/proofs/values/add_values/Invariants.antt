@@ -2,7 +2,7 @@ use Rattle.std.specs.Prelude.{◌≡◌, ◌+◌, ℕ, List, length, map, take}
 use Rattle.std.specs.List.{filter}
 use Rattle.op_trees.specs.Tree.{capped}
 use Rattle.jani_tree.specs.Syntax.{write_of}
-use Rattle.jani_meaning.specs.Elements.{is_called}
+use Rattle.op_trees.specs.Names.{is_called}
 use Rattle.prism_targets.specs.Code.{sum_under}
 use Rattle.prism_targets.proofs.values.add_values.Given as goal
 

@@ -4,7 +4,7 @@ use Rattle.std.specs.Option.{option_or}
 use Rattle.process_core.specs.Ready.{Name}
 use Rattle.jani_tree.specs.declared.syntax.JaniLocation.{JaniLocation}
 use Rattle.jani_tree.specs.Syntax.{location_of}
-use Rattle.jani_meaning.specs.Elements.{is_called}
+use Rattle.op_trees.specs.Names.{is_called}
 use Rattle.name_table.specs.JaniParts.{under}
 use Rattle.prism_targets.specs.Places.{only_then}
 use Rattle.prism_targets.proofs.Positions.{position_more}

@@ -3,7 +3,7 @@ use Rattle.std.specs.List.{filter}
 use Rattle.process_core.specs.Instance.{numbered}
 use Rattle.jani_tree.specs.declared.syntax.JaniLocation.{JaniLocation}
 use Rattle.jani_tree.specs.Syntax.{Location, location_of}
-use Rattle.jani_meaning.specs.Elements.{is_called}
+use Rattle.op_trees.specs.Names.{is_called}
 use Rattle.gathering.proofs.Loops.{numbered_step, numbered_all}
 use Rattle.gathering.specs.Lists.{list_under}
 use Rattle.prism_translator.specs.Code.{element_of}

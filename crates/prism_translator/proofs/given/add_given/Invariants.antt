@@ -2,7 +2,7 @@ use Rattle.std.proofs.Common.{◌≡◌, ◌++◌, ℕ, List, map, drop}
 use Rattle.std.specs.List.{filter}
 use Rattle.process_core.specs.Instance.{numbered}
 use Rattle.jani_tree.specs.Syntax.{location_of}
-use Rattle.jani_meaning.specs.Elements.{is_called}
+use Rattle.op_trees.specs.Names.{is_called}
 use Rattle.gathering.specs.Lists.{list_under}
 use Rattle.prism_translator.specs.Code.{element_of}
 use Rattle.prism_translator.specs.Given.{given_of, given_with}

@@ -3,7 +3,7 @@ use Rattle.std.specs.List.{flat_map}
 use Rattle.process_core.specs.Instance.{only_if}
 use Rattle.jani_tree.specs.declared.syntax.JaniWrite.{JaniWrite}
 use Rattle.jani_tree.specs.Syntax.{Write, write_of}
-use Rattle.jani_meaning.specs.Elements.{is_called}
+use Rattle.op_trees.specs.Names.{is_called}
 use Rattle.choice_laws.proofs.Walks.{filter_walk}
 use Rattle.gathering.specs.Lists.{list_under}
 use Rattle.prism_translator.specs.Code.{element_of}

@@ -2,7 +2,7 @@ use Rattle.std.proofs.Common.{◌≡◌, ◌++◌, ℕ, List, map, take}
 use Rattle.std.specs.List.{flat_map}
 use Rattle.process_core.specs.Instance.{only_if}
 use Rattle.jani_tree.specs.Syntax.{write_of}
-use Rattle.jani_meaning.specs.Elements.{is_called}
+use Rattle.op_trees.specs.Names.{is_called}
 use Rattle.gathering.specs.Lists.{list_under}
 use Rattle.prism_translator.specs.Code.{element_of}
 use Rattle.prism_translator.specs.Given.{given_of, given_with}

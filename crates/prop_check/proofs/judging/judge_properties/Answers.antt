@@ -1,7 +1,6 @@
 use Rattle.std.specs.Prelude.{map, None}
 use Rattle.std.proofs.Common.{◌∙◌, ap, sym}
-use Rattle.name_rules.specs.Least.{soonest}
-use Rattle.prism_check.specs.Faults.{or_else}
+use Rattle.name_rules.specs.Least.{soonest, or_else}
 use Rattle.prop_grammar.specs.Syntax.{written_of}
 use Rattle.prop_trees.specs.PrismFaults.{name_faults, size_faults, type_faults}
 use Rattle.prop_check.specs.Views.{part_of}

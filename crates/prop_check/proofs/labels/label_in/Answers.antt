@@ -1,5 +1,5 @@
 use Rattle.std.proofs.Common.{◌∙◌, sym}
-use Rattle.prism_items.proofs.Seen.{unquoted_is}
+use Rattle.prism_tree.specs.Laws.{unquoted_is}
 use Rattle.prop_check.proofs.labels.label_in.Goals as goal
 
 pub returns-in-Some-clause-some : goal.returns-in-Some-clause-some

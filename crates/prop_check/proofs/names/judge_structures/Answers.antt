@@ -1,4 +1,4 @@
-use Rattle.process_core.specs.Ready.{if_some}
+use Rattle.basics.specs.Options.{if_some}
 use Rattle.prop_grammar.specs.Syntax.{written_of}
 use Rattle.prop_trees.specs.PrismFaults.{unknown_structure}
 use Rattle.prop_trees.specs.Trees.{structure_of}

@@ -3,8 +3,9 @@ use Rattle.std.specs.List.{list_any}
 use Rattle.std.proofs.Common.{◌≡◌, ◌∙◌, ap, sym}
 use Rattle.std.proofs.Math.Bool.{or-false}
 use Rattle.std.proofs.lemmas.Result.{on_ok_weaker}
-use Rattle.process_core.specs.Ready.{if_some}
-use Rattle.name_rules.specs.Names.{first_some, is_called, under}
+use Rattle.basics.specs.Options.{if_some}
+use Rattle.op_trees.specs.Names.{is_called}
+use Rattle.name_rules.specs.Names.{first_some, under}
 use Rattle.name_rules.proofs.Maps.{at, none_after}
 use Rattle.prism_tree.specs.Syntax.{rewards_of}
 use Rattle.prop_trees.specs.PrismFaults.{is_titled}

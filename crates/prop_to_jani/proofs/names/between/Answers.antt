@@ -1,13 +1,10 @@
-use Rattle.std.proofs.Common.{◌≡◌, List, [], ◌∷◌, ◌++◌, ℕ, ap, sym, ◌∙◌, refl, arith, subst, true, length}
+use Rattle.std.proofs.Common.{◌≡◌, List, [], ◌∷◌, ℕ, ap, sym, ◌∙◌, refl, arith, subst, true, length}
 use Rattle.std.specs.Str.{IsUtf8, is_utf8}
 use Rattle.std.proofs.lemmas.Str.{IsUtf8-nil, IsUtf8-from_is_utf8, is_utf8-from_IsUtf8}
 use Rattle.std.proofs.lemmas.Bool.{false_from_ne_true}
 use Rattle.prism_tree.specs.Grammar.{but_last, unquoted}
-use Rattle.prism_print.proofs.SpelledFiles.{but_last_is}
+use Rattle.prism_tree.specs.Laws.{unquoted_is}
 use Rattle.prop_to_jani.proofs.names.between.Goals as goal
-
-unquoted_is : (w v x : List ℕ) (a b : ℕ) → w ≡ a ∷ v → v ≡ x ++ b ∷ [] → unquoted w ≡ x
-unquoted_is w v x a b e f = ap (λ (u : List ℕ). unquoted u) e ∙ ap (λ (u : List ℕ). but_last u) f ∙ but_last_is x b
 
 nothing_left : (w : List ℕ) → length w ≡ 0 → w ≡ []
 nothing_left [] e = refl

@@ -1,5 +1,5 @@
 use Rattle.std.proofs.Common.{◌≡◌, List, ℕ, map, drop}
-use Rattle.jani_check.specs.Things.{or_else}
+use Rattle.std.specs.Option.{option_or as or_else}
 use Rattle.prop_to_jani.specs.Code.{found, new_in}
 use Rattle.prop_to_jani.proofs.tables.name_map.Given as goal
 

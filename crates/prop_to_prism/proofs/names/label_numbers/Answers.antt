@@ -2,7 +2,7 @@ use Rattle.std.proofs.Common.{◌∙◌, ap, sym, arith}
 use Rattle.std.specs.Prelude.{bytes_eq}
 use Rattle.std.specs.Option.{option_or}
 use Rattle.process_core.specs.Ready.{Name}
-use Rattle.jani_meaning.specs.Elements.{is_called}
+use Rattle.op_trees.specs.Names.{is_called}
 use Rattle.name_table.specs.declared.jani_parts.OwnedVar.{OwnedVar}
 use Rattle.name_table.specs.JaniParts.{under, owned_of}
 use Rattle.prism_targets.specs.Places.{only_then}

@@ -1,6 +1,6 @@
 use Rattle.std.proofs.Common.{◌≡◌, ℕ, List, map, take}
 use Rattle.std.specs.List.{position}
-use Rattle.jani_meaning.specs.Elements.{is_called}
+use Rattle.op_trees.specs.Names.{is_called}
 use Rattle.name_table.specs.JaniParts.{under, owned_of}
 use Rattle.prop_to_prism.proofs.names.label_numbers.Given as goal
 

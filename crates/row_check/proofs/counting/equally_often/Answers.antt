@@ -1,8 +1,9 @@
 use Rattle.std.proofs.Common.{get_or, sym, ◌∙◌, arith, refl, []}
+use Rattle.basics.specs.Members.{length_zip}
 use Rattle.process_core.specs.Counts.{often_from_counts}
 use Rattle.process_core.specs.Often.{often_count}
 use Rattle.row_check.specs.Merging.{Sums, equal_sums, Keeps}
-use Rattle.row_check.proofs.Compared.{length_zip, zip_here, equal_sums_is, often_length, counts_at}
+use Rattle.row_check.proofs.Compared.{zip_here, equal_sums_is, often_length, counts_at}
 use Rattle.row_check.proofs.Counted.{times_told}
 use Rattle.row_check.proofs.counting.equally_often.Goals as goal
 

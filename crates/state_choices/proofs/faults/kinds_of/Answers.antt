@@ -1,10 +1,10 @@
-use Rattle.std.proofs.Common.{◌≡◌, ◌∙◌, sym, ap, ap₂, Bool, ◌||◌, map}
+use Rattle.std.proofs.Common.{◌≡◌, ◌∙◌, sym, ap, ap₂, ◌||◌, map}
 use Rattle.std.proofs.lemmas.Bool.{or_right}
 use Rattle.process_core.specs.Choices.{kinds_of}
-use Rattle.process_core.specs.Process.{Kinds}
 use Rattle.process_core.specs.Answers.{only_wide}
 use Rattle.process_core.specs.Seen.{seen_kinds}
 use Rattle.process_core.specs.declared.data.Bad.{Bad}
+use Rattle.process_core.specs.Idle.{same_kinds}
 use Rattle.state_choices.specs.Flaws.{flaws_in, participant_flaws, sum_flaws, both}
 use Rattle.state_choices.specs.declared.flaws.Flaws.{Flaws}
 use Rattle.state_choices.specs.Views.{participants_of, sum_of}
@@ -22,9 +22,6 @@ returns-in_err-weight c =
     let Is = λ (k : Bad). seen_kinds k ≡ kinds_of (map sum_of c.args.rewards.now) (participants_of c.args.participants.now) in
     handed_on Is _ _ c.in_err-weight.field-0.0 c.from_residual.result c.from_residual.ensures.1
     (λ w. kinds_wide c.args.rewards.now c.args.participants.now ∙ or_right (flaws c.args.rewards.now c.args.participants.now) _ w) c.in_err-weight.ensures
-
-same_kinds : (a b c p q r : Bool) → a ≡ p → b ≡ q → c ≡ r → ◌≡◌ {A = Kinds} (record { undef = a; range = b; weight = c }) (record { undef = p; range = q; weight = r })
-same_kinds a b c p q r d e f = cc
 
 pub returns : goal.returns
 returns c =

@@ -5,8 +5,9 @@ use Rattle.std.proofs.lemmas.Result.{on_ok_weaker}
 use Rattle.basics.specs.Lists.{flat_map_of}
 use Rattle.op_trees.specs.Tree.{tree}
 use Rattle.jani_tree.specs.Syntax.{destination_of}
-use Rattle.jani_check.specs.declared.demands.Wanted.TheVariants as W
-use Rattle.jani_check.specs.Demands.{destination_demands, if_some, varying}
+use Rattle.op_trees.specs.declared.wanted.Wanted.TheVariants as W
+use Rattle.basics.specs.Options.{if_some}
+use Rattle.jani_check.specs.Demands.{destination_demands, varying}
 use Rattle.jani_check.specs.Views.{demand_by}
 use Rattle.jani_check.proofs.Parts.{added_of, two_added}
 use Rattle.jani_check.proofs.demands.JaniEdgeDemanding.add_demands.Goals as goal

@@ -1,9 +1,8 @@
 use Rattle.std.specs.Prelude.{◌≡◌, ℕ, List, map, drop}
-use Rattle.std.specs.Option.{option_map}
+use Rattle.std.specs.Option.{option_map, option_or as or_else}
 use Rattle.jani_tree.specs.Syntax.{automaton_of}
 use Rattle.jani_check.specs.Participants.{automaton_in}
 use Rattle.jani_check.specs.Tables.{under}
-use Rattle.jani_check.specs.Things.{or_else}
 use Rattle.jani_check.proofs.elements.Automata.of.Given as goal
 
 abbrev pub invariant-loop-a : goal.invariant-loop-a

@@ -1,10 +1,9 @@
 use Rattle.std.specs.Prelude.{◌≡◌, ℕ, List, map, drop}
-use Rattle.std.specs.Option.{option_map}
+use Rattle.std.specs.Option.{option_map, option_or as or_else}
 use Rattle.op_trees.specs.Tree.{tree}
 use Rattle.jani_tree.specs.Syntax.{write_of}
 use Rattle.jani_check.specs.ProfileFaults.{value_for}
 use Rattle.jani_check.specs.Tables.{under}
-use Rattle.jani_check.specs.Things.{or_else}
 use Rattle.jani_check.proofs.rewards.Values.of.Given as goal
 
 abbrev pub invariant-loop-w : goal.invariant-loop-w

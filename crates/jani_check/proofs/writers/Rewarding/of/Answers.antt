@@ -1,6 +1,6 @@
 use Rattle.std.specs.Prelude.{◌≡◌, ℕ, List, map}
 use Rattle.std.specs.List.{list_any}
-use Rattle.std.specs.Option.{option_map}
+use Rattle.std.specs.Option.{option_map, option_or as or_else}
 use Rattle.std.proofs.Common.{◌∙◌, ap, ap₂}
 use Rattle.std.proofs.Math.Path.{fun_ext}
 use Rattle.std.proofs.lemmas.Result.{IfOk-weaker}
@@ -8,7 +8,7 @@ use Rattle.jani_tree.specs.Syntax.{automaton_of, edge_of, var_of}
 use Rattle.jani_check.specs.ProfileFaults.{rewards_with}
 use Rattle.jani_check.specs.Rewarding.{edge_rewards, rewarded_in}
 use Rattle.jani_check.specs.Scopes.{thing_under}
-use Rattle.jani_check.specs.Things.{beside, or_else, var_called, var_thing}
+use Rattle.jani_check.specs.Things.{beside, var_called, var_thing}
 use Rattle.jani_check.proofs.writers.Rewarding.of.Goals as goal
 
 pub returns : goal.returns

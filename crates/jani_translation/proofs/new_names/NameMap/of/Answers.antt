@@ -4,7 +4,7 @@ use Rattle.std.specs.Borrow.{Bor}
 use Rattle.name_table.specs.declared.entry.Entry.{Entry}
 use Rattle.jani_translation.specs.Code.{new_in, found}
 use Rattle.jani_translation.proofs.Gathering.{found_is}
-use Rattle.jani_translation.proofs.Gathering2.{found_step, found_none}
+use Rattle.jani_translation.proofs.Kept.{found_step, found_none}
 use Rattle.jani_translation.proofs.new_names.NameMap.of.Goals as goal
 
 pub loop-left-preserved : goal.loop-left-preserved

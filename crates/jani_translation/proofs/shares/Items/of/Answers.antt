@@ -3,7 +3,7 @@ use Rattle.std.proofs.Common.{◌∙◌, ap, sym}
 use Rattle.process_core.specs.Instance.{only_if}
 use Rattle.prism_tree.specs.Syntax.{Item, item_of}
 use Rattle.jani_translation.specs.Automata.{for_action}
-use Rattle.jani_translation.proofs.Gathering2.{kept_more}
+use Rattle.jani_translation.proofs.Kept.{kept_more}
 use Rattle.jani_translation.proofs.shares.Items.of.Goals as goal
 
 pub loop-i-preserved : goal.loop-i-preserved

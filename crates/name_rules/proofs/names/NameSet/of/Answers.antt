@@ -1,6 +1,7 @@
 use Rattle.std.specs.Prelude.{◌||◌, map}
 use Rattle.std.proofs.Common.{ap, refl}
-use Rattle.name_rules.specs.Names.{has_name, is_among, is_called, named_by}
+use Rattle.op_trees.specs.Names.{is_called}
+use Rattle.name_rules.specs.Names.{has_name, is_among, named_by}
 use Rattle.name_rules.proofs.Clashes.{no_entry}
 use Rattle.name_rules.proofs.Maps.{none_in, one_in}
 use Rattle.name_rules.proofs.names.NameSet.of.Goals as goal

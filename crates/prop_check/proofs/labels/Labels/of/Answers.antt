@@ -4,7 +4,8 @@ use Rattle.std.proofs.Common.{◌∙◌, sym, ap}
 use Rattle.std.proofs.Math.Path.{fun_ext}
 use Rattle.std.proofs.lemmas.List.Folds.{list_any-append}
 use Rattle.std.proofs.lemmas.Simd.{map-map}
-use Rattle.name_rules.specs.Names.{is_among, is_called}
+use Rattle.op_trees.specs.Names.{is_called}
+use Rattle.name_rules.specs.Names.{is_among}
 use Rattle.name_rules.proofs.Maps.{at, none_in, one_in}
 use Rattle.prism_tree.specs.declared.syntax.PrismLabel.{PrismLabel}
 use Rattle.prism_tree.specs.Syntax.{label_of}

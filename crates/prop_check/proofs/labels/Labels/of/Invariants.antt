@@ -1,6 +1,7 @@
 use Rattle.std.specs.Prelude.{◌≡◌, ◌++◌, ◌||◌, map, drop}
 use Rattle.std.specs.List.{list_any}
-use Rattle.name_rules.specs.Names.{is_among, is_called}
+use Rattle.op_trees.specs.Names.{is_called}
+use Rattle.name_rules.specs.Names.{is_among}
 use Rattle.prism_tree.specs.Syntax.{label_of}
 use Rattle.prism_check.specs.NameFaults.{given_labels}
 use Rattle.prop_check.specs.Tables.{has_label}

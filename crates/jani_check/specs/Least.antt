@@ -1,2 +1,0 @@
--- Single faults.
-pub use Rattle.name_rules.specs.Least.{fault, fault_if}
