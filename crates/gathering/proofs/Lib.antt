@@ -1,3 +1,4 @@
+pub mod Found
 pub mod Lists
 pub mod Loops
 pub mod Once

@@ -1,10 +1,11 @@
 -- Lists each of whose members comes once, one member more.
 use Rattle.std.proofs.Common.{◌≡◌, ℕ, ◌+◌, ◌<◌, List, [], ◌∷◌, ◌++◌, map, length, get_or, take, refl, sym, ap, ap₂, ◌∙◌}
-use Rattle.std.specs.Prelude.{Bool, true, false, ◌||◌, not, if◌then◌else◌}
+use Rattle.std.specs.Prelude.{Bool, true, false, ◌||◌, not, bytes_eq, if◌then◌else◌}
 use Rattle.std.specs.List.{filter, list_any}
 use Rattle.std.proofs.lemmas.List.{map-append}
 use Rattle.std.proofs.lemmas.List.Elements.{filter-append}
-use Rattle.process_core.specs.Ready.{firsts}
+use Rattle.std.proofs.lemmas.List.Folds.{list_any-append}
+use Rattle.process_core.specs.Ready.{Name, firsts}
 use Rattle.process_core.specs.Instance.{only_if}
 use Rattle.gathering.proofs.Loops.{taken}
 
@@ -35,3 +36,21 @@ once_more {B = B} same s xs i x w old new h e so_far test pushed =
     one : (b : Bool) → map s (only_if (not b) x) ≡ (if b then [] else s x ∷ [])
     one true = refl
     one false = refl
+
+-- a name is seen where it was before, or is the one that came
+pub seen_more : {A : Type 0} (s : A → Name) (xs : List A) (i : ℕ) (x : A) (z : Name) (new old : Bool) → i < length xs → x ≡ get_or xs i x →
+    old ≡ list_any (λ y. bytes_eq y z) (map s (take i xs)) → new ≡ (bytes_eq (s x) z || old) → new ≡ list_any (λ y. bytes_eq y z) (map s (take (i + 1) xs))
+seen_more s xs i x z new old h e so_far next =
+    next
+    ∙ ap (λ o. bytes_eq (s x) z || o) so_far
+    ∙ last (map s (take i xs)) (s x)
+    ∙ ap (list_any (λ y. bytes_eq y z)) (sym (map-append s (take i xs) (x ∷ [])) ∙ ap (map s) (sym (taken xs i x h e)))
+  where
+    last : (us : List Name) (u : Name) → (bytes_eq u z || list_any (λ y. bytes_eq y z) us) ≡ list_any (λ y. bytes_eq y z) (us ++ u ∷ [])
+    last us u = two (bytes_eq u z) (list_any (λ y. bytes_eq y z) us) ∙ sym (list_any-append (λ y. bytes_eq y z) us (u ∷ []))
+      where
+        two : (b c : Bool) → (b || c) ≡ (c || (b || false))
+        two true true = refl
+        two true false = refl
+        two false true = refl
+        two false false = refl

@@ -8,12 +8,13 @@ ghost use Rattle.state_choices.specs.Views.{seen_of};
 ghost use Rattle.instance_start.specs.Columns.{bounds_of, range_seen, scene_of, variable_of};
 ghost use Rattle.instance_start.specs.Kinds.{column_named, constant_kind, constants_named, domain_kind, first_kind, named, range_kind};
 
+use crate::answers::is_wide;
 use crate::data::{Bounds, Constant, Range, Variable};
 use crate::ranges::{has_value, is_above};
 use bridge_io::{List, Text};
-use frac_core::Frac;
 use op_trees::{EvalFail, Value};
 use process_core::{FaultKind, InstanceFault};
+use state_choices::number_of;
 use std::alloc::{AllocError, Global};
 
 /// Whether something is wide.
@@ -57,16 +58,6 @@ fn has_wide_bound(bounds: &Option<Bounds>) -> bool
     match bounds {
         None => false,
         Some(bounds) => is_wide(&bounds.low) || is_wide(&bounds.high),
-    }
-}
-
-/// Whether a value is wide.
-fn is_wide(value: &Result<Value, EvalFail>) -> bool
-    ensures { result ≡ (seen_of value.now).wide }
-{
-    match value {
-        Err(EvalFail::Wide) => true,
-        _ => false,
     }
 }
 
@@ -215,29 +206,11 @@ fn lacks(range: Range, value: Value) -> bool
 pub(crate) fn range_of(bounds: &Bounds) -> Option<Range>
     ensures { option_map range_seen result ≡ range_from (seen_of bounds.now.low) (seen_of bounds.now.high) }
 {
-    match number_of(&bounds.low) {
+    match number_of(bounds.low) {
         None => None,
-        Some(low) => match number_of(&bounds.high) {
+        Some(low) => match number_of(bounds.high) {
             None => None,
             Some(high) => Some(Range { low, high }),
         },
-    }
-}
-
-fn number_of(value: &Result<Value, EvalFail>) -> Option<Frac>
-    ensures { result ≡ number_of (seen_of value.now).value }
-{
-    match value {
-        Ok(value) => number_in(*value),
-        Err(_) => None,
-    }
-}
-
-fn number_in(value: Value) -> Option<Frac>
-    ensures { result ≡ number_of (Some value) }
-{
-    match value {
-        Value::Truth(_) => None,
-        Value::Number(x) => Some(x),
     }
 }

@@ -2,6 +2,7 @@
 //! the variables may have, which faults an instance has, and its columns.
 #![tactic(auto)]
 
+mod answers;
 mod data;
 mod faults;
 mod given;
@@ -9,6 +10,7 @@ mod ranges;
 mod start;
 mod values;
 
+pub use answers::{is_false, is_wide, truth_in};
 pub use data::{Bounds, Column, Constant, Domain, Place, Variable};
 pub use given::{given_value, misfit};
 pub use ranges::{domain_at, equal_values, first_values, fits_in, is_in, is_initial, is_state};

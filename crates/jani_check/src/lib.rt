@@ -33,4 +33,4 @@ pub use laws::{places_law, writable_law};
 pub use reads::is_label;
 pub use rewards::is_reward;
 pub use things::{Thing, Things, thing_type, var_thing};
-pub use typing::{is_constant, is_lasting, is_transient, judge_type, offset};
+pub use typing::{is_constant, is_lasting, is_transient, judge_type};

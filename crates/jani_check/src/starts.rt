@@ -8,11 +8,10 @@ ghost use Rattle.jani_tree.specs.Syntax.{var_of};
 ghost use Rattle.jani_check.specs.ProfileFaults.{first_fault, is_first, start_faults};
 
 use crate::things::kind_type;
-use crate::typing::offset;
 use bridge_io::{Fault, Reason};
 use jani_tree::{JaniExpr, JaniVar};
 use name_rules::sooner_if;
-use op_trees::{Expr, Ty};
+use op_trees::{Expr, Ty, offset_of};
 
 /// The least of a fault that was found before and that of the first value of a variable.
 pub(crate) fn judge_start(var: &JaniVar, best: Option<Fault>) -> Option<Fault>
@@ -30,7 +29,12 @@ pub(crate) fn judge_start(var: &JaniVar, best: Option<Fault>) -> Option<Fault>
 fn judge_first(ty: Ty, e: &JaniExpr, best: Option<Fault>) -> Option<Fault>
     ensures { result ≡ soonest best (first_fault ty (tree e.now)) }
 {
-    sooner_if(!is_first(ty, e), offset(e), Reason::TransientInitial, best)
+    sooner_if(
+        !is_first(ty, e),
+        offset_of(e),
+        Reason::TransientInitial,
+        best,
+    )
 }
 
 // Whether it is true or false, or a literal of value 0, as the type wants.

@@ -17,7 +17,7 @@ use crate::things::{Scope, Thing, thing_type};
 use bridge_io::{Fault, Reason};
 use jani_tree::{JaniExpr, JaniWrite};
 use name_rules::{sooner, sooner_if};
-use op_trees::{Expr, Names, Wanted, is_wanted, type_of, wanted_by};
+use op_trees::{Expr, Names, Wanted, is_wanted, offset_of, type_of, wanted_by};
 
 /// The least of a fault that was found before and those of the type of an expression and of what is assigned.
 pub(crate) fn judge_type_of(scope: &Scope, demand: &Demand, best: Option<Fault>) -> Option<Fault>
@@ -37,7 +37,7 @@ fn judge_fixed(scope: &Scope, wanted: Wanted, e: &JaniExpr, best: Option<Fault>)
     let typed = judge_type(scope, wanted, e, best);
     sooner_if(
         names_variable(scope, e),
-        offset(e),
+        offset_of(e),
         Reason::NotConstant,
         typed,
     )
@@ -103,22 +103,13 @@ pub fn judge_type<N: Names>(
     ensures { result ≡ soonest best (type_faults_of (N.types names.now) wanted (tree e.now)) }
 {
     match type_of(e, names) {
-        Ok(ty) => sooner_if(!is_wanted(wanted, ty), offset(e), Reason::WrongType, best),
+        Ok(ty) => sooner_if(
+            !is_wanted(wanted, ty),
+            offset_of(e),
+            Reason::WrongType,
+            best,
+        ),
         Err(at) => sooner(best, at, Reason::WrongType),
-    }
-}
-
-/// The offset of an expression. It takes no memory.
-pub fn offset(e: &JaniExpr) -> usize
-    ensures { result ≡ offset_of (tree e.now) }
-{
-    match e {
-        Expr::Truth(at, _) => *at,
-        Expr::Number(at, _) => *at,
-        Expr::Name(at, _) => *at,
-        Expr::One(at, _, _) => *at,
-        Expr::Two(at, _, _, _) => *at,
-        Expr::Three(at, _, _, _, _) => *at,
     }
 }
 

@@ -15,7 +15,7 @@ use Rattle.frac_core.specs.Fraction.{whole}
 use Rattle.op_trees.specs.Seen.{Seen}
 use Rattle.op_trees.specs.declared.tree.Value.{Value}
 use Rattle.op_trees.specs.declared.tree.Value.TheVariants as V
-use Rattle.name_rules.specs.Names.{first_some, under}
+use Rattle.name_rules.specs.Names.{under}
 use Rattle.basics.specs.Options.{if_some}
 use Rattle.process_core.specs.Ready.{Name, Write, Reward, Update, Ready, has_action, same_label}
 use Rattle.process_core.proofs.Targets.{any_firsts}
@@ -52,7 +52,7 @@ same_member s t m n e f = cc
 
 -- ---- the places of names
 by_columns : (n : ℕ) (p q r : Option ℕ) →
-    column_of (first_some (option_map (λ k. Variable (n + k)) p) (first_some (option_map (λ k. Variable (n + k)) q) (option_map Constant r)))
+    column_of (option_or (option_map (λ k. Variable (n + k)) p) (option_or (option_map (λ k. Variable (n + k)) q) (option_map Constant r)))
     ≡ option_map (λ k. n + k) (option_or p q)
 by_columns n (Some k) q r = refl
 by_columns n None (Some k) r = refl
@@ -159,7 +159,7 @@ module _ (cs : List Column) (names : Name → Seen) (i : ℕ) where
 
     column_is : (x : Name) → column_in s x ≡ column_number file i x
     column_is x =
-        ap₂ (λ p q. column_of (first_some p q)) (h.own x) (h.global x)
+        ap₂ (λ p q. column_of (option_or p q)) (h.own x) (h.global x)
         ∙ by_columns (length file.elements) (position (is_own i x) (lasting file)) (position (is_global x) (lasting file)) (position (λ c. is_called x c.name) file.constants)
 
     structure_is : (x : Name) → structure_in s x ≡ structure_number file i x

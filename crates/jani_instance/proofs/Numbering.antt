@@ -7,7 +7,7 @@ use Rattle.std.proofs.lemmas.List.Concat.{flat_map-append}
 use Rattle.std.proofs.lemmas.Bool.{eqb-true}
 use Rattle.std.proofs.lemmas.List.Elements.{All-head, All-tail, filter_agree}
 use Rattle.std.proofs.lemmas.Option.{slice_get-get_or}
-use Rattle.std.specs.Option.{option_map}
+use Rattle.std.specs.Option.{option_map, option_or}
 use Rattle.std.specs.List.{All}
 use Rattle.basics.specs.Booleans.{same_test}
 use Rattle.basics.specs.Members.{is_some-position, position_cons}
@@ -15,7 +15,7 @@ use Rattle.basics.specs.Numbers.{nat_eq-self}
 use Rattle.basics.specs.Options.{none_of, if_some}
 use Rattle.basics.specs.Texts.{bytes_eq-self, bytes_eq-true, bytes_eq_comm}
 use Rattle.gathering.proofs.Loops.{range_more, taken}
-use Rattle.name_rules.specs.Names.{first_some, put, under}
+use Rattle.name_rules.specs.Names.{put, under}
 use Rattle.process_core.specs.Equal.{IsEquality}
 use Rattle.process_core.specs.Ready.{Name, firsts, same_label}
 use Rattle.process_core.proofs.Targets.{Distinct, firsts_distinct, firsts_more}
@@ -38,7 +38,7 @@ kept_action t x l h g =
     let e : list_any (bytes_eq x) l ≡ true = sym (is_some-position (bytes_eq x) l) ∙ ap is_some (sym (h.numbers x)) ∙ g in
     subst (λ b. AreNumbered (if b then l else l ++ x ∷ []) t) (sym e) h
 
-kept_place : (o : Option ℕ) → o ≡ first_some o None
+kept_place : (o : Option ℕ) → o ≡ option_or o None
 kept_place None = refl
 kept_place (Some k) = refl
 
@@ -53,12 +53,12 @@ more_action t u x l h g n p =
       numbers = λ y. ap (λ f. f y) p ∙ by_test y (bytes_eq x y) refl ∙ sym (position_snoc (bytes_eq y) l x);
     })
   where
-    by_test : (y : Name) (b : Bool) → bytes_eq x y ≡ b → (if b then Some t.count else under t.numbers y) ≡ first_some (position (bytes_eq y) l) (if bytes_eq y x then Some (length l) else None)
+    by_test : (y : Name) (b : Bool) → bytes_eq x y ≡ b → (if b then Some t.count else under t.numbers y) ≡ option_or (position (bytes_eq y) l) (if bytes_eq y x then Some (length l) else None)
     by_test y true e =
         ap Some h.count
-        ∙ sym (ap₂ (λ o b. first_some o (if b then Some (length l) else None)) (sym (h.numbers y) ∙ ap (under t.numbers) (sym (bytes_eq-true x y e)) ∙ none_of (under t.numbers x) g) (bytes_eq_comm y x ∙ e))
+        ∙ sym (ap₂ (λ o b. option_or o (if b then Some (length l) else None)) (sym (h.numbers y) ∙ ap (under t.numbers) (sym (bytes_eq-true x y e)) ∙ none_of (under t.numbers x) g) (bytes_eq_comm y x ∙ e))
     by_test y false e =
-        h.numbers y ∙ kept_place (position (bytes_eq y) l) ∙ ap (λ b. first_some (position (bytes_eq y) l) (if b then Some (length l) else None)) (sym (bytes_eq_comm y x ∙ e))
+        h.numbers y ∙ kept_place (position (bytes_eq y) l) ∙ ap (λ b. option_or (position (bytes_eq y) l) (if b then Some (length l) else None)) (sym (bytes_eq_comm y x ∙ e))
 
 abbrev added : Option Name → List Name → List Name
 added None l = l

@@ -1,7 +1,7 @@
 -- What is prepared is right, where what it was made of is.
 use Rattle.std.specs.Prelude.{◌≡◌, ℕ, ◌+◌, List, [], ◌∷◌, map, length, take, drop, Option, Some, None, slice_get}
 use Rattle.std.specs.List.{AllZip, flat_map}
-use Rattle.std.specs.Option.{option_map}
+use Rattle.std.specs.Option.{option_map, option_or}
 use Rattle.std.proofs.Common.{refl, sym, ap, ap₂, ◌∙◌, arith}
 use Rattle.std.proofs.Math.Path.{fun_ext}
 use Rattle.std.proofs.lemmas.List.{drop-map, length-map, take-map}
@@ -15,7 +15,7 @@ use Rattle.jani_meaning.specs.Elements.{Owned, elements, labels, structures}
 use Rattle.jani_table.specs.declared.operator.JaniOp.{JaniOp}
 use Rattle.basics.specs.Mapped.{mapped, walked}
 use Rattle.jani_tree.specs.Syntax.{Automaton, File}
-use Rattle.name_rules.specs.Names.{first_some, under}
+use Rattle.name_rules.specs.Names.{under}
 use Rattle.name_rules.specs.declared.map.NameMap.{NameMap}
 use Rattle.op_trees.specs.Seen.{Seen}
 use Rattle.process_core.specs.Instance.{Valuation}
@@ -52,7 +52,7 @@ module _ (file : File) (ns : List (Node JaniOp)) (places : NameMap Place) (es : 
     (global : (x : Name) → under places x ≡ global_place file x) (named : AreNamedElementsOf file es) where
   -- ---- elements
   places_are : (i : ℕ) (a : Automaton) (e : NamedElement) → IsNamedElementOf file (actions_of a) i a e → places_of e.own places ≡ place_in file i
-  places_are i a e h = fun_ext (λ (x : Name). ap₂ first_some (h.own x) (global x))
+  places_are i a e h = fun_ext (λ (x : Name). ap₂ option_or (h.own x) (global x))
 
   element_is : (i : ℕ) (a : Automaton) (e : NamedElement) (p : Element) → IsNamedElementOf file (actions_of a) i a e →
       ((at : At) → map (located_as (look_by at ns)) p.locations.items ≡ map (located_as (see_from (places_of e.own places) at)) e.locations.items) →

@@ -14,7 +14,6 @@ use Rattle.expr_store.specs.Views.{nodes}
 use Rattle.expr_store.specs.declared.node.ExprId.{ExprId}
 use Rattle.expr_store.specs.declared.store.ExprStore.{ExprStore}
 use Rattle.jani_table.specs.declared.operator.JaniOp.{JaniOp}
-use Rattle.name_rules.specs.Names.{first_some}
 use Rattle.basics.specs.Options.{if_some}
 use Rattle.process_core.specs.Ready.{Name, Ready, Sum, Values, has_action, taking}
 use Rattle.process_core.specs.Instance.{Valuation, is_state, numbered}
@@ -118,7 +117,7 @@ same_noughts (x ∷ xs) (y ∷ ys) e = ap (λ l. no_reward ∷ l) (same_noughts 
 
 -- ---- a name's value
 by_places : (n : ℕ) (table : List (Option Value)) (s : Values) (p q r : Option ℕ) →
-    value_at s table (first_some (option_map (λ k. Variable (n + k)) p) (first_some (option_map (λ k. Variable (n + k)) q) (option_map Constant r)))
+    value_at s table (option_or (option_map (λ k. Variable (n + k)) p) (option_or (option_map (λ k. Variable (n + k)) q) (option_map Constant r)))
     ≡ value_in s (option_map (λ k. n + k) (option_or p q)) (value_from table r)
 by_places n table s (Some k) q r = refl
 by_places n table s None (Some k) r = refl

@@ -2,12 +2,12 @@
 -- locations and actions, before a state is known (jani-model specification, version 1: "Edges", "Composition").
 use Rattle.std.specs.Prelude.{◌≡◌, ℕ, ◌+◌, ◌-◌, ◌≤◌, Result, option_copied, unwrap_or, List, [], ◌∷◌, map, length, Bool, false, Option, Some, None, nat_eq, bytes_eq, slice_get, if◌then◌else◌}
 use Rattle.std.specs.List.{flat_map, filter, find, list_any, position, position_or_len}
-use Rattle.std.specs.Option.{option_map}
+use Rattle.std.specs.Option.{option_map, option_or}
 use Rattle.bridge_io.specs.declared.reason.Named.{Named}
 use Rattle.op_trees.specs.Seen.{Seen}
 use Rattle.op_trees.specs.declared.tree.Value.{Value}
 use Rattle.op_trees.specs.declared.tree.EvalFail.{EvalFail}
-use Rattle.name_rules.specs.Names.{first_some, under}
+use Rattle.name_rules.specs.Names.{under}
 use Rattle.basics.specs.Options.{if_some}
 use Rattle.process_core.specs.Ready.{Name, Write, Reward, Update, Ready, has_action, same_label}
 use Rattle.process_core.specs.Instance.{Column, Valuation, numbered}
@@ -74,12 +74,12 @@ own_place file i x = option_map (λ k. Variable (length file.elements + k)) (pos
 
 abbrev pub global_place : File → Name → Option Place
 global_place file x =
-    first_some (option_map (λ k. Variable (length file.elements + k)) (position (is_global x) (lasting file)))
+    option_or (option_map (λ k. Variable (length file.elements + k)) (position (is_global x) (lasting file)))
     (option_map Constant (position (λ c. is_called x c.name) file.constants))
 
 -- in the element with this number
 abbrev pub place_in : File → ℕ → Name → Option Place
-place_in file i x = first_some (own_place file i x) (global_place file x)
+place_in file i x = option_or (own_place file i x) (global_place file x)
 
 -- the value of the constant at a place
 abbrev pub value_from : List (Option Value) → Option ℕ → Option Value

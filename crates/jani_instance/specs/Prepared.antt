@@ -1,12 +1,13 @@
 -- What is prepared of what is lent from the file: expressions that stand in a store, with names resolved to places, and are seen there
 -- as they are in the file. (This project's own rule.)
 use Rattle.std.specs.Prelude.{◌≡◌, ℕ, List, ◌++◌, slice_get, Option, Some, None}
+use Rattle.std.specs.Option.{option_or}
 use Rattle.expr_store.specs.Nodes.{IsGrown}
 use Rattle.expr_store.specs.declared.node.ExprId.{ExprId}
 use Rattle.expr_store.specs.declared.node.Node.{Node}
 use Rattle.instance_start.specs.declared.data.Place.{Place}
 use Rattle.jani_table.specs.declared.operator.JaniOp.{JaniOp}
-use Rattle.name_rules.specs.Names.{first_some, under}
+use Rattle.name_rules.specs.Names.{under}
 use Rattle.name_rules.specs.declared.map.NameMap.{NameMap}
 use Rattle.op_trees.specs.Seen.{Seen, known_names}
 use Rattle.process_core.specs.Ready.{Name}
@@ -17,7 +18,7 @@ use Rattle.jani_instance.specs.declared.prepare.Inside.{Inside}
 
 -- ---- where names stand in an element: its own ones, and then the global ones
 abbrev pub places_of : NameMap Place → NameMap Place → Name → Option Place
-places_of own places x = first_some (under own x) (under places x)
+places_of own places x = option_or (under own x) (under places x)
 
 abbrev pub places_in : Inside → Name → Option Place
 places_in s = places_of s.own.now s.places.now

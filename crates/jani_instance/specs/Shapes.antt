@@ -3,12 +3,12 @@
 use Rattle.std.specs.Prelude.{ℕ, List, [], ◌∷◌, map, Option, Some, None, Result, unwrap_or}
 use Rattle.std.specs.Borrow.{Bor}
 use Rattle.std.specs.List.{flat_map}
-use Rattle.std.specs.Option.{option_map}
+use Rattle.std.specs.Option.{option_map, option_or}
 use Rattle.op_trees.specs.Tree.{tree}
 use Rattle.op_trees.specs.declared.tree.EvalFail.{EvalFail}
 use Rattle.op_trees.specs.declared.tree.Expr.{Expr}
 use Rattle.op_trees.specs.declared.tree.Value.{Value}
-use Rattle.name_rules.specs.Names.{first_some, under}
+use Rattle.name_rules.specs.Names.{under}
 use Rattle.process_core.specs.Ready.{Name}
 use Rattle.state_choices.specs.Trimmed.{computed}
 use Rattle.jani_table.specs.declared.operator.JaniOp.{JaniOp}
@@ -115,7 +115,7 @@ column_of (Some (Constant k)) = None
 column_of (Some (Variable k)) = Some k
 
 abbrev pub column_in : Site → Name → Option ℕ
-column_in s x = column_of (first_some (under s.own.now x) (under s.places.now x))
+column_in s x = column_of (option_or (under s.own.now x) (under s.places.now x))
 
 abbrev pub location_in : Site → Name → ℕ
 location_in s x = unwrap_or (under s.locations.now x) 0

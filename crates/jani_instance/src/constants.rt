@@ -14,7 +14,7 @@ ghost use Rattle.jani_instance.specs.Constants.{Tabled, constant_place, first_ta
 ghost use Rattle.jani_instance.specs.Views.{seen_in};
 
 use crate::run::{Run, value_of};
-use instance_start::{Place, equal_values, given_value};
+use instance_start::{Place, equal_values, given_value, is_wide};
 use jani_tree::{JaniConst, JaniFile};
 use name_rules::NameMap;
 use op_trees::{EvalFail, Value};
@@ -136,15 +136,6 @@ fn has_wide(found: &[Result<Value, EvalFail>]) -> bool
         }
     }
     false
-}
-
-fn is_wide(answer: &Result<Value, EvalFail>) -> bool
-    ensures { result ≡ (seen_of answer.now).wide }
-{
-    match answer {
-        Err(EvalFail::Wide) => true,
-        _ => false,
-    }
 }
 
 /// The values.

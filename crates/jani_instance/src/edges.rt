@@ -2,7 +2,7 @@
 ghost use Rattle.std.specs.Prelude.{◌≡◌, IfOk, map, ◌∷◌, not, ◌&&◌};
 ghost use Rattle.std.specs.Option.{option_map};
 ghost use Rattle.process_core.specs.Choices.{is_false};
-ghost use Rattle.state_choices.specs.Views.{seen_of, command_of, update_of, write_of, reward_of};
+ghost use Rattle.state_choices.specs.Views.{command_of, update_of, write_of, reward_of};
 ghost use Rattle.state_choices.specs.Trimmed.{computed};
 ghost use Rattle.jani_instance.specs.Views.{IsIn, columns_of, guard_as, look_at, setting_of, weight_as, edge_seen, update_seen, write_seen, reward_seen, location_seen};
 
@@ -11,7 +11,7 @@ use crate::run::{Here, value_here};
 use bridge_io::List;
 use expr_store::{Evaluation, ExprId};
 use frac_core::Frac;
-use instance_start::{domain_at, fits_in};
+use instance_start::{domain_at, fits_in, is_false};
 use jani_table::JaniOp;
 use op_trees::{EvalFail, Value};
 use state_choices::{Command, Reward, Update, Write};
@@ -72,16 +72,6 @@ fn guard_of(
     match e {
         Some(id) => value_here(id, here, evaluation),
         None => Ok(Value::Truth(true)),
-    }
-}
-
-/// Whether a value is the truth value false.
-fn is_false(answer: &Result<Value, EvalFail>) -> bool
-    ensures { result ≡ is_false (seen_of answer.now).value }
-{
-    match answer {
-        Ok(Value::Truth(b)) => !*b,
-        _ => false,
     }
 }
 

@@ -14,9 +14,11 @@ use crate::run::{Here, location_at, value_here};
 use bridge_io::List;
 use expr_store::{Evaluation, ExprId};
 use frac_core::Frac;
+use instance_start::{is_wide, truth_in};
 use jani_table::JaniOp;
 use op_trees::{EvalFail, Value};
 use process_core::{Mark, StepFail};
+use state_choices::number_of;
 
 /// Adds a mark for each label. `Wide` exactly where one is.
 pub(crate) fn add_labels(
@@ -59,7 +61,7 @@ pub(crate) fn add_rewards(
         if is_wide(&value) {
             return Err(StepFail::Wide);
         }
-        let number: Option<Frac> = number_in(&value);
+        let number: Option<Frac> = number_of(value);
         marks.push(Mark::Number(number))?;
     }
     Ok(())
@@ -90,44 +92,5 @@ fn given_here(giver: &Giver<ExprId>, here: &Here) -> Option<ExprId>
     match giver.values.get(location_at(here.values, giver.element)) {
         Some(id) => *id,
         None => None,
-    }
-}
-
-/// Whether a value is wide.
-fn is_wide(value: &Result<Value, EvalFail>) -> bool
-    ensures { result ≡ (seen_of value.now).wide }
-{
-    match value {
-        Err(EvalFail::Wide) => true,
-        _ => false,
-    }
-}
-
-/// The truth value that a value is.
-fn truth_in(value: &Result<Value, EvalFail>) -> Option<bool>
-    ensures { result ≡ truth_of (seen_of value.now).value }
-{
-    match value {
-        Ok(Value::Truth(b)) => Some(*b),
-        _ => None,
-    }
-}
-
-/// The number that a value is.
-fn number_in(value: &Result<Value, EvalFail>) -> Option<Frac>
-    ensures { result ≡ number_of (seen_of value.now).value }
-{
-    match value {
-        Ok(value) => number_of(*value),
-        Err(_) => None,
-    }
-}
-
-fn number_of(value: Value) -> Option<Frac>
-    ensures { result ≡ number_of (Some value) }
-{
-    match value {
-        Value::Truth(_) => None,
-        Value::Number(x) => Some(x),
     }
 }

@@ -1,8 +1,8 @@
 //! The elements of a file with their automata, and its variables.
 ghost use Rattle.std.specs.Prelude.{◌≡◌, ◌++◌, ◌+◌, ◌<◌, ◌^◌, List, ℕ, IfOk, OnOk, Some, None, is_none, length, map};
 ghost use Rattle.std.specs.List.{filter, find, position};
-ghost use Rattle.std.specs.Option.{option_map};
-ghost use Rattle.name_rules.specs.Names.{first_some, under};
+ghost use Rattle.std.specs.Option.{option_map, option_or};
+ghost use Rattle.name_rules.specs.Names.{under};
 ghost use Rattle.process_core.specs.Instance.{numbered};
 ghost use Rattle.jani_tree.specs.Syntax.{automaton_of, const_of, edge_of, file_of, location_of, var_of};
 ghost use Rattle.op_trees.specs.Names.{is_called};
@@ -242,7 +242,7 @@ pub(crate) fn add_constants<'a>(
     places: &mut NameMap<'a, Place>,
     constants: &'a [JaniConst],
 ) -> Result<(), AllocError>
-    ensures { OnOk result ((x : List ℕ) → under places.new x ≡ first_some (under places.old x) (constant_place (map const_of constants.entry.now) x)) }
+    ensures { OnOk result ((x : List ℕ) → under places.new x ≡ option_or (under places.old x) (constant_place (map const_of constants.entry.now) x)) }
 {
     for (k, constant) in constants.iter().enumerate() {
         places.put_first(constant.name.name.as_str(), Place::Constant(k))?;

@@ -1,7 +1,7 @@
 -- The numbers of reward structures.
 use Rattle.std.proofs.Common.{◌≡◌, ℕ, suc, ◌+◌, ◌<◌, ◌≤◌, refl, sym, ap, ap₂, ◌∙◌, List, [], ◌∷◌, map, length, drop, filter, position, get_or, cond, Option, Some, None, Bool, true, false, if◌then◌else◌, arith}
 use Rattle.std.specs.Prelude.{bytes_eq}
-use Rattle.std.specs.Option.{option_map}
+use Rattle.std.specs.Option.{option_map, option_or}
 use Rattle.std.proofs.lemmas.Slice.Eq.{bytes_eq-Decides}
 use Rattle.std.proofs.lemmas.List.Quantifiers.{position-Some}
 use Rattle.basics.specs.Lists.{drop_item}
@@ -9,7 +9,7 @@ use Rattle.basics.specs.Members.{position_cons}
 use Rattle.jani_tree.specs.declared.syntax.JaniVar.{JaniVar}
 use Rattle.jani_tree.specs.Syntax.{Var, var_of}
 use Rattle.jani_check.specs.Things.{is_reward, var_thing}
-use Rattle.name_rules.specs.Names.{first_some, put_first}
+use Rattle.name_rules.specs.Names.{put_first}
 use Rattle.prop_trees.specs.Trees.{Name}
 use Rattle.jani_props.specs.Faults.{structures_among, number_among}
 
@@ -31,21 +31,21 @@ number_other v vs x e = ap (position (λ y. bytes_eq y x)) (among_other v vs e)
 -- ---- as the code counts
 
 abbrev counted : (Name → Option ℕ) → ℕ → List Var → Name → Option ℕ
-counted old count vs x = first_some (old x) (option_map (λ i. count + i) (number_among vs x))
+counted old count vs x = option_or (old x) (option_map (λ i. count + i) (number_among vs x))
 
 from_nought : (o : Option ℕ) → option_map (λ i. 0 + i) o ≡ o
 from_nought None = refl
 from_nought (Some i) = let e : 0 + i ≡ i = omega arith in ap Some e
 
 pub counted_none : (old : Name → Option ℕ) (vs : List Var) (x : Name) → old x ≡ None → counted old 0 vs x ≡ number_among vs x
-counted_none old vs x e = ap (λ o. first_some o (option_map (λ i. 0 + i) (number_among vs x))) e ∙ from_nought (number_among vs x)
+counted_none old vs x e = ap (λ o. option_or o (option_map (λ i. 0 + i) (number_among vs x))) e ∙ from_nought (number_among vs x)
 
 next_number : (count : ℕ) (o : Option ℕ) → option_map (λ i. (count + 1) + i) o ≡ option_map (λ i. count + i) (option_map suc o)
 next_number count None = refl
 next_number count (Some i) = let e : (count + 1) + i ≡ count + suc i = omega arith in ap Some e
 
 counted_by : (a : Option ℕ) (count : ℕ) (b : Bool) (o : Option ℕ) →
-    first_some (first_some a (if b then Some count else None)) (option_map (λ i. (count + 1) + i) o) ≡ first_some a (option_map (λ i. count + i) (cond b (Some 0) (option_map suc o)))
+    option_or (option_or a (if b then Some count else None)) (option_map (λ i. (count + 1) + i) o) ≡ option_or a (option_map (λ i. count + i) (cond b (Some 0) (option_map suc o)))
 counted_by (Some n) count b o = refl
 counted_by None count true o = let e : count ≡ count + 0 = omega arith in ap Some e
 counted_by None count false o = next_number count o
@@ -57,17 +57,17 @@ module _ (vars : List JaniVar) (i : ℕ) (v : JaniVar) (old : Name → Option �
   split : map var_of (drop i vars) ≡ var_of v ∷ map var_of left
   split = ap (map var_of) (drop_item vars i v inside is)
 
-  pub counted_reward : (new : Name → Option ℕ) → is_structure (var_of v) ≡ true → new x ≡ first_some (old x) (if bytes_eq v.name.name x then Some count else None) →
+  pub counted_reward : (new : Name → Option ℕ) → is_structure (var_of v) ≡ true → new x ≡ option_or (old x) (if bytes_eq v.name.name x then Some count else None) →
       counted new (count + 1) (map var_of left) x ≡ counted old count (map var_of (drop i vars)) x
   counted_reward new r put =
-      ap (λ o. first_some o (option_map (λ i. (count + 1) + i) (number_among (map var_of left) x))) put
+      ap (λ o. option_or o (option_map (λ i. (count + 1) + i) (number_among (map var_of left) x))) put
       ∙ counted_by (old x) count (bytes_eq v.name.name x) (number_among (map var_of left) x)
-      ∙ ap (λ o. first_some (old x) (option_map (λ i. count + i) o)) (sym (number_reward (var_of v) (map var_of left) x r))
+      ∙ ap (λ o. option_or (old x) (option_map (λ i. count + i) o)) (sym (number_reward (var_of v) (map var_of left) x r))
       ∙ ap (λ vs. counted old count vs x) (sym split)
 
   pub counted_other : is_structure (var_of v) ≡ false → counted old count (map var_of left) x ≡ counted old count (map var_of (drop i vars)) x
   counted_other r =
-      ap (λ o. first_some (old x) (option_map (λ i. count + i) o)) (sym (number_other (var_of v) (map var_of left) x r)) ∙ ap (λ vs. counted old count vs x) (sym split)
+      ap (λ o. option_or (old x) (option_map (λ i. count + i) o)) (sym (number_other (var_of v) (map var_of left) x r)) ∙ ap (λ vs. counted old count vs x) (sym split)
 
 -- one variable more
 module _ (vars : List JaniVar) (i : ℕ) (v : JaniVar) (old new whole : Name → Option ℕ) (count next : ℕ) (inside : i < length vars) (is : v ≡ get_or vars i v)

@@ -3,7 +3,6 @@ ghost use Rattle.std.specs.Prelude.{◌≡◌, Some, IfOk, IsSomeAnd, IsTrue};
 ghost use Rattle.op_trees.specs.Tree.{tree};
 ghost use Rattle.jani_table.specs.Node.{at_of, node};
 ghost use Rattle.jani_table.specs.Faults.{op_kind};
-ghost use Rattle.prop_trees.specs.Names.{marked};
 ghost use Rattle.prop_trees.specs.JaniText.{IsExpression};
 ghost use Rattle.jani_props.specs.declared.words.OpWord.TheVariants.{Operator};
 ghost use Rattle.jani_props.specs.declared.table.PropForm.TheVariants as F;
@@ -21,16 +20,8 @@ use decimal_json::Json;
 use jani_table::{JaniOp, Key, Kind, Operands, operand_count};
 use jani_tree::JaniExpr;
 use op_trees::Expr;
+use prop_trees::marked;
 use std::alloc::{AllocError, Global};
-
-// A name of the model, with a point before it.
-fn marked(alloc: Global, name: &str) -> Result<Text, AllocError>
-    ensures { IfOk result (λ text. text ≡ marked name.now) }
-{
-    let mut text = String::from_str(alloc, ".")?;
-    text.push_str(name)?;
-    Text::from_string(text)
-}
 
 /// The operand that is the member with this key.
 #[cycle(expression)]

@@ -13,10 +13,10 @@ use crate::model::ModelNames;
 use crate::roles::{PartRule, Role, judge_parts};
 use crate::written::Written;
 use bridge_io::{Fault, Reason};
-use jani_check::{judge_type, offset};
+use jani_check::judge_type;
 use jani_tree::JaniExpr;
 use name_rules::{Judged, Rule, judge_each, sooner_if};
-use op_trees::{Expr, Wanted};
+use op_trees::{Expr, Wanted, offset_of};
 use std::alloc::Global;
 
 // What an expression has to be.
@@ -58,7 +58,7 @@ fn judge_bound(names: &ModelNames, e: &JaniExpr, best: Option<Fault>) -> Option<
 {
     sooner_if(
         names_variable(names, e),
-        offset(e),
+        offset_of(e),
         Reason::NotConstant,
         best,
     )

@@ -3,15 +3,16 @@ use Rattle.std.specs.Prelude.{◌≡◌, ℕ, List, [], ◌∷◌, map, Bool, Op
 use Rattle.std.specs.Borrow.{Bor}
 use Rattle.std.specs.List.{flat_map}
 use Rattle.std.specs.Option.{option_map}
-use Rattle.indexmap.specs.IndexMap.{IndexMap, get_by}
 use Rattle.bridge_io.specs.declared.reason.Named.{Named}
 use Rattle.process_core.specs.Ready.{Name}
+use Rattle.gathering.specs.Lists.{list_under}
 use Rattle.prism_tree.specs.declared.syntax.ItemOn.{ItemOn}
 use Rattle.prism_tree.specs.Syntax.{Item, File, item_of}
 use Rattle.jani_tree.specs.Syntax.{Write, Destination, Edge}
 use Rattle.name_table.specs.declared.entry.Entry.{Entry}
-use Rattle.name_table.specs.Gathered.{is_in}
-use Rattle.jani_translation.specs.declared.new_names.NameMap.{NameMap}
+use Rattle.name_rules.specs.declared.map.NameMap.{NameMap}
+use Rattle.name_rules.specs.Names.{has_name, under}
+use Rattle.jani_translation.specs.declared.new_names.NewNameMap.{NewNameMap}
 use Rattle.jani_translation.specs.declared.new_names.Names.{Names}
 use Rattle.jani_translation.specs.declared.partners.Partners.{Partners}
 use Rattle.jani_translation.specs.declared.rewards.Wanted.{Wanted}
@@ -31,11 +32,11 @@ found (y ∷ ys) [] x = None
 found (y ∷ ys) (e ∷ es) x = if bytes_eq y x then Some e.name else found ys es x
 
 -- what a name is found as
-abbrev pub new_in : NameMap → Name → Option Name
-new_in t x = option_map (λ k. k.now) (get_by (λ k. bytes_eq x k.now) t.new_names)
+abbrev pub new_in : NameMap (Bor Name) → Name → Option Name
+new_in m x = option_map (λ k. k.now) (under m x)
 
-abbrev pub name_in : NameMap → Name → Name
-name_in t x = unwrap_or (new_in t x) []
+abbrev pub name_in : NewNameMap → Name → Name
+name_in t x = unwrap_or (new_in t.new_names x) []
 
 abbrev pub names_in : Names → NewNames
 names_in n = record {
@@ -53,10 +54,6 @@ abbrev pub wanted_by : Wanted → ItemOn → Bool
 wanted_by W.States = for_states
 wanted_by W.Silent = for_silent
 
--- the list under a name
-abbrev pub list_under : {X S : Type 0} → IndexMap (Bor (List ℕ)) (List X) S → Name → List X
-list_under t x = unwrap_or (get_by (λ k. bytes_eq x k.now) t) []
-
 -- the items for an action
 abbrev pub items_under : Items → Name → List Item
 items_under t x = map (λ i. item_of i.now) (list_under t.by_action x)
@@ -70,8 +67,8 @@ shared_writes n t x = flat_map (share_writes n) (list_under t.by_action x)
 
 -- these are the actions of each module's commands, and those that items are for
 pub record ArePartners (p : Partners) (file : File) : Type 0 where
-  pub modules : (x : Name) → map (λ t. is_in t x) p.modules.items ≡ map (has_command x) (bodies file)
-  pub items : (x : Name) → is_in p.items x ≡ has_items (for_action x) file
+  pub modules : (x : Name) → map (λ t. has_name t x) p.modules.items ≡ map (has_command x) (bodies file)
+  pub items : (x : Name) → has_name p.items x ≡ has_items (for_action x) file
 
 -- these are the shares of the file's structures
 abbrev pub AreShares : NewNames → Shares → File → Type 0

@@ -12,15 +12,16 @@ ghost use Rattle.jani_translation.specs.Parts.{made};
 ghost use Rattle.jani_translation.specs.Automata.{loc, zz_silent, zz_monitor, has_items, for_silent, for_action, has_silent, is_some_name, earning_actions, earns_silently, has_monitor, label_value, location_values, write, destination, edge_action, edge, automaton, module_automaton, module_automata, monitor_edge, monitor_edges, monitor, automata};
 ghost use Rattle.jani_translation.specs.Code.{names_in, AreShares, gain_destinations, gain_edge};
 
-use crate::new_names::{Names, shorter};
+use crate::new_names::Names;
 use crate::partners::item_actions;
 use crate::parts::{image_if, instead, made};
 use crate::rewards::{Wanted, add_rewards, has_items};
 use crate::shares::Shares;
 use crate::syncs::new_action;
 use bridge_io::{List, Named, Text};
+use gathering::{keep_if, shorter};
 use jani_tree::{JaniAutomaton, JaniDestination, JaniEdge, JaniLocation, JaniWrite};
-use name_table::{Entry, commands_of, keep_if, name_of};
+use name_table::{Entry, commands_of, name_of};
 use prism_images::{NewNames, image};
 use prism_tree::{
     PrismBranch, PrismCommand, PrismFile, PrismLabel, PrismModule, PrismRewards, PrismWrite,

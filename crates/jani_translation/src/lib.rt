@@ -5,7 +5,6 @@
 mod automata;
 mod composition;
 mod laws;
-mod lists;
 mod naming;
 mod new_names;
 mod partners;
@@ -16,4 +15,5 @@ mod syncs;
 mod translation;
 
 pub use laws::{new_names_law, one_for_one_law, seen_law, state_law, vectors_law};
+pub use new_names::value_names;
 pub use translation::translate;

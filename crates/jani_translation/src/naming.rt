@@ -1,37 +1,16 @@
 // The new names of a file by their classes.
 
-ghost use Rattle.std.specs.Prelude.{◌≡◌, drop, take, map, IfOk};
+ghost use Rattle.std.specs.Prelude.{◌≡◌, map, IfOk};
 ghost use Rattle.prism_tree.specs.Syntax.{file_of, var_of};
 ghost use Rattle.name_table.specs.Asks.{variables, actions, names_by};
 ghost use Rattle.jani_translation.specs.Code.{names_in};
 
-use crate::new_names::{NameMap, Names, value_names};
+use crate::new_names::{Names, NewNameMap, value_names};
 use bridge_io::Text;
+use gathering::{drop_from, first_of};
 use name_table::Entry;
 use prism_tree::{PrismFile, PrismVar};
 use std::alloc::{AllocError, Global};
-
-/// The entries from a place on.
-fn drop_from(at: usize, entries: &[Entry]) -> &[Entry]
-    ensures { result.now ≡ drop at entries.now }
-{
-    if at < entries.len() {
-        &entries[at..]
-    } else {
-        &[]
-    }
-}
-
-/// So many entries.
-fn first_of(count: usize, entries: &[Entry]) -> &[Entry]
-    ensures { result.now ≡ take count entries.now }
-{
-    if count < entries.len() {
-        &entries[..count]
-    } else {
-        entries
-    }
-}
 
 /// The new names by their classes, where these are the entries of the file.
 pub(crate) fn names<'a>(
@@ -51,8 +30,8 @@ pub(crate) fn names<'a>(
     let rewards = drop_from(file.labels.len(), labels);
     let modules = drop_from(file.rewards.len(), rewards);
     let actions = drop_from(file.modules.len(), modules);
-    let value = NameMap::of(alloc, values.as_slice(), entries)?;
-    let action = NameMap::of(alloc, acts, actions)?;
+    let value = NewNameMap::of(alloc, values.as_slice(), entries)?;
+    let action = NewNameMap::of(alloc, acts, actions)?;
     Ok(Names {
         constants: first_of(file.constants.len(), entries),
         variables: first_of(vars.len(), variables),

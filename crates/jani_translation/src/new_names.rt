@@ -1,12 +1,13 @@
 // New names for old ones.
 
-ghost use Rattle.std.specs.Prelude.{◌≡◌, min, List, ℕ, None, Some, ◌++◌, map, IfOk, OnOk, bytes_eq, if◌then◌else◌};
+ghost use Rattle.std.specs.Prelude.{◌≡◌, List, ℕ, ◌++◌, map, IfOk};
 ghost use Rattle.prism_tree.specs.Syntax.{const_of, var_of};
 ghost use Rattle.name_table.specs.Asks.{new_name};
-ghost use Rattle.jani_translation.specs.Code.{new_in, name_in};
+ghost use Rattle.jani_translation.specs.Code.{name_in};
 
 use bridge_io::Text;
-use indexmap::IndexMap;
+use gathering::shorter;
+use name_rules::NameMap;
 use name_table::Entry;
 use prism_images::NewNames;
 use prism_tree::{PrismConst, PrismVar};
@@ -20,56 +21,36 @@ pub(crate) struct Names<'a> {
     pub(crate) labels: &'a [Entry],
     pub(crate) rewards: &'a [Entry],
     pub(crate) modules: &'a [Entry],
-    pub(crate) value: NameMap<'a>,
-    pub(crate) action: NameMap<'a>,
+    pub(crate) value: NewNameMap<'a>,
+    pub(crate) action: NewNameMap<'a>,
 }
 
 /// New names for old ones; any other name becomes the empty one.
 #[derive(Drop)]
-pub(crate) struct NameMap<'a> {
-    new_names: IndexMap<&'a str, &'a str>,
+pub(crate) struct NewNameMap<'a> {
+    new_names: NameMap<'a, &'a str>,
 }
 
-impl<'a> NewNames for NameMap<'a> {
+impl<'a> NewNames for NewNameMap<'a> {
     ghost use Rattle.jani_translation.specs.Code.{name_in};
 
     ghost new = { name_in };
 
     fn new_name<'b>(&'b self, old: &'b str) -> &'b str {
         match self.new_names.get(old) {
-            Some(new) => *new,
+            Some(new) => new,
             None => "",
         }
     }
 }
 
-impl<'a> NameMap<'a> {
-    /// No name.
-    pub(crate) fn new(alloc: Global) -> NameMap<'a>
-        ensures { (x : List ℕ) → new_in result x ≡ None }
-    {
-        NameMap {
-            new_names: IndexMap::new(alloc),
-        }
-    }
-
-    /// Adds a new name for an old one, which it may have had before.
-    pub(crate) fn insert(&mut self, old: &'a str, new: &'a str) -> Result<(), AllocError>
-        ensures { OnOk result
-            ((x : List ℕ) → new_in self.new x ≡ (if bytes_eq old.now x then Some new.now else new_in self.old x)) }
-    {
-        match self.new_names.insert(old, new) {
-            Ok(_) => Ok(()),
-            Err(_) => Err(AllocError),
-        }
-    }
-
+impl<'a> NewNameMap<'a> {
     /// Each old name becomes that of the entry at its place; where several are the same, that of the first.
     pub(crate) fn of(
         alloc: Global,
         olds: &[&'a Text],
         news: &'a [Entry],
-    ) -> Result<NameMap<'a>, AllocError>
+    ) -> Result<NewNameMap<'a>, AllocError>
         ensures { IfOk result (λ r. (x : List ℕ) → name_in r x ≡ new_name (map (λ y. y.now) olds.now) news.now x) }
     {
         let mut all = NameMap::new(alloc);
@@ -77,21 +58,14 @@ impl<'a> NameMap<'a> {
         while left > 0 {
             left -= 1;
             let old: &'a str = olds[left].as_str();
-            all.insert(old, news[left].name.as_str())?;
+            all.put(old, news[left].name.as_str())?;
         }
-        Ok(all)
+        Ok(NewNameMap { new_names: all })
     }
 }
 
-/// The lesser of two lengths.
-pub(crate) fn shorter(a: usize, b: usize) -> usize
-    ensures { result ≡ min a b }
-{
-    if a < b { a } else { b }
-}
-
 /// The names of the constants, then those of the variables.
-pub(crate) fn value_names<'a>(
+pub fn value_names<'a>(
     alloc: Global,
     constants: &'a [PrismConst],
     vars: &[&'a PrismVar],

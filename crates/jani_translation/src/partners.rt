@@ -6,12 +6,14 @@ ghost use Rattle.process_core.specs.Ready.{same_label};
 ghost use Rattle.prism_tree.specs.Syntax as prism;
 ghost use Rattle.prism_tree.specs.Syntax.{file_of};
 ghost use Rattle.name_table.specs.Asks.{action_of};
-ghost use Rattle.name_table.specs.Gathered.{body_in, is_in};
+ghost use Rattle.name_rules.specs.Names.{has_name};
+ghost use Rattle.name_table.specs.Gathered.{body_in};
 ghost use Rattle.jani_translation.specs.Automata.{for_action};
 ghost use Rattle.jani_translation.specs.Translated.{has_command};
 ghost use Rattle.jani_translation.specs.Code.{ArePartners};
 
-use name_table::{NameSet, commands_of};
+use name_rules::NameSet;
+use name_table::commands_of;
 use prism_tree::{ItemOn, PrismCommand, PrismFile, PrismItem, PrismModule, PrismRewards};
 use std::alloc::{AllocError, Global};
 
@@ -35,7 +37,7 @@ impl<'a> Partners<'a> {
 
 /// The actions of each module's commands.
 fn module_actions(alloc: Global, modules: &[PrismModule]) -> Result<Vec<NameSet>, AllocError>
-    ensures { IfOk result (λ ts. (x : List ℕ) → map (λ t. is_in t x) ts.items ≡ map (has_command x) (map body_in modules.now)) }
+    ensures { IfOk result (λ ts. (x : List ℕ) → map (λ t. has_name t x) ts.items ≡ map (has_command x) (map body_in modules.now)) }
 {
     let mut all = Vec::new(alloc);
     for m in modules {
@@ -46,7 +48,7 @@ fn module_actions(alloc: Global, modules: &[PrismModule]) -> Result<Vec<NameSet>
 
 /// The actions of commands.
 fn command_actions(alloc: Global, commands: &[PrismCommand]) -> Result<NameSet, AllocError>
-    ensures { IfOk result (λ t. (x : List ℕ) → is_in t x ≡ list_any (λ c. same_label (Some x) (action_of c)) (map prism.command_of commands.now)) }
+    ensures { IfOk result (λ t. (x : List ℕ) → has_name t x ≡ list_any (λ c. same_label (Some x) (action_of c)) (map prism.command_of commands.now)) }
 {
     let mut seen = NameSet::new(alloc);
     for c in commands {
@@ -57,8 +59,8 @@ fn command_actions(alloc: Global, commands: &[PrismCommand]) -> Result<NameSet, 
 
 /// Adds the action of a command, if it has one.
 fn note_action<'a>(seen: &mut NameSet<'a>, c: &'a PrismCommand) -> Result<(), AllocError>
-    ensures { OnOk result ((x : List ℕ) → is_in seen.new x
-        ≡ (is_in seen.old x || same_label (Some x) (action_of (prism.command_of c.now)))) }
+    ensures { OnOk result ((x : List ℕ) → has_name seen.new x
+        ≡ (has_name seen.old x || same_label (Some x) (action_of (prism.command_of c.now)))) }
 {
     match &c.action {
         Some(a) => seen.add(a.name.as_str()),
@@ -68,7 +70,7 @@ fn note_action<'a>(seen: &mut NameSet<'a>, c: &'a PrismCommand) -> Result<(), Al
 
 /// The actions that items are for.
 pub(crate) fn item_actions(alloc: Global, rewards: &[PrismRewards]) -> Result<NameSet, AllocError>
-    ensures { IfOk result (λ t. (x : List ℕ) → is_in t x ≡ list_any (λ r. list_any (λ i. for_action x i.on) r.items) (map prism.rewards_of rewards.now)) }
+    ensures { IfOk result (λ t. (x : List ℕ) → has_name t x ≡ list_any (λ r. list_any (λ i. for_action x i.on) r.items) (map prism.rewards_of rewards.now)) }
 {
     let mut seen = NameSet::new(alloc);
     for r in rewards {
@@ -79,8 +81,8 @@ pub(crate) fn item_actions(alloc: Global, rewards: &[PrismRewards]) -> Result<Na
 
 /// Adds the actions that these items are for.
 fn note_items<'a>(seen: &mut NameSet<'a>, items: &'a [PrismItem]) -> Result<(), AllocError>
-    ensures { OnOk result ((x : List ℕ) → is_in seen.new x
-        ≡ (is_in seen.old x || list_any (λ i. for_action x i.on) (map prism.item_of items.now))) }
+    ensures { OnOk result ((x : List ℕ) → has_name seen.new x
+        ≡ (has_name seen.old x || list_any (λ i. for_action x i.on) (map prism.item_of items.now))) }
 {
     for i in items {
         note_item(seen, &i.on)?;
@@ -90,7 +92,7 @@ fn note_items<'a>(seen: &mut NameSet<'a>, items: &'a [PrismItem]) -> Result<(), 
 
 /// Adds the action that an item is for, if it is for one.
 fn note_item<'a>(seen: &mut NameSet<'a>, on: &'a ItemOn) -> Result<(), AllocError>
-    ensures { OnOk result ((x : List ℕ) → is_in seen.new x ≡ (is_in seen.old x || for_action x on.now)) }
+    ensures { OnOk result ((x : List ℕ) → has_name seen.new x ≡ (has_name seen.old x || for_action x on.now)) }
 {
     match on {
         ItemOn::Action(a) => seen.add(a.name.as_str()),

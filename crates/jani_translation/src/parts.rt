@@ -10,9 +10,10 @@ ghost use Rattle.prism_images.specs.Image.{image};
 ghost use Rattle.jani_translation.specs.Parts.{made, instead, instead_if, note, nought, falsehood, constant, kind_of, start_of, variable, label, structure};
 ghost use Rattle.jani_translation.specs.Code.{name_in};
 
-use crate::new_names::{NameMap, Names, shorter};
+use crate::new_names::{Names, NewNameMap};
 use bridge_io::{List, Named, Text};
 use frac_core::Decimal;
+use gathering::shorter;
 use jani_tree::{JaniConst, JaniExpr, JaniKind, JaniVar};
 use name_table::Entry;
 use op_trees::Expr;
@@ -123,7 +124,7 @@ fn falsehood() -> JaniExpr
 pub(crate) fn image_if(
     alloc: Global,
     e: &Option<PrismExpr>,
-    names: &NameMap,
+    names: &NewNameMap,
 ) -> Result<Option<JaniExpr>, AllocError>
     ensures { IfOk result (λ r. option_map tree r ≡ option_map (image (name_in names.now)) (option_map tree e.now)) }
 {
@@ -140,7 +141,7 @@ fn constant(
     alloc: Global,
     c: &PrismConst,
     e: &Entry,
-    names: &NameMap,
+    names: &NewNameMap,
 ) -> Result<JaniConst, AllocError>
     ensures { IfOk result (λ r. jani.const_of r ≡ constant (name_in names.now) (prism.const_of c.now) e.now) }
 {
@@ -156,7 +157,7 @@ fn constant(
 fn kind_of(
     alloc: Global,
     range: &Option<PrismRange>,
-    names: &NameMap,
+    names: &NewNameMap,
 ) -> Result<JaniKind, AllocError>
     ensures { IfOk result (λ r. jani.kind_of r ≡ kind_of (name_in names.now) (option_map prism.range_of range.now)) }
 {
@@ -171,7 +172,7 @@ fn kind_of(
 }
 
 /// The first value: that of `init`, else the low bound, else false.
-fn start_of(alloc: Global, x: &PrismVar, names: &NameMap) -> Result<JaniExpr, AllocError>
+fn start_of(alloc: Global, x: &PrismVar, names: &NewNameMap) -> Result<JaniExpr, AllocError>
     ensures { IfOk result (λ r. tree r ≡ start_of (name_in names.now) (option_map tree x.now.start) (option_map prism.range_of x.now.range)) }
 {
     match (&x.start, &x.range) {
@@ -188,7 +189,12 @@ fn start_of(alloc: Global, x: &PrismVar, names: &NameMap) -> Result<JaniExpr, Al
 }
 
 /// A variable.
-fn variable(alloc: Global, x: &PrismVar, e: &Entry, names: &NameMap) -> Result<JaniVar, AllocError>
+fn variable(
+    alloc: Global,
+    x: &PrismVar,
+    e: &Entry,
+    names: &NewNameMap,
+) -> Result<JaniVar, AllocError>
     ensures { IfOk result (λ r. jani.var_of r ≡ variable (name_in names.now) (prism.var_of x.now) e.now) }
 {
     Ok(JaniVar {
@@ -206,7 +212,7 @@ pub(crate) fn constants(
     alloc: Global,
     constants: &[PrismConst],
     entries: &[Entry],
-    names: &NameMap,
+    names: &NewNameMap,
 ) -> Result<List<JaniConst>, AllocError>
     ensures { IfOk result (λ all. map jani.const_of all ≡
         map (λ p. constant (name_in names.now) p.0 p.1) (zip (map prism.const_of constants.now) entries.now)) }
@@ -245,7 +251,7 @@ fn add_variables(
     all: &mut List<JaniVar>,
     vars: &[&PrismVar],
     entries: &[Entry],
-    names: &NameMap,
+    names: &NewNameMap,
 ) -> Result<(), AllocError>
     ensures { OnOk result (map jani.var_of all.new ≡ map jani.var_of all.old ++
         map (λ p. variable (name_in names.now) p.0 p.1) (zip (map (λ x. prism.var_of x.now) vars.now) entries.now)) }

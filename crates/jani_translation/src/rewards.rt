@@ -10,12 +10,13 @@ ghost use Rattle.jani_translation.specs.Parts.{instead_if};
 ghost use Rattle.jani_translation.specs.Automata.{item_value, sum_behind, sum_to, reward_of, rewards_of};
 ghost use Rattle.jani_translation.specs.Code.{wanted_by, names_in};
 
-use crate::new_names::{Names, shorter};
+use crate::new_names::Names;
 use crate::parts::{instead_if, nought};
 use bridge_io::List;
+use gathering::{keep_if, shorter};
 use jani_table::JaniOp;
 use jani_tree::{JaniExpr, JaniWrite};
-use name_table::{Entry, keep_if};
+use name_table::Entry;
 use op_trees::Expr;
 use prism_images::image;
 use prism_tree::{ItemOn, PrismItem, PrismRewards};

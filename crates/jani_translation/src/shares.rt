@@ -10,11 +10,10 @@ ghost use Rattle.jani_translation.specs.Parts.{instead_if};
 ghost use Rattle.jani_translation.specs.Automata.{for_action, sum_to, reward_of};
 ghost use Rattle.jani_translation.specs.Code.{names_in, items_under, share_writes, shared_writes};
 
-use crate::lists::{add_under, take_list};
-use crate::new_names::{Names, shorter};
+use crate::new_names::Names;
 use crate::rewards::sum_to;
 use bridge_io::List;
-use indexmap::IndexMap;
+use gathering::{NameLists, shorter};
 use jani_tree::JaniWrite;
 use name_table::Entry;
 use prism_tree::{ItemOn, PrismItem, PrismRewards};
@@ -31,13 +30,13 @@ pub(crate) struct Share<'a> {
 /// The shares of structures in actions, by these.
 #[derive(Drop)]
 pub(crate) struct Shares<'a> {
-    by_action: IndexMap<&'a str, List<Share<'a>>>,
+    by_action: NameLists<'a, Share<'a>>,
 }
 
 /// Items, by the actions that they are for.
 #[derive(Drop)]
 struct Items<'a> {
-    by_action: IndexMap<&'a str, List<&'a PrismItem>>,
+    by_action: NameLists<'a, &'a PrismItem>,
 }
 
 impl<'a> Items<'a> {
@@ -46,7 +45,7 @@ impl<'a> Items<'a> {
         ensures { IfOk result (λ t. (x : ListOf ℕ) → items_under t x ≡ filter (λ i. for_action x i.on) (map prism.item_of items.now)) }
     {
         let mut all = Items {
-            by_action: IndexMap::new(alloc),
+            by_action: NameLists::new(alloc),
         };
         for i in items {
             all.add(alloc, i)?;
@@ -60,7 +59,7 @@ impl<'a> Items<'a> {
             ≡ items_under self.old x ++ only_if (for_action x i.now.on) (prism.item_of i.now)) }
     {
         match &i.on {
-            ItemOn::Action(a) => add_under(alloc, &mut self.by_action, a.name.as_str(), i),
+            ItemOn::Action(a) => self.by_action.add(alloc, a.name.as_str(), i),
             _ => Ok(()),
         }
     }
@@ -77,7 +76,7 @@ impl<'a> Shares<'a> {
             ≡ flat_map (λ p. reward_of n (for_action x) p.0 p.1) (zip (map prism.rewards_of rewards.now) entries.now)) }
     {
         let mut all = Shares {
-            by_action: IndexMap::new(alloc),
+            by_action: NameLists::new(alloc),
         };
         let count = shorter(rewards.len(), entries.len());
         for i in 0..count {
@@ -120,7 +119,7 @@ impl<'a> Shares<'a> {
     {
         match on {
             ItemOn::Action(a) => {
-                let items = take_list(alloc, &mut left.by_action, a.name.as_str());
+                let items = left.by_action.take(alloc, a.name.as_str());
                 self.add(
                     alloc,
                     a.name.as_str(),
@@ -143,7 +142,7 @@ impl<'a> Shares<'a> {
         if share.items.len() == 0 {
             return Ok(());
         }
-        add_under(alloc, &mut self.by_action, action, share)
+        self.by_action.add(alloc, action, share)
     }
 
     /// What gives the structures their sums for an action.
@@ -156,9 +155,7 @@ impl<'a> Shares<'a> {
         ensures { IfOk result (λ all. map jani.write_of all ≡ shared_writes (names_in names.now) self.now action.now) }
     {
         let mut all = List::new(alloc);
-        if let Some(shares) = self.by_action.get(action) {
-            add_sums(alloc, &mut all, shares.as_slice(), names)?;
-        }
+        add_sums(alloc, &mut all, self.by_action.get(action), names)?;
         Ok(all)
     }
 }

@@ -5,7 +5,8 @@ ghost use Rattle.prism_tree.specs.Syntax.{file_of};
 ghost use Rattle.process_core.specs.Instance.{numbered, only_if};
 ghost use Rattle.jani_tree.specs.Syntax as jani;
 ghost use Rattle.name_table.specs.Asks.{actions};
-ghost use Rattle.name_table.specs.Gathered.{body_in, is_in};
+ghost use Rattle.name_rules.specs.Names.{has_name};
+ghost use Rattle.name_table.specs.Gathered.{body_in};
 ghost use Rattle.jani_translation.specs.Parts.{made};
 ghost use Rattle.jani_translation.specs.Automata.{zz_silent, has_silent, has_monitor};
 ghost use Rattle.jani_translation.specs.Translated.{part_if, silent_vector, silent_vectors, jani_actions, action_vector, vectors};
@@ -17,7 +18,7 @@ use crate::partners::Partners;
 use crate::parts::made;
 use bridge_io::{List, Named, Text};
 use jani_tree::JaniVector;
-use name_table::NameSet;
+use name_rules::NameSet;
 use prism_images::NewNames;
 use prism_tree::{PrismFile, PrismModule};
 use std::alloc::{AllocError, Global};
@@ -151,7 +152,7 @@ fn module_parts(
     a: &Text,
     names: &Names,
 ) -> Result<List<Option<Named>>, AllocError>
-    ensures { IfOk result (λ r. r ≡ map (λ t. part_if (is_in t a.now) (made ((names_in names.now).action a.now))) modules.now) }
+    ensures { IfOk result (λ r. r ≡ map (λ t. part_if (has_name t a.now) (made ((names_in names.now).action a.now))) modules.now) }
 {
     let mut parts = List::new(alloc);
     for m in modules {
@@ -170,7 +171,7 @@ fn add_monitor_part(
     names: &Names,
 ) -> Result<(), AllocError>
     ensures { OnOk result
-        (parts.new ≡ parts.old ++ only_if watched (part_if (is_in items.now a.now) (made ((names_in names.now).action a.now)))) }
+        (parts.new ≡ parts.old ++ only_if watched (part_if (has_name items.now a.now) (made ((names_in names.now).action a.now)))) }
 {
     if watched {
         parts.push(part_if(alloc, items.has(a.as_str()), a, names)?)?;

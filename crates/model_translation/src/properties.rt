@@ -1,11 +1,14 @@
 //! From the bytes of a PRISM file and those of a properties file to the text of a JANI file with properties.
 ghost use Rattle.std.specs.Prelude.{◌≡◌, ℕ, List, IfOk, map};
+ghost use Rattle.prism_names.specs.Flat.{flat};
+ghost use Rattle.prism_print.specs.Same.{bare_file};
 ghost use Rattle.jani_table.specs.Node.{Node, node};
 ghost use Rattle.jani_tree.specs.Form.{KeysOnce, NormalNode};
 ghost use Rattle.jani_tree.specs.Syntax.{File, file_of};
 ghost use Rattle.prism_to_jani.specs.Promise.{IsTranslated};
 ghost use Rattle.prop_trees.specs.Form.{AreOfPrism};
 ghost use Rattle.prop_trees.specs.Syntax.{property_of};
+ghost use Rattle.prop_to_jani.specs.Laws as of_properties;
 ghost use Rattle.model_translation.specs.WithProperties.{IsWrittenWith, TranslatesFiles, with_properties};
 
 use crate::translation::text_of;
@@ -14,9 +17,10 @@ use decimal_json::Json;
 use jani_check::CheckedJani;
 use model_files::read_prism;
 use prism_check::CheckedPrism;
-use prism_to_jani::to_jani;
+use prism_places::{FlatPrism, flatten};
+use prism_to_jani::flat_to_jani;
 use prop_check::read_props;
-use prop_to_jani::props_to_jani;
+use prop_to_jani::flat_props_to_jani;
 use prop_trees::Property;
 use std::alloc::{AllocError, Global};
 
@@ -61,29 +65,50 @@ pub fn translate_with_properties(
         Err(Refused::At(fault)) => return Err(FilesRefused::Properties(fault)),
         Err(Refused::Memory(e)) => return Err(FilesRefused::Memory(e)),
     };
-    let text = written(alloc, checked, &props)?;
+    let text = written(alloc, checked, props)?;
     Ok(text)
 }
 
-// The text for a judged file, which is let go once it is translated, and its properties. `Err` is want of memory.
+// The text for a judged file and its properties, which are let go once they are translated. `Err` is want of memory.
 fn written(
     alloc: Global,
     checked: CheckedPrism,
-    props: &List<Property>,
+    props: List<Property>,
 ) -> Result<List<u8>, AllocError>
-    requires { AreOfPrism checked.file (map property_of props.now) }
-    ensures { IfOk result (λ text. (model : File) × (value : Node) × IsWrittenWith checked (map property_of props.now) text model value) }
+    requires { AreOfPrism checked.file (map property_of props) }
+    ensures { IfOk result (λ text. (model : File) × (value : Node) × IsWrittenWith checked (map property_of props) text model value) }
 {
-    let value = props_to_jani(alloc, props, &checked)?;
-    let model = translated(alloc, checked)?;
+    let flat = flatten(alloc, &checked)?;
+    let value = value_of(alloc, props, &checked, &flat)?;
+    let model = translated(alloc, checked, flat)?;
     let full = with_properties(alloc, model, value)?;
     text_of(alloc, &full)
 }
 
-fn translated(alloc: Global, checked: CheckedPrism) -> Result<CheckedJani, AllocError>
+// The value of the properties of a judged file, where this is the file written out. `Err` is want of memory.
+fn value_of(
+    alloc: Global,
+    props: List<Property>,
+    checked: &CheckedPrism,
+    written: &FlatPrism,
+) -> Result<Json, AllocError>
+    requires written { bare_file written.now ≡ bare_file (flat checked.now.file) }
+    requires props { AreOfPrism checked.now.file (map property_of props) }
+    ensures { IfOk result (λ v. of_properties.IsTranslated checked.now (map property_of props) (node v)) }
+{
+    flat_props_to_jani(alloc, &props, checked, written)
+}
+
+// What a judged file is translated to, where this is the file written out. `Err` is want of memory.
+fn translated(
+    alloc: Global,
+    checked: CheckedPrism,
+    written: FlatPrism,
+) -> Result<CheckedJani, AllocError>
+    requires { bare_file written ≡ bare_file (flat checked.file) }
     ensures { IfOk result (λ j. IsTranslated checked.file (file_of j)) }
 {
-    to_jani(alloc, &checked)
+    flat_to_jani(alloc, &checked, &written)
 }
 
 // The file with this value for its properties. `Err` is want of memory.

@@ -2,23 +2,24 @@
 use Rattle.std.specs.Prelude.{ℕ, ◌<◌, ◌≤◌, ◌+◌, List, [], map, length, drop, Bool, true, false, ◌||◌, Option, Some, None, is_some, bytes_eq, if◌then◌else◌}
 use Rattle.std.specs.List.{list_any}
 use Rattle.std.specs.Borrow.{Bor}
+use Rattle.std.specs.Option.{option_or}
 use Rattle.std.proofs.Common.{◌≡◌, refl, sym, ap, ◌∙◌, get_or}
 use Rattle.std.proofs.Math.Path.{fun_ext}
 use Rattle.std.proofs.lemmas.Slice.Eq.{bytes_eq-Decides}
 use Rattle.std.proofs.lemmas.List.{at_drop_more, at_drop_all}
 use Rattle.std.proofs.Math.Bool.{or-false}
 use Rattle.basics.specs.Options.{none_of}
-use Rattle.name_rules.specs.Names.{Name, first_some, put, put_first, add}
+use Rattle.name_rules.specs.Names.{Name, put, put_first, add}
 
 -- what stands under each name stands under one
 pub at : {T : Type 0} {f g : Name → T} → f ≡ g → (x : Name) → f x ≡ g x
 at h x = ap (λ f. f x) h
 
-pub none_after : {T : Type 0} (o : Option T) → o ≡ first_some o None
+pub none_after : {T : Type 0} (o : Option T) → o ≡ option_or o None
 none_after None = refl
 none_after (Some x) = refl
 
-anything_after : {T : Type 0} (o p : Option T) → is_some o ≡ true → o ≡ first_some o p
+anything_after : {T : Type 0} (o p : Option T) → is_some o ≡ true → o ≡ option_or o p
 anything_after None p h = cc
 anything_after (Some x) p h = refl
 
@@ -26,7 +27,7 @@ anything_after (Some x) p h = refl
 pub stands : {T : Type 0} (values : Name → Option T) (name : Name) (value : T) → is_some (values name) ≡ true → values ≡ put_first values name value
 stands values name value h = fun_ext (λ x. by_test x (bytes_eq name x) refl)
   where
-    by_test : (x : Name) (b : Bool) → bytes_eq name x ≡ b → values x ≡ first_some (values x) (if b then Some value else None)
+    by_test : (x : Name) (b : Bool) → bytes_eq name x ≡ b → values x ≡ option_or (values x) (if b then Some value else None)
     by_test x true e = anything_after (values x) (Some value) (ap (λ y. is_some (values y)) (sym ((bytes_eq-Decides name x).0 e)) ∙ h)
     by_test x false e = none_after (values x)
 
@@ -34,8 +35,8 @@ stands values name value h = fun_ext (λ x. by_test x (bytes_eq name x) refl)
 pub put_new : {T : Type 0} (values : Name → Option T) (name : Name) (value : T) → is_some (values name) ≡ false → put values name value ≡ put_first values name value
 put_new values name value h = fun_ext (λ x. by_test x (bytes_eq name x) refl)
   where
-    by_test : (x : Name) (b : Bool) → bytes_eq name x ≡ b → (if b then Some value else values x) ≡ first_some (values x) (if b then Some value else None)
-    by_test x true e = ap (λ o. first_some o (Some value)) (sym (none_of (values x) (ap (λ y. is_some (values y)) (sym ((bytes_eq-Decides name x).0 e)) ∙ h)))
+    by_test : (x : Name) (b : Bool) → bytes_eq name x ≡ b → (if b then Some value else values x) ≡ option_or (values x) (if b then Some value else None)
+    by_test x true e = ap (λ o. option_or o (Some value)) (sym (none_of (values x) (ap (λ y. is_some (values y)) (sym ((bytes_eq-Decides name x).0 e)) ∙ h)))
     by_test x false e = none_after (values x)
 
 -- ---- sets

@@ -1,6 +1,7 @@
 -- Names, sets of them, and what stands under them.
 use Rattle.std.specs.Prelude.{ℕ, List, Bool, false, Option, Some, None, is_some, bytes_eq, ◌||◌, if◌then◌else◌}
 use Rattle.std.specs.List.{list_any}
+use Rattle.std.specs.Option.{option_or}
 use Rattle.indexmap.specs.IndexMap.{get_by}
 use Rattle.bridge_io.specs.declared.reason.Named.{Named}
 use Rattle.op_trees.specs.Names.{is_called}
@@ -29,14 +30,9 @@ nothing x = None
 abbrev pub put : {T : Type 0} → (Name → Option T) → Name → T → Name → Option T
 put values name value x = if bytes_eq name x then Some value else values x
 
--- the first, or else the second
-abbrev pub first_some : {T : Type 0} → Option T → Option T → Option T
-first_some None o = o
-first_some (Some x) o = Some x
-
 -- this value under this name, if none stands there
 abbrev pub put_first : {T : Type 0} → (Name → Option T) → Name → T → Name → Option T
-put_first values name value x = first_some (values x) (if bytes_eq name x then Some value else None)
+put_first values name value x = option_or (values x) (if bytes_eq name x then Some value else None)
 
 -- ---- sets
 abbrev pub has_name : NameSet → Name → Bool

@@ -1,21 +1,13 @@
--- What the code that makes the table of a file goes by: the contents of a module, a set of names, a table that was asked for
--- more.
-use Rattle.std.specs.Prelude.{List, Bool, is_some, bytes_eq}
-use Rattle.indexmap.specs.IndexMap.{get_by}
-use Rattle.process_core.specs.Ready.{Name}
+-- What the code that makes the table of a file goes by: the contents of a module, and a table that was asked for more.
+use Rattle.std.specs.Prelude.{List}
 use Rattle.prism_tree.specs.declared.syntax.PrismModule.{PrismModule}
 use Rattle.prism_tree.specs.Syntax.{Body, module_of}
-use Rattle.name_table.specs.declared.name_set.NameSet.{NameSet}
 use Rattle.name_table.specs.Entries.{Ask, Table, entries_after}
 use Rattle.name_table.specs.Asks.{contents}
 
 -- the contents of a module
 abbrev pub body_in : PrismModule → Body
 body_in m = contents (module_of m)
-
--- the set has this name
-abbrev pub is_in : NameSet → Name → Bool
-is_in s x = is_some (get_by (λ k. bytes_eq x k.now) s.names)
 
 -- a table that was asked for more
 abbrev pub told : Table → List Ask → Table

@@ -1,20 +1,16 @@
--- What the code that gathers the parts of a JANI file goes by: what stands under a name, and a variable with its owner.
-use Rattle.std.specs.Prelude.{ℕ, List, Bool, Option, unwrap_or, bytes_eq}
+-- What the code that gathers the parts of a JANI file goes by: the automaton of an element, and a variable with its owner.
+use Rattle.std.specs.Prelude.{ℕ, Bool, Option, unwrap_or}
 use Rattle.std.specs.Option.{option_map}
 use Rattle.std.specs.Borrow.{Bor}
-use Rattle.indexmap.specs.IndexMap.{get_by}
 use Rattle.bridge_io.specs.declared.reason.Named.{Named}
+use Rattle.name_rules.specs.declared.map.NameMap.{NameMap}
+use Rattle.name_rules.specs.Names.{under}
 use Rattle.jani_tree.specs.declared.syntax.JaniAutomaton.{JaniAutomaton}
 use Rattle.jani_tree.specs.Syntax.{Automaton, var_of, automaton_of}
 use Rattle.jani_meaning.specs.Elements.{Owned, is_lasting, is_label, is_structure, nothing_called}
-use Rattle.name_table.specs.declared.name_map.NameMap.{NameMap}
 use Rattle.name_table.specs.declared.jani_parts.OwnedVar.{OwnedVar}
 use Rattle.name_table.specs.declared.jani_parts.VarUse.{VarUse}
 use Rattle.name_table.specs.declared.jani_parts.VarUse.TheVariants.{Lasting, Label, Structure}
-
--- what stands under a name
-abbrev pub under : {T : Type 0} → NameMap T → List ℕ → Option T
-under m x = get_by (λ k. bytes_eq x k.now) m.first
 
 -- an element's automaton, by what stands under names
 abbrev pub element_under : NameMap (Bor JaniAutomaton) → Named → Automaton

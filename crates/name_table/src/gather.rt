@@ -1,16 +1,14 @@
 // What a file has in all its modules: variables and actions.
 
-ghost use Rattle.std.specs.Prelude.{◌≡◌, ◌++◌, map, IfOk, OnOk, bytes_eq};
+ghost use Rattle.std.specs.Prelude.{◌≡◌, map, IfOk};
 ghost use Rattle.std.specs.List.{flat_map};
-ghost use Rattle.process_core.specs.Instance.{only_if};
 ghost use Rattle.basics.specs.Options.{if_some};
-ghost use Rattle.process_core.specs.Ready.{firsts};
 ghost use Rattle.prism_tree.specs.Syntax.{file_of, var_of, command_of};
 ghost use Rattle.name_table.specs.Asks.{variables, actions, action_of};
 ghost use Rattle.name_table.specs.Gathered.{body_in};
 
-use crate::name_set::NameSet;
 use bridge_io::{Named, Text};
+use gathering::each_once;
 use prism_tree::{PrismCommand, PrismFile, PrismModule, PrismVar};
 use std::alloc::{AllocError, Global};
 
@@ -72,7 +70,7 @@ pub fn actions(alloc: Global, file: &PrismFile) -> Result<Vec<&Text>, AllocError
     ensures { IfOk result (λ xs. map (λ x. x.now) xs.items ≡ actions (file_of file.now)) }
 {
     let occurring = occurring(alloc, file.modules.as_slice())?;
-    let all = firsts(alloc, occurring.as_slice())?;
+    let all = each_once(alloc, occurring.as_slice())?;
     Ok(all)
 }
 
@@ -98,31 +96,6 @@ fn actions_in<'a>(alloc: Global, commands: &'a [PrismCommand]) -> Result<Vec<&'a
         if let Some(action) = &command.action {
             all.push(&action.name)?;
         }
-    }
-    Ok(all)
-}
-
-/// Adds one that is wanted.
-pub fn keep_if<'a, T>(all: &mut Vec<&'a T>, wanted: bool, x: &'a T) -> Result<(), AllocError>
-    ensures { OnOk result (all.new.items ≡ all.old.items ++ only_if wanted x.entry) }
-{
-    if wanted {
-        all.push(x)?;
-    }
-    Ok(())
-}
-
-/// Each name once, at its first place.
-fn firsts<'a>(alloc: Global, names: &[&'a Text]) -> Result<Vec<&'a Text>, AllocError>
-    ensures { IfOk result (λ xs. map (λ x. x.now) xs.items ≡ firsts bytes_eq (map (λ x. x.now) names.now)) }
-{
-    let mut all = Vec::new(alloc);
-    let mut seen = NameSet::new(alloc);
-    for name in names {
-        let text: &'a str = name.as_str();
-        let is_new = !seen.has(text);
-        seen.add(text)?;
-        keep_if(&mut all, is_new, *name)?;
     }
     Ok(all)
 }

@@ -6,12 +6,13 @@ ghost use Rattle.std.specs.Option.{option_map};
 ghost use Rattle.jani_tree.specs.Syntax.{automaton_of, file_of, kind_of, var_of};
 ghost use Rattle.jani_check.specs.NameFaults.{name_faults};
 ghost use Rattle.op_trees.specs.Names.{is_called};
+ghost use Rattle.name_rules.specs.Names.{under};
 ghost use Rattle.jani_meaning.specs.Elements.{elements, is_boolean, owned_by, variables, lasting, labels, structures};
-ghost use Rattle.name_table.specs.JaniParts.{under, owned_of, element_under, is_wanted, owner_of};
+ghost use Rattle.name_table.specs.JaniParts.{owned_of, element_under, is_wanted, owner_of};
 
-use crate::name_map::NameMap;
 use bridge_io::Named;
 use jani_tree::{JaniAutomaton, JaniFile, JaniKind, JaniVar};
+use name_rules::NameMap;
 use std::alloc::{AllocError, Global};
 
 /// A variable, and the number of the element that it belongs to; a global one belongs to none.
@@ -51,7 +52,7 @@ fn by_name<'a>(
 {
     let mut all = NameMap::new(alloc);
     for a in automata {
-        all.add(a.name.name.as_str(), a)?;
+        all.put_first(a.name.name.as_str(), a)?;
     }
     Ok(all)
 }

@@ -18,9 +18,9 @@ pub use laws::{
     evaluation_law, formula_law, mapping_law, offset_law, renaming_law, substitution_law,
     typing_law,
 };
-pub use measure::{count, height, same};
+pub use measure::{count, height, offset_of, same};
 pub use operator::{Names, Operator};
-pub use rebuild::{Bodies, OpMap, Shape, copy_expr, map_ops, substitute};
+pub use rebuild::{Bodies, OpMap, Shape, copy_expr, map_ops, one, substitute, three, two};
 pub use standard::StandardOp;
 pub use tree::{EvalFail, Expr, Next, Ty, Value};
 pub use typing::type_of;

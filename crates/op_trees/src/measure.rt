@@ -1,6 +1,7 @@
-// How large a tree is, and whether two are the same.
+// How large a tree is, where it stands, and whether two are the same.
 
 ghost use Rattle.std.specs.Prelude.{◌≡◌, ◌↔◌, IsTrue};
+ghost use Rattle.op_trees.specs.Names.{offset_of};
 ghost use Rattle.op_trees.specs.Tree.{bare, capped, height_of, node_count, tree};
 
 use crate::operator::Operator;
@@ -52,5 +53,19 @@ pub fn same<O: Operator>(a: &Expr<O>, b: &Expr<O>) -> bool
             && same(z, w)
             && same(u, v),
         _ => false,
+    }
+}
+
+/// Where an expression stands: the offset of its outermost node.
+pub fn offset_of<O>(e: &Expr<O>) -> usize
+    ensures { result ≡ offset_of (tree e.now) }
+{
+    match e {
+        Expr::Truth(at, _) => *at,
+        Expr::Number(at, _) => *at,
+        Expr::Name(at, _) => *at,
+        Expr::One(at, _, _) => *at,
+        Expr::Two(at, _, _, _) => *at,
+        Expr::Three(at, _, _, _, _) => *at,
     }
 }

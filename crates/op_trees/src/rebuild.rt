@@ -131,7 +131,7 @@ fn name<O: Operator>(alloc: Global, at: usize, x: &str) -> Result<Expr<O>, Alloc
 }
 
 /// A node over one operand that was made.
-fn one<O: Operator>(
+pub fn one<O: Operator>(
     alloc: Global,
     at: usize,
     o: O,
@@ -143,7 +143,7 @@ fn one<O: Operator>(
 }
 
 /// A node over two operands that were made.
-fn two<O: Operator>(
+pub fn two<O: Operator>(
     alloc: Global,
     at: usize,
     o: O,
@@ -159,7 +159,7 @@ fn two<O: Operator>(
 }
 
 /// A node over three operands that were made.
-fn three<O: Operator>(
+pub fn three<O: Operator>(
     alloc: Global,
     at: usize,
     o: O,

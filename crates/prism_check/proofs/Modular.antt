@@ -1,7 +1,7 @@
 -- The sizes of all modules of a file, from those of the modules that are no copies.
 use Rattle.std.specs.Prelude.{ℕ, ◌<◌, ◌+◌, max, List, [], ◌∷◌, ◌++◌, map, length, drop, Bool, true, false, Option, Some, None, unwrap_or, bytes_eq, if◌then◌else◌}
 use Rattle.std.specs.List.{flat_map, fold, sum}
-use Rattle.std.specs.Option.{option_map}
+use Rattle.std.specs.Option.{option_map, option_or}
 use Rattle.std.proofs.Common.{◌≡◌, refl, sym, ap, ap₂, ◌∙◌, get_or, arith}
 use Rattle.std.proofs.lemmas.List.{at_drop_more}
 use Rattle.std.proofs.lemmas.List.Sums.{sum_by-cons}
@@ -14,7 +14,6 @@ use Rattle.prism_names.specs.Sizes.{name_nodes, name_height}
 use Rattle.prism_names.specs.Order.{whole_nodes, whole_height}
 use Rattle.prism_check.specs.declared.tree_size.Size.{Size}
 use Rattle.prism_check.specs.Demands.{Demand, expression_of, outer_demands, all_demands, var_demands, command_demands, part_demands}
-use Rattle.name_rules.specs.Names.{first_some}
 use Rattle.prism_check.specs.Tables.{named_module, vars_in, commands_in}
 use Rattle.prism_check.specs.SizeFaults.{counted_nodes, counted_height}
 use Rattle.prism_check.specs.Counted.{AreSizes, nodes_of, highest, own_demands, own_size, copied_size, copied_demands, all_nodes, tallest, nothing}
@@ -47,21 +46,21 @@ own_height_more f all i entry sum size new whole h is p q so_far =
 
 pub named_more : (own : Module → Size) (old new : Name → Option Size) (q name : Name) (size : Size) (all : List PrismModule) (i : ℕ) (entry : PrismModule) (whole : Option Size) →
     i < length all → entry ≡ get_or all i entry → name ≡ (module_name (module_of entry)).name → size ≡ own (module_of entry) →
-    new q ≡ first_some (old q) (if bytes_eq name q then Some size else None) →
-    first_some (old q) (option_map own (named_module (drop i all) q)) ≡ whole →
-    first_some (new q) (option_map own (named_module (drop (i + 1) all) q)) ≡ whole
+    new q ≡ option_or (old q) (if bytes_eq name q then Some size else None) →
+    option_or (old q) (option_map own (named_module (drop i all) q)) ≡ whole →
+    option_or (new q) (option_map own (named_module (drop (i + 1) all) q)) ≡ whole
 named_more own old new q name size all i entry whole h is same gives e so_far =
     let rest = named_module (drop (i + 1) all) q in
-    ap (λ o. first_some o (option_map own rest)) e
-    ∙ ap₂ (λ n s. first_some (first_some (old q) (if bytes_eq n q then Some s else None)) (option_map own rest)) same gives
+    ap (λ o. option_or o (option_map own rest)) e
+    ∙ ap₂ (λ n s. option_or (option_or (old q) (if bytes_eq n q then Some s else None)) (option_map own rest)) same gives
     ∙ one (old q) (bytes_eq (module_name (module_of entry)).name q) rest
-    ∙ sym (at_drop_more (λ ms. first_some (old q) (option_map own (named_module ms q))) all i entry h
-    ∙ ap (λ m. first_some (old q) (option_map own (named_module (m ∷ drop (i + 1) all) q))) (sym is))
+    ∙ sym (at_drop_more (λ ms. option_or (old q) (option_map own (named_module ms q))) all i entry h
+    ∙ ap (λ m. option_or (old q) (option_map own (named_module (m ∷ drop (i + 1) all) q))) (sym is))
     ∙ so_far
   where
     one : (o : Option Size) (b : Bool) (r : Option Module) →
-        first_some (first_some o (if b then Some (own (module_of entry)) else None)) (option_map own r)
-        ≡ first_some o (option_map own (if b then Some (module_of entry) else r))
+        option_or (option_or o (if b then Some (own (module_of entry)) else None)) (option_map own r)
+        ≡ option_or o (option_map own (if b then Some (module_of entry) else r))
     one (Some z) b r = refl
     one None true r = refl
     one None false r = refl

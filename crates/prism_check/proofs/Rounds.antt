@@ -1,6 +1,6 @@
 -- Names of expressions whose formulas are written out, looked up round by round.
 use Rattle.std.specs.Prelude.{ℕ, zero, suc, ◌<◌, ◌≤◌, ◌+◌, List, [], ◌∷◌, map, length, drop, Bool, true, false, ◌||◌, Option, Some, None, unwrap_or, bytes_eq, All, if◌then◌else◌, ◌⊎◌}
-use Rattle.std.specs.Option.{option_map}
+use Rattle.std.specs.Option.{option_map, option_or}
 use Rattle.std.specs.List.{find, list_any}
 use Rattle.std.proofs.Common.{◌≡◌, refl, sym, ap, ap₂, subst, ◌∙◌, get_or, arith, inl, inr}
 use Rattle.std.proofs.lemmas.List.{at_drop_more}
@@ -15,7 +15,6 @@ use Rattle.prism_tree.specs.declared.syntax.PrismFormula.{PrismFormula}
 use Rattle.prism_tree.specs.Syntax.{Expression, Formula, formula_of}
 use Rattle.prism_check.specs.Demands.{Demand, fixed, varying, written}
 use Rattle.prism_check.specs.NameFaults.{some_used}
-use Rattle.name_rules.specs.Names.{first_some}
 use Rattle.prism_check.specs.Tables.{body_in}
 use Rattle.prism_check.specs.Levels.{through, level, used_in}
 
@@ -114,21 +113,21 @@ last_round fs is_such old new k h made said same x =
 -- ---- one formula of a list more
 pub flag_more : (said : Name → Bool) (old new : Name → Option Bool) (q name : List ℕ) (value : Bool) (fs : List PrismFormula) (i : ℕ) (f : PrismFormula) → i < length fs →
     f ≡ get_or fs i f → name ≡ f.name.name → value ≡ some_name said (formula_of f).body →
-    new q ≡ first_some (old q) (if bytes_eq name q then Some value else None) →
-    first_some (old q) (option_map (some_name said) (body_in (drop i fs) q)) ≡ option_map (some_name said) (body_in fs q) →
-    first_some (new q) (option_map (some_name said) (body_in (drop (i + 1) fs) q)) ≡ option_map (some_name said) (body_in fs q)
+    new q ≡ option_or (old q) (if bytes_eq name q then Some value else None) →
+    option_or (old q) (option_map (some_name said) (body_in (drop i fs) q)) ≡ option_map (some_name said) (body_in fs q) →
+    option_or (new q) (option_map (some_name said) (body_in (drop (i + 1) fs) q)) ≡ option_map (some_name said) (body_in fs q)
 flag_more said old new q name value fs i f h is same gives e so_far =
     let rest = body_in (drop (i + 1) fs) q in
-    ap (λ o. first_some o (option_map (some_name said) rest)) e
-    ∙ ap₂ (λ n v. first_some (first_some (old q) (if bytes_eq n q then Some v else None)) (option_map (some_name said) rest)) same gives
+    ap (λ o. option_or o (option_map (some_name said) rest)) e
+    ∙ ap₂ (λ n v. option_or (option_or (old q) (if bytes_eq n q then Some v else None)) (option_map (some_name said) rest)) same gives
     ∙ one (old q) (bytes_eq f.name.name q) (find (λ g. is_called q g.name) (map formula_of (drop (i + 1) fs)))
-    ∙ sym (at_drop_more (λ ys. first_some (old q) (option_map (some_name said) (body_in ys q))) fs i f h
-    ∙ ap (λ y. first_some (old q) (option_map (some_name said) (body_in (y ∷ drop (i + 1) fs) q))) (sym is))
+    ∙ sym (at_drop_more (λ ys. option_or (old q) (option_map (some_name said) (body_in ys q))) fs i f h
+    ∙ ap (λ y. option_or (old q) (option_map (some_name said) (body_in (y ∷ drop (i + 1) fs) q))) (sym is))
     ∙ so_far
   where
     one : (o : Option Bool) (b : Bool) (r : Option Formula) →
-        first_some (first_some o (if b then Some (some_name said (formula_of f).body) else None)) (option_map (some_name said) (option_map (λ g. g.body) r))
-        ≡ first_some o (option_map (some_name said) (option_map (λ g. g.body) (if b then Some (formula_of f) else r)))
+        option_or (option_or o (if b then Some (some_name said (formula_of f).body) else None)) (option_map (some_name said) (option_map (λ g. g.body) r))
+        ≡ option_or o (option_map (some_name said) (option_map (λ g. g.body) (if b then Some (formula_of f) else r)))
     one (Some z) b r = refl
     one None true r = refl
     one None false r = refl

@@ -73,8 +73,8 @@ fn add<'a>(
     Ok(())
 }
 
-// The names that a body uses, if there is one.
-fn uses_of<'a>(alloc: Global, body: Option<&'a PrismExpr>) -> Result<Vec<&'a str>, AllocError>
+/// The names that an expression uses, if there is one. `Err` is want of memory.
+pub fn uses_of<'a>(alloc: Global, body: Option<&'a PrismExpr>) -> Result<Vec<&'a str>, AllocError>
     ensures { IfOk result (λ list. map (λ s. s.now) list.items ≡ used (option_map (λ e. tree e.now) body.entry)) }
 {
     let mut list = Vec::new(alloc);

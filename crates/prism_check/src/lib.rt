@@ -28,8 +28,8 @@ mod writes;
 mod writing;
 
 pub use check::{CheckedPrism, check_prism};
+pub use declarations::uses_of;
 pub use file_names::FileNames;
 pub use laws::{flat_is_clean_law, written_out_sizes_law};
 pub use sizes::{HEIGHT_LIMIT, NODE_LIMIT};
 pub use tree_size::Size;
-pub use typing::offset_of;

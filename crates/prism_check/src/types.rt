@@ -14,12 +14,13 @@ ghost use Rattle.prism_check.specs.Writings.{IsWriting};
 use crate::demands::{Demand, contents_demands, outer_demands};
 use crate::scope::body_demands;
 use crate::tables::{Modules, Renaming};
-use crate::typing::{Names, Spot, judge_type, known_formulas, offset_of, sooner_at, varies};
+use crate::typing::{Names, Spot, judge_type, known_formulas, sooner_at, varies};
 use crate::values::{commands_in, vars_in};
 use crate::variables::declarations;
 use crate::writes::{judge_repeated, judge_write};
 use crate::writing::Writing;
 use bridge_io::{Fault, Reason};
+use op_trees::offset_of;
 use prism_tree::{CopiedModule, PrismCommand, PrismFile, PrismModule, PrismVar};
 use std::alloc::{AllocError, Global};
 

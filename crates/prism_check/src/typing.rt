@@ -18,7 +18,7 @@ use crate::tables::Renaming;
 use crate::variables::Declared;
 use bridge_io::{Fault, Reason};
 use name_rules::{NameMap, sooner_if};
-use op_trees::{Expr, Operator, Ty, Wanted, is_wanted};
+use op_trees::{Expr, Operator, Ty, Wanted, is_wanted, offset_of};
 use prism_tree::{PrismExpr, PrismFormula, PrismOp};
 use std::alloc::{AllocError, Global};
 
@@ -265,20 +265,6 @@ fn is_unwanted(wanted: Wanted, ty: Option<Ty>) -> bool
     match ty {
         None => false,
         Some(ty) => !is_wanted(wanted, ty),
-    }
-}
-
-/// Where an expression begins.
-pub fn offset_of(e: &PrismExpr) -> usize
-    ensures { result ≡ offset_of (tree e.now) }
-{
-    match e {
-        Expr::Truth(at, _) => *at,
-        Expr::Number(at, _) => *at,
-        Expr::Name(at, _) => *at,
-        Expr::One(at, _, _) => *at,
-        Expr::Two(at, _, _, _) => *at,
-        Expr::Three(at, _, _, _, _) => *at,
     }
 }
 

@@ -1,12 +1,12 @@
 // The constants and variables of a file with their types, by name.
 
 ghost use Rattle.std.specs.Prelude.{◌≡◌, List, ℕ, map, IfOk, OnOk, unwrap_or};
-ghost use Rattle.std.specs.Option.{option_map};
+ghost use Rattle.std.specs.Option.{option_map, option_or};
 ghost use Rattle.std.specs.List.{find};
 ghost use Rattle.prism_tree.specs.Syntax.{file_of, module_of, var_of, const_of};
 ghost use Rattle.op_trees.specs.Names.{is_called};
 ghost use Rattle.prism_check.specs.Demands.{var_type};
-ghost use Rattle.name_rules.specs.Names.{first_some, under};
+ghost use Rattle.name_rules.specs.Names.{under};
 ghost use Rattle.prism_check.specs.Tables.{module_under, named_module, new_name};
 ghost use Rattle.prism_check.specs.TypeFaults.{variable_called};
 ghost use Rattle.prism_check.specs.Typing.{IsDeclared, module_variables_by, numbered_by, owned, owned_in, variables_by};
@@ -108,7 +108,7 @@ fn add_variables<'a>(
 ) -> Result<(), AllocError>
     ensures { OnOk result
         ((x : List ℕ) → under table.new x
-        ≡ first_some (under table.old x) (owned_in (variables_by (new_name renaming.now) owner (map var_of vars.now)) x)) }
+        ≡ option_or (under table.old x) (owned_in (variables_by (new_name renaming.now) owner (map var_of vars.now)) x)) }
 {
     for var in vars {
         let name = read_as(renaming, var.name.name.as_str());
@@ -127,7 +127,7 @@ fn add_all<'a>(
 ) -> Result<(), AllocError>
     ensures { OnOk result
         ((x : List ℕ) → under table.new x
-        ≡ first_some (under table.old x) (owned_in (numbered_by (module_under modules.now) 0 (map module_of all.now)) x)) }
+        ≡ option_or (under table.old x) (owned_in (numbered_by (module_under modules.now) 0 (map module_of all.now)) x)) }
 {
     for (number, entry) in all.iter().enumerate() {
         add_module(alloc, entry, number, modules, table)?;
@@ -145,7 +145,7 @@ fn add_module<'a>(
 ) -> Result<(), AllocError>
     ensures { OnOk result
         ((x : List ℕ) → under table.new x
-        ≡ first_some (under table.old x) (owned_in (module_variables_by (module_under modules.now) number (module_of entry.now)) x)) }
+        ≡ option_or (under table.old x) (owned_in (module_variables_by (module_under modules.now) number (module_of entry.now)) x)) }
 {
     match entry {
         PrismModule::Plain(m) => {

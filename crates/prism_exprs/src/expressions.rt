@@ -9,12 +9,12 @@ ghost use Rattle.prism_exprs.specs.Levels.{more, goes_on, lists_on, others, more
 
 use crate::leaf::{leaf_next, parse_leaf};
 use crate::parts::{
-    chain_next, choice, closed, function_of, level_next, moved, next_is, offset_of, one,
-    read_signs, read_symbol, sign_next, two, with_signs,
+    chain_next, choice, closed, function_of, level_next, moved, next_is, one, read_signs,
+    read_symbol, sign_next, two, with_signs,
 };
 use crate::tokens::{Cause, Kept, Stop, Tokens};
 use bridge_io::Text;
-use op_trees::Expr;
+use op_trees::{Expr, offset_of};
 use prism_lex::{Reserved, Symbol};
 use prism_tree::{PrismExpr, PrismOp};
 use std::alloc::Global;

@@ -12,7 +12,7 @@ ghost use Rattle.prism_exprs.specs.Levels.{more, joins_at, sign_first, next_leve
 ghost use Rattle.prism_tree.specs.declared.operator.PrismOp.TheVariants as O;
 
 use crate::tokens::{Cause, Found, Kept, Stop, Tokens};
-use op_trees::Expr;
+use op_trees::{Expr, offset_of};
 use prism_lex::{Reserved, Symbol};
 use prism_tree::{PrismExpr, PrismOp};
 use std::alloc::{AllocError, Global};
@@ -154,20 +154,6 @@ pub fn function_of(name: &str) -> Option<PrismOp>
         b"ceil" => Some(PrismOp::Ceil),
         b"mod" => Some(PrismOp::Mod),
         _ => None,
-    }
-}
-
-/// Where an expression begins.
-pub(crate) fn offset_of(e: &PrismExpr) -> usize
-    ensures { result ≡ offset_of (tree e.now) }
-{
-    match e {
-        Expr::Truth(at, _) => *at,
-        Expr::Number(at, _) => *at,
-        Expr::Name(at, _) => *at,
-        Expr::One(at, _, _) => *at,
-        Expr::Two(at, _, _, _) => *at,
-        Expr::Three(at, _, _, _, _) => *at,
     }
 }
 

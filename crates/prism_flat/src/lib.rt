@@ -6,7 +6,6 @@ mod bodies;
 mod file;
 mod laws;
 mod modules;
-mod nodes;
 mod parts;
 mod renaming;
 mod rewriter;

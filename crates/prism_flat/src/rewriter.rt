@@ -8,10 +8,9 @@ ghost use Rattle.prism_flat.specs.Rewritten.{rewritten_name, rewritten_range};
 ghost use Rattle.prism_flat.specs.Tables.{body_in, name_in, rewriting};
 
 use crate::bodies::Table;
-use crate::nodes::{one, three, two};
 use crate::renaming::Renaming;
 use bridge_io::{Named, Text};
-use op_trees::{Bodies, Expr};
+use op_trees::{Bodies, Expr, one, three, two};
 use prism_tree::{PrismExpr, PrismRange};
 use std::alloc::{AllocError, Global};
 

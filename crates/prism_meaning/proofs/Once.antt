@@ -1,31 +1,11 @@
 -- Loops that gather the actions of commands, each once.
 use Rattle.std.proofs.Common.{◌≡◌, ℕ, ◌+◌, ◌<◌, List, [], ◌∷◌, ◌++◌, map, length, take, get_or, Bool, true, false, ◌||◌, refl, sym, ap, ap₂, ◌∙◌, append_assoc}
-use Rattle.std.specs.Prelude.{not, bytes_eq, if◌then◌else◌}
+use Rattle.std.specs.Prelude.{if◌then◌else◌}
 use Rattle.std.specs.List.{filter, list_any}
 use Rattle.std.proofs.lemmas.List.{map-append}
 use Rattle.std.proofs.lemmas.List.Elements.{filter-append}
-use Rattle.std.proofs.lemmas.List.Folds.{list_any-append}
-use Rattle.process_core.specs.Instance.{only_if}
-use Rattle.process_core.specs.Ready.{Name, firsts}
 use Rattle.gathering.proofs.Loops.{taken}
 use Rattle.prism_meaning.specs.Shapes.{unless_empty}
-
-pub seen_more : {A : Type 0} (s : A → Name) (xs : List A) (i : ℕ) (x : A) (z : Name) (new old : Bool) → i < length xs → x ≡ get_or xs i x →
-    old ≡ list_any (λ y. bytes_eq y z) (map s (take i xs)) → new ≡ (bytes_eq (s x) z || old) → new ≡ list_any (λ y. bytes_eq y z) (map s (take (i + 1) xs))
-seen_more s xs i x z new old h e so_far next =
-    next
-    ∙ ap (λ o. bytes_eq (s x) z || o) so_far
-    ∙ last (map s (take i xs)) (s x)
-    ∙ ap (list_any (λ y. bytes_eq y z)) (sym (map-append s (take i xs) (x ∷ [])) ∙ ap (map s) (sym (taken xs i x h e)))
-  where
-    last : (us : List Name) (u : Name) → (bytes_eq u z || list_any (λ y. bytes_eq y z) us) ≡ list_any (λ y. bytes_eq y z) (us ++ u ∷ [])
-    last us u = two (bytes_eq u z) (list_any (λ y. bytes_eq y z) us) ∙ sym (list_any-append (λ y. bytes_eq y z) us (u ∷ []))
-      where
-        two : (b c : Bool) → (b || c) ≡ (c || (b || false))
-        two true true = refl
-        two true false = refl
-        two false true = refl
-        two false false = refl
 
 -- behind what was there before, one image more
 pub after_more : {A B X Y : Type 0} (view : Y → B) (f : X → B) (s : A → X) (xs : List A) (i : ℕ) (x : A) (before : List B) (old new : List Y) (y : Y) → i < length xs → x ≡ get_or xs i x →

@@ -2,9 +2,9 @@
 use Rattle.std.proofs.Common.{◌≡◌, ℕ, suc, ◌+◌, List, [], ◌∷◌, ◌++◌, map, length, Bool, true, false, Option, Some, None, refl, sym, ap, ◌∙◌, append-nil, arith}
 use Rattle.std.specs.Prelude.{bytes_eq, slice_get, not, if◌then◌else◌}
 use Rattle.std.specs.List.{flat_map, list_all}
+use Rattle.std.specs.Option.{option_or}
 use Rattle.std.proofs.lemmas.List.{map-append}
 use Rattle.op_trees.specs.declared.tree.Value.{Value}
-use Rattle.name_rules.specs.Names.{first_some}
 use Rattle.process_core.specs.Ready.{Name, Values}
 use Rattle.process_core.specs.Instance.{Valuation, Column}
 use Rattle.prism_tree.specs.Syntax.{Const, Module, plain, copied, File}
@@ -51,7 +51,7 @@ columns_are file v w =
 -- ---- names
 value_from : (whole s : Values) (table : List (Option Value)) (i : ℕ) (cs : List Column) (x : Name) (o : Option Place) (constants : Name → Option Value) →
     length s ≡ length cs → ((j : ℕ) → slice_get whole (i + j) ≡ slice_get s j) → value_at whole table o ≡ constants x →
-    value_at whole table (first_some (column_place i cs x) o) ≡ value_in cs s constants x
+    value_at whole table (option_or (column_place i cs x) o) ≡ value_in cs s constants x
 value_from whole [] table i [] x o constants l h k = k
 value_from whole (v ∷ s) table i [] x o constants l h k = absurd (omega (arith, l))
 value_from whole [] table i (c ∷ cs) x o constants l h k = absurd (omega (arith, l))
@@ -60,13 +60,13 @@ value_from whole (v ∷ s) table i (c ∷ cs) x o constants l h k =
     (value_from whole s table (i + 1) cs x o constants (let e : length s ≡ length cs = omega (arith, l) in e)
     (λ j. ap (slice_get whole) (let e : i + 1 + j ≡ i + suc j = omega arith in e) ∙ h (suc j)) k)
   where
-    by_test : (b : Bool) → value_at whole table (first_some (column_place (i + 1) cs x) o) ≡ value_in cs s constants x →
-        value_at whole table (first_some (if b then Some (Variable i) else column_place (i + 1) cs x) o) ≡ (if b then Some v else value_in cs s constants x)
+    by_test : (b : Bool) → value_at whole table (option_or (column_place (i + 1) cs x) o) ≡ value_in cs s constants x →
+        value_at whole table (option_or (if b then Some (Variable i) else column_place (i + 1) cs x) o) ≡ (if b then Some v else value_in cs s constants x)
     by_test true r = ap (slice_get whole) (let e : i ≡ i + 0 = omega arith in e) ∙ h 0
     by_test false r = r
 
 pub values_are : (s : Values) (table : List (Option Value)) (cs : List Column) (x : Name) (o : Option Place) (constants : Name → Option Value) →
-    length s ≡ length cs → value_at s table o ≡ constants x → value_at s table (first_some (column_place 0 cs x) o) ≡ value_in cs s constants x
+    length s ≡ length cs → value_at s table o ≡ constants x → value_at s table (option_or (column_place 0 cs x) o) ≡ value_in cs s constants x
 values_are s table cs x o constants l k = value_from s s table 0 cs x o constants l (λ j. ap (slice_get s) (let e : 0 + j ≡ j = omega arith in e)) k
 
 no_column : (n i : ℕ) (ks : List Const) (x : Name) → column_at n (constant_place i ks x) ≡ n
@@ -78,16 +78,16 @@ no_column n i (k ∷ ks) x = by_test (bytes_eq k.name.name x) (no_column n (i + 
     by_test false r = r
 
 column_from : (n i : ℕ) (cs : List Column) (ks : List Const) (x : Name) → i + length cs ≡ n →
-    column_at n (first_some (column_place i cs x) (constant_place 0 ks x)) ≡ i + place_of cs x
+    column_at n (option_or (column_place i cs x) (constant_place 0 ks x)) ≡ i + place_of cs x
 column_from n i [] ks x e = no_column n 0 ks x ∙ (let f : n ≡ i + 0 = omega (arith, e) in f)
 column_from n i (c ∷ cs) ks x e = by_test (bytes_eq c.name x) (column_from n (i + 1) cs ks x (let f : i + 1 + length cs ≡ n = omega (arith, e) in f))
   where
-    by_test : (b : Bool) → column_at n (first_some (column_place (i + 1) cs x) (constant_place 0 ks x)) ≡ i + 1 + place_of cs x →
-        column_at n (first_some (if b then Some (Variable i) else column_place (i + 1) cs x) (constant_place 0 ks x)) ≡ i + (if not b then 1 + place_of cs x else 0)
+    by_test : (b : Bool) → column_at n (option_or (column_place (i + 1) cs x) (constant_place 0 ks x)) ≡ i + 1 + place_of cs x →
+        column_at n (option_or (if b then Some (Variable i) else column_place (i + 1) cs x) (constant_place 0 ks x)) ≡ i + (if not b then 1 + place_of cs x else 0)
     by_test true r = let f : i ≡ i + 0 = omega arith in f
     by_test false r = r ∙ (let f : i + 1 + place_of cs x ≡ i + (1 + place_of cs x) = omega arith in f)
 
-pub writes_are : (cs : List Column) (ks : List Const) (x : Name) → column_at (length cs) (first_some (column_place 0 cs x) (constant_place 0 ks x)) ≡ place_of cs x
+pub writes_are : (cs : List Column) (ks : List Const) (x : Name) → column_at (length cs) (option_or (column_place 0 cs x) (constant_place 0 ks x)) ≡ place_of cs x
 writes_are cs ks x = column_from (length cs) 0 cs ks x (let e : 0 + length cs ≡ length cs = omega arith in e) ∙ (let e : 0 + place_of cs x ≡ place_of cs x = omega arith in e)
 
 -- ---- no constant leads to itself

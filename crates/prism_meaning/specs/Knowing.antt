@@ -1,6 +1,7 @@
 -- What the program knows of a file before any state: under given constants, and what it prepares. (This project's own rule.)
 use Rattle.std.specs.Prelude.{◌≡◌, List, map, Option}
-use Rattle.name_rules.specs.Names.{first_some, under}
+use Rattle.std.specs.Option.{option_or}
+use Rattle.name_rules.specs.Names.{under}
 use Rattle.process_core.specs.Ready.{Name}
 use Rattle.process_core.specs.Instance.{Column, Valuation}
 use Rattle.prism_tree.specs.Operators.{prism_meaning}
@@ -25,7 +26,7 @@ use Rattle.prism_meaning.specs.declared.start.Known.{Known}
 pub record IsKnown (file : File) (v : Valuation) (k : Known) : Type 0 where
   pub constants : AreConstants file v k.constants.items
   pub columns : AreColumns (scene file v) (map column_of k.columns.items)
-  pub places : (x : Name) → under k.places x ≡ first_some (column_place 0 (map column_of k.columns.items) x) (constant_place 0 file.constants x)
+  pub places : (x : Name) → under k.places x ≡ option_or (column_place 0 (map column_of k.columns.items) x) (constant_place 0 file.constants x)
 
 -- groups, items of reward structures and labels are prepared: they come out as they do without, where names stand at these places
 pub record ArePrepared (places : Name → Option Place) (cs : List Column) (groups : List shapes.Shape) (earned : List (List Item)) (labels : List Label) (p : Prepared) : Type 0 where

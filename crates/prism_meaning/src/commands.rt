@@ -1,7 +1,7 @@
 //! What commands come out as at a state.
 ghost use Rattle.std.specs.Prelude.{◌≡◌, ◌++◌, IfOk, map};
 ghost use Rattle.process_core.specs.Choices.{is_false};
-ghost use Rattle.state_choices.specs.Views.{seen_of, command_of, update_of, write_of};
+ghost use Rattle.state_choices.specs.Views.{command_of, update_of, write_of};
 ghost use Rattle.state_choices.specs.Trimmed.{computed, trimmed, trimmed_update, trimmed_write};
 ghost use Rattle.instance_start.specs.Columns.{column_of};
 ghost use Rattle.expr_store.specs.Views.{seen_by, IsSame};
@@ -11,7 +11,7 @@ use crate::data::{PreparedCommand, PreparedUpdate, PreparedWrite};
 use bridge_io::List;
 use expr_store::{Evaluation, ExprId};
 use frac_core::Frac;
-use instance_start::{Column, domain_at, fits_in};
+use instance_start::{Column, domain_at, fits_in, is_false};
 use op_trees::{EvalFail, Value};
 use prism_tree::PrismOp;
 use state_choices::{Command, Update, Write};
@@ -52,16 +52,6 @@ fn command_under(
     }
     let updates = updates(alloc, command.updates.as_slice(), columns, state)?;
     Ok(Command { guard, updates })
-}
-
-/// Whether a value is the truth value false.
-fn is_false(answer: &Result<Value, EvalFail>) -> bool
-    ensures { result ≡ is_false (seen_of answer.now).value }
-{
-    match answer {
-        Ok(Value::Truth(b)) => !*b,
-        _ => false,
-    }
 }
 
 /// What updates come out as.

@@ -4,7 +4,6 @@ ghost use Rattle.std.specs.Option.{option_map};
 ghost use Rattle.op_trees.specs.Tree.{tree};
 ghost use Rattle.name_rules.specs.Circles.{AreTurns, circles, declared_by};
 ghost use Rattle.name_rules.specs.Names.{under};
-ghost use Rattle.name_rules.specs.Uses.{used};
 ghost use Rattle.prism_tree.specs.Syntax.{const_of, file_of};
 ghost use Rattle.prism_flat.specs.Scene.{constant, constant_seen};
 ghost use Rattle.state_choices.specs.Trimmed.{computed};
@@ -15,10 +14,11 @@ ghost use Rattle.prism_meaning.specs.Places.{constant_place};
 ghost use Rattle.prism_meaning.specs.Views.{names_by, seen_in};
 
 use crate::constant_names::{ConstantNames, value_of};
-use instance_start::{Place, given_value};
-use name_rules::{Declaration, NameMap, add_names, judge_circles};
+use instance_start::{Place, given_value, is_wide};
+use name_rules::{Declaration, NameMap, judge_circles};
 use op_trees::{EvalFail, Value, held};
-use prism_tree::{PrismConst, PrismExpr, PrismFile};
+use prism_check::uses_of;
+use prism_tree::{PrismConst, PrismFile};
 use process_core::{Given, StartFail};
 use std::alloc::{AllocError, Global};
 
@@ -49,18 +49,6 @@ fn declarations(alloc: Global, constants: &[PrismConst]) -> Result<Vec<Declarati
         })?;
     }
     Ok(all)
-}
-
-/// The names that an expression uses, if there is one.
-fn uses_of<'a>(alloc: Global, body: Option<&'a PrismExpr>) -> Result<Vec<&'a str>, AllocError>
-    ensures { IfOk result (λ list. map (λ s. s.now) list.items ≡ used (option_map (λ e. tree e.now) body.entry)) }
-{
-    let mut list = Vec::new(alloc);
-    match body {
-        Some(body) => add_names(body, &mut list)?,
-        None => {}
-    }
-    Ok(list)
 }
 
 /// The values of the constants, in an order in which each stands behind those that its value needs. `Wide` where one is.
@@ -125,16 +113,6 @@ pub(crate) fn constants_alone<'a>(
     ensures { seen_in result ≡ names_by places.now table.now }
 {
     ConstantNames { places, table }
-}
-
-/// Whether a value is wide.
-fn is_wide(value: &Result<Value, EvalFail>) -> bool
-    ensures { result ≡ (seen_of value.now).wide }
-{
-    match value {
-        Err(EvalFail::Wide) => true,
-        _ => false,
-    }
 }
 
 fn defined(value: &Result<Value, EvalFail>) -> Option<Value>

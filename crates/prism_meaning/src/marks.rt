@@ -1,7 +1,7 @@
 //! The marks of a state.
 ghost use Rattle.std.specs.Prelude.{◌≡◌, ◌++◌, map, OnOk};
 ghost use Rattle.std.specs.List.{list_any};
-ghost use Rattle.state_choices.specs.Views.{seen_of, sum_of};
+ghost use Rattle.state_choices.specs.Views.{sum_of};
 ghost use Rattle.process_core.specs.Answers.{Answers, only_wide};
 ghost use Rattle.process_core.specs.Choices.{truth_of};
 ghost use Rattle.process_core.specs.declared.data.Mark.TheVariants.{Truth, Number};
@@ -13,7 +13,8 @@ use crate::groups::sum_under;
 use bridge_io::List;
 use expr_store::{Evaluation, ExprId};
 use frac_core::Frac;
-use op_trees::{EvalFail, Value};
+use instance_start::{is_wide, truth_in};
+use op_trees::EvalFail;
 use prism_tree::PrismOp;
 use process_core::{Mark, StepFail};
 use std::alloc::Global;
@@ -38,26 +39,6 @@ pub(crate) fn add_labels(
         marks.push(Mark::Truth(truth_in(&value)))?;
     }
     Ok(())
-}
-
-/// Whether a value is wide.
-fn is_wide(value: &Result<Value, EvalFail>) -> bool
-    ensures { result ≡ (seen_of value.now).wide }
-{
-    match value {
-        Err(EvalFail::Wide) => true,
-        _ => false,
-    }
-}
-
-/// The truth value that a value is.
-fn truth_in(value: &Result<Value, EvalFail>) -> Option<bool>
-    ensures { result ≡ truth_of (seen_of value.now).value }
-{
-    match value {
-        Ok(Value::Truth(b)) => Some(*b),
-        _ => None,
-    }
 }
 
 /// Adds a mark for each reward structure: what the state earns in it. `Wide` exactly where one is.

@@ -1,9 +1,7 @@
 //! Which commands and reward items belong together, found once.
-ghost use Rattle.std.specs.Prelude.{◌≡◌, ◌++◌, IfOk, OnOk, List, None, Some, bytes_eq, map, option_copied};
+ghost use Rattle.std.specs.Prelude.{◌≡◌, ◌++◌, IfOk, List, None, Some, map, option_copied};
 ghost use Rattle.std.specs.List.{filter, flat_map, list_any};
-ghost use Rattle.process_core.specs.Instance.{only_if};
 ghost use Rattle.basics.specs.Options.{if_some};
-ghost use Rattle.process_core.specs.Ready.{firsts};
 ghost use Rattle.prism_flat.specs.Moment.{action_of, adds_of};
 ghost use Rattle.prism_flat.specs.Process.{is_for_choices, is_for_states};
 ghost use Rattle.prism_names.specs.Names.{unchanged};
@@ -14,7 +12,7 @@ ghost use Rattle.prism_meaning.specs.Views.{commands_of, items_of, shape_of};
 
 use crate::data::Shape;
 use bridge_io::Text;
-use name_rules::NameSet;
+use gathering::{each_once, keep_if};
 use prism_tree::{ItemOn, PrismCommand, PrismFile, PrismItem, PrismModule, PrismRewards};
 use std::alloc::{AllocError, Global};
 
@@ -147,16 +145,6 @@ fn commands_with<'a>(
     Ok(these)
 }
 
-/// Adds one that is wanted.
-fn keep_if<'a, T>(all: &mut Vec<&'a T>, wanted: bool, x: &'a T) -> Result<(), AllocError>
-    ensures { OnOk result (all.new.items ≡ all.old.items ++ only_if wanted x.entry) }
-{
-    if wanted {
-        all.push(x)?;
-    }
-    Ok(())
-}
-
 fn acts(command: &PrismCommand, action: Option<&Text>) -> bool
     ensures { result ≡ acts (option_copied action.entry) (command_of command.now) }
 {
@@ -191,21 +179,6 @@ fn add_actions<'a>(commands: &'a [PrismCommand], all: &mut Vec<&'a Text>) -> Res
         }
     }
     Ok(())
-}
-
-/// Each name once, at its first place.
-fn each_once<'a>(alloc: Global, names: &[&'a Text]) -> Result<Vec<&'a Text>, AllocError>
-    ensures { IfOk result (λ xs. map (λ x. x.now) xs.items ≡ firsts bytes_eq (map (λ x. x.now) names.now)) }
-{
-    let mut all = Vec::new(alloc);
-    let mut seen = NameSet::new(alloc);
-    for name in names {
-        let text: &'a str = name.as_str();
-        let is_new = !seen.has(text);
-        seen.add(text)?;
-        keep_if(&mut all, is_new, *name)?;
-    }
-    Ok(all)
 }
 
 /// The items of each reward structure that choices with this label earn, or those without one.

@@ -7,10 +7,15 @@ use Rattle.std.proofs.lemmas.List.{map-append, length-map, length-take}
 use Rattle.basics.specs.Members.{position_cons}
 use Rattle.basics.specs.Numbers.{nat_lt-suc}
 use Rattle.process_core.specs.Ready.{Name}
-use Rattle.name_table.specs.declared.name_map.NameMap.{NameMap}
-use Rattle.name_table.specs.JaniParts.{under}
+use Rattle.name_rules.specs.declared.map.NameMap.{NameMap}
+use Rattle.name_rules.specs.Names.{under}
 use Rattle.gathering.proofs.Loops.{taken}
 use Rattle.prism_targets.specs.Places.{under_some, only_then}
+
+-- where there is no map yet
+pub none_yet : (k : ℕ) (x : Name) → under_some (slice_get [] k) x ≡ None
+none_yet zero x = refl
+none_yet (suc k) x = refl
 
 -- an empty map behind the others
 pub grown : (ms : List (NameMap ℕ)) (m : NameMap ℕ) (k : ℕ) (x : Name) → under m x ≡ None → under_some (slice_get (ms ++ m ∷ []) k) x ≡ under_some (slice_get ms k) x

@@ -8,7 +8,7 @@ use Rattle.bridge_io.specs.declared.reason.Named.{Named}
 use Rattle.op_trees.specs.Tree.{capped}
 use Rattle.process_core.specs.Ready.{Name}
 use Rattle.jani_tree.specs.Syntax.{Automaton, Edge, Write, edge_of, vector_of}
-use Rattle.name_table.specs.Gathered.{is_in}
+use Rattle.name_rules.specs.Names.{has_name}
 use Rattle.prism_translation.specs.Elements.{is_at, some_write}
 use Rattle.gathering.specs.Lists.{list_under}
 use Rattle.prism_targets.specs.declared.places.Places.{Places}
@@ -48,7 +48,7 @@ numbers_in t None = t.silent
 numbers_in t (Some x) = list_under t.rewarding x
 
 abbrev pub table_view : ElementEdges → EdgeTable
-table_view t = record { edges = map ranked_view t.edges.items; rewarding = numbers_in t; plain = is_in t.plain }
+table_view t = record { edges = map ranked_view t.edges.items; rewarding = numbers_in t; plain = has_name t.plain }
 
 abbrev pub no_edges : EdgeTable
 no_edges = record { edges = []; rewarding = λ a. []; plain = λ x. false }

@@ -3,8 +3,8 @@ use Rattle.std.specs.Prelude.{◌≡◌, ℕ, List, Bool, ◌&&◌, Option, Some
 use Rattle.std.specs.Option.{option_or}
 use Rattle.process_core.specs.Ready.{Name}
 use Rattle.jani_meaning.specs.Elements.{Owned, place_of}
-use Rattle.name_table.specs.declared.name_map.NameMap.{NameMap}
-use Rattle.name_table.specs.JaniParts.{under}
+use Rattle.name_rules.specs.declared.map.NameMap.{NameMap}
+use Rattle.name_rules.specs.Names.{under}
 use Rattle.prism_targets.specs.declared.places.Places.{Places}
 
 abbrev pub only_then : {X : Type 0} → Bool → X → Option X

@@ -8,7 +8,7 @@ ghost use Rattle.jani_meaning.specs.Elements as jani;
 ghost use Rattle.jani_meaning.specs.Elements.{structures as structures_of};
 ghost use Rattle.process_core.specs.Instance.{numbered, only_if};
 ghost use Rattle.prism_translation.specs.Elements.{elements};
-ghost use Rattle.name_table.specs.Gathered.{is_in};
+ghost use Rattle.name_rules.specs.Names.{has_name};
 ghost use Rattle.name_table.specs.JaniParts.{owned_of};
 ghost use Rattle.prism_targets.specs.Tables.{table_in, table_of, has_edge, makers_at, plain_at, with_edge};
 ghost use Rattle.prism_targets.specs.Code.{table_view, name_in, name_of, no_edges, numbers_in, pays_by};
@@ -18,7 +18,8 @@ use crate::places::Places;
 use bridge_io::{List, Named};
 use gathering::NameLists;
 use jani_tree::{JaniAutomaton, JaniDestination, JaniEdge, JaniWrite};
-use name_table::{NameSet, OwnedVar};
+use name_rules::NameSet;
+use name_table::OwnedVar;
 use std::alloc::{AllocError, Global};
 
 /// An edge; whether it assigns rewards; and how many edges before it have its action, or none as it has, and do so.
@@ -110,8 +111,8 @@ impl<'a> ElementEdges<'a> {
         ensures edges { self.new.edges ≡ self.old.edges }
         ensures rewarding { OnOk result ((x : Option Name) → numbers_in self.new x
             ≡ numbers_in self.old x ++ only_if (same_label x (name_in action.now) && rewarding) number) }
-        ensures plain { OnOk result ((x : Name) → is_in self.new.plain x
-            ≡ (is_in self.old.plain x || (same_label (Some x) (name_in action.now) && not rewarding))) }
+        ensures plain { OnOk result ((x : Name) → has_name self.new.plain x
+            ≡ (has_name self.old.plain x || (same_label (Some x) (name_in action.now) && not rewarding))) }
     {
         match (action, rewarding) {
             (Some(a), true) => self.rewarding.add(alloc, a.name.as_str(), number),

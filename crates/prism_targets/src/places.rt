@@ -1,12 +1,14 @@
 // The numbers of variables, by the elements that they belong to and by their names.
 
-ghost use Rattle.std.specs.Prelude.{◌≡◌, ◌<◌, List, ℕ, Some, None, length, map, if◌then◌else◌, IfOk, OnOk};
+ghost use Rattle.std.specs.Prelude.{◌≡◌, ◌<◌, List, ℕ, Some, None, length, map, bytes_eq, if◌then◌else◌, IfOk, OnOk};
 ghost use Rattle.std.specs.Option.{option_or};
 ghost use Rattle.jani_meaning.specs.Elements.{is_own, is_global};
-ghost use Rattle.name_table.specs.JaniParts.{under, owned_of};
+ghost use Rattle.name_rules.specs.Names.{under};
+ghost use Rattle.name_table.specs.JaniParts.{owned_of};
 ghost use Rattle.prism_targets.specs.Places.{own_in, place_in, only_then, is_named_own, ArePlaces};
 
-use name_table::{NameMap, OwnedVar};
+use name_rules::NameMap;
+use name_table::OwnedVar;
 use std::alloc::{AllocError, Global};
 
 /// The numbers of variables in a list of them, those of global variables apart.
@@ -40,7 +42,7 @@ impl<'a> Places<'a> {
     {
         let name = var.var.name.name.as_str();
         match var.owner {
-            None => self.global.add(name, number),
+            None => put_number(&mut self.global, name, number),
             Some(k) => self.add_own(alloc, k, name, number),
         }
     }
@@ -58,7 +60,7 @@ impl<'a> Places<'a> {
         ensures global { OnOk result (self.new.global ≡ self.old.global) }
     {
         self.grow(alloc, element)?;
-        self.own[element].add(name, number)?;
+        put_number(&mut self.own[element], name, number)?;
         Ok(())
     }
 
@@ -94,4 +96,16 @@ impl<'a> Places<'a> {
             None => None,
         }
     }
+}
+
+/// Puts a number under a name, if none stands there.
+fn put_number<'a>(
+    numbers: &mut NameMap<'a, usize>,
+    name: &'a str,
+    number: usize,
+) -> Result<(), AllocError>
+    ensures { OnOk result ((x : List ℕ) →
+        under numbers.new x ≡ option_or (under numbers.old x) (only_then (bytes_eq name.now x) number)) }
+{
+    numbers.put_first(name, number)
 }

@@ -6,4 +6,4 @@ mod laws;
 mod translating;
 
 pub use laws::translated_law;
-pub use translating::to_jani;
+pub use translating::{flat_to_jani, to_jani};

@@ -2,7 +2,8 @@
 
 ghost use Rattle.std.specs.Prelude.{◌≡◌, IfOk};
 ghost use Rattle.prism_names.specs.Flat.{flat};
-ghost use Rattle.jani_tree.specs.Places.{bare_file};
+ghost use Rattle.prism_print.specs.Same.{bare_file};
+ghost use Rattle.jani_tree.specs.Places as jani;
 ghost use Rattle.jani_tree.specs.Syntax.{file_of};
 ghost use Rattle.jani_translation.specs.Translated.{translated};
 ghost use Rattle.prism_to_jani.specs.Promise.{IsTranslated};
@@ -11,7 +12,7 @@ use jani_check::CheckedJani;
 use jani_translation::translate;
 use jani_tree::JaniFile;
 use prism_check::CheckedPrism;
-use prism_places::flatten;
+use prism_places::{FlatPrism, flatten};
 use std::alloc::{AllocError, Global};
 
 /// The JANI file that a PRISM file without fault is translated to. It has no fault, it has the shape that
@@ -20,8 +21,21 @@ use std::alloc::{AllocError, Global};
 pub fn to_jani(alloc: Global, checked: &CheckedPrism) -> Result<CheckedJani, AllocError>
     ensures { IfOk result (λ j. IsTranslated checked.now.file (file_of j)) }
 {
+    let written = flatten(alloc, checked)?;
+    flat_to_jani(alloc, checked, &written)
+}
+
+/// The same, where this is the file with its formulas and its copies of modules written out, whatever the places.
+pub fn flat_to_jani(
+    alloc: Global,
+    checked: &CheckedPrism,
+    written: &FlatPrism,
+) -> Result<CheckedJani, AllocError>
+    requires { bare_file written.now ≡ bare_file (flat checked.now.file) }
+    ensures { IfOk result (λ j. IsTranslated checked.now.file (file_of j)) }
+{
     promised(checked);
-    let file = image_of(alloc, checked)?;
+    let file = image_of(alloc, written)?;
     let judged = CheckedJani::without_fault(alloc, file)?;
     Ok(judged)
 }
@@ -33,11 +47,9 @@ fn promised(checked: &CheckedPrism)
     checked.file();
 }
 
-/// The translation of the file, its formulas and copies of modules written out, whatever the places, before it is known to be
-/// of the profile.
-fn image_of(alloc: Global, checked: &CheckedPrism) -> Result<JaniFile, AllocError>
-    ensures { IfOk result (λ j. bare_file (file_of j) ≡ bare_file (translated (flat checked.now.file))) }
+/// The translation of a file that is written out, whatever the places, before it is known to be of the profile.
+fn image_of(alloc: Global, written: &FlatPrism) -> Result<JaniFile, AllocError>
+    ensures { IfOk result (λ j. jani.bare_file (file_of j) ≡ jani.bare_file (translated written.now)) }
 {
-    let flat = flatten(alloc, checked)?;
-    translate(alloc, flat.file())
+    translate(alloc, written.file())
 }

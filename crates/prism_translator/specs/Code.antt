@@ -8,7 +8,8 @@ use Rattle.prism_tree.specs.Syntax as prism
 use Rattle.jani_tree.specs.Syntax.{File, Automaton, Edge, file_of, automaton_of}
 use Rattle.op_trees.specs.Names.{is_called}
 use Rattle.jani_meaning.specs.Elements.{Owned, lasting, place_of}
-use Rattle.name_table.specs.JaniParts.{under, owned_of}
+use Rattle.name_rules.specs.Names.{under}
+use Rattle.name_table.specs.JaniParts.{owned_of}
 use Rattle.process_core.specs.Instance.{numbered, only_if}
 use Rattle.prism_translation.specs.Elements.{Lasting, Element}
 use Rattle.name_table.specs.PrismAsks.{NewNames, name_at, name_at_some}

@@ -5,12 +5,12 @@ ghost use Rattle.std.specs.List.{position};
 ghost use Rattle.jani_tree.specs.Syntax.{automaton_of, location_of};
 ghost use Rattle.op_trees.specs.Names.{is_called};
 ghost use Rattle.jani_meaning.specs.Elements.{location_number, initial_number};
-ghost use Rattle.name_table.specs.JaniParts.{under};
+ghost use Rattle.name_rules.specs.Names.{under};
 ghost use Rattle.prism_translation.specs.Elements.{has_several};
 ghost use Rattle.prism_translator.specs.Code.{element_of, IsElement, AreElements};
 
 use jani_tree::{JaniAutomaton, JaniLocation};
-use name_table::NameMap;
+use name_rules::NameMap;
 use std::alloc::{AllocError, Global};
 
 /// An element: its number, its automaton, and the numbers of its locations by their names.
@@ -75,7 +75,7 @@ fn location_numbers<'a>(
 {
     let mut all = NameMap::new(alloc);
     for i in 0..locations.len() {
-        all.add(locations[i].name.name.as_str(), i)?;
+        all.put_first(locations[i].name.name.as_str(), i)?;
     }
     Ok(all)
 }

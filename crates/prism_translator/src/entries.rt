@@ -5,7 +5,8 @@ ghost use Rattle.name_table.specs.PrismAsks.{name_at, outside};
 ghost use Rattle.prism_translator.specs.Code.{file_in, value_in, constant_in};
 
 use jani_tree::JaniFile;
-use name_table::{Entry, NameMap};
+use name_rules::NameMap;
+use name_table::Entry;
 use prism_targets::Places;
 
 /// The entries of a file by their classes.

@@ -1,41 +1,22 @@
 // The entries of a file by their classes, and what its names become.
 
-ghost use Rattle.std.specs.Prelude.{◌≡◌, List, ℕ, drop, take, length, map, IfOk};
+ghost use Rattle.std.specs.Prelude.{◌≡◌, List, ℕ, length, map, IfOk};
 ghost use Rattle.std.specs.List.{position};
 ghost use Rattle.jani_tree.specs.Syntax.{file_of, const_of};
 ghost use Rattle.op_trees.specs.Names.{is_called};
 ghost use Rattle.jani_meaning.specs.Elements.{lasting as lasting_of_file, labels as labels_of_file, structures as structures_of_file};
-ghost use Rattle.name_table.specs.JaniParts.{under, owned_of};
+ghost use Rattle.name_rules.specs.Names.{under};
+ghost use Rattle.name_table.specs.JaniParts.{owned_of};
 ghost use Rattle.name_table.specs.PrismAsks.{names_by};
 ghost use Rattle.prism_translator.specs.Code.{file_in, names_in, classes_in, IsReady};
 
 use crate::entries::{Classes, Names};
+use gathering::{drop_from, first_of};
 use jani_tree::{JaniConst, JaniFile};
-use name_table::{Entry, NameMap, OwnedVar};
+use name_rules::NameMap;
+use name_table::{Entry, OwnedVar};
 use prism_targets::Places;
 use std::alloc::{AllocError, Global};
-
-/// The entries from a place on.
-fn drop_from(at: usize, entries: &[Entry]) -> &[Entry]
-    ensures { result.now ≡ drop at entries.now }
-{
-    if at < entries.len() {
-        &entries[at..]
-    } else {
-        &[]
-    }
-}
-
-/// So many entries.
-fn first_of(count: usize, entries: &[Entry]) -> &[Entry]
-    ensures { result.now ≡ take count entries.now }
-{
-    if count < entries.len() {
-        &entries[..count]
-    } else {
-        entries
-    }
-}
 
 /// The entries by their classes, where the file has so many variables that are not transient, labels and reward structures.
 fn classes<'a>(
@@ -77,7 +58,7 @@ fn constant_numbers<'a>(
 {
     let mut all = NameMap::new(alloc);
     for i in 0..constants.len() {
-        all.add(constants[i].name.name.as_str(), i)?;
+        all.put_first(constants[i].name.name.as_str(), i)?;
     }
     Ok(all)
 }

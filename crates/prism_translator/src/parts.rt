@@ -1,6 +1,6 @@
 // Names and expressions that are made; constants and variables.
 
-ghost use Rattle.std.specs.Prelude.{◌≡◌, min, map, IfOk};
+ghost use Rattle.std.specs.Prelude.{◌≡◌, map, IfOk};
 ghost use Rattle.std.specs.List.{zip};
 ghost use Rattle.std.specs.Option.{option_map};
 ghost use Rattle.op_trees.specs.Tree.{tree};
@@ -17,6 +17,7 @@ use crate::entries::{Names, name_at};
 use crate::image::image;
 use bridge_io::{List, Named, Text};
 use frac_core::Decimal;
+use gathering::shorter;
 use jani_tree::{JaniConst, JaniExpr, JaniKind};
 use name_table::{Entry, OwnedVar};
 use op_trees::Expr;
@@ -193,11 +194,4 @@ pub(crate) fn variable(alloc: Global, names: &Names, x: &LastingVar) -> Result<P
         range: range_of(alloc, names, element, &var.kind)?,
         start: image_if(alloc, names, element, &var.start)?,
     })
-}
-
-/// The lesser of two lengths.
-pub(crate) fn shorter(a: usize, b: usize) -> usize
-    ensures { result ≡ min a b }
-{
-    if a < b { a } else { b }
 }

@@ -2,7 +2,8 @@
 
 ghost use Rattle.std.specs.Prelude.{◌≡◌, List, ℕ, map, IfOk, OnOk, None, Some, if◌then◌else◌};
 ghost use Rattle.std.specs.List.{position};
-ghost use Rattle.name_rules.specs.Names.{first_some, under};
+ghost use Rattle.std.specs.Option.{option_or};
+ghost use Rattle.name_rules.specs.Names.{under};
 ghost use Rattle.prism_tree.specs.Syntax.{rewards_of};
 ghost use Rattle.prop_trees.specs.PrismFaults.{is_titled};
 ghost use Rattle.prop_check.specs.Tables.{ArePlaced, first_place, place_in};
@@ -68,7 +69,7 @@ fn note<'a>(
 ) -> Result<(), AllocError>
     ensures { OnOk result
         ((x : List ℕ) → under places.new x
-        ≡ first_some (under places.old x) (if is_titled x (rewards_of rewards.now) then Some place else None)) }
+        ≡ option_or (under places.old x) (if is_titled x (rewards_of rewards.now) then Some place else None)) }
 {
     match &rewards.name {
         Some(name) => places.put_first(name.name.as_str(), place),

@@ -15,8 +15,7 @@ use crate::parts::{Part, Role};
 use crate::scope::Scope;
 use bridge_io::{Fault, Reason};
 use name_rules::{sooner, sooner_if};
-use op_trees::{Expr, Wanted, is_wanted, type_of};
-use prism_check::offset_of;
+use op_trees::{Expr, Wanted, is_wanted, offset_of, type_of};
 use prism_tree::PrismExpr;
 
 /// The least fault of the types of these bounds and state formulas, if they have one.

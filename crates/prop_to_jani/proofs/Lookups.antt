@@ -1,9 +1,9 @@
 -- The table of new names: what stands under each old name.
-use Rattle.std.proofs.Common.{◌≡◌, ℕ, ◌≤◌, refl, sym, ap, ◌∙◌, arith, Bool, true, false, List, [], ◌∷◌, map, length, take, drop, min, Option, Some, None}
+use Rattle.std.proofs.Common.{◌≡◌, ℕ, ◌+◌, ◌<◌, ◌≤◌, refl, sym, ap, ap₂, ◌∙◌, arith, Bool, true, false, List, [], ◌∷◌, map, length, take, drop, get_or, cond, min, Option, Some, None}
 use Rattle.std.specs.Prelude.{if◌then◌else◌, nat_le, bytes_eq, unwrap_or}
 use Rattle.std.specs.Borrow.{Bor}
 use Rattle.std.specs.Str.{is_utf8}
-use Rattle.std.proofs.lemmas.List.{drop_all, drop-drop, drop-map}
+use Rattle.std.proofs.lemmas.List.{at_drop_more, drop_all, drop-drop, drop-map}
 use Rattle.std.proofs.lemmas.Str.{IsUtf8-from_ascii, is_utf8-from_IsUtf8}
 use Rattle.basics.specs.Texts.{bytes_eq-true}
 use Rattle.prism_lex.specs.Tokens.{is_name}
@@ -12,7 +12,8 @@ use Rattle.prism_tree.specs.Syntax.{Label, File}
 use Rattle.prism_tree.specs.Grammar.{unquoted}
 use Rattle.std.specs.List.{AllByRecursion as Each}
 use Rattle.prism_print.specs.Printable.{IsPrintableLabel}
-use Rattle.std.specs.Option.{option_or as or_else}
+use Rattle.std.specs.Option.{option_map, option_or as or_else}
+use Rattle.gathering.proofs.Found.{first_more}
 use Rattle.name_table.specs.declared.entry.Entry.{Entry}
 use Rattle.name_table.specs.Asks.{variables, value_names, entries, labels_at, new_name, new_names}
 use Rattle.prop_grammar.specs.Grammar.{has_quotes}
@@ -39,6 +40,21 @@ found_all olds news total n i got x m h so_far = or_none got ∙ sym (ap (or_els
     rest : (b : Bool) → b ≡ nat_le (length olds) (length news) → found (map (λ z. z.now) (drop i olds)) (drop i news) x ≡ None
     rest true b = ap (λ (l : List (Bor Name)). found (map (λ z. z.now) l) (drop i news) x) (drop_all i olds (grind arith))
     rest false b = ap (λ (l : List Name). found (map (λ z. z.now) (drop i olds)) l x) (drop_all i news (grind arith)) ∙ not_found _ x
+
+pub found_more : (olds : List (Bor Name)) (news : List Name) (i : ℕ) (y : Bor Name) (n name : Name) (v : Bor Name) (old new : Option (Bor Name)) (whole : Option Name) (x : Name) →
+    i < length olds → i < length news → y ≡ get_or olds i y → n ≡ get_or news i n →
+    new ≡ or_else old (if bytes_eq name x then Some v else None) → name ≡ y.now → v.now ≡ n →
+    or_else (option_map (λ k. k.now) old) (found (map (λ k. k.now) (drop i olds)) (drop i news) x) ≡ whole →
+    or_else (option_map (λ k. k.now) new) (found (map (λ k. k.now) (drop (i + 1) olds)) (drop (i + 1) news) x) ≡ whole
+found_more olds news i y n name v old new whole x h l is there put called same so_far =
+    let rest = found (map (λ k. k.now) (drop (i + 1) olds)) (drop (i + 1) news) x in
+    let F : List (Bor Name) → List Name → Option Name = λ ys ns. or_else (option_map (λ k. k.now) old) (found (map (λ k. k.now) ys) ns x) in
+    ap (λ o. or_else (option_map (λ k. k.now) o) rest) put
+    ∙ first_more (λ k. k.now) old (bytes_eq name x) v rest
+    ∙ ap₂ (λ (m : Name) (k : Name). or_else (option_map (λ k. k.now) old) (cond (bytes_eq m x) (Some k) rest)) (called ∙ ap (λ (k : Bor Name). k.now) is) (same ∙ there)
+    ∙ sym (at_drop_more (λ ns. F (get_or olds i y ∷ drop (i + 1) olds) ns) news i n l)
+    ∙ sym (at_drop_more (λ ys. F ys (drop i news)) olds i y h)
+    ∙ so_far
 
 -- ---- what is found is the marked name of the entry
 found_marked : (ys : List Name) (es : List Entry) (x : Name) → unwrap_or (found ys (map (λ e. marked e.name) es) x) (marked []) ≡ marked (new_name ys es x)

@@ -17,8 +17,8 @@ use Rattle.prism_print.specs.Same.{bare_file}
 use Rattle.jani_table.specs.Node as json
 use Rattle.jani_tree.specs.Syntax as jani
 use Rattle.name_table.specs.declared.entry.Entry.{Entry}
-use Rattle.name_table.specs.declared.name_map.NameMap.{NameMap}
-use Rattle.name_table.specs.JaniParts.{under}
+use Rattle.name_rules.specs.declared.map.NameMap.{NameMap}
+use Rattle.name_rules.specs.Names.{under}
 use Rattle.prism_images.specs.Image.{image}
 use Rattle.prop_grammar.specs.Grammar.{has_quotes}
 use Rattle.prop_trees.specs.Trees.{Name, PrismProperty, JaniProperty, ask_with, path_with}

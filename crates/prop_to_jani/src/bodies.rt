@@ -9,10 +9,11 @@ ghost use Rattle.prism_flat.specs.Filling.{bodies_after};
 ghost use Rattle.prop_trees.specs.Names.{marked};
 ghost use Rattle.prop_to_jani.specs.Code.{body_in, formula_in};
 
-use crate::names::{marked, model_name};
+use crate::names::model_name;
 use indexmap::IndexMap;
 use op_trees::{Bodies, Expr, OpMap, Shape, map_ops, substitute};
 use prism_tree::{PrismExpr, PrismFormula, PrismOp};
+use prop_trees::marked;
 use std::alloc::{AllocError, Global};
 
 /// The bodies of formulas by their names. In an expression of a property a formula's name has a point before it.

@@ -5,7 +5,6 @@
 mod bodies;
 mod expressions;
 mod laws;
-mod lists;
 mod members;
 mod names;
 mod queries;
@@ -13,4 +12,4 @@ mod tables;
 mod translation;
 
 pub use laws::properties_law;
-pub use translation::props_to_jani;
+pub use translation::{flat_props_to_jani, props_to_jani};

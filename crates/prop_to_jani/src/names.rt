@@ -1,16 +1,14 @@
 // The names in the expressions of properties: which of them are names of the model, and what these become.
 
-ghost use Rattle.std.specs.Prelude.{◌≡◌, false, true, IfOk, MatchOption, option_copied};
+ghost use Rattle.std.specs.Prelude.{◌≡◌, false, true, MatchOption, option_copied};
 ghost use Rattle.std.specs.Option.{option_map};
 ghost use Rattle.std.specs.Str.{is_utf8};
 ghost use Rattle.prism_tree.specs.Grammar.{unquoted};
-ghost use Rattle.prop_trees.specs.Names.{marked, meant};
+ghost use Rattle.prop_trees.specs.Names.{meant};
 ghost use Rattle.prop_to_jani.specs.Code.{model_part, label_in, model_in};
 
-use bridge_io::Text;
-use name_table::NameMap;
+use name_rules::NameMap;
 use prism_images::NewNames;
-use std::alloc::{AllocError, Global};
 use std::str::from_utf8;
 
 /// The name of the model that a name in a property is: it stands behind a point. None where the name is one of the labels that every
@@ -19,15 +17,6 @@ pub(crate) fn model_name(name: &str) -> Option<&str>
     ensures { option_copied result ≡ model_part (meant name.now) }
 {
     name.strip_prefix('.')
-}
-
-/// The name of the model as it stands in a property.
-pub(crate) fn marked(alloc: Global, name: &str) -> Result<Text, AllocError>
-    ensures { IfOk result (λ text. text ≡ marked name.now) }
-{
-    let mut text = String::from_str(alloc, ".")?;
-    text.push_str(name)?;
-    Text::from_string(text)
 }
 
 /// What constants and variables, and what labels become. The new names have the point before them.

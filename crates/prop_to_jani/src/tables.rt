@@ -9,11 +9,14 @@ ghost use Rattle.prop_trees.specs.Names.{marked};
 ghost use Rattle.prop_to_jani.specs.Code.{found, name_in, new_in};
 ghost use Rattle.prop_to_jani.specs.ToJani.{new_property_name};
 
-use crate::lists::{drop_from, shorter};
-use crate::names::{PropertyNames, marked};
+use crate::names::PropertyNames;
 use bridge_io::Text;
-use name_table::{Entry, NameMap};
+use gathering::{drop_from, shorter};
+use jani_translation::value_names;
+use name_rules::NameMap;
+use name_table::Entry;
 use prism_tree::{PrismConst, PrismFile, PrismLabel, PrismVar};
+use prop_trees::marked;
 use std::alloc::{AllocError, Global};
 
 /// The names of entries, each with the point that a name of a model has in properties.
@@ -63,22 +66,8 @@ fn value_map<'a, 'n>(
     ensures { IfOk result (λ m. (x : List ℕ) → new_in m x ≡ found
         (map (λ c. c.name.name) (map const_of constants.now) ++ map (λ y. y.name.name) (map (λ y. var_of y.now) vars.now)) news.now x) }
 {
-    let mut olds = constant_names(alloc, constants)?;
-    for x in vars {
-        olds.push(&x.name.name)?;
-    }
+    let olds = value_names(alloc, constants, vars)?;
     name_map(alloc, olds.as_slice(), news)
-}
-
-/// The names of constants.
-fn constant_names(alloc: Global, constants: &[PrismConst]) -> Result<Vec<&Text>, AllocError>
-    ensures { IfOk result (λ xs. map (λ x. x.now) xs.items ≡ map (λ c. c.name.name) (map const_of constants.now)) }
-{
-    let mut all = Vec::new(alloc);
-    for c in constants {
-        all.push(&c.name.name)?;
-    }
-    Ok(all)
 }
 
 /// What labels become.
@@ -107,7 +96,7 @@ fn name_map<'a, 'n>(
     let mut all = NameMap::new(alloc);
     for i in 0..shorter(olds.len(), news.len()) {
         let old: &'a str = olds[i].as_str();
-        all.add(old, news[i].as_str())?;
+        all.put_first(old, news[i].as_str())?;
     }
     Ok(all)
 }

@@ -6,6 +6,7 @@ ghost use Rattle.std.specs.Option.{option_map};
 ghost use Rattle.op_trees.specs.Tree.{renamed};
 ghost use Rattle.prism_names.specs.Flat.{flat};
 ghost use Rattle.prism_names.specs.Places.{IsPlaceOrder, at_places};
+ghost use Rattle.prism_print.specs.Same.{bare_file};
 ghost use Rattle.prism_flat.specs.Filling.{bodies_after};
 ghost use Rattle.prism_tree.specs.Syntax.{file_of, var_of};
 ghost use Rattle.jani_table.specs.Node.{node};
@@ -22,14 +23,14 @@ ghost use Rattle.prop_to_jani.specs.ToJani.{all_entries, new_property_name, prop
 
 use crate::bodies::FormulaBodies;
 use crate::expressions::Translator;
-use crate::lists::{drop_from, first_of, shorter};
 use crate::names::PropertyNames;
 use crate::tables::{marked_names, property_names};
 use bridge_io::{List, Text};
 use decimal_json::Json;
+use gathering::{drop_from, first_of, shorter};
 use name_table::{Entry, NameClass, NameTable, Target, actions, ask_file, variables};
 use prism_check::CheckedPrism;
-use prism_places::flatten;
+use prism_places::{FlatPrism, flatten};
 use prism_tree::{PrismFile, PrismVar};
 use prop_trees::Property;
 use std::alloc::{AllocError, Global};
@@ -45,11 +46,25 @@ pub fn props_to_jani(
     requires { AreOfPrism model.now.file (map property_of props.now) }
     ensures { IfOk result (λ v. IsTranslated model.now (map property_of props.now) (node v)) }
 {
-    let flat = flatten(alloc, model)?;
-    of_flat(alloc, props.as_slice(), model, flat.file())
+    let written = flatten(alloc, model)?;
+    flat_props_to_jani(alloc, props, model, &written)
 }
 
-/// The same, where this is the model's file written out.
+/// The same, where this is the model's file with its formulas and its copies of modules written out, whatever the places.
+pub fn flat_props_to_jani(
+    alloc: Global,
+    props: &List<Property>,
+    model: &CheckedPrism,
+    written: &FlatPrism,
+) -> Result<Json, AllocError>
+    requires written { bare_file written.now ≡ bare_file (flat model.now.file) }
+    requires props { AreOfPrism model.now.file (map property_of props.now) }
+    ensures { IfOk result (λ v. IsTranslated model.now (map property_of props.now) (node v)) }
+{
+    of_flat(alloc, props.as_slice(), model, written.file())
+}
+
+/// The same, where this is the tree of the model's file written out.
 fn of_flat(
     alloc: Global,
     props: &[Property],

@@ -5,7 +5,7 @@ use Rattle.jani_tree.specs.Syntax.{File}
 use Rattle.op_trees.specs.Names.{is_called}
 use Rattle.jani_meaning.specs.Elements.{Owned}
 use Rattle.name_table.specs.declared.entry.Entry.{Entry}
-use Rattle.name_table.specs.JaniParts.{under}
+use Rattle.name_rules.specs.Names.{under}
 use Rattle.name_table.specs.PrismAsks.{NewNames, names_by, outside}
 use Rattle.jani_images.specs.Image.{image}
 use Rattle.prism_translator.specs.declared.entries.Names.{Names}

@@ -3,13 +3,15 @@
 ghost use Rattle.std.specs.Prelude.{◌≡◌, List, ℕ, map, IfOk};
 ghost use Rattle.std.specs.List.{position};
 ghost use Rattle.op_trees.specs.Names.{is_called};
-ghost use Rattle.name_table.specs.JaniParts.{owned_of, under};
+ghost use Rattle.name_rules.specs.Names.{under};
+ghost use Rattle.name_table.specs.JaniParts.{owned_of};
 ghost use Rattle.prism_translator.specs.Code.{IsReady};
 ghost use Rattle.prop_trees.specs.Names.{quoted};
 ghost use Rattle.prop_to_prism.specs.Code.{model_name_in, plain_given, text_at, IsReadyFor};
 
 use bridge_io::Text;
-use name_table::{Entry, NameMap, OwnedVar};
+use name_rules::NameMap;
+use name_table::{Entry, OwnedVar};
 use prism_images::NewNames;
 use prism_translator::Names;
 use std::alloc::{AllocError, Global};
@@ -98,7 +100,7 @@ fn label_numbers<'a>(
     let mut all = NameMap::new(alloc);
     for i in 0..labels.len() {
         let var = labels[i].var;
-        all.add(var.name.name.as_str(), i)?;
+        all.put_first(var.name.name.as_str(), i)?;
     }
     Ok(all)
 }

@@ -2,8 +2,10 @@
 #![tactic(auto)]
 
 mod jani;
+mod names;
 mod prism;
 
 pub use jani::{JaniAsk, JaniPath, JaniProperty};
+pub use names::marked;
 pub use prism::{Ask, Path, Property};
 pub use prop_grammar::Compare;

@@ -21,3 +21,4 @@ pub use data::{Action, Command, Group, Item, Member, Part, Reward, Update, Vecto
 pub use groups::{choices_of_elements, choices_of_modules, element_groups, module_groups};
 pub use laws::{group_laws, member_laws, trimming_law};
 pub use rewards::sum_of;
+pub use values::number_of;

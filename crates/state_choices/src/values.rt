@@ -44,7 +44,7 @@ pub(crate) fn is_undefined(answer: Result<Value, EvalFail>) -> bool
 }
 
 /// The number that a value is.
-pub(crate) fn number_of(answer: Result<Value, EvalFail>) -> Option<Frac>
+pub fn number_of(answer: Result<Value, EvalFail>) -> Option<Frac>
     ensures { result ≡ number_of (seen_of answer).value }
 {
     match answer {

@@ -15,5 +15,5 @@ returns c =
     let e = tree c.args.e.now in
     let typed = c.judge_type-typed.result in
     c.sooner_if.ensures
-    ∙ ap₂ (λ b o. soonest typed (fault_if b o NotConstant)) c.names_variable.ensures c.offset.ensures
+    ∙ ap₂ (λ b o. soonest typed (fault_if b o NotConstant)) c.names_variable.ensures c.offset_of.ensures
     ∙ soonest_then c.args.best typed (type_faults_of (types_by things) c.args.wanted e) (fault_if (has_variable things e) (offset_of e) NotConstant) c.judge_type-typed.ensures

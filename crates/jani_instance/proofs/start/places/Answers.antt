@@ -1,9 +1,8 @@
 use Rattle.std.proofs.Common.{◌∙◌, ◌+◌, ap, ap₂, sym, map, length}
 use Rattle.std.specs.Prelude.{ℕ}
 use Rattle.std.specs.List.{position}
-use Rattle.std.specs.Option.{option_map}
+use Rattle.std.specs.Option.{option_map, option_or}
 use Rattle.std.proofs.lemmas.List.{length-map}
-use Rattle.name_rules.specs.Names.{first_some}
 use Rattle.instance_start.specs.declared.data.Place.TheVariants.{Variable}
 use Rattle.jani_tree.specs.Syntax.{const_of, file_of}
 use Rattle.jani_meaning.specs.Elements.{automaton_called, is_global, lasting}
@@ -19,7 +18,7 @@ returns c =
     let vars = ap (map owned_at) c.as_slice.ensures.value ∙ listed.kinds_are.lasting_are in
     λ x.
     c.in_ok-add_constants.ensures x
-    ∙ ap₂ first_some
+    ∙ ap₂ option_or
     (c.in_ok-places.ensures x
     ∙ ap (λ l. option_map (λ (k : ℕ). Variable (length c.as_slice-first.result.now + k)) (position (is_global x) l)) vars
     ∙ ap (λ n. option_map (λ (k : ℕ). Variable (n + k)) (position (is_global x) (lasting file))) size)

@@ -5,7 +5,7 @@ use Rattle.prism_tree.specs.declared.syntax.PrismRewards.{PrismRewards}
 use Rattle.prism_tree.specs.Syntax.{Rewards, Item, file_of, rewards_of}
 use Rattle.process_core.specs.Ready.{Name}
 use Rattle.gathering.proofs.Loops.{kept_step}
-use Rattle.name_table.specs.Gathered.{is_in}
+use Rattle.name_rules.specs.Names.{has_name}
 use Rattle.jani_translation.specs.Automata.{has_items, for_action}
 use Rattle.jani_translation.proofs.automata.earning_actions.Goals as goal
 
@@ -15,7 +15,7 @@ loop-a-preserved c =
     kept_step (λ (x : Bor (List ℕ)). x.now) (λ (x : Name). has_items (for_action x) (file_of c.args.file.now)) (λ (x : Bor (List ℕ)). x.now) c.args.acts.now c.loop-a.a-index
     _ _ _ _ _ c.loop-a-test.true c.a-item.is c.loop-a.invariant refl
     (c.has.ensures
-    ∙ ap (λ (x : Name). is_in c.in_ok-items.items x) c.as_str.ensures
+    ∙ ap (λ (x : Name). has_name c.in_ok-items.items x) c.as_str.ensures
     ∙ c.in_ok-items.ensures a
     ∙ ap (λ (l : List PrismRewards). list_any (λ (r : Rewards). list_any (λ (i : Item). for_action a i.on) r.items) (map rewards_of l)) c.as_slice.ensures)
     c.in_ok-keep_if.ensures

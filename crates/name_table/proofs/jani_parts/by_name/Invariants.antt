@@ -3,7 +3,7 @@ use Rattle.std.specs.List.{find}
 use Rattle.std.specs.Option.{option_map, option_or as or_else}
 use Rattle.jani_tree.specs.Syntax.{automaton_of}
 use Rattle.op_trees.specs.Names.{is_called}
-use Rattle.name_table.specs.JaniParts.{under}
+use Rattle.name_rules.specs.Names.{under}
 use Rattle.name_table.proofs.jani_parts.by_name.Given as goal
 
 abbrev pub invariant-loop-a : goal.invariant-loop-a

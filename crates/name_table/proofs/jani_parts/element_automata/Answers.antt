@@ -9,7 +9,8 @@ use Rattle.jani_tree.specs.declared.syntax.JaniAutomaton.{JaniAutomaton}
 use Rattle.jani_tree.specs.Syntax.{Automaton, automaton_of, file_of}
 use Rattle.op_trees.specs.Names.{is_called}
 use Rattle.jani_meaning.specs.Elements.{nothing_called, automaton_called}
-use Rattle.name_table.specs.JaniParts.{under, element_under}
+use Rattle.name_rules.specs.Names.{under}
+use Rattle.name_table.specs.JaniParts.{element_under}
 use Rattle.name_table.proofs.JaniGathering.{element_there}
 use Rattle.name_table.proofs.jani_parts.element_automata.Goals as goal
 

@@ -1,8 +1,8 @@
 use Rattle.std.proofs.Common.{◌≡◌, ap, arith}
 use Rattle.prism_check.specs.Counted.{height_in, nodes_in, own_size}
-use Rattle.name_rules.specs.Names.{first_some, under}
+use Rattle.name_rules.specs.Names.{under}
 use Rattle.name_rules.proofs.Maps.{at}
-use Rattle.std.specs.Option.{option_map}
+use Rattle.std.specs.Option.{option_map, option_or}
 use Rattle.prism_check.specs.Tables.{named_module}
 use Rattle.prism_check.proofs.Modular.{named_more, own_height_more, own_nodes_more}
 use Rattle.prism_check.proofs.module_sizes.own_sizes.Goals as goal
@@ -16,7 +16,7 @@ loop-entry-init c =
       height = omega (arith, no_height);
       nodes_fit = omega (arith, no_nodes);
       height_fits = omega (arith, no_height);
-      named = λ x. ap (λ o. first_some o (option_map (own_size (nodes_in c.args.formulas.now) (height_in c.args.formulas.now)) (named_module c.args.all.now x))) (at c.new-named.ensures x);
+      named = λ x. ap (λ o. option_or o (option_map (own_size (nodes_in c.args.formulas.now) (height_in c.args.formulas.now)) (named_module c.args.all.now x))) (at c.new-named.ensures x);
     }
 
 pub loop-entry-preserved : goal.loop-entry-preserved

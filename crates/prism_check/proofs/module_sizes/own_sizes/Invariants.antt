@@ -1,10 +1,10 @@
 use Rattle.std.specs.Prelude.{◌≡◌, ◌+◌, ℕ, List, map, max, drop}
 use Rattle.std.specs.List.{flat_map}
-use Rattle.std.specs.Option.{option_map}
+use Rattle.std.specs.Option.{option_map, option_or}
 use Rattle.op_trees.specs.Tree.{capped}
 use Rattle.prism_tree.specs.Syntax.{module_of}
 use Rattle.prism_check.specs.Counted.{height_in, highest, nodes_in, nodes_of, own_demands, own_size}
-use Rattle.name_rules.specs.Names.{first_some, under}
+use Rattle.name_rules.specs.Names.{under}
 use Rattle.prism_check.specs.Tables.{named_module}
 use Rattle.prism_check.proofs.module_sizes.own_sizes.Given as goal
 
@@ -17,6 +17,6 @@ invariant-loop-entry l = record {
   nodes_fit : capped l.sum.nodes ≡ l.sum.nodes;
   height_fits : capped l.sum.height ≡ l.sum.height;
   named : (x : List ℕ) →
-      first_some (under l.named x) (option_map (own_size (nodes_in l.formulas) (height_in l.formulas)) (named_module (drop l.entry-index l.all) x))
+      option_or (under l.named x) (option_map (own_size (nodes_in l.formulas) (height_in l.formulas)) (named_module (drop l.entry-index l.all) x))
       ≡ option_map (own_size (nodes_in l.formulas) (height_in l.formulas)) (named_module l.all x);
 }

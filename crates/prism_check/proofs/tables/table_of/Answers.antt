@@ -1,13 +1,13 @@
-use Rattle.std.specs.Option.{option_map}
+use Rattle.std.specs.Option.{option_map, option_or}
 use Rattle.std.proofs.Common.{ap}
-use Rattle.name_rules.specs.Names.{first_some, under}
+use Rattle.name_rules.specs.Names.{under}
 use Rattle.name_rules.proofs.Maps.{at}
 use Rattle.prism_check.specs.Tables.{pair_for}
 use Rattle.prism_check.proofs.Pairs.{pair_more}
 use Rattle.prism_check.proofs.tables.table_of.Goals as goal
 
 pub loop-pair-init : goal.loop-pair-init
-loop-pair-init c = λ x. ap (λ o. first_some (option_map (λ s. s.now) o) (pair_for c.args.pairs.now x)) (at c.new-table.ensures x)
+loop-pair-init c = λ x. ap (λ o. option_or (option_map (λ s. s.now) o) (pair_for c.args.pairs.now x)) (at c.new-table.ensures x)
 
 pub loop-pair-preserved : goal.loop-pair-preserved
 loop-pair-preserved c = λ q.

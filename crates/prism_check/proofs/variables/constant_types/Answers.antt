@@ -1,9 +1,9 @@
 use Rattle.std.specs.List.{find}
-use Rattle.std.specs.Option.{option_map}
+use Rattle.std.specs.Option.{option_map, option_or}
 use Rattle.std.proofs.Common.{refl, ap}
 use Rattle.prism_tree.specs.Syntax.{const_of}
 use Rattle.op_trees.specs.Names.{is_called}
-use Rattle.name_rules.specs.Names.{first_some, under}
+use Rattle.name_rules.specs.Names.{under}
 use Rattle.name_rules.proofs.Maps.{at}
 use Rattle.std.specs.Prelude.{map}
 use Rattle.prism_check.proofs.First.{first_more}
@@ -11,7 +11,7 @@ use Rattle.prism_check.proofs.variables.constant_types.Goals as goal
 
 pub loop-constant-init : goal.loop-constant-init
 loop-constant-init c = λ x.
-    ap (λ o. first_some o (option_map (λ c. c.ty) (find (λ c. is_called x c.name) (map const_of c.args.constants.now)))) (at c.new-table.ensures x)
+    ap (λ o. option_or o (option_map (λ c. c.ty) (find (λ c. is_called x c.name) (map const_of c.args.constants.now)))) (at c.new-table.ensures x)
 
 pub loop-constant-preserved : goal.loop-constant-preserved
 loop-constant-preserved c = λ q.

@@ -1,7 +1,7 @@
 use Rattle.std.proofs.Common.{◌∙◌, ap, map, length, subst, sym}
 use Rattle.std.proofs.lemmas.List.{length-map}
+use Rattle.std.specs.Option.{option_or}
 use Rattle.instance_start.specs.Columns.{column_at, column_of}
-use Rattle.name_rules.specs.Names.{first_some}
 use Rattle.prism_meaning.specs.Knowing.{IsFixed}
 use Rattle.prism_meaning.specs.Places.{column_place, constant_place}
 use Rattle.prism_meaning.proofs.StartLaws.{writes_are}
@@ -12,7 +12,7 @@ what_is_fixed-requires c x =
     let file = c.args.flat.now in
     let cols = c.args.known.columns.items in
     ap (column_at (length cols)) (c.requires.known.places x)
-    ∙ ap (λ n. column_at n (first_some (column_place 0 (map column_of cols) x) (constant_place 0 file.constants x))) (sym (length-map cols column_of))
+    ∙ ap (λ n. column_at n (option_or (column_place 0 (map column_of cols) x) (constant_place 0 file.constants x))) (sym (length-map cols column_of))
     ∙ writes_are (map column_of cols) file.constants x
 
 pub instance_of-requires-clause-fixed : goal.instance_of-requires-clause-fixed

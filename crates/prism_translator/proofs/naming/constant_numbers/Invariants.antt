@@ -2,7 +2,7 @@ use Rattle.std.proofs.Common.{◌≡◌, ℕ, List, map, take}
 use Rattle.std.specs.List.{position}
 use Rattle.jani_tree.specs.Syntax.{const_of}
 use Rattle.op_trees.specs.Names.{is_called}
-use Rattle.name_table.specs.JaniParts.{under}
+use Rattle.name_rules.specs.Names.{under}
 use Rattle.prism_translator.proofs.naming.constant_numbers.Given as goal
 
 abbrev pub invariant-loop-i : goal.invariant-loop-i

@@ -1,7 +1,8 @@
 use Rattle.std.specs.Prelude.{map}
 use Rattle.std.specs.List.{position_from}
+use Rattle.std.specs.Option.{option_or}
 use Rattle.std.proofs.Common.{◌∙◌, ap, sym}
-use Rattle.name_rules.specs.Names.{first_some, under}
+use Rattle.name_rules.specs.Names.{under}
 use Rattle.name_rules.proofs.Maps.{at}
 use Rattle.prism_tree.specs.Syntax.{rewards_of}
 use Rattle.prop_trees.specs.PrismFaults.{is_titled}
@@ -9,7 +10,7 @@ use Rattle.prop_check.proofs.Placing.{from_nought, placed_all, placed_more}
 use Rattle.prop_check.proofs.structures.places.Goals as goal
 
 pub loop-place-init : goal.loop-place-init
-loop-place-init c = λ x. ap (λ o. first_some o (position_from (is_titled x) 0 (map rewards_of c.args.all.now))) (at c.new-places.ensures x)
+loop-place-init c = λ x. ap (λ o. option_or o (position_from (is_titled x) 0 (map rewards_of c.args.all.now))) (at c.new-places.ensures x)
 
 pub loop-place-preserved : goal.loop-place-preserved
 loop-place-preserved c = λ x.

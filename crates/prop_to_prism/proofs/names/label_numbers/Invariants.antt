@@ -1,7 +1,8 @@
 use Rattle.std.proofs.Common.{◌≡◌, ℕ, List, map, take}
 use Rattle.std.specs.List.{position}
 use Rattle.op_trees.specs.Names.{is_called}
-use Rattle.name_table.specs.JaniParts.{under, owned_of}
+use Rattle.name_rules.specs.Names.{under}
+use Rattle.name_table.specs.JaniParts.{owned_of}
 use Rattle.prop_to_prism.proofs.names.label_numbers.Given as goal
 
 abbrev pub invariant-loop-i : goal.invariant-loop-i

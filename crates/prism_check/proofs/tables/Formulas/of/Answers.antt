@@ -1,15 +1,15 @@
-use Rattle.std.specs.Option.{option_map}
+use Rattle.std.specs.Option.{option_map, option_or}
 use Rattle.std.proofs.Common.{refl, ap}
 use Rattle.op_trees.specs.Tree.{tree}
 use Rattle.prism_tree.specs.Syntax.{formula_of}
-use Rattle.name_rules.specs.Names.{first_some, under}
+use Rattle.name_rules.specs.Names.{under}
 use Rattle.name_rules.proofs.Maps.{at}
 use Rattle.prism_check.specs.Tables.{body_in}
 use Rattle.prism_check.proofs.First.{first_more}
 use Rattle.prism_check.proofs.tables.Formulas.of.Goals as goal
 
 pub loop-formula-init : goal.loop-formula-init
-loop-formula-init c = λ x. ap (λ o. first_some (option_map (λ e. tree e.now) o) (body_in c.args.formulas.now x)) (at c.new-bodies.ensures x)
+loop-formula-init c = λ x. ap (λ o. option_or (option_map (λ e. tree e.now) o) (body_in c.args.formulas.now x)) (at c.new-bodies.ensures x)
 
 pub loop-formula-preserved : goal.loop-formula-preserved
 loop-formula-preserved c = λ q.

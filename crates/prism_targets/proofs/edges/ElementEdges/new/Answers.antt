@@ -5,6 +5,7 @@ use Rattle.process_core.specs.Ready.{Name}
 use Rattle.prism_targets.specs.declared.edges.ElementEdges.{ElementEdges}
 use Rattle.prism_targets.specs.Tables.{Ranked}
 use Rattle.gathering.specs.Lists.{list_under}
+use Rattle.name_rules.proofs.Maps.{at}
 use Rattle.prism_targets.specs.Code.{ranked_view, numbers_in}
 use Rattle.prism_targets.proofs.edges.ElementEdges.new.Goals as goal
 
@@ -17,4 +18,4 @@ returns c =
     ap₂ (λ (f : List Ranked) (g : (Option Name → List ℕ) × (Name → Bool)). record { edges = f; rewarding = g.0; plain = g.1 })
     (ap (map ranked_view) c.new.ensures.items)
     (ap₂ (λ (f : Option Name → List ℕ) (g : Name → Bool). (f, g))
-    (fun_ext (by_action (record { edges = c.new.result; rewarding = c.new-2.result; silent = c.new-3.result; plain = c.new-4.result }) c.new-3.ensures c.new-2.ensures)) (fun_ext (λ x. c.new-4.ensures x)))
+    (fun_ext (by_action (record { edges = c.new.result; rewarding = c.new-2.result; silent = c.new-3.result; plain = c.new-4.result }) c.new-3.ensures c.new-2.ensures)) (fun_ext (at c.new-4.ensures)))

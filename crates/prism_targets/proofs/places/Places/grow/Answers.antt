@@ -1,6 +1,7 @@
 use Rattle.std.proofs.Common.{◌∙◌, ap, ℕ, List}
 use Rattle.std.specs.Prelude.{slice_get}
-use Rattle.name_table.specs.declared.name_map.NameMap.{NameMap}
+use Rattle.name_rules.specs.declared.map.NameMap.{NameMap}
+use Rattle.name_rules.proofs.Maps.{at}
 use Rattle.prism_targets.specs.Places.{under_some}
 use Rattle.prism_targets.proofs.Positions.{grown}
 use Rattle.prism_targets.proofs.places.Places.grow.Goals as goal
@@ -9,7 +10,7 @@ pub grow-preserved : goal.grow-preserved
 grow-preserved c = record {
   own = λ k x.
       ap (λ (ms : List (NameMap ℕ)). under_some (slice_get ms k) x) c.in_ok-push.ensures.items
-      ∙ grown c.grow.self.own.items c.new.result k x (c.new.ensures x)
+      ∙ grown c.grow.self.own.items c.new.result k x (at c.new.ensures x)
       ∙ c.grow.invariant.own k x;
   global = c.grow.invariant.global;
 }

@@ -1,13 +1,21 @@
 use Rattle.std.proofs.Common.{◌≡◌, ◌∙◌, ap₂, ap, map, arith, take, take_all, ℕ, List}
-use Rattle.std.specs.Prelude.{Option}
+use Rattle.std.specs.Prelude.{Option, slice_get}
 use Rattle.std.specs.List.{position}
 use Rattle.std.specs.Option.{option_or}
 use Rattle.jani_meaning.specs.Elements.{is_own, is_global}
 use Rattle.name_table.specs.declared.jani_parts.OwnedVar.{OwnedVar}
 use Rattle.name_table.specs.JaniParts.{owned_of}
-use Rattle.prism_targets.specs.Places.{place_in}
-use Rattle.prism_targets.proofs.Positions.{position_more}
+use Rattle.name_rules.specs.declared.map.NameMap.{NameMap}
+use Rattle.name_rules.proofs.Maps.{at}
+use Rattle.prism_targets.specs.Places.{place_in, under_some}
+use Rattle.prism_targets.proofs.Positions.{none_yet, position_more}
 use Rattle.prism_targets.proofs.places.Places.of.Goals as goal
+
+pub loop-i-init : goal.loop-i-init
+loop-i-init c = record {
+  own = λ k x. ap (λ (ms : List (NameMap ℕ)). under_some (slice_get ms k) x) c.new.ensures.items ∙ none_yet k x;
+  global = at c.new-2.ensures;
+}
 
 pub loop-i-preserved : goal.loop-i-preserved
 loop-i-preserved c = record {

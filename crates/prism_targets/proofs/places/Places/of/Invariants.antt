@@ -1,7 +1,8 @@
 use Rattle.std.proofs.Common.{◌≡◌, ℕ, List, map, take}
 use Rattle.std.specs.List.{position}
 use Rattle.jani_meaning.specs.Elements.{is_own, is_global}
-use Rattle.name_table.specs.JaniParts.{under, owned_of}
+use Rattle.name_rules.specs.Names.{under}
+use Rattle.name_table.specs.JaniParts.{owned_of}
 use Rattle.prism_targets.specs.Places.{own_in}
 use Rattle.prism_targets.proofs.places.Places.of.Given as goal
 
