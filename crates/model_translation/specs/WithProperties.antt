@@ -31,6 +31,10 @@ with_properties f v = record {
   properties = v;
 }
 
+-- The file is what the PRISM file is translated to, with the value of the translated properties, with which they agree.
+abbrev pub IsFileWith : Checked → List PrismProperty → jani.File → Type 0
+IsFileWith c ps full = (model : jani.File) × (value : Node) × (full ≡ with_properties model value) × IsTranslated c.file model × properties.IsTranslated c ps value
+
 -- The text spells the JANI file that the PRISM file is translated to, with this value for its properties, and no other. The value is that of the
 -- translated properties, with which they agree; and the file with it means the same process too.
 pub record IsWrittenWith (c : Checked) (ps : List PrismProperty) (text : List ℕ) (model : jani.File) (value : Node) : Type 0 where

@@ -5,11 +5,10 @@ ghost use Rattle.prism_print.specs.Same.{bare_file};
 ghost use Rattle.jani_table.specs.Node.{Node, node};
 ghost use Rattle.jani_tree.specs.Form.{KeysOnce, NormalNode};
 ghost use Rattle.jani_tree.specs.Syntax.{File, file_of};
-ghost use Rattle.prism_to_jani.specs.Promise.{IsTranslated};
 ghost use Rattle.prop_trees.specs.Form.{AreOfPrism};
 ghost use Rattle.prop_trees.specs.Syntax.{property_of};
 ghost use Rattle.prop_to_jani.specs.Laws as of_properties;
-ghost use Rattle.model_translation.specs.WithProperties.{IsWrittenWith, TranslatesFiles, with_properties};
+ghost use Rattle.model_translation.specs.WithProperties.{IsFileWith, IsWrittenWith, TranslatesFiles, with_properties};
 
 use crate::translation::text_of;
 use bridge_io::{Fault, List, Refused};
@@ -78,37 +77,52 @@ fn written(
     requires { AreOfPrism checked.file (map property_of props) }
     ensures { IfOk result (λ text. (model : File) × (value : Node) × IsWrittenWith checked (map property_of props) text model value) }
 {
-    let flat = flatten(alloc, &checked)?;
-    let value = value_of(alloc, props, &checked, &flat)?;
-    let model = translated(alloc, checked, flat)?;
-    let full = with_properties(alloc, model, value)?;
+    let full = file_with(alloc, &checked, props)?;
+    drop(checked);
     text_of(alloc, &full)
 }
 
-// The value of the properties of a judged file, where this is the file written out. `Err` is want of memory.
-fn value_of(
+// The file with its properties. `Err` is want of memory.
+fn file_with(
     alloc: Global,
+    checked: &CheckedPrism,
     props: List<Property>,
+) -> Result<CheckedJani, AllocError>
+    requires { AreOfPrism checked.now.file (map property_of props) }
+    ensures { IfOk result (λ j. IsFileWith checked.now (map property_of props) (file_of j)) }
+{
+    let flat = flatten(alloc, checked)?;
+    flat_file_with(alloc, checked, &flat, props)
+}
+
+// The same, where this is the file written out.
+fn flat_file_with(
+    alloc: Global,
     checked: &CheckedPrism,
     written: &FlatPrism,
+    props: List<Property>,
+) -> Result<CheckedJani, AllocError>
+    requires written { bare_file written.now ≡ bare_file (flat checked.now.file) }
+    requires props { AreOfPrism checked.now.file (map property_of props) }
+    ensures { IfOk result (λ j. IsFileWith checked.now (map property_of props) (file_of j)) }
+{
+    let value = value_of(alloc, checked, written, props)?;
+    let model = flat_to_jani(alloc, checked, written)?;
+    with_properties(alloc, model, value)
+}
+
+// The value of the properties, which are let go.
+fn value_of(
+    alloc: Global,
+    checked: &CheckedPrism,
+    written: &FlatPrism,
+    props: List<Property>,
 ) -> Result<Json, AllocError>
     requires written { bare_file written.now ≡ bare_file (flat checked.now.file) }
     requires props { AreOfPrism checked.now.file (map property_of props) }
     ensures { IfOk result (λ v. of_properties.IsTranslated checked.now (map property_of props) (node v)) }
 {
     flat_props_to_jani(alloc, &props, checked, written)
-}
-
-// What a judged file is translated to, where this is the file written out. `Err` is want of memory.
-fn translated(
-    alloc: Global,
-    checked: CheckedPrism,
-    written: FlatPrism,
-) -> Result<CheckedJani, AllocError>
-    requires { bare_file written ≡ bare_file (flat checked.file) }
-    ensures { IfOk result (λ j. IsTranslated checked.file (file_of j)) }
-{
-    flat_to_jani(alloc, &checked, &written)
 }
 
 // The file with this value for its properties. `Err` is want of memory.
