@@ -1,7 +1,7 @@
 // Numbers in words.
 
-ghost use Rattle.std.specs.Prelude.{◌≡◌, ℕ, IfOk, MatchOption, option_map};
-ghost use Rattle.command_words.specs.Numbers.{IsNumber, ReadsNumber, ReadsPairs, IsPartition, FrontIs};
+ghost use Rattle.std.specs.Prelude.{◌≡◌, ℕ, IfOk, option_map};
+ghost use Rattle.command_words.specs.Numbers.{ReadsNumber, ReadsPairs, IsPartition, FrontIs};
 
 use bridge_io::List;
 use itoa::Buffer;

@@ -1,7 +1,7 @@
 // The reader as a machine that takes a byte a step: what may stand next, and the brackets that are open. Each state has a
 // language, what may follow it, and a step goes from the language of one state to that of the next.
 
-ghost use Rattle.std.specs.Prelude.{◌≡◌, ◌≢◌, false, ℕ, ◌+◌, [], ◌∷◌, ◌++◌, length, reverse, IfOk, MatchResult, codes};
+ghost use Rattle.std.specs.Prelude.{◌≡◌, ◌≢◌, false, ℕ, ◌+◌, [], ◌∷◌, ◌++◌, reverse};
 ghost use Rattle.decimal_json.specs.Grammar.{is_space, value, text};
 ghost use Rattle.decimal_json.specs.declared.brackets.Frame.TheVariants.{InArray, InObject};
 ghost use Rattle.decimal_json.specs.declared.machine.Mode.TheVariants.{InNumber};

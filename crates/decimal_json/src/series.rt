@@ -1,6 +1,6 @@
 // Values one after another, in an array and as the values of members, as far as each stands whole.
 
-ghost use Rattle.std.specs.Prelude.{◌≡◌, ℕ, ◌+◌, ◌<◌, ◌≤◌, List, [], ◌++◌, ◌∷◌, length, take, slice_index, Ok, IfOk};
+ghost use Rattle.std.specs.Prelude.{◌≡◌, ℕ, ◌+◌, ◌<◌, ◌≤◌, List, [], ◌++◌, ◌∷◌, length, slice_index, Ok, IfOk};
 ghost use Rattle.decimal_json.specs.declared.brackets.Frame.{Frame};
 ghost use Rattle.decimal_json.specs.declared.brackets.Frame.TheVariants.{InArray, InObject};
 ghost use Rattle.decimal_json.specs.declared.chars.Within.TheVariants.{Between};

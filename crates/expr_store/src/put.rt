@@ -1,5 +1,5 @@
 //! Expressions put into a store.
-ghost use Rattle.std.specs.Prelude.{◌≡◌, ◌<◌, IfOk, IfSome, List, ℕ, Option, length};
+ghost use Rattle.std.specs.Prelude.{◌≡◌, ◌<◌, IfOk, IfSome, List, ℕ, Option};
 ghost use Rattle.op_trees.specs.Tree.{tree, Tree, Number, One, Two, Three};
 ghost use Rattle.instance_start.specs.declared.data.Place.{Place};
 ghost use Rattle.expr_store.specs.Nodes.{IsGrown, IsIn, OneIs, Stands, TwoIs};

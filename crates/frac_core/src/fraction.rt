@@ -1,9 +1,9 @@
 // Fractions: their arithmetic and their order.
 
-ghost use Rattle.std.specs.Prelude.{◌≡◌, ◌+◌, ◌*◌, ◌<◌, ◌^◌, pos, neg_ℤ, nat_abs, ◌*ℤ◌, Err, IsTrue, ◌↔◌, if◌then◌else◌, false, ◌<ℤ◌, ◌≢◌};
+ghost use Rattle.std.specs.Prelude.{◌≡◌, ◌+◌, ◌*◌, ◌<◌, ◌^◌, pos, nat_abs, ◌*ℤ◌, Err, IsTrue, ◌↔◌, if◌then◌else◌, false, ◌<ℤ◌, ◌≢◌};
 ghost use Rattle.std.specs.Ordering.{int_eq};
 ghost use Rattle.frac_core.specs.Gcd.{gcd};
-ghost use Rattle.frac_core.specs.Fraction.{nought, fraction, signed, quotient, plus, difference, times, over, compare, whole, unit, is_wide, is_lowest};
+ghost use Rattle.frac_core.specs.Fraction.{nought, fraction, signed, quotient, plus, difference, times, over, compare, whole, unit, is_wide};
 ghost use Rattle.frac_core.specs.Results.{narrow};
 ghost use Rattle.frac_core.specs.declared.fraction.FracFail.TheVariants.{ZeroDivisor};
 

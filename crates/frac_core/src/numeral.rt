@@ -1,7 +1,6 @@
 // Number literals read: their digits, with a point and an exponent that may be missing, and a minus sign before them.
 
 ghost use Rattle.std.specs.Prelude.{◌≡◌, ◌≢◌, ◌<◌, ◌≤◌, ◌+◌, ◌*◌, ◌^◌, ◌%◌, ◌-◌, pos, ◌+ℤ◌, nat_abs, min, IfSome, IfNone};
-ghost use Rattle.std.specs.Char.{digit_value};
 ghost use Rattle.frac_core.specs.Numeral.{behind, nothing_read, with_digit, with_minus, with_byte, reading, capped, exponent_of, decimal_of};
 
 use crate::decimal::Decimal;

@@ -1,5 +1,5 @@
 //! Values that are given for the constants that a file leaves open.
-ghost use Rattle.std.specs.Prelude.{◌≡◌, map, bytes_eq, not, is_none, ◌&&◌, Some};
+ghost use Rattle.std.specs.Prelude.{◌≡◌, map, bytes_eq, is_none, ◌&&◌, Some};
 ghost use Rattle.std.specs.List.{find, list_any};
 ghost use Rattle.std.specs.Option.{option_map};
 ghost use Rattle.frac_core.specs.Fraction.{is_whole};

@@ -1,6 +1,6 @@
 //! Which values a variable may have.
 ghost use Rattle.std.specs.Prelude.{◌≡◌, IfOk, Some, map};
-ghost use Rattle.frac_core.specs.Fraction.{Fraction, is_whole};
+ghost use Rattle.frac_core.specs.Fraction.{is_whole};
 ghost use Rattle.process_core.specs.Choices.{all_defined};
 ghost use Rattle.process_core.specs.Equal.{equal_values};
 ghost use Rattle.process_core.specs.Instance.{has_value, is_above, is_in, domain_at, fits_in, is_initial, is_state};

@@ -1,5 +1,5 @@
 //! The columns of a model that starts, or why it doesn't.
-ghost use Rattle.std.specs.Prelude.{◌≡◌, IfOk, List, MatchResult, false, length, map, unwrap_or};
+ghost use Rattle.std.specs.Prelude.{◌≡◌, IfOk, MatchResult, false, length, map, unwrap_or};
 ghost use Rattle.op_trees.specs.declared.tree.Value.TheVariants.{Truth};
 ghost use Rattle.process_core.specs.Instance.{Scene};
 ghost use Rattle.state_choices.specs.Trimmed.{trimmed_seen};

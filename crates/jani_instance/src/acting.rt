@@ -1,5 +1,5 @@
 //! The numbers of each element's actions and locations, and what elements and vectors are built of.
-ghost use Rattle.std.specs.Prelude.{◌≡◌, ◌+◌, ◌-◌, ◌<◌, ◌≤◌, ◌^◌, ℕ, List, IfOk, OnOk, bytes_eq, map, unwrap_or};
+ghost use Rattle.std.specs.Prelude.{◌≡◌, ◌+◌, ◌-◌, ◌<◌, ◌≤◌, ◌^◌, ℕ, List, IfOk, OnOk, map, unwrap_or};
 ghost use Rattle.std.specs.List.{AllZip, position};
 ghost use Rattle.name_rules.specs.Names.{under};
 ghost use Rattle.jani_tree.specs.Syntax.{edge_of, location_of};

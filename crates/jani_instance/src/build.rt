@@ -1,11 +1,11 @@
 //! What is kept of the edges of an element: the numbers of the columns, structures and locations that they name.
-ghost use Rattle.std.specs.Prelude.{◌≡◌, IfOk, bytes_eq, map};
+ghost use Rattle.std.specs.Prelude.{◌≡◌, IfOk, map};
 ghost use Rattle.std.specs.List.{flat_map, position};
-ghost use Rattle.std.specs.Option.{option_map, option_or};
+ghost use Rattle.std.specs.Option.{option_map};
 ghost use Rattle.op_trees.specs.Tree.{tree};
 ghost use Rattle.jani_tree.specs.Syntax as syntax;
-ghost use Rattle.jani_meaning.specs.Elements.{is_global, is_own, place_of};
-ghost use Rattle.jani_instance.specs.Parts.{automaton_at, owned_at};
+ghost use Rattle.jani_meaning.specs.Elements.{is_global, is_own};
+ghost use Rattle.jani_instance.specs.Parts.{owned_at};
 ghost use Rattle.jani_instance.specs.Shapes.{assigned_by, assigned_of, column_in, column_of, destination_by, destination_of, edge_by, edge_of, location_in, structure_in};
 
 use crate::columns::counted;

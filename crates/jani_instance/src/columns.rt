@@ -2,11 +2,11 @@
 ghost use Rattle.std.specs.Prelude.{◌≡◌, ◌++◌, ◌-◌, IfOk, bytes_eq, length, map, pos};
 ghost use Rattle.std.specs.List.{position};
 ghost use Rattle.std.specs.Option.{option_map};
-ghost use Rattle.frac_core.specs.Fraction.{is_wide, whole};
+ghost use Rattle.frac_core.specs.Fraction.{whole};
 ghost use Rattle.frac_core.specs.Results.{narrow};
 ghost use Rattle.op_trees.specs.Tree.{tree};
 ghost use Rattle.state_choices.specs.Trimmed.{computed};
-ghost use Rattle.jani_tree.specs.Syntax.{kind_of, location_of, var_of};
+ghost use Rattle.jani_tree.specs.Syntax.{kind_of, var_of};
 ghost use Rattle.jani_meaning.specs.Elements.{initial_number, location_number};
 ghost use Rattle.jani_meaning.specs.Scene.{column, counted, domain_of, location_column, start_of};
 ghost use Rattle.instance_start.specs.Columns.{bounds_of, trimmed_column, trimmed_domain, variable_of};

@@ -1,5 +1,5 @@
 //! What edges come out as at a state.
-ghost use Rattle.std.specs.Prelude.{◌≡◌, IfOk, map, ◌∷◌, not, ◌&&◌};
+ghost use Rattle.std.specs.Prelude.{◌≡◌, IfOk, map, ◌∷◌, ◌&&◌};
 ghost use Rattle.std.specs.Option.{option_map};
 ghost use Rattle.process_core.specs.Choices.{is_false};
 ghost use Rattle.state_choices.specs.Views.{command_of, update_of, write_of, reward_of};

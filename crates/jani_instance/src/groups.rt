@@ -1,8 +1,7 @@
 //! What the groups of combinations come out as at a state.
-ghost use Rattle.std.specs.Prelude.{◌≡◌, ◌++◌, IfOk, List, [], map, slice_get, unwrap_or};
-ghost use Rattle.std.specs.Option.{option_map};
+ghost use Rattle.std.specs.Prelude.{◌≡◌, ◌++◌, IfOk, List, [], map};
 ghost use Rattle.state_choices.specs.Views as choices;
-ghost use Rattle.jani_instance.specs.Views.{IsIn, columns_of, edge_seen, groups_of, located_seen, look_at, member_of, member_seen, members_seen, part_at, part_of, setting_of, silent_group, vector_group};
+ghost use Rattle.jani_instance.specs.Views.{IsIn, columns_of, edge_seen, groups_of, located_seen, look_at, member_of, member_seen, members_seen, part_at, part_of, setting_of, silent_group};
 
 use crate::data::{Edge, Element, Evaluated, Link, Located, Vector};
 use crate::edges::commands;

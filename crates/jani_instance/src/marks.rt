@@ -1,13 +1,13 @@
 //! The marks of a state.
 ghost use Rattle.std.specs.Prelude.{◌≡◌, ◌++◌, OnOk, map, Some};
-ghost use Rattle.std.specs.List.{flat_map, list_any};
+ghost use Rattle.std.specs.List.{list_any};
 ghost use Rattle.state_choices.specs.Views.{seen_of};
 ghost use Rattle.process_core.specs.Answers.{Answers, only_wide};
 ghost use Rattle.process_core.specs.Choices.{number_of, truth_of};
 ghost use Rattle.basics.specs.Options.{if_some};
 ghost use Rattle.state_choices.specs.Trimmed.{computed};
 ghost use Rattle.process_core.specs.declared.data.Mark.TheVariants.{Truth, Number};
-ghost use Rattle.jani_instance.specs.Views.{IsIn, first_else, given_values, giver_values, look_at, setting_of, transient_value};
+ghost use Rattle.jani_instance.specs.Views.{IsIn, giver_values, look_at, setting_of, transient_value};
 
 use crate::data::{Giver, Transient};
 use crate::run::{Here, location_at, value_here};

@@ -2,7 +2,6 @@
 ghost use Rattle.std.specs.Prelude.{◌≡◌, Some};
 ghost use Rattle.op_trees.specs.Tree.{tree};
 ghost use Rattle.jani_meaning.specs.Scene.{see};
-ghost use Rattle.name_rules.specs.Names.{under};
 ghost use Rattle.state_choices.specs.Trimmed.{computed};
 ghost use Rattle.jani_instance.specs.Views.{IsIn, count_in, location_at, look_at, natural, seen_in, setting_of};
 

@@ -9,7 +9,7 @@ ghost use Rattle.name_rules.specs.Names.{has_name};
 ghost use Rattle.jani_props.specs.Words.{goes_with, is_extreme, is_for_all};
 ghost use Rattle.jani_props.specs.declared.table.PropKey.TheVariants as K;
 ghost use Rattle.jani_props.specs.Table.{operand_row, own_rows, rows_of};
-ghost use Rattle.jani_props.specs.Shape.{are_texts, comparison_by, expression_reading, faults, filter_reading, fun_goes_with, has, is_compared, is_fitting, is_given, is_in, is_side, is_steps, is_steps_and_exit, is_summed, missing_faults, op_word, op_word_at, op_word_in, or_another, or_told, own_faults, path_reading, prop_member, reading, row_faults, side_reading, states_reading, takes_steps, values_reading};
+ghost use Rattle.jani_props.specs.Shape.{are_texts, comparison_by, expression_reading, faults, filter_reading, fun_goes_with, has, is_compared, is_fitting, is_given, is_in, is_side, is_steps, is_steps_and_exit, is_summed, missing_faults, op_word, op_word_at, or_another, or_told, own_faults, path_reading, prop_member, reading, row_faults, side_reading, states_reading, takes_steps, values_reading};
 
 use crate::table::{
     PropForm, PropKey, PropKind, PropRow, item_form, known_form, operand_form, own_rows,

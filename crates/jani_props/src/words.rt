@@ -1,7 +1,7 @@
 // The words of properties (jani-model specification, version 1, "Properties"), and what each form makes of a value that is no object.
 ghost use Rattle.std.specs.Prelude.{◌≡◌};
 ghost use Rattle.std.specs.Option.{option_map};
-ghost use Rattle.jani_props.specs.Words.{bound_side, compare_of, fun_of, fun_text, kind_fault, label_name, op_word_of, or_operator, plain_fault, prop_op_of, prop_text, property_left_out, side_of, side_op, word_fault};
+ghost use Rattle.jani_props.specs.Words.{bound_side, compare_of, fun_of, fun_text, kind_fault, label_name, op_word_of, plain_fault, prop_op_of, prop_text, property_left_out, side_of, side_op, word_fault};
 
 use crate::table::PropForm;
 use bridge_io::Reason;

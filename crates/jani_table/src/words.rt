@@ -1,7 +1,6 @@
 // The words and numbers of the format (jani-model specification, version 1), and the reason against a value that may not
 // stand where it does.
 ghost use Rattle.std.specs.Prelude.{◌≡◌};
-ghost use Rattle.frac_core.specs.Fraction.{nought, unit};
 ghost use Rattle.jani_table.specs.Words.{feature_of, feature_text, has_value, is_base, kind_fault, name_fault, null_fault, number_fault, operator_fault, refused_of, refused_text, truth_fault, ty_of, ty_text, unless as spec_unless, word_fault};
 
 use crate::operator::JaniOp;

@@ -1,6 +1,6 @@
 // A judged JANI file translated.
 
-ghost use Rattle.std.specs.Prelude.{◌≡◌, [], IfErr, IfOk, map};
+ghost use Rattle.std.specs.Prelude.{◌≡◌, [], IfErr, IfOk};
 ghost use Rattle.prism_tree.specs.Syntax as prism;
 ghost use Rattle.jani_tree.specs.Syntax.{file_of};
 ghost use Rattle.jani_tree.specs.Faults.{FailsFor};

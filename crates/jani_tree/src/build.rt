@@ -9,7 +9,7 @@ ghost use Rattle.jani_table.specs.declared.key.Key.TheVariants as K;
 ghost use Rattle.jani_table.specs.Node.{Node, at_of, node};
 ghost use Rattle.jani_table.specs.Table.{item_form};
 ghost use Rattle.jani_table.specs.Faults.{faults, is_known, is_needed, object_faults, op_in, op_kind, part, part_form};
-ghost use Rattle.jani_table.specs.Parts.{is_plain, kind_of, item_of, is_list_form};
+ghost use Rattle.jani_table.specs.Parts.{is_plain, kind_of};
 ghost use Rattle.jani_tree.specs.Jani.{IsBoxed, IsExpr, IsItems, IsKeyed, IsList, IsNamed, IsPart, IsText, Optional};
 
 use crate::syntax::JaniExpr;

@@ -11,7 +11,7 @@ ghost use Rattle.jani_table.specs.Table.{item_form};
 ghost use Rattle.jani_table.specs.Faults.{faults, is_known, is_needed, is_true, object_faults, part, part_form};
 ghost use Rattle.jani_table.specs.Parts.{is_plain};
 ghost use Rattle.jani_table.specs.Parts as Parts;
-ghost use Rattle.jani_tree.specs.Syntax.{Automaton, Const, Destination, Edge, Location, Var, Vector, Write, automaton_of, const_of, destination_of, edge_of, file_of, kind_of, location_of, var_of, vector_of, write_of};
+ghost use Rattle.jani_tree.specs.Syntax.{Automaton, Const, Destination, Edge, Location, Var, Vector, automaton_of, const_of, destination_of, edge_of, file_of, kind_of, location_of, var_of, vector_of, write_of};
 ghost use Rattle.jani_tree.specs.Jani.{IsAutomaton, IsConst, IsDestination, IsEdge, IsExpr, IsFile, IsItems, IsKept, IsKeyed, IsKind, IsKindAt, IsList, IsListAt, IsLocation, IsNamed, IsPart, IsRange, IsSystem, IsText, IsVar, IsVector, IsWrite, Optional, range_in, range_of, ty_in};
 
 use crate::build::{

@@ -2,8 +2,6 @@
 ghost use Rattle.std.specs.Prelude.{◌≡◌, [], ◌++◌, IfErr, IfOk};
 ghost use Rattle.prism_tree.specs.Syntax as prism;
 ghost use Rattle.prism_print.specs.Comments.{lines_text};
-ghost use Rattle.prism_print.specs.Printable.{IsPrintable};
-ghost use Rattle.prism_print.specs.Same.{SpellsFile};
 ghost use Rattle.prism_print.specs.Text.{file_text};
 ghost use Rattle.jani_tree.specs.Syntax.{file_of};
 ghost use Rattle.jani_tree.specs.Faults.{FailsFor};

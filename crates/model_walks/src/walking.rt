@@ -1,5 +1,5 @@
 //! One state of a model, and walks through it.
-ghost use Rattle.std.specs.Prelude.{◌≡◌, ℕ, List, IfOk};
+ghost use Rattle.std.specs.Prelude.{◌≡◌, ℕ, IfOk};
 ghost use Rattle.jani_tree.specs.Syntax as jani;
 ghost use Rattle.command_words.specs.Words.{job_of, walking_of, words_before};
 ghost use Rattle.command_words.specs.declared.request.Lang.TheVariants.{Prism, Jani};

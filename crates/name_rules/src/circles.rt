@@ -1,6 +1,6 @@
 // Declarations that depend on themselves.
 
-ghost use Rattle.std.specs.Prelude.{◌≡◌, ◌<◌, [], List, ℕ, true, length, map, IfOk, OnOk};
+ghost use Rattle.std.specs.Prelude.{◌≡◌, ◌<◌, [], ℕ, true, length, map, IfOk, OnOk};
 ghost use Rattle.name_rules.specs.Least.{soonest};
 ghost use Rattle.name_rules.specs.Circles.{AreTurns, circles, circular, declared_at, declared_by, is_circular};
 ghost use Rattle.name_rules.specs.Names.{has_name};

@@ -1,7 +1,7 @@
 // Constants and formulas placed one after another, each after those that it uses.
 
 ghost use Rattle.std.specs.Prelude.{◌≤◌, ℕ, IfOk, OnOk};
-ghost use Rattle.name_rules.specs.Rounds.{IsPlaced, IsStuckIn, IsTry, IsTurn, open_from};
+ghost use Rattle.name_rules.specs.Rounds.{IsPlaced, IsStuckIn, IsTry, IsTurn};
 
 use crate::declarations::{Declaration, some_use};
 use crate::waiting::Waiting;

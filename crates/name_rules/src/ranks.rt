@@ -1,6 +1,6 @@
 // Ranks of names, by which it is seen that most declarations are in no circle.
 
-ghost use Rattle.std.specs.Prelude.{◌≡◌, true, false, map, nat_le, nat_lt, IfOk, IfSome};
+ghost use Rattle.std.specs.Prelude.{◌≡◌, true, false, map, nat_le, IfOk, IfSome};
 ghost use Rattle.name_rules.specs.Circles.{declared_by};
 ghost use Rattle.name_rules.specs.Rounds.{rank_in, some_use, AreFalling, UsesLower};
 

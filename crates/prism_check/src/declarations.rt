@@ -1,7 +1,6 @@
 // Constants and formulas, and the names that they use.
 
 ghost use Rattle.std.specs.Prelude.{◌≡◌, ◌++◌, [], ◌∷◌, map, IfOk, OnOk};
-ghost use Rattle.bridge_io.specs.declared.reason.Named.{Named as Name};
 ghost use Rattle.std.specs.Option.{option_map};
 ghost use Rattle.op_trees.specs.Tree.{tree};
 ghost use Rattle.name_rules.specs.Circles.{declared_by};

@@ -1,10 +1,9 @@
 // How large the formulas of a file are once they are written out.
 
-ghost use Rattle.std.specs.Prelude.{◌≡◌, List, ℕ, OnOk, IfOk, bytes_eq, if◌then◌else◌, Some};
+ghost use Rattle.std.specs.Prelude.{◌≡◌, ℕ, IfOk, if◌then◌else◌};
 ghost use Rattle.prism_tree.specs.Syntax.{file_of};
 ghost use Rattle.prism_names.specs.Places.{IsPlaceOrder};
 ghost use Rattle.prism_check.specs.Counted.{AreSizes, size_in};
-ghost use Rattle.name_rules.specs.Names.{under};
 
 use crate::tree_size::{Size, measure};
 use name_rules::NameMap;

@@ -1,6 +1,6 @@
 // Names of a copy that are renamed to a formula's name, or to nothing known.
 
-ghost use Rattle.std.specs.Prelude.{◌≡◌, List, ℕ, true, length, map, All, IfOk, Option, IsTrue};
+ghost use Rattle.std.specs.Prelude.{◌≡◌, List, ℕ, true, length, map, All, IfOk, Option};
 ghost use Rattle.std.specs.List.{list_any};
 ghost use Rattle.std.specs.Option.{option_map};
 ghost use Rattle.op_trees.specs.Tree.{tree, written_out};

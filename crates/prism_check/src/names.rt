@@ -1,6 +1,6 @@
 // The faults of names, and an order of the formulas.
 
-ghost use Rattle.std.specs.Prelude.{◌≡◌, List, ℕ, ◌++◌, length, map, IfOk, None};
+ghost use Rattle.std.specs.Prelude.{◌≡◌, List, ℕ, ◌++◌, map, IfOk, None};
 ghost use Rattle.std.specs.List.{flat_map};
 ghost use Rattle.prism_tree.specs.Syntax.{file_of};
 ghost use Rattle.name_rules.specs.Circles.{turns_from};

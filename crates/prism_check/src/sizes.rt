@@ -6,7 +6,7 @@ ghost use Rattle.op_trees.specs.Tree.{capped};
 ghost use Rattle.prism_tree.specs.Syntax.{file_of, rewards_of};
 ghost use Rattle.prism_names.specs.Places.{IsPlaceOrder};
 ghost use Rattle.prism_check.specs.Counted.{sizes_of};
-ghost use Rattle.prism_check.specs.SizeFaults.{action_count, command_count, counted_height, counted_nodes};
+ghost use Rattle.prism_check.specs.SizeFaults.{counted_height, counted_nodes};
 
 use crate::actions::{count_actions, count_commands};
 use crate::demands::outer_demands;

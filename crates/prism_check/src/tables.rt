@@ -1,12 +1,9 @@
 // Tables by name in which the first of one name counts.
-
-ghost use Rattle.op_trees.specs.Tree.{tree};
-ghost use Rattle.std.specs.Prelude.{◌≡◌, is_some, List, ℕ, OnOk, IfOk, bytes_eq, if◌then◌else◌, Some, None};
-ghost use Rattle.std.specs.Option.{option_map, option_or};
+ghost use Rattle.std.specs.Prelude.{◌≡◌, is_some, List, ℕ, IfOk, if◌then◌else◌, Some, None};
+ghost use Rattle.std.specs.Option.{option_map};
 ghost use Rattle.prism_tree.specs.Syntax.{module_of};
 ghost use Rattle.prism_names.specs.Names.{module_name};
 ghost use Rattle.prism_check.specs.Tables.{body_in, body_under, module_under, new_name, pair_for, name_under, named_module};
-ghost use Rattle.name_rules.specs.Names.{under};
 
 use name_rules::NameMap;
 use prism_tree::{NamePair, PrismExpr, PrismFormula, PrismModule};

@@ -1,5 +1,5 @@
 // What the reader of expressions is made of: one token, and one node.
-ghost use Rattle.std.specs.Prelude.{◌≡◌, IfOk, map, Some};
+ghost use Rattle.std.specs.Prelude.{◌≡◌, IfOk, Some};
 ghost use Rattle.op_trees.specs.Tree.{tree, One, Two, Three};
 ghost use Rattle.op_trees.specs.Names.{offset_of};
 ghost use Rattle.prism_lex.specs.declared.token.TokenKind.TheVariants as K;

@@ -2,7 +2,6 @@
 ghost use Rattle.std.specs.Prelude.{◌≡◌, map, IfSome, IfNone, true, false};
 ghost use Rattle.std.specs.Option.{option_map};
 ghost use Rattle.std.specs.Str.{is_utf8};
-ghost use Rattle.prism_lex.specs.Tokens.{Lexeme};
 ghost use Rattle.prism_exprs.specs.Kept.{text_at, in_row, lexeme_at, seen};
 ghost use Rattle.prism_exprs.specs.declared.tokens.Stop.TheVariants.{Memory};
 

@@ -5,7 +5,7 @@ ghost use Rattle.std.specs.List.{find};
 ghost use Rattle.std.specs.Option.{option_map};
 ghost use Rattle.prism_tree.specs.Syntax.{command_of, copied, file_of, module_of, plain, var_of};
 ghost use Rattle.op_trees.specs.Names.{is_called};
-ghost use Rattle.prism_names.specs.Names.{module_name, part_of};
+ghost use Rattle.prism_names.specs.Names.{module_name};
 ghost use Rattle.prism_flat.specs.Rewritten.{rewritten_body, written_as};
 ghost use Rattle.prism_flat.specs.Tables.{body_in, rewriting};
 

@@ -5,12 +5,12 @@ ghost use Rattle.op_trees.specs.Tree.{tree};
 ghost use Rattle.prism_lex.specs.declared.token.TokenKind.TheVariants as K;
 ghost use Rattle.prism_lex.specs.declared.words.Reserved.TheVariants as W;
 ghost use Rattle.prism_lex.specs.declared.symbols.Symbol.TheVariants as S;
-ghost use Rattle.prism_tree.specs.Lang.{◌>>◌, optional};
-ghost use Rattle.prism_tree.specs.Grammar.{word, symbol, const_type, const_item, formula_item, label_item, range, var, global_item};
+ghost use Rattle.prism_tree.specs.Lang.{◌>>◌};
+ghost use Rattle.prism_tree.specs.Grammar.{const_item, formula_item, label_item, range, var, global_item};
 ghost use Rattle.prism_tree.specs.Syntax.{const_of, formula_of, label_of, range_of, var_of};
 ghost use Rattle.prism_exprs.specs.Kept.{seen};
 ghost use Rattle.prism_exprs.specs.Reading.{none};
-ghost use Rattle.prism_exprs.specs.Scope.{ParsesIn, expressions};
+ghost use Rattle.prism_exprs.specs.Scope.{ParsesIn};
 ghost use Rattle.prism_items.specs.Parts.{in_scope, domain, value_part, domain_part, start_part, kept_type, type_front};
 
 use crate::closed::{parse_closed, parse_definition};

@@ -1,5 +1,5 @@
 // Names, numbers and quoted names.
-ghost use Rattle.std.specs.Prelude.{◌≡◌, ◌≤◌, true, take, length};
+ghost use Rattle.std.specs.Prelude.{◌≡◌, ◌≤◌, take};
 ghost use Rattle.prism_lex.specs.Automaton.{step, accepts, after, longest};
 
 /// How far a name, a number or a quoted name has come.

@@ -1,5 +1,5 @@
 //! The values of the constants of a file.
-ghost use Rattle.std.specs.Prelude.{◌≡◌, ◌<◌, ◌++◌, ℕ, List, IfOk, OnOk, MatchResult, [], ◌∷◌, length, map, Some};
+ghost use Rattle.std.specs.Prelude.{◌≡◌, ◌<◌, ◌++◌, ℕ, List, IfOk, MatchResult, [], ◌∷◌, length, map, Some};
 ghost use Rattle.std.specs.Option.{option_map};
 ghost use Rattle.op_trees.specs.Tree.{tree};
 ghost use Rattle.name_rules.specs.Circles.{AreTurns, circles, declared_by};

@@ -1,9 +1,6 @@
 //! A file under given constants, as a process that can be stepped.
-ghost use Rattle.std.specs.Prelude.{◌≡◌, ◌++◌, IfOk, IsTrue, Option, Some, map};
-ghost use Rattle.std.specs.List.{list_any};
-ghost use Rattle.std.specs.Option.{option_map};
+ghost use Rattle.std.specs.Prelude.{◌≡◌, ◌++◌, IsTrue, Option, Some, map};
 ghost use Rattle.process_core.specs.Answers.{Answers, only_wide};
-ghost use Rattle.process_core.specs.Choices.{all_defined};
 ghost use Rattle.process_core.specs.Bounds as core;
 ghost use Rattle.process_core.specs.Choices as core_choices;
 ghost use Rattle.process_core.specs.Instance.{is_state};

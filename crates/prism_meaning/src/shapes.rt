@@ -1,12 +1,12 @@
 //! Which commands and reward items belong together, found once.
 ghost use Rattle.std.specs.Prelude.{◌≡◌, ◌++◌, IfOk, List, None, Some, map, option_copied};
-ghost use Rattle.std.specs.List.{filter, flat_map, list_any};
+ghost use Rattle.std.specs.List.{filter, flat_map};
 ghost use Rattle.basics.specs.Options.{if_some};
 ghost use Rattle.prism_flat.specs.Moment.{action_of, adds_of};
 ghost use Rattle.prism_flat.specs.Process.{is_for_choices, is_for_states};
 ghost use Rattle.prism_names.specs.Names.{unchanged};
 ghost use Rattle.prism_tree.specs.Syntax as syntax;
-ghost use Rattle.prism_tree.specs.Syntax.{command_of, file_of, item_of, module_of, rewards_of};
+ghost use Rattle.prism_tree.specs.Syntax.{command_of, item_of, module_of, rewards_of};
 ghost use Rattle.prism_meaning.specs.Shapes.{acting, action_shape, acts, bodies, earned, earned_in_states, own_commands, shapes, sharing, silent_shape, unless_empty};
 ghost use Rattle.prism_meaning.specs.Views.{commands_of, items_of, shape_of};
 

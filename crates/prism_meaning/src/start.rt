@@ -27,7 +27,6 @@ use crate::prepare::prepared;
 use crate::shapes::{earned_in_states, shapes};
 use crate::state_names::StateNames;
 use crate::variables::{all_variables, variables_under};
-use bridge_io::Text;
 use instance_start::{Column, Constant, Place, Variable, columns, misfit};
 use name_rules::NameMap;
 use op_trees::{EvalFail, Value};

@@ -1,6 +1,5 @@
 //! What the variables of a file come out as.
 ghost use Rattle.std.specs.Prelude.{◌≡◌, ◌++◌, IfOk, None, map};
-ghost use Rattle.std.specs.List.{flat_map};
 ghost use Rattle.std.specs.Option.{option_map};
 ghost use Rattle.op_trees.specs.Tree.{tree};
 ghost use Rattle.prism_flat.specs.Scene.{column, domain_of, first_of};
@@ -16,7 +15,6 @@ ghost use Rattle.prism_meaning.specs.Views.{seen_in};
 
 use crate::constant_names::{ConstantNames, value_of};
 use bridge_io::Text;
-use frac_core::Frac;
 use instance_start::{Bounds, Variable};
 use op_trees::{EvalFail, Value};
 use prism_tree::{PrismFile, PrismModule, PrismRange, PrismVar};

@@ -1,7 +1,6 @@
 // The parts of vectors, and other elements.
 
 ghost use Rattle.std.specs.Prelude.{◌≡◌};
-ghost use Rattle.std.specs.Option.{option_map};
 ghost use Rattle.jani_tree.specs.Syntax.{vector_of};
 ghost use Rattle.prism_translation.specs.Targets.{is_another, part_of};
 ghost use Rattle.prism_targets.specs.Code.{name_of};

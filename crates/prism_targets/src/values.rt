@@ -1,16 +1,16 @@
 // Boolean transient variables that the locations of one element give many values.
 
 ghost use Rattle.std.specs.Prelude.{◌≡◌, ◌+◌, List as ListOf, ℕ, length, map, IfOk, OnOk};
-ghost use Rattle.std.specs.List.{filter, list_any, sum_by};
+ghost use Rattle.std.specs.List.{filter, list_any};
 ghost use Rattle.op_trees.specs.Tree.{capped};
-ghost use Rattle.jani_tree.specs.Syntax.{Automaton, automaton_of, location_of, write_of};
+ghost use Rattle.jani_tree.specs.Syntax.{Automaton, automaton_of, write_of};
 ghost use Rattle.op_trees.specs.Names.{is_called};
 ghost use Rattle.prism_targets.specs.Counts.{crowded_from, is_crowded, some_crowded};
 ghost use Rattle.prism_targets.specs.Code.{AreCounts, sum_under, usable_in};
 
 use crate::places::Places;
 use crate::sums::Sums;
-use jani_tree::{JaniAutomaton, JaniLocation, JaniWrite};
+use jani_tree::{JaniAutomaton, JaniWrite};
 use std::alloc::{AllocError, Global};
 
 // The limit on the values that the locations of one element give one boolean transient variable.

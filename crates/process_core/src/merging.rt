@@ -1,11 +1,11 @@
 // Branches merged by their targets.
 
-ghost use Rattle.std.specs.Prelude.{◌≡◌, ◌<◌, ◌++◌, ◌∷◌, [], List, length, map, not, IfOk, OnOk, slice_set, if◌then◌else◌};
+ghost use Rattle.std.specs.Prelude.{◌≡◌, ◌<◌, ◌++◌, ◌∷◌, [], List, length, map, IfOk, OnOk, if◌then◌else◌};
 ghost use Rattle.std.specs.Ordering.{int_eq};
-ghost use Rattle.std.specs.List.{list_any, filter, position_or_len};
+ghost use Rattle.std.specs.List.{list_any, position_or_len};
 ghost use Rattle.std.specs.Cmp.Lexicographic.{pointwise};
 ghost use Rattle.indexmap.specs.IndexSet.{insert_key};
-ghost use Rattle.frac_core.specs.Fraction.{Fraction, nought, same_number};
+ghost use Rattle.frac_core.specs.Fraction.{Fraction, nought};
 ghost use Rattle.process_core.specs.Process as process;
 ghost use Rattle.process_core.specs.Ready.{Values};
 ghost use Rattle.process_core.specs.Seen.{seen_branch};

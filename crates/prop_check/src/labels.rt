@@ -1,6 +1,6 @@
 // The labels that properties may name.
 
-ghost use Rattle.std.specs.Prelude.{◌≡◌, ◌++◌, List, ℕ, true, false, map, IfOk, IfSome, IfNone, OnOk};
+ghost use Rattle.std.specs.Prelude.{◌≡◌, ◌++◌, ℕ, true, false, map, IfOk, IfSome, IfNone, OnOk};
 ghost use Rattle.name_rules.specs.Names.{add, is_among, no_name};
 ghost use Rattle.prism_tree.specs.Grammar.{unquoted};
 ghost use Rattle.prism_tree.specs.Syntax.{label_of};

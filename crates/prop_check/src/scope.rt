@@ -1,6 +1,6 @@
 // What the names in properties stand for in a model.
 
-ghost use Rattle.std.specs.Prelude.{◌≡◌, IfOk, unwrap_or};
+ghost use Rattle.std.specs.Prelude.{◌≡◌, IfOk};
 ghost use Rattle.op_trees.specs.Tree.{capped, tree};
 ghost use Rattle.prism_names.specs.Order.{whole_height, whole_nodes};
 ghost use Rattle.prism_check.specs.TypeFaults.{has_variable};
@@ -11,7 +11,7 @@ use crate::structures::Structures;
 use name_rules::Telling;
 use op_trees::{Names, Ty, Value};
 use prism_check::{CheckedPrism, FileNames, Size};
-use prism_tree::{PrismExpr, PrismFile};
+use prism_tree::PrismExpr;
 use prop_grammar::Structure;
 use std::alloc::{AllocError, Global};
 use std::marker::Model;

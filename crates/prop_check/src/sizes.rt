@@ -13,7 +13,6 @@ use crate::scope::Scope;
 use bridge_io::{Fault, Reason};
 use name_rules::sooner_if;
 use prism_check::{HEIGHT_LIMIT, NODE_LIMIT, Size};
-use std::alloc::Global;
 
 /// The fault of properties that are too large, whose bounds and state formulas these are.
 pub(crate) fn judge_sizes(scope: &Scope, parts: &[Part]) -> Option<Fault>

@@ -1,5 +1,5 @@
 // Bounds, and what is reached within one.
-ghost use Rattle.std.specs.Prelude.{◌≡◌, true, false, Some, None, IfSome, IfNone, IfOk};
+ghost use Rattle.std.specs.Prelude.{◌≡◌, false, Some, None, IfSome, IfNone, IfOk};
 ghost use Rattle.std.specs.Option.{option_map};
 ghost use Rattle.op_trees.specs.Tree.{tree, Name};
 ghost use Rattle.prism_exprs.specs.Kept.{seen, lexeme_at};

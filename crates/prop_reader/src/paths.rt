@@ -1,9 +1,9 @@
 // The form of paths, with the bracket behind them.
-ghost use Rattle.std.specs.Prelude.{◌≡◌, true, false};
+ghost use Rattle.std.specs.Prelude.{◌≡◌};
 ghost use Rattle.std.specs.Option.{option_map};
 ghost use Rattle.op_trees.specs.Tree.{tree};
 ghost use Rattle.prism_exprs.specs.Kept.{seen};
-ghost use Rattle.prism_exprs.specs.Reading.{none, starts, is_kind};
+ghost use Rattle.prism_exprs.specs.Reading.{none};
 ghost use Rattle.prism_exprs.specs.Scope.{ParsesIn, expressions};
 ghost use Rattle.prop_grammar.specs.Grammar.{finally_by, until_by, eventually, always, strong_after, weak_after, after, target, path, reach};
 ghost use Rattle.prop_grammar.specs.Syntax.{path_of};

@@ -14,7 +14,6 @@ use crate::members::{Members, no_members, object, operation, string, with};
 use bridge_io::List;
 use decimal_json::Json;
 use jani_table::JaniOp;
-use name_table::Entry;
 use prism_tree::PrismExpr;
 use prop_trees::{Ask, Compare, Path, Property};
 use std::alloc::{AllocError, Global};

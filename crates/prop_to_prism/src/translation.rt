@@ -5,7 +5,6 @@ ghost use Rattle.jani_tree.specs.Syntax.{file_of};
 ghost use Rattle.jani_meaning.specs.Elements.{labels as labels_of_file};
 ghost use Rattle.name_table.specs.Gathered.{told};
 ghost use Rattle.name_table.specs.JaniParts.{owned_of};
-ghost use Rattle.name_table.specs.PrismAsks.{names_by};
 ghost use Rattle.jani_check.specs.NameFaults.{name_faults};
 ghost use Rattle.prism_translator.specs.Code.{file_in, names_in, IsReady};
 ghost use Rattle.prism_translator.specs.Gathered.{AreGathered};

@@ -7,7 +7,7 @@ ghost use Rattle.process_core.specs.Process.{EquallyOften};
 ghost use Rattle.row_check.specs.Index.{IsIndex};
 ghost use Rattle.row_check.specs.Judging.{Each, Judges};
 ghost use Rattle.row_check.specs.Merging.{Keeps, Sums, TargetsListed, choice_of_rows, good_choices, is_bad};
-ghost use Rattle.row_check.specs.Rows.{AreReadRows, JudgesChoices, JudgesChoicesAt, JudgesListed, JudgesRows, JudgesState, RowsDiffer, counts_right, file_choices, runs, same_choice, start_verdict, target_verdict};
+ghost use Rattle.row_check.specs.Rows.{AreReadRows, JudgesChoices, JudgesChoicesAt, JudgesListed, JudgesRows, JudgesState, RowsDiffer, counts_right, runs, same_choice, start_verdict, target_verdict};
 ghost use Rattle.row_check.specs.Walked.{AreSortedFrom, JudgesMerged, KeepsRun, MergesAll, MergesOne};
 
 use crate::counting::equally_often;

@@ -1,5 +1,5 @@
 //! What passes a bound before anything is built: wide guards, and too many choices or branches.
-ghost use Rattle.std.specs.Prelude.{◌≡◌, ◌==◌, map, ℕ, List, not, ◌||◌, if◌then◌else◌, length};
+ghost use Rattle.std.specs.Prelude.{◌≡◌, ◌==◌, map, ℕ, List, ◌||◌, if◌then◌else◌, length};
 ghost use Rattle.std.specs.List.{list_any, sum_by, count_by, filter};
 ghost use Rattle.op_trees.specs.Tree.{capped};
 ghost use Rattle.process_core.specs.Bounds.{has_wide_guard, is_too_many, is_enabled};

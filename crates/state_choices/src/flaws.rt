@@ -1,6 +1,6 @@
 //! What is wide, undefined or out of range in the parts of a combination.
 ghost use Rattle.std.specs.Prelude.{◌≡◌};
-ghost use Rattle.state_choices.specs.Flaws.{both, no_flaw, flaws_in};
+ghost use Rattle.state_choices.specs.Flaws.{both, flaws_in};
 
 use crate::data::{Command, Reward, Update, Write};
 use crate::values::{is_undefined, is_wide, is_wide_sum, number_of};

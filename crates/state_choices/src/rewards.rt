@@ -1,7 +1,7 @@
 //! Rewards: sums of items.
-ghost use Rattle.std.specs.Prelude.{◌≡◌, ◌||◌, ◌&&◌, not, map, is_none, Ok, if◌then◌else◌};
+ghost use Rattle.std.specs.Prelude.{◌≡◌, ◌||◌, ◌&&◌, map, is_none, Ok, if◌then◌else◌};
 ghost use Rattle.std.specs.List.{list_any};
-ghost use Rattle.frac_core.specs.Fraction.{plus, nought};
+ghost use Rattle.frac_core.specs.Fraction.{plus};
 ghost use Rattle.frac_core.specs.Results.{narrow};
 ghost use Rattle.process_core.specs.Choices.{is_false, is_true, number_of};
 ghost use Rattle.process_core.specs.Bounds.{summed};

@@ -7,7 +7,6 @@ use prism_parse::parse;
 use prism_places::flatten;
 use prism_print::{print, printable_law};
 use std::alloc::{AllocError, Global};
-use std::test::Fail;
 
 /// The file that the bytes spell, if it has no fault.
 fn checked(alloc: Global, text: &[u8]) -> Result<CheckedPrism, Refused> {
