@@ -459,12 +459,13 @@ fn push_file(out: &mut Vec<u8>, file: &JaniFile) -> Result<(), AllocError>
 
 /// The canonical text of a tree: the members of each object in one order, each list that is empty and may be missing left out, no
 /// spaces; strings and numbers as in the canonical text of a JSON value. It is the text of the tree's canonical value, of which
-/// nothing is built on the way, and spells such a value where the tree can be written. `Err` is want of memory, alone.
-pub fn write_jani(alloc: Global, file: &JaniFile) -> Result<List<u8>, AllocError>
+/// nothing is built on the way, and spells such a value where the tree can be written. So many bytes are set aside at first; a longer text
+/// is moved as it grows. `Err` is want of memory, alone.
+pub fn write_jani(alloc: Global, room: usize, file: &JaniFile) -> Result<List<u8>, AllocError>
     ensures text { IfOk result (λ t. t ≡ jani_text (file_of file.now)) }
     ensures value { IsWritable (file_of file.now) → IfOk result (λ t. SpellsNode t (file_node (file_of file.now))) }
 {
-    let mut out = Vec::new(alloc);
+    let mut out = Vec::with_capacity(alloc, room)?;
     push_file(&mut out, file)?;
     Ok(List::from_vec(out))
 }

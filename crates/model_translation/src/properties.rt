@@ -10,7 +10,7 @@ ghost use Rattle.prop_trees.specs.Syntax.{property_of};
 ghost use Rattle.prop_to_jani.specs.Laws as of_properties;
 ghost use Rattle.model_translation.specs.WithProperties.{IsFileWith, IsWrittenWith, TranslatesFiles, with_properties};
 
-use crate::translation::text_of;
+use crate::translation::{room_for, text_of};
 use bridge_io::{Fault, List, Refused};
 use decimal_json::Json;
 use jani_check::CheckedJani;
@@ -64,7 +64,8 @@ pub fn translate_with_properties(
         Err(Refused::At(fault)) => return Err(FilesRefused::Properties(fault)),
         Err(Refused::Memory(e)) => return Err(FilesRefused::Memory(e)),
     };
-    let text = written(alloc, checked, props)?;
+    let room = room_for(model.len().saturating_add(properties.len()));
+    let text = written(alloc, checked, props, room)?;
     Ok(text)
 }
 
@@ -73,13 +74,14 @@ fn written(
     alloc: Global,
     checked: CheckedPrism,
     props: List<Property>,
+    room: usize,
 ) -> Result<List<u8>, AllocError>
     requires { AreOfPrism checked.file (map property_of props) }
     ensures { IfOk result (λ text. (model : File) × (value : Node) × IsWrittenWith checked (map property_of props) text model value) }
 {
     let full = file_with(alloc, &checked, props)?;
     drop(checked);
-    text_of(alloc, &full)
+    text_of(alloc, room, &full)
 }
 
 // The file with its properties. `Err` is want of memory.

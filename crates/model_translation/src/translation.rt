@@ -21,28 +21,37 @@ pub fn translate(alloc: Global, bytes: &[u8]) -> Result<List<u8>, Refused>
         Ok(checked) => checked,
         Err(refused) => return Err(refused),
     };
-    let text = translated(alloc, checked)?;
+    let text = translated(alloc, checked, room_for(bytes.len()))?;
     Ok(text)
 }
 
 /// The text for a judged file, which is let go once it is translated. `Err` is want of memory.
-fn translated(alloc: Global, checked: CheckedPrism) -> Result<List<u8>, AllocError>
+fn translated(alloc: Global, checked: CheckedPrism, room: usize) -> Result<List<u8>, AllocError>
     ensures { IfOk result (λ text. (model : File) × IsWritten checked.file text model) }
 {
     translated_law();
     let model = to_jani(alloc, &checked)?;
     drop(checked);
-    text_of(alloc, &model)
+    text_of(alloc, room, &model)
 }
 
-/// The canonical text of a file of the profile, and a line feed. `Err` is want of memory.
-pub(crate) fn text_of(alloc: Global, model: &CheckedJani) -> Result<List<u8>, AllocError>
+/// How many bytes the text of a file takes, by and large, where what it is translated from takes so many.
+pub(crate) fn room_for(length: usize) -> usize {
+    length.saturating_mul(4)
+}
+
+/// The canonical text of a file of the profile, and a line feed; so many bytes are set aside for it at first. `Err` is want of memory.
+pub(crate) fn text_of(
+    alloc: Global,
+    room: usize,
+    model: &CheckedJani,
+) -> Result<List<u8>, AllocError>
     ensures { IfOk result (λ text. IsText text (file_of model.now)) }
 {
     writable_law();
     written_law();
     line_feed_law();
-    let mut text = write_jani(alloc, model.file())?;
+    let mut text = write_jani(alloc, room, model.file())?;
     text.push(b'\n')?;
     Ok(text)
 }
