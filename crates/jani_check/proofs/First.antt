@@ -1,32 +1,41 @@
--- Tables of things in which the first of one name counts.
-use Rattle.std.specs.Prelude.{ℕ, List, Bool, true, false, Option, Some, None, is_some, bytes_eq, if◌then◌else◌}
-use Rattle.std.proofs.Common.{◌≡◌, refl, sym, ap, ◌∙◌}
-use Rattle.std.proofs.lemmas.Slice.Eq.{bytes_eq-Decides}
-use Rattle.basics.specs.Options.{none_of}
-use Rattle.std.specs.Option.{option_or as or_else}
+-- What stands under a name where the first of one name counts, one more of a list.
+use Rattle.std.specs.Prelude.{ℕ, ◌<◌, ◌+◌, List, map, length, drop, Bool, true, false, Option, Some, None, if◌then◌else◌}
+use Rattle.std.specs.List.{find}
+use Rattle.std.specs.Option.{option_map, option_or}
+use Rattle.std.proofs.Common.{◌≡◌, refl, sym, ap, ap₂, ◌∙◌, cond, get_or}
+use Rattle.std.proofs.lemmas.List.{at_drop_more}
 
-pub none_after : {X : Type 0} (o : Option X) → o ≡ or_else o None
-none_after None = refl
-none_after (Some x) = refl
+one_more : {T : Type 0} (old : Option T) (b : Bool) (v : T) (rest : Option T) → option_or (option_or old (if b then Some v else None)) rest ≡ option_or old (cond b (Some v) rest)
+one_more None true v rest = refl
+one_more None false v rest = refl
+one_more (Some y) b v rest = refl
 
-anything_after : {X : Type 0} (o p : Option X) → is_some o ≡ true → o ≡ or_else o p
-anything_after None p h = cc
-anything_after (Some x) p h = refl
+mapped_if : {E T : Type 0} (g : E → T) (b : Bool) (e : E) (rest : Option E) → option_map g (cond b (Some e) rest) ≡ cond b (Some (g e)) (option_map g rest)
+mapped_if g true e rest = refl
+mapped_if g false e rest = refl
 
--- a name that stands in the table already
-pub stands : {X : Type 0} (table : List ℕ → Option X) (name q : List ℕ) (x : X) → is_some (table name) ≡ true →
-    table q ≡ or_else (table q) (if bytes_eq name q then Some x else None)
-stands table name q x h = by_test (bytes_eq name q) refl
-  where
-    by_test : (b : Bool) → bytes_eq name q ≡ b → table q ≡ or_else (table q) (if b then Some x else None)
-    by_test true e = anything_after (table q) (Some x) (ap (λ y. is_some (table y)) (sym ((bytes_eq-Decides name q).0 e)) ∙ h)
-    by_test false e = none_after (table q)
+-- of a list whose members stand for something
+pub first_thing : {E T D : Type 0} (g : E → T) (p : E → Bool) (s : D → E) (xs : List D) (i : ℕ) (d : D) (b : Bool) (v : T) (old new whole : Option T) →
+    i < length xs → d ≡ get_or xs i d → new ≡ option_or old (if b then Some v else None) → b ≡ p (s d) → v ≡ g (s d) →
+    option_or old (option_map g (find p (map s (drop i xs)))) ≡ whole → option_or new (option_map g (find p (map s (drop (i + 1) xs)))) ≡ whole
+first_thing g p s xs i d b v old new whole h is put test same so_far =
+    let rest = find p (map s (drop (i + 1) xs)) in
+    ap (λ o. option_or o (option_map g rest)) put
+    ∙ one_more old b v (option_map g rest)
+    ∙ ap₂ (λ c y. option_or old (cond c (Some y) (option_map g rest))) test same
+    ∙ ap (option_or old) (sym (mapped_if g (p (s d)) (s d) rest))
+    ∙ ap (λ y. option_or old (option_map g (cond (p (s y)) (Some (s y)) rest))) is
+    ∙ sym (at_drop_more (λ ys. option_or old (option_map g (find p (map s ys)))) xs i d h)
+    ∙ so_far
 
--- a name that does not
-pub added : {X : Type 0} (table new : List ℕ → Option X) (name q : List ℕ) (x : X) → is_some (table name) ≡ false →
-    new q ≡ (if bytes_eq name q then Some x else table q) → new q ≡ or_else (table q) (if bytes_eq name q then Some x else None)
-added table new name q x h e = e ∙ by_test (bytes_eq name q) refl
-  where
-    by_test : (b : Bool) → bytes_eq name q ≡ b → (if b then Some x else table q) ≡ or_else (table q) (if b then Some x else None)
-    by_test true t = ap (λ o. or_else o (Some x)) (sym (none_of (table q) (ap (λ y. is_some (table y)) (sym ((bytes_eq-Decides name q).0 t)) ∙ h)))
-    by_test false t = none_after (table q)
+put_mapped : {A T : Type 0} (f : A → T) (old : Option A) (b : Bool) (x : A) → option_map f (option_or old (if b then Some x else None)) ≡ option_or (option_map f old) (if b then Some (f x) else None)
+put_mapped f None true x = refl
+put_mapped f None false x = refl
+put_mapped f (Some y) b x = refl
+
+-- the same of a table whose values stand for something too
+pub first_mapped : {A E T D : Type 0} (f : A → T) (g : E → T) (p : E → Bool) (s : D → E) (xs : List D) (i : ℕ) (d : D) (b : Bool) (x : A) (old new : Option A) (whole : Option T) →
+    i < length xs → d ≡ get_or xs i d → new ≡ option_or old (if b then Some x else None) → b ≡ p (s d) → f x ≡ g (s d) →
+    option_or (option_map f old) (option_map g (find p (map s (drop i xs)))) ≡ whole → option_or (option_map f new) (option_map g (find p (map s (drop (i + 1) xs)))) ≡ whole
+first_mapped f g p s xs i d b x old new whole h is put test same so_far =
+    first_thing g p s xs i d b (f x) (option_map f old) (option_map f new) whole h is (ap (option_map f) put ∙ put_mapped f old b x) test same so_far

@@ -1,31 +1,19 @@
 -- Lists of names that grow.
-use Rattle.std.specs.Prelude.{ℕ, ◌<◌, ◌≤◌, ◌+◌, List, [], ◌∷◌, ◌++◌, map, length, drop, Bool, true, false, Option, Some, None, bytes_eq, if◌then◌else◌}
+use Rattle.std.specs.Prelude.{ℕ, ◌<◌, ◌≤◌, ◌+◌, List, [], ◌∷◌, ◌++◌, map, length, drop, Bool, true, false, bytes_eq, if◌then◌else◌}
 use Rattle.std.specs.Borrow.{Bor}
 use Rattle.std.proofs.Common.{◌≡◌, refl, sym, ap, ◌∙◌, get_or, append-nil, append_assoc}
-use Rattle.std.proofs.lemmas.Slice.Eq.{bytes_eq-Decides}
-use Rattle.std.proofs.lemmas.List.{at_drop_more, at_drop_all}
+use Rattle.std.proofs.lemmas.List.{at_drop_more, at_drop_all, map-append}
+use Rattle.process_core.specs.Instance.{only_if}
 use Rattle.name_rules.specs.Names.{Name}
 use Rattle.name_rules.proofs.Maps.{no_str}
 
--- what is taken out and put back
-under_if : {X : Type 0} (f : Option X → List Name) (b : Bool) (o : Option X) → f None ≡ [] → f (if b then None else o) ≡ (if b then [] else f o)
-under_if f true o h = h
-under_if f false o h = refl
+-- one more name in the list under a name
+only_name : (b : Bool) (s : Bor (List ℕ)) → map (λ y. y.now) (only_if b s) ≡ (if b then s.now ∷ [] else [])
+only_name true s = refl
+only_name false s = refl
 
-pub taken_out : {X : Type 0} (f : Option X → List Name) (b : Bool) (old new : Option X) → f None ≡ [] → new ≡ (if b then None else old) → f new ≡ (if b then [] else f old)
-taken_out f b old new h e = ap f e ∙ under_if f b old h
-
-pub put_back : {X : Type 0} (f : Option X → List Name) (b : Bool) (x : X) (mid new : Option X) → new ≡ (if b then Some x else mid) → f new ≡ (if b then f (Some x) else f mid)
-put_back f true x mid new e = ap f e
-put_back f false x mid new e = ap f e
-
-pub added_name : (key q name : List ℕ) (old mid new : List ℕ → List Name) (list : List Name) → list ≡ old key ++ name ∷ [] → mid q ≡ (if bytes_eq key q then [] else old q) →
-    new q ≡ (if bytes_eq key q then list else mid q) → new q ≡ old q ++ (if bytes_eq key q then name ∷ [] else [])
-added_name key q name old mid new list is left put = put ∙ by_test (bytes_eq key q) refl left
-  where
-    by_test : (b : Bool) → bytes_eq key q ≡ b → mid q ≡ (if b then [] else old q) → (if b then list else mid q) ≡ old q ++ (if b then name ∷ [] else [])
-    by_test true e l = is ∙ ap (λ x. old x ++ name ∷ []) ((bytes_eq-Decides key q).0 e)
-    by_test false e l = l ∙ sym (append-nil (old q))
+pub name_added : (b : Bool) (l new : List (Bor (List ℕ))) (s : Bor (List ℕ)) → new ≡ l ++ only_if b s → map (λ y. y.now) new ≡ map (λ y. y.now) l ++ (if b then s.now ∷ [] else [])
+name_added b l new s h = ap (map (λ y. y.now)) h ∙ map-append (λ y. y.now) l (only_if b s) ∙ ap (λ r. map (λ y. y.now) l ++ r) (only_name b s)
 
 under_append : (b : Bool) (xs ys : List Name) → (if b then xs ++ ys else []) ≡ (if b then xs else []) ++ (if b then ys else [])
 under_append true xs ys = refl

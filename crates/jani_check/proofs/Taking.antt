@@ -15,7 +15,7 @@ use Rattle.jani_check.specs.TypeFaults.{with_automaton, participants, meet, shar
 use Rattle.jani_check.specs.ProfileFaults.{rewards_with, two_hold, two_writers}
 use Rattle.jani_check.specs.Participants.{parts_taken, clash_by, element_shared}
 use Rattle.jani_check.specs.Rewarding.{element_rewards, writers_by, holds_with}
-use Rattle.jani_check.proofs.First.{none_after}
+use Rattle.name_rules.proofs.Maps.{none_after}
 
 -- the participants of a vector, by what each element has under each action
 participants_are : {X : Type 0} (f : Automaton → Name → X) (none : X) (file : File) (es : List Named) (ps : List (Option Named)) →

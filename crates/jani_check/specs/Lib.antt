@@ -6,7 +6,6 @@ pub mod ProfileFaults
 pub mod Faults
 pub mod Phases
 pub mod Views
-pub mod Tables
 pub mod Scopes
 pub mod Circles
 pub mod NameLists

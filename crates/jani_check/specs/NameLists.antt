@@ -1,17 +1,13 @@
 -- What the code's lists of names have.
-use Rattle.std.specs.Prelude.{ℕ, List, [], map, Option, Some, None, bytes_eq, if◌then◌else◌}
-use Rattle.jani_check.specs.Tables.{under}
+use Rattle.std.specs.Prelude.{ℕ, List, [], map, bytes_eq, if◌then◌else◌}
+use Rattle.std.specs.Borrow.{Bor}
 use Rattle.name_rules.specs.Names.{Name}
-use Rattle.jani_check.specs.declared.lists.Names.{Names}
-use Rattle.jani_check.specs.declared.lists.NameLists.{NameLists}
-
-abbrev pub names_in : Option Names → List Name
-names_in None = []
-names_in (Some a) = map (λ s. s.now) a.names.items
+use Rattle.gathering.specs.declared.name_lists.NameLists.{NameLists}
+use Rattle.gathering.specs.Lists.{list_under}
 
 -- the list under a name
-abbrev pub names_under : NameLists → List ℕ → List Name
-names_under t x = names_in (under t.lists x)
+abbrev pub names_under : NameLists (Bor (List ℕ)) → List ℕ → List Name
+names_under t x = map (λ s. s.now) (list_under t x)
 
 -- these names, under one name alone
 abbrev pub under_one : List ℕ → List Name → List ℕ → List Name

@@ -7,19 +7,20 @@ use Rattle.bridge_io.specs.declared.reason.Reason.TheVariants.{WrittenTwice}
 use Rattle.bridge_io.specs.declared.reason.Fault.{Fault}
 use Rattle.jani_tree.specs.Syntax.{Automaton, Vector, File, automaton_of}
 use Rattle.name_rules.specs.Least.{fault_if}
-use Rattle.jani_check.specs.Tables.{under}
 use Rattle.jani_check.specs.Things.{automaton_called, global_thing}
 use Rattle.op_trees.specs.Names.{is_called}
-use Rattle.name_rules.specs.Names.{Name}
-use Rattle.jani_check.specs.declared.elements.Automata.{Automata}
+use Rattle.name_rules.specs.Names.{Name, under}
+use Rattle.std.specs.Borrow.{Bor}
+use Rattle.name_rules.specs.declared.map.NameMap.{NameMap}
+use Rattle.jani_tree.specs.declared.syntax.JaniAutomaton.{JaniAutomaton}
 use Rattle.jani_check.specs.TypeFaults.{meet, shared_by, with_automaton}
 
 -- ---- elements
 abbrev pub automaton_in : List Automaton → Name → Option Automaton
 automaton_in automata x = find (λ a. is_called x a.name) automata
 
-abbrev pub automaton_under : Automata → Name → Option Automaton
-automaton_under t x = option_map (λ a. automaton_of a.now) (under t.first x)
+abbrev pub automaton_under : NameMap (Bor JaniAutomaton) → Name → Option Automaton
+automaton_under t x = option_map (λ a. automaton_of a.now) (under t x)
 
 -- for each element and its part of a vector, by what the element has under each action
 abbrev pub parts_taken : {X : Type 0} → X → List (Name → X) → List (Option Named) → List X

@@ -4,10 +4,9 @@ use Rattle.std.specs.List.{find}
 use Rattle.op_trees.specs.declared.tree.Ty.{Ty}
 use Rattle.op_trees.specs.Types.{AgreesWith}
 use Rattle.jani_tree.specs.Syntax.{Const}
-use Rattle.jani_check.specs.Tables.{under}
 use Rattle.std.specs.Option.{option_or as or_else}
 use Rattle.op_trees.specs.Names.{is_called}
-use Rattle.name_rules.specs.Names.{Name}
+use Rattle.name_rules.specs.Names.{Name, under}
 use Rattle.jani_check.specs.declared.things.Thing.{Thing}
 use Rattle.jani_check.specs.declared.things.Things.{Things}
 use Rattle.jani_check.specs.declared.things.Scope.{Scope}

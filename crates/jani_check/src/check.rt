@@ -14,7 +14,7 @@ use crate::elements::count_edges;
 use crate::names::judge_names;
 use crate::profile::judge_profile;
 use crate::types::judge_types;
-use bridge_io::{Fault, Refused};
+use bridge_io::Refused;
 use jani_tree::JaniFile;
 use name_rules::Judged;
 use std::alloc::{AllocError, Global};

@@ -1,6 +1,6 @@
 // Constants that depend on themselves.
 
-ghost use Rattle.std.specs.Prelude.{◌≡◌, List, ℕ, ◌++◌, map, IfOk, OnOk};
+ghost use Rattle.std.specs.Prelude.{◌≡◌, List, ℕ, ◌++◌, map, IfOk};
 ghost use Rattle.std.specs.List.{flat_map};
 ghost use Rattle.name_rules.specs.Circles.{declared_by};
 ghost use Rattle.name_rules.specs.Least.{soonest};

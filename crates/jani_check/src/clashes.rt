@@ -1,14 +1,14 @@
 // Vectors two of whose participants assign one variable.
 
-ghost use Rattle.std.specs.Prelude.{◌≡◌, List, ℕ, [], ◌||◌, map, bytes_eq, IfOk, OnOk};
+ghost use Rattle.std.specs.Prelude.{◌≡◌, List, ℕ, [], ◌||◌, map, IfOk, OnOk};
 ghost use Rattle.std.specs.List.{list_any};
 ghost use Rattle.jani_check.specs.Participants.{part_taken, parts_taken};
 ghost use Rattle.jani_check.specs.NameLists.{names_under};
 ghost use Rattle.name_rules.specs.Names.{has_name, with_all};
 ghost use Rattle.jani_check.specs.TypeFaults.{meet};
 
-use crate::lists::NameLists;
 use bridge_io::{Fault, Named, Reason};
+use gathering::NameLists;
 use jani_tree::JaniVector;
 use name_rules::{Judged, NameSet, Rule, sooner_if};
 use std::alloc::{AllocError, Global};
@@ -16,7 +16,7 @@ use std::alloc::{AllocError, Global};
 /// Vectors two of whose participants assign one variable, by what the elements assign.
 #[derive(Drop)]
 pub(crate) struct Clashes<'s, 'a> {
-    pub(crate) elements: &'s [NameLists<'a>],
+    pub(crate) elements: &'s [NameLists<'a, &'a str>],
 }
 
 impl<'s, 'a> Rule<JaniVector> for Clashes<'s, 'a> {
@@ -38,7 +38,11 @@ impl<'s, 'a> Rule<JaniVector> for Clashes<'s, 'a> {
 }
 
 // Whether two participants assign one variable: each list of names is looked for among those before it.
-fn meets(alloc: Global, elements: &[NameLists], parts: &[Option<Named>]) -> Result<bool, AllocError>
+fn meets<'a>(
+    alloc: Global,
+    elements: &[NameLists<'a, &'a str>],
+    parts: &[Option<Named>],
+) -> Result<bool, AllocError>
     ensures { IfOk result (λ b. b ≡ meet (parts_taken [] (map names_under elements.now) parts.now)) }
 {
     let mut seen = NameSet::new(alloc);
@@ -53,14 +57,11 @@ fn meets(alloc: Global, elements: &[NameLists], parts: &[Option<Named>]) -> Resu
 }
 
 // Whether one of the names that an element assigns in a vector was seen.
-fn was_seen(seen: &NameSet, lists: &NameLists, part: &Option<Named>) -> bool
+fn was_seen<'a>(seen: &NameSet<'a>, lists: &NameLists<'a, &'a str>, part: &Option<Named>) -> bool
     ensures { result ≡ list_any (has_name seen.now) (part_taken [] (names_under lists.now) part.now) }
 {
     match part {
-        Some(action) => match lists.get(action.name.as_str()) {
-            Some(list) => seen.has_some(list.names.as_slice()),
-            None => false,
-        },
+        Some(action) => seen.has_some(lists.get(action.name.as_str())),
         None => false,
     }
 }
@@ -68,16 +69,13 @@ fn was_seen(seen: &NameSet, lists: &NameLists, part: &Option<Named>) -> bool
 // Adds the names that an element assigns in a vector.
 fn see<'a>(
     seen: &mut NameSet<'a>,
-    lists: &NameLists<'a>,
+    lists: &NameLists<'a, &'a str>,
     part: &Option<Named>,
 ) -> Result<(), AllocError>
     ensures { OnOk result (has_name seen.new ≡ with_all (has_name seen.old) (part_taken [] (names_under lists.now) part.now)) }
 {
     match part {
-        Some(action) => match lists.get(action.name.as_str()) {
-            Some(list) => seen.add_all(list.names.as_slice()),
-            None => seen.add_all(&[]),
-        },
+        Some(action) => seen.add_all(lists.get(action.name.as_str())),
         None => seen.add_all(&[]),
     }
 }

@@ -1,7 +1,6 @@
 // The automata that take part, by their names.
 
 ghost use Rattle.std.specs.Prelude.{◌≡◌, List, ℕ, [], false, IfOk, map, length};
-ghost use Rattle.std.specs.Option.{option_map};
 ghost use Rattle.jani_tree.specs.Syntax.{automaton_of, file_of};
 ghost use Rattle.jani_check.specs.Participants.{automaton_in, automaton_under, element_shared};
 ghost use Rattle.jani_check.specs.Faults.{edge_count};
@@ -12,39 +11,27 @@ ghost use Rattle.jani_check.specs.Things.{automaton_called, global_thing};
 ghost use Rattle.jani_check.specs.TypeFaults.{shared_by, with_automaton};
 ghost use Rattle.jani_check.specs.ProfileFaults.{rewards_with};
 
-use crate::lists::NameLists;
 use crate::shared::shared_names;
-use crate::things::{Things, add_first};
+use crate::things::Things;
 use crate::writers::Rewarding;
 use bridge_io::Named;
-use indexmap::IndexMap;
+use gathering::NameLists;
 use jani_tree::{JaniAutomaton, JaniFile};
+use name_rules::NameMap;
 use std::alloc::{AllocError, Global};
 
-/// Automata by their names; the first of one name counts.
-#[derive(Drop)]
-pub(crate) struct Automata<'a> {
-    first: IndexMap<&'a str, &'a JaniAutomaton>,
-}
-
-impl<'a> Automata<'a> {
-    /// These automata.
-    pub(crate) fn of(alloc: Global, all: &'a [JaniAutomaton]) -> Result<Automata<'a>, AllocError>
-        ensures { IfOk result (λ t. (x : List ℕ) → automaton_under t x ≡ automaton_in (map automaton_of all.now) x) }
-    {
-        let mut first = IndexMap::new(alloc);
-        for a in all {
-            add_first(&mut first, a.name.name.as_str(), a)?;
-        }
-        Ok(Automata { first })
+/// The automata by their names; the first of one name counts. `Err` is want of memory.
+pub fn automata_by_name<'a>(
+    alloc: Global,
+    automata: &'a [JaniAutomaton],
+) -> Result<NameMap<'a, &'a JaniAutomaton>, AllocError>
+    ensures { IfOk result (λ t. (x : List ℕ) → automaton_under t x ≡ automaton_in (map automaton_of automata.now) x) }
+{
+    let mut all = NameMap::new(alloc);
+    for a in automata {
+        all.put_first(a.name.name.as_str(), a)?;
     }
-
-    /// The first of this name.
-    pub(crate) fn called(&self, name: &str) -> Option<&'a JaniAutomaton>
-        ensures { option_map (λ a. automaton_of a.now) result ≡ automaton_under self.now name.now }
-    {
-        self.first.get(name).copied()
-    }
+    Ok(all)
 }
 
 /// What the elements of a file assign, in their order.
@@ -52,11 +39,11 @@ pub(crate) fn shared_of<'a>(
     alloc: Global,
     file: &'a JaniFile,
     global: &Things,
-) -> Result<Vec<NameLists<'a>>, AllocError>
+) -> Result<Vec<NameLists<'a, &'a str>>, AllocError>
     requires { (x : List ℕ) → thing_under global.now x ≡ global_thing (file_of file.now) x }
     ensures { IfOk result (λ list. map names_under list.items ≡ map (element_shared (file_of file.now)) file.now.elements) }
 {
-    let automata = Automata::of(alloc, file.automata.as_slice())?;
+    let automata = automata_by_name(alloc, file.automata.as_slice())?;
     each_shared(alloc, file, &automata, global)
 }
 
@@ -64,9 +51,9 @@ pub(crate) fn shared_of<'a>(
 fn each_shared<'a>(
     alloc: Global,
     file: &JaniFile,
-    automata: &Automata<'a>,
+    automata: &NameMap<'a, &'a JaniAutomaton>,
     global: &Things,
-) -> Result<Vec<NameLists<'a>>, AllocError>
+) -> Result<Vec<NameLists<'a, &'a str>>, AllocError>
     requires things { (x : List ℕ) → thing_under global.now x ≡ global_thing (file_of file.now) x }
     requires automata { (x : List ℕ) → automaton_under automata.now x ≡ automaton_called (file_of file.now) x }
     ensures { IfOk result (λ list. map names_under list.items ≡ map (element_shared (file_of file.now)) file.now.elements) }
@@ -81,15 +68,15 @@ fn each_shared<'a>(
 
 fn element_shared<'a>(
     alloc: Global,
-    automata: &Automata<'a>,
+    automata: &NameMap<'a, &'a JaniAutomaton>,
     global: &Things,
     e: &Named,
-) -> Result<NameLists<'a>, AllocError>
+) -> Result<NameLists<'a, &'a str>, AllocError>
     ensures { IfOk result
         (λ lists. (x : List ℕ) → names_under lists x
         ≡ with_automaton (λ a. shared_by (thing_under global.now) a x) [] (automaton_under automata.now e.now.name)) }
 {
-    match automata.called(e.name.as_str()) {
+    match automata.get(e.name.as_str()) {
         Some(a) => shared_names(alloc, global, a),
         None => Ok(NameLists::new(alloc)),
     }
@@ -104,7 +91,7 @@ pub(crate) fn rewarding_of<'a>(
     requires { (x : List ℕ) → thing_under global.now x ≡ global_thing (file_of file.now) x }
     ensures { IfOk result (λ list. map rewarded_in list.items ≡ map (element_rewards (file_of file.now)) file.now.elements) }
 {
-    let automata = Automata::of(alloc, file.automata.as_slice())?;
+    let automata = automata_by_name(alloc, file.automata.as_slice())?;
     each_rewarding(alloc, file, &automata, global)
 }
 
@@ -112,7 +99,7 @@ pub(crate) fn rewarding_of<'a>(
 fn each_rewarding<'a>(
     alloc: Global,
     file: &JaniFile,
-    automata: &Automata<'a>,
+    automata: &NameMap<'a, &'a JaniAutomaton>,
     global: &Things,
 ) -> Result<Vec<Rewarding<'a>>, AllocError>
     requires things { (x : List ℕ) → thing_under global.now x ≡ global_thing (file_of file.now) x }
@@ -129,7 +116,7 @@ fn each_rewarding<'a>(
 
 fn element_rewarding<'a>(
     alloc: Global,
-    automata: &Automata<'a>,
+    automata: &NameMap<'a, &'a JaniAutomaton>,
     global: &Things,
     e: &Named,
 ) -> Result<Rewarding<'a>, AllocError>
@@ -137,7 +124,7 @@ fn element_rewarding<'a>(
         (λ r. (x : List ℕ) → rewarded_in r x
         ≡ with_automaton (λ a. rewards_with (thing_under global.now) a x) false (automaton_under automata.now e.now.name)) }
 {
-    match automata.called(e.name.as_str()) {
+    match automata.get(e.name.as_str()) {
         Some(a) => Rewarding::of(alloc, global, a),
         None => Ok(Rewarding::new(alloc)),
     }
@@ -147,7 +134,7 @@ fn element_rewarding<'a>(
 pub(crate) fn count_edges(alloc: Global, file: &JaniFile) -> Result<u128, AllocError>
     ensures { IfOk result (λ n. n ≡ edge_count (file_of file.now)) }
 {
-    let automata = Automata::of(alloc, file.automata.as_slice())?;
+    let automata = automata_by_name(alloc, file.automata.as_slice())?;
     let mut sum = 0;
     for e in file.elements.as_slice() {
         sum += edges_of(&automata, e) as u128;
@@ -155,10 +142,10 @@ pub(crate) fn count_edges(alloc: Global, file: &JaniFile) -> Result<u128, AllocE
     Ok(sum)
 }
 
-fn edges_of(automata: &Automata, e: &Named) -> usize
+fn edges_of<'a>(automata: &NameMap<'a, &'a JaniAutomaton>, e: &Named) -> usize
     ensures { result ≡ length (with_automaton (λ a. a.edges) [] (automaton_under automata.now e.now.name)) }
 {
-    match automata.called(e.name.as_str()) {
+    match automata.get(e.name.as_str()) {
         Some(a) => a.edges.len(),
         None => 0,
     }

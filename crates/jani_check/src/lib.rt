@@ -12,7 +12,6 @@ mod elements;
 mod given;
 mod kinds;
 mod laws;
-mod lists;
 mod names;
 mod naming;
 mod phase;
@@ -29,6 +28,7 @@ mod writers;
 mod writes;
 
 pub use check::{CheckedJani, check_jani};
+pub use elements::automata_by_name;
 pub use laws::{places_law, writable_law};
 pub use reads::is_label;
 pub use rewards::is_reward;

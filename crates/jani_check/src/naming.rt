@@ -13,7 +13,7 @@ use jani_tree::{
     JaniAutomaton, JaniConst, JaniDestination, JaniEdge, JaniFile, JaniLocation, JaniVar,
     JaniVector, JaniWrite,
 };
-use name_rules::Entry;
+use name_rules::{Entry, add_name};
 use std::alloc::{AllocError, Global};
 
 /// A part of a file that declares names or uses them: a destination and an edge the names of locations, a vector those of
@@ -72,16 +72,6 @@ pub(crate) fn add_actions<'a>(
     for edge in edges {
         edge.action.add_names(list)?;
     }
-    Ok(())
-}
-
-fn add_name<'a>(name: &'a Named, list: &mut Vec<Entry<'a>>) -> Result<(), AllocError>
-    ensures { OnOk result (map named_by list.new.items ≡ map named_by list.old.items ++ name.now ∷ []) }
-{
-    list.push(Entry {
-        name: name.name.as_str(),
-        at: name.at,
-    })?;
     Ok(())
 }
 

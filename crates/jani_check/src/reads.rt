@@ -7,7 +7,7 @@ ghost use Rattle.name_rules.specs.Least.{soonest};
 ghost use Rattle.jani_tree.specs.Syntax.{write_of};
 ghost use Rattle.jani_check.specs.Demands.{assigned};
 ghost use Rattle.op_trees.specs.Names.{names_of};
-ghost use Rattle.jani_check.specs.ProfileFaults.{demand_profile, read_fault, reads};
+ghost use Rattle.jani_check.specs.ProfileFaults.{demand_profile, read_fault};
 ghost use Rattle.jani_check.specs.Scopes.{scope_thing};
 ghost use Rattle.jani_check.specs.Things.{is_label};
 ghost use Rattle.jani_check.specs.Views.{demand_by};

@@ -9,11 +9,10 @@ ghost use Rattle.jani_check.specs.Scopes.{scope_thing};
 ghost use Rattle.jani_check.specs.Things.{is_reward};
 ghost use Rattle.jani_check.specs.Assigned.{value_under};
 
-use crate::things::{Scope, Thing, add_first};
+use crate::things::{Scope, Thing};
 use bridge_io::{Fault, Reason};
-use indexmap::IndexMap;
 use jani_tree::{JaniDestination, JaniEdge, JaniExpr, JaniWrite};
-use name_rules::{Judged, Rule, sooner_if};
+use name_rules::{Judged, NameMap, Rule, sooner_if};
 use op_trees::{Ty, same};
 use std::alloc::{AllocError, Global};
 
@@ -63,7 +62,7 @@ fn differs_from(
     ensures { IfOk result
         (λ b. b ≡ list_any (differ (scope_thing scope.now) (destination_of first.now)) (map destination_of rest.now)) }
 {
-    let values = Values::of(alloc, first.writes.as_slice())?;
+    let values = values_of(alloc, first.writes.as_slice())?;
     for d in rest {
         if differ(alloc, scope, first, &values, d)? {
             return Ok(true);
@@ -73,17 +72,17 @@ fn differs_from(
 }
 
 // Whether one of two destinations assigns a reward that the other does not, where the first has these values.
-fn differ(
+fn differ<'a>(
     alloc: Global,
     scope: &Scope,
     first: &JaniDestination,
-    values: &Values,
+    values: &NameMap<'a, &'a JaniExpr>,
     d: &JaniDestination,
 ) -> Result<bool, AllocError>
     requires { (x : List ℕ) → value_under values.now x ≡ value_for (map write_of first.now.writes) x }
     ensures { IfOk result (λ b. b ≡ differ (scope_thing scope.now) (destination_of first.now) (destination_of d.now)) }
 {
-    let own = Values::of(alloc, d.writes.as_slice())?;
+    let own = values_of(alloc, d.writes.as_slice())?;
     Ok(
         lack_some(scope, &own, first.writes.as_slice())
             || lack_some(scope, values, d.writes.as_slice()),
@@ -91,12 +90,12 @@ fn differ(
 }
 
 // Whether these values lack one of the rewards that are assigned.
-fn lack_some(scope: &Scope, values: &Values, writes: &[JaniWrite]) -> bool
+fn lack_some<'a>(scope: &Scope, values: &NameMap<'a, &'a JaniExpr>, writes: &[JaniWrite]) -> bool
     ensures { result
         ≡ list_any (lacks (value_under values.now)) (rewards_by (scope_thing scope.now) (map write_of writes.now)) }
 {
     for w in writes {
-        if is_reward(scope.thing(w.target.name.as_str())) && values.lack(w) {
+        if is_reward(scope.thing(w.target.name.as_str())) && lack(values, w) {
             return true;
         }
     }
@@ -110,32 +109,27 @@ pub fn is_reward(thing: Option<Thing>) -> bool
     matches!(thing, Some(Thing::Transient(Ty::Int | Ty::Real)))
 }
 
-/// What is assigned, by the names; the first of one name counts.
-#[derive(Drop)]
-struct Values<'a> {
-    first: IndexMap<&'a str, &'a JaniExpr>,
+// What these assign, by the names; the first of one name counts.
+fn values_of<'a>(
+    alloc: Global,
+    writes: &'a [JaniWrite],
+) -> Result<NameMap<'a, &'a JaniExpr>, AllocError>
+    ensures { IfOk result (λ t. (x : List ℕ) → value_under t x ≡ value_for (map write_of writes.now) x) }
+{
+    let mut values = NameMap::new(alloc);
+    for w in writes {
+        values.put_first(w.target.name.as_str(), &w.value)?;
+    }
+    Ok(values)
 }
 
-impl<'a> Values<'a> {
-    /// What these assign.
-    fn of(alloc: Global, writes: &'a [JaniWrite]) -> Result<Values<'a>, AllocError>
-        ensures { IfOk result (λ t. (x : List ℕ) → value_under t x ≡ value_for (map write_of writes.now) x) }
-    {
-        let mut first = IndexMap::new(alloc);
-        for w in writes {
-            add_first(&mut first, w.target.name.as_str(), &w.value)?;
-        }
-        Ok(Values { first })
-    }
-
-    /// Whether this is not assigned.
-    fn lack(&self, w: &JaniWrite) -> bool
-        ensures { result ≡ lacks (value_under self.now) (write_of w.now) }
-    {
-        match self.first.get(w.target.name.as_str()) {
-            Some(e) => !same_tree(&w.value, *e),
-            None => true,
-        }
+// Whether this is not assigned by these values.
+fn lack<'a>(values: &NameMap<'a, &'a JaniExpr>, w: &JaniWrite) -> bool
+    ensures { result ≡ lacks (value_under values.now) (write_of w.now) }
+{
+    match values.get(w.target.name.as_str()) {
+        Some(e) => !same_tree(&w.value, e),
+        None => true,
     }
 }
 

@@ -3,14 +3,14 @@
 ghost use Rattle.std.specs.Prelude.{◌≡◌, List, ℕ, ◌++◌, map, IfOk, OnOk};
 ghost use Rattle.std.specs.List.{filter, flat_map};
 ghost use Rattle.jani_tree.specs.Syntax.{automaton_of, destination_of, edge_of, write_of};
-ghost use Rattle.jani_check.specs.NameLists.{names_under};
+ghost use Rattle.jani_check.specs.NameLists.{names_under, under_one};
 ghost use Rattle.jani_check.specs.Scopes.{thing_under};
 ghost use Rattle.jani_check.specs.Things.{is_lasting};
 ghost use Rattle.jani_check.specs.TypeFaults.{assigned_by, edge_shared, shared_by};
 
-use crate::lists::NameLists;
 use crate::things::Things;
 use crate::typing::is_lasting;
+use gathering::NameLists;
 use jani_tree::{JaniAutomaton, JaniDestination, JaniEdge, JaniWrite};
 use std::alloc::{AllocError, Global};
 
@@ -19,7 +19,7 @@ pub(crate) fn shared_names<'a>(
     alloc: Global,
     global: &Things,
     a: &'a JaniAutomaton,
-) -> Result<NameLists<'a>, AllocError>
+) -> Result<NameLists<'a, &'a str>, AllocError>
     ensures { IfOk result (λ lists. (x : List ℕ) → names_under lists x ≡ shared_by (thing_under global.now) (automaton_of a.now) x) }
 {
     let mut lists = NameLists::new(alloc);
@@ -33,7 +33,7 @@ fn add_edge<'a>(
     alloc: Global,
     global: &Things,
     e: &'a JaniEdge,
-    lists: &mut NameLists<'a>,
+    lists: &mut NameLists<'a, &'a str>,
 ) -> Result<(), AllocError>
     ensures { OnOk result
         ((x : List ℕ) → names_under lists.new x
@@ -42,10 +42,26 @@ fn add_edge<'a>(
     match &e.action {
         Some(action) => {
             let names = edge_names(alloc, global, e)?;
-            lists.add_all(alloc, action.name.as_str(), &names)
+            add_under(alloc, action.name.as_str(), &names, lists)
         }
         None => Ok(()),
     }
+}
+
+// Adds names at the end of the list under another.
+fn add_under<'a>(
+    alloc: Global,
+    key: &'a str,
+    names: &[&'a str],
+    lists: &mut NameLists<'a, &'a str>,
+) -> Result<(), AllocError>
+    ensures { OnOk result
+        ((x : List ℕ) → names_under lists.new x ≡ names_under lists.old x ++ under_one key.now (map (λ s. s.now) names.now) x) }
+{
+    for name in names {
+        lists.add(alloc, key, *name)?;
+    }
+    Ok(())
 }
 
 fn edge_names<'a>(

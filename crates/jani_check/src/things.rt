@@ -1,15 +1,14 @@
 // What the names of a file stand for.
 
-ghost use Rattle.std.specs.Prelude.{◌≡◌, List, ℕ, map, IfOk, OnOk, Some, None, bytes_eq, if◌then◌else◌};
+ghost use Rattle.std.specs.Prelude.{◌≡◌, List, ℕ, map, IfOk, OnOk};
 ghost use Rattle.std.specs.Option.{option_map, option_or as or_else};
 ghost use Rattle.jani_tree.specs.Syntax.{const_of, file_of, kind_of, var_of};
-ghost use Rattle.jani_check.specs.Things.{beside, const_thing, global_thing, kind_type, thing_type, var_thing, var_called};
+ghost use Rattle.jani_check.specs.Things.{const_thing, global_thing, kind_type, thing_type, var_thing, var_called};
 ghost use Rattle.jani_check.specs.Scopes.{const_in, scope_thing, thing_under};
-ghost use Rattle.jani_check.specs.Tables.{under};
+ghost use Rattle.name_rules.specs.Names.{under};
 
-use indexmap::IndexMap;
 use jani_tree::{JaniConst, JaniFile, JaniKind, JaniVar};
-use name_rules::Telling;
+use name_rules::{NameMap, Telling};
 use op_trees::{Names, Ty, Value};
 use std::alloc::{AllocError, Global};
 
@@ -50,7 +49,7 @@ pub fn var_thing(var: &JaniVar) -> Thing
 /// Things by their names; the first of one name counts.
 #[derive(Drop)]
 pub struct Things<'a> {
-    first: IndexMap<&'a str, Thing>,
+    first: NameMap<'a, Thing>,
 }
 
 impl<'a> Things<'a> {
@@ -58,7 +57,7 @@ impl<'a> Things<'a> {
     pub fn global(alloc: Global, file: &'a JaniFile) -> Result<Things<'a>, AllocError>
         ensures { IfOk result (λ t. (x : List ℕ) → thing_under t x ≡ global_thing (file_of file.now) x) }
     {
-        let mut first = IndexMap::new(alloc);
+        let mut first = NameMap::new(alloc);
         add_constants(file.constants.as_slice(), &mut first)?;
         add_vars(file.variables.as_slice(), &mut first)?;
         Ok(Things { first })
@@ -68,7 +67,7 @@ impl<'a> Things<'a> {
     pub(crate) fn own(alloc: Global, vars: &'a [JaniVar]) -> Result<Things<'a>, AllocError>
         ensures { IfOk result (λ t. (x : List ℕ) → thing_under t x ≡ option_map var_thing (var_called (map var_of vars.now) x)) }
     {
-        let mut first = IndexMap::new(alloc);
+        let mut first = NameMap::new(alloc);
         add_vars(vars, &mut first)?;
         Ok(Things { first })
     }
@@ -77,47 +76,29 @@ impl<'a> Things<'a> {
     pub fn get(&self, name: &str) -> Option<Thing>
         ensures { result ≡ thing_under self.now name.now }
     {
-        self.first.get(name).copied()
-    }
-}
-
-/// Adds a value under a name, if none stands there.
-pub(crate) fn add_first<'a, T: Copy>(
-    table: &mut IndexMap<&'a str, T>,
-    name: &'a str,
-    value: T,
-) -> Result<(), AllocError>
-    ensures { OnOk result
-        ((x : List ℕ) → under table.new x ≡ or_else (under table.old x) (if bytes_eq name.now x then Some value else None)) }
-{
-    if table.get(name).is_some() {
-        return Ok(());
-    }
-    match table.insert(name, value) {
-        Ok(_) => Ok(()),
-        Err(_) => Err(AllocError),
+        self.first.get(name)
     }
 }
 
 fn add_constants<'a>(
     constants: &'a [JaniConst],
-    table: &mut IndexMap<&'a str, Thing>,
+    table: &mut NameMap<'a, Thing>,
 ) -> Result<(), AllocError>
     ensures { OnOk result
         ((x : List ℕ) → under table.new x ≡ or_else (under table.old x) (option_map const_thing (const_in (map const_of constants.now) x))) }
 {
     for c in constants {
-        add_first(table, c.name.name.as_str(), Thing::Constant(c.ty))?;
+        table.put_first(c.name.name.as_str(), Thing::Constant(c.ty))?;
     }
     Ok(())
 }
 
-fn add_vars<'a>(vars: &'a [JaniVar], table: &mut IndexMap<&'a str, Thing>) -> Result<(), AllocError>
+fn add_vars<'a>(vars: &'a [JaniVar], table: &mut NameMap<'a, Thing>) -> Result<(), AllocError>
     ensures { OnOk result
         ((x : List ℕ) → under table.new x ≡ or_else (under table.old x) (option_map var_thing (var_called (map var_of vars.now) x))) }
 {
     for var in vars {
-        add_first(table, var.name.name.as_str(), var_thing(var))?;
+        table.put_first(var.name.name.as_str(), var_thing(var))?;
     }
     Ok(())
 }

@@ -16,8 +16,8 @@ use crate::demands::Demand;
 use crate::things::{Scope, Thing, thing_type};
 use bridge_io::{Fault, Reason};
 use jani_tree::{JaniExpr, JaniWrite};
-use name_rules::{sooner, sooner_if};
-use op_trees::{Expr, Names, Wanted, is_wanted, offset_of, type_of, wanted_by};
+use name_rules::{Telling, some_name, sooner, sooner_if};
+use op_trees::{Names, Wanted, is_wanted, offset_of, type_of, wanted_by};
 
 /// The least of a fault that was found before and those of the type of an expression and of what is assigned.
 pub(crate) fn judge_type_of(scope: &Scope, demand: &Demand, best: Option<Fault>) -> Option<Fault>
@@ -113,20 +113,28 @@ pub fn judge_type<N: Names>(
     }
 }
 
+// Names of variables.
+#[derive(Clone, Copy)]
+struct Variables<'s, 'g, 'a> {
+    scope: &'s Scope<'g, 'a>,
+}
+
+impl<'s, 'g, 'a> Telling for Variables<'s, 'g, 'a> {
+    ghost use Rattle.jani_check.specs.Scopes.{scope_thing};
+    ghost use Rattle.jani_check.specs.TypeFaults.{is_variable};
+
+    ghost tells = { λ v x. is_variable (scope_thing v.scope.now x) };
+
+    fn tells(&self, name: &str) -> bool {
+        is_variable(self.scope.thing(name))
+    }
+}
+
 // Whether some name in an expression is a variable.
 fn names_variable(scope: &Scope, e: &JaniExpr) -> bool
     ensures { result ≡ has_variable (scope_thing scope.now) (tree e.now) }
 {
-    match e {
-        Expr::Truth(_, _) => false,
-        Expr::Number(_, _) => false,
-        Expr::Name(_, name) => is_variable(scope.thing(name.as_str())),
-        Expr::One(_, _, a) => names_variable(scope, a),
-        Expr::Two(_, _, a, b) => names_variable(scope, a) || names_variable(scope, b),
-        Expr::Three(_, _, a, b, c) => {
-            names_variable(scope, a) || names_variable(scope, b) || names_variable(scope, c)
-        }
-    }
+    some_name(&Variables { scope }, e)
 }
 
 fn is_variable(thing: Option<Thing>) -> bool

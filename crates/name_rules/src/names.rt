@@ -1,10 +1,11 @@
 // Names, each with the place where a fault of it would be; sets of names.
 
-ghost use Rattle.std.specs.Prelude.{◌≡◌, map, IfOk, OnOk};
+ghost use Rattle.std.specs.Prelude.{◌≡◌, ◌++◌, ◌∷◌, [], map, IfOk, OnOk};
 ghost use Rattle.std.specs.List.{list_any};
-ghost use Rattle.name_rules.specs.Names.{add, has_name, is_among, is_in, named_by, no_name, with_all};
+ghost use Rattle.name_rules.specs.Names.{add, has_name, is_among, named_by, no_name, with_all};
 
 use crate::map::NameMap;
+use bridge_io::Named;
 use std::alloc::{AllocError, Global};
 
 /// A name of the file, and an offset.
@@ -14,6 +15,17 @@ pub struct Entry<'a> {
     pub name: &'a str,
     /// Where a fault of it stands.
     pub at: usize,
+}
+
+/// Adds a name. `Err` is want of memory.
+pub fn add_name<'a>(name: &'a Named, list: &mut Vec<Entry<'a>>) -> Result<(), AllocError>
+    ensures { OnOk result (map named_by list.new.items ≡ map named_by list.old.items ++ name.now ∷ []) }
+{
+    list.push(Entry {
+        name: name.name.as_str(),
+        at: name.at,
+    })?;
+    Ok(())
 }
 
 /// A set of names.

@@ -1,16 +1,15 @@
 // The parts of a JANI file that names are given to: the automata that take part, and the variables of the file.
 
-ghost use Rattle.std.specs.Prelude.{◌≡◌, [], List, ℕ, true, ◌++◌, map, IfOk, OnOk, Some, None, is_some, unwrap_or};
-ghost use Rattle.std.specs.List.{All, filter, find};
-ghost use Rattle.std.specs.Option.{option_map};
+ghost use Rattle.std.specs.Prelude.{◌≡◌, [], List, ℕ, true, ◌++◌, map, IfOk, OnOk, Some, None, is_some};
+ghost use Rattle.std.specs.List.{All, filter};
 ghost use Rattle.jani_tree.specs.Syntax.{automaton_of, file_of, kind_of, var_of};
 ghost use Rattle.jani_check.specs.NameFaults.{name_faults};
-ghost use Rattle.op_trees.specs.Names.{is_called};
 ghost use Rattle.name_rules.specs.Names.{under};
 ghost use Rattle.jani_meaning.specs.Elements.{elements, is_boolean, owned_by, variables, lasting, labels, structures};
 ghost use Rattle.name_table.specs.JaniParts.{owned_of, element_under, is_wanted, owner_of};
 
 use bridge_io::Named;
+use jani_check::automata_by_name;
 use jani_tree::{JaniAutomaton, JaniFile, JaniKind, JaniVar};
 use name_rules::NameMap;
 use std::alloc::{AllocError, Global};
@@ -38,23 +37,8 @@ pub fn element_automata<'a>(
     requires { name_faults (file_of file.now) ≡ [] }
     ensures { IfOk result (λ xs. map (λ a. automaton_of a.now) xs.items ≡ elements (file_of file.now)) }
 {
-    let automata = by_name(alloc, file.automata.as_slice())?;
+    let automata = automata_by_name(alloc, file.automata.as_slice())?;
     elements_in(alloc, &automata, file.elements.as_slice())
-}
-
-/// The automata by their names; the first of one name counts.
-fn by_name<'a>(
-    alloc: Global,
-    automata: &'a [JaniAutomaton],
-) -> Result<NameMap<'a, &'a JaniAutomaton>, AllocError>
-    ensures { IfOk result
-        (λ t. (x : List ℕ) → option_map (λ a. automaton_of a.now) (under t x) ≡ find (λ a. is_called x a.name) (map automaton_of automata.now)) }
-{
-    let mut all = NameMap::new(alloc);
-    for a in automata {
-        all.put_first(a.name.name.as_str(), a)?;
-    }
-    Ok(all)
 }
 
 /// The automaton of each element, where each has one.

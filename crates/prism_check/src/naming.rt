@@ -5,8 +5,7 @@ ghost use Rattle.std.specs.List.{flat_map};
 ghost use Rattle.bridge_io.specs.declared.reason.Named.{Named as Name};
 ghost use Rattle.name_rules.specs.Names.{named_by};
 
-use bridge_io::Named;
-use name_rules::Entry;
+use name_rules::{Entry, add_name};
 use prism_tree::{
     NamePair, PrismConst, PrismFormula, PrismLabel, PrismModule, PrismRewards, PrismVar,
 };
@@ -31,16 +30,6 @@ pub(crate) fn add_names_of<'a, T: Naming>(
     for part in parts {
         part.add_names(list)?;
     }
-    Ok(())
-}
-
-fn add_name<'a>(name: &'a Named, list: &mut Vec<Entry<'a>>) -> Result<(), AllocError>
-    ensures { OnOk result (map named_by list.new.items ≡ map named_by list.old.items ++ name.now ∷ []) }
-{
-    list.push(Entry {
-        name: name.name.as_str(),
-        at: name.at,
-    })?;
     Ok(())
 }
 

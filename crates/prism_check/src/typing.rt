@@ -1,6 +1,6 @@
 // Types of expressions, and whether variables occur in them, by tables of names.
 
-ghost use Rattle.std.specs.Prelude.{◌≡◌, ◌<◌, ◌&&◌, List, ℕ, map, length, All, IfOk, OnOk, is_some, bytes_eq, if◌then◌else◌, Some, true};
+ghost use Rattle.std.specs.Prelude.{◌≡◌, ◌<◌, ◌&&◌, List, ℕ, map, length, All, IfOk, is_some, if◌then◌else◌, Some, true};
 ghost use Rattle.bridge_io.specs.declared.reason.Reason.TheVariants.{WrongType};
 ghost use Rattle.op_trees.specs.Tree.{tree};
 ghost use Rattle.op_trees.specs.Types.{misfit_at, sort_one, sort_two, sort_three, type_in};
@@ -17,7 +17,7 @@ ghost use Rattle.prism_check.specs.Typing.{declared_type, is_declared_variable, 
 use crate::tables::Renaming;
 use crate::variables::Declared;
 use bridge_io::{Fault, Reason};
-use name_rules::{NameMap, sooner_if};
+use name_rules::{NameMap, Telling, some_name, sooner_if};
 use op_trees::{Expr, Operator, Ty, Wanted, is_wanted, offset_of};
 use prism_tree::{PrismExpr, PrismFormula, PrismOp};
 use std::alloc::{AllocError, Global};
@@ -100,13 +100,6 @@ impl<'a, 'b, 'c> Names<'a, 'b, 'c> {
         }
     }
 
-    // Whether a name is that of a variable, or of a formula in which one occurs.
-    fn varies(&self, name: &str) -> bool
-        ensures { result ≡ varies_in self.now name.now }
-    {
-        self.varies_under(self.read(name))
-    }
-
     #[tactic(auto, unfolding(crate::specs::Typing::varies_under))]
     fn varies_under(&self, name: &str) -> bool
         ensures { result ≡ varies_under self.now name.now }
@@ -118,18 +111,22 @@ impl<'a, 'b, 'c> Names<'a, 'b, 'c> {
     }
 }
 
+// Whether a name is that of a variable, or of a formula in which one occurs.
+impl<'a, 'b, 'c> Telling for Names<'a, 'b, 'c> {
+    ghost use Rattle.prism_check.specs.Typing.{varies_in};
+
+    ghost tells = { varies_in };
+
+    fn tells(&self, name: &str) -> bool {
+        self.varies_under(self.read(name))
+    }
+}
+
 /// Whether a variable occurs in an expression.
 pub(crate) fn varies(names: &Names, e: &PrismExpr) -> bool
     ensures { result ≡ some_name (varies_in names.now) (tree e.now) }
 {
-    match e {
-        Expr::Truth(_, _) => false,
-        Expr::Number(_, _) => false,
-        Expr::Name(_, name) => names.varies(name.as_str()),
-        Expr::One(_, _, a) => varies(names, a),
-        Expr::Two(_, _, a, b) => varies(names, a) || varies(names, b),
-        Expr::Three(_, _, a, b, c) => varies(names, a) || varies(names, b) || varies(names, c),
-    }
+    some_name(names, e)
 }
 
 /// The least of a fault that was found before and this one, if the test holds; with a place given it stands there.

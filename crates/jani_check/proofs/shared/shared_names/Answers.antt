@@ -10,7 +10,7 @@ use Rattle.jani_check.proofs.Parts.{from_none, list_done, list_next}
 use Rattle.jani_check.proofs.shared.shared_names.Goals as goal
 
 pub loop-e-init : goal.loop-e-init
-loop-e-init c = λ x. from_none _ _ (c.new-lists.ensures x)
+loop-e-init c = λ x. from_none _ _ (ap (map (λ s. s.now)) (c.new-lists.ensures x))
 
 pub loop-e-preserved : goal.loop-e-preserved
 loop-e-preserved c = λ x.

@@ -3,7 +3,7 @@ use Rattle.std.specs.Option.{option_map, option_or as or_else}
 use Rattle.jani_tree.specs.Syntax.{const_of}
 use Rattle.jani_check.specs.Things.{const_thing}
 use Rattle.jani_check.specs.Scopes.{const_in}
-use Rattle.jani_check.specs.Tables.{under}
+use Rattle.name_rules.specs.Names.{under}
 use Rattle.jani_check.proofs.things.add_constants.Given as goal
 
 abbrev pub invariant-loop-c : goal.invariant-loop-c

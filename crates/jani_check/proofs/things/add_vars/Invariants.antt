@@ -2,7 +2,7 @@ use Rattle.std.specs.Prelude.{◌≡◌, ℕ, List, map, drop}
 use Rattle.std.specs.Option.{option_map, option_or as or_else}
 use Rattle.jani_tree.specs.Syntax.{var_of}
 use Rattle.jani_check.specs.Things.{var_called, var_thing}
-use Rattle.jani_check.specs.Tables.{under}
+use Rattle.name_rules.specs.Names.{under}
 use Rattle.jani_check.proofs.things.add_vars.Given as goal
 
 abbrev pub invariant-loop-var : goal.invariant-loop-var

@@ -4,7 +4,7 @@ use Rattle.std.specs.Option.{option_map, option_or as or_else}
 use Rattle.jani_tree.specs.Syntax.{automaton_of}
 use Rattle.op_trees.specs.Names.{is_called}
 use Rattle.name_rules.specs.Names.{under}
-use Rattle.name_table.proofs.jani_parts.by_name.Given as goal
+use Rattle.jani_check.proofs.elements.automata_by_name.Given as goal
 
 abbrev pub invariant-loop-a : goal.invariant-loop-a
 invariant-loop-a l = (x : List ℕ) →

@@ -6,7 +6,7 @@ use Rattle.jani_tree.specs.Syntax.{Automaton, automaton_of}
 use Rattle.op_trees.specs.Names.{is_called}
 use Rattle.name_rules.proofs.Maps.{at}
 use Rattle.gathering.proofs.Found.{first_found}
-use Rattle.name_table.proofs.jani_parts.by_name.Goals as goal
+use Rattle.jani_check.proofs.elements.automata_by_name.Goals as goal
 
 pub loop-a-init : goal.loop-a-init
 loop-a-init c = λ x.
