@@ -12,6 +12,7 @@ mod rounding;
 mod text;
 
 pub use decimal::Decimal;
+pub use divisor::gcd_of;
 pub use fraction::{Frac, FracFail};
 pub use laws::{fraction_laws, numeral_laws};
 pub use numeral::decimal_of;

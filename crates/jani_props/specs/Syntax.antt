@@ -7,8 +7,6 @@ use Rattle.jani_tree.specs.Syntax.{Expression}
 use Rattle.prop_grammar.specs.Property.{Ask, greatest, least, bounded, greatest_reward, least_reward, Property}
 use Rattle.prop_trees.specs.Syntax.{jani_path_of}
 use Rattle.prop_trees.specs.Trees as trees
-use Rattle.jani_props.specs.declared.roles.Role.{Role}
-use Rattle.jani_props.specs.declared.roles.Role.TheVariants as R
 use Rattle.jani_props.specs.declared.written.WrittenAsk.{WrittenAsk}
 use Rattle.jani_props.specs.declared.written.WrittenAsk.TheVariants as W
 use Rattle.jani_props.specs.declared.written.Written as code
@@ -26,9 +24,3 @@ ask_of (W.RMin n) = least_reward n
 
 abbrev pub written_of : code.Written → Written
 written_of w = record { name = Some w.name; ask = ask_of w.ask; path = jani_path_of w.path }
-
--- what an expression stands for in a property
-abbrev pub role_of : Role → trees.Role
-role_of R.State = trees.state
-role_of R.Steps = trees.steps
-role_of R.Probability = trees.probability

@@ -10,11 +10,12 @@ ghost use Rattle.jani_props.specs.Model.{numbers_of, things_of};
 ghost use Rattle.jani_props.specs.Syntax.{ask_of, written_of};
 
 use crate::model::ModelNames;
-use crate::roles::{PartRule, Role, judge_parts};
+use crate::roles::{PartRule, judge_parts};
 use crate::written::{Written, WrittenAsk};
 use bridge_io::{Fault, Named, Reason};
 use jani_tree::JaniExpr;
 use name_rules::{Entry, Judged, Rule, judge_doubled, judge_each, judge_expression, sooner};
+use prop_trees::Role;
 use std::alloc::{AllocError, Global};
 
 // The names of properties.

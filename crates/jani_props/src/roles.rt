@@ -6,24 +6,13 @@ ghost use Rattle.op_trees.specs.Tree.{tree};
 ghost use Rattle.jani_tree.specs.Syntax.{Expression};
 ghost use Rattle.name_rules.specs.Least.{soonest};
 ghost use Rattle.prop_trees.specs.Trees.{Role as SpecRole, ask_parts, parts, path_parts, state};
-ghost use Rattle.prop_trees.specs.Syntax.{jani_path_of};
-ghost use Rattle.jani_props.specs.Syntax.{ask_of, role_of, written_of};
+ghost use Rattle.prop_trees.specs.Syntax.{jani_path_of, role_of};
+ghost use Rattle.jani_props.specs.Syntax.{ask_of, written_of};
 
 use crate::written::{Written, WrittenAsk};
 use bridge_io::Fault;
 use jani_tree::JaniExpr;
-use prop_trees::JaniPath;
-
-/// What an expression stands for in a property.
-#[derive(Clone, Copy)]
-pub(crate) enum Role {
-    /// a state formula
-    State,
-    /// a bound of steps
-    Steps,
-    /// a bound of probability
-    Probability,
-}
+use prop_trees::{JaniPath, Role};
 
 /// A rule that tells which faults an expression of a property has.
 pub(crate) trait PartRule {

@@ -4,45 +4,35 @@ ghost use Rattle.bridge_io.specs.declared.reason.Reason.TheVariants.{NotConstant
 ghost use Rattle.op_trees.specs.Tree.{tree};
 ghost use Rattle.op_trees.specs.Names.{offset_of, some_name};
 ghost use Rattle.name_rules.specs.Least.{fault_if, soonest};
-ghost use Rattle.prop_trees.specs.PrismFaults.{wanted_of};
 ghost use Rattle.jani_props.specs.Faults.{types_wrong, varies};
 ghost use Rattle.jani_props.specs.Model.{things_of};
-ghost use Rattle.jani_props.specs.Syntax.{role_of, written_of};
+ghost use Rattle.jani_props.specs.Syntax.{written_of};
 
 use crate::model::ModelNames;
-use crate::roles::{PartRule, Role, judge_parts};
+use crate::roles::{PartRule, judge_parts};
 use crate::written::Written;
 use bridge_io::{Fault, Reason};
 use jani_check::judge_type;
 use jani_tree::JaniExpr;
-use name_rules::{Judged, Rule, judge_each, sooner_if};
-use op_trees::{Expr, Wanted, offset_of};
+use name_rules::{Judged, Rule, Telling, judge_each, some_name, sooner_if};
+use op_trees::offset_of;
+use prop_trees::{Role, wanted_of};
 use std::alloc::Global;
 
-// What an expression has to be.
-fn wanted_of(role: Role) -> Wanted
-    ensures { result ≡ wanted_of (role_of role) }
-{
-    match role {
-        Role::State => Wanted::Bool,
-        Role::Steps => Wanted::Int,
-        Role::Probability => Wanted::Number,
-    }
+// Names of what varies.
+#[derive(Clone, Copy)]
+struct Varying<'n, 'a> {
+    names: &'n ModelNames<'a>,
 }
 
-// Whether some name in an expression is something that varies.
-fn names_variable(names: &ModelNames, e: &JaniExpr) -> bool
-    ensures { result ≡ some_name (varies (things_of names.now)) (tree e.now) }
-{
-    match e {
-        Expr::Truth(_, _) => false,
-        Expr::Number(_, _) => false,
-        Expr::Name(_, name) => names.varies(name.as_str()),
-        Expr::One(_, _, a) => names_variable(names, a),
-        Expr::Two(_, _, a, b) => names_variable(names, a) || names_variable(names, b),
-        Expr::Three(_, _, a, b, c) => {
-            names_variable(names, a) || names_variable(names, b) || names_variable(names, c)
-        }
+impl<'n, 'a> Telling for Varying<'n, 'a> {
+    ghost use Rattle.jani_props.specs.Faults.{varies};
+    ghost use Rattle.jani_props.specs.Model.{things_of};
+
+    ghost tells = { λ v. varies (things_of v.names.now) };
+
+    fn tells(&self, name: &str) -> bool {
+        self.names.varies(name)
     }
 }
 
@@ -57,7 +47,7 @@ fn judge_bound(names: &ModelNames, e: &JaniExpr, best: Option<Fault>) -> Option<
         ≡ soonest best (fault_if (some_name (varies (things_of names.now)) (tree e.now)) (offset_of (tree e.now)) NotConstant) }
 {
     sooner_if(
-        names_variable(names, e),
+        some_name(&Varying { names }, e),
         offset_of(e),
         Reason::NotConstant,
         best,

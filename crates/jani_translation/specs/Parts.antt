@@ -11,16 +11,9 @@ use Rattle.jani_tree.specs.Syntax.{Expression, Const, VarKind, boolean, number, 
 use Rattle.name_table.specs.declared.entry.Entry.{Entry}
 use Rattle.prism_images.specs.Image.{nought_literal, image}
 use Rattle.name_table.specs.Asks.{called}
+pub use Rattle.name_table.specs.Made.{made, instead}
 
 -- ---- names
--- a name that is made
-abbrev pub made : Name → Named
-made x = record { name = x; at = 0 }
-
--- another name at the place of an old one
-abbrev pub instead : Named → Name → Named
-instead n x = record { name = x; at = n.at }
-
 -- the name of a reward structure, at the place of the old one, if it had one
 abbrev pub instead_if : Option Named → Name → Named
 instead_if None x = made x

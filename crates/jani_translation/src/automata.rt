@@ -14,18 +14,16 @@ ghost use Rattle.jani_translation.specs.Code.{names_in, AreShares, gain_destinat
 
 use crate::new_names::Names;
 use crate::partners::item_actions;
-use crate::parts::{image_if, instead, made};
+use crate::parts::image_if;
 use crate::rewards::{Wanted, add_rewards, has_items};
 use crate::shares::Shares;
 use crate::syncs::new_action;
 use bridge_io::{List, Named, Text};
 use gathering::{keep_if, shorter};
 use jani_tree::{JaniAutomaton, JaniDestination, JaniEdge, JaniLocation, JaniWrite};
-use name_table::{Entry, commands_of, name_of};
+use name_table::{Entry, commands_of, instead, made, name_of};
 use prism_images::{NewNames, image};
-use prism_tree::{
-    PrismBranch, PrismCommand, PrismFile, PrismLabel, PrismModule, PrismRewards, PrismWrite,
-};
+use prism_tree::{PrismBranch, PrismCommand, PrismFile, PrismLabel, PrismModule, PrismWrite};
 use std::alloc::{AllocError, Global};
 
 // ---- names of their own

@@ -3,9 +3,9 @@
 ghost use Rattle.std.specs.Prelude.{◌≡◌, map, IfOk};
 ghost use Rattle.jani_tree.specs.Syntax as jani;
 
-use crate::parts::instead;
 use bridge_io::{List, Named};
 use jani_tree::JaniAutomaton;
+use name_table::instead;
 use std::alloc::{AllocError, Global};
 
 /// The names of the automata.

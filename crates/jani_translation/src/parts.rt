@@ -7,7 +7,7 @@ ghost use Rattle.op_trees.specs.Tree.{tree};
 ghost use Rattle.prism_tree.specs.Syntax as prism;
 ghost use Rattle.jani_tree.specs.Syntax as jani;
 ghost use Rattle.prism_images.specs.Image.{image};
-ghost use Rattle.jani_translation.specs.Parts.{made, instead, instead_if, note, nought, falsehood, constant, kind_of, start_of, variable, label, structure};
+ghost use Rattle.jani_translation.specs.Parts.{instead_if, note, nought, falsehood, constant, kind_of, start_of, variable, label, structure};
 ghost use Rattle.jani_translation.specs.Code.{name_in};
 
 use crate::new_names::{Names, NewNameMap};
@@ -15,33 +15,13 @@ use bridge_io::{List, Named, Text};
 use frac_core::Decimal;
 use gathering::shorter;
 use jani_tree::{JaniConst, JaniExpr, JaniKind, JaniVar};
-use name_table::Entry;
+use name_table::{Entry, instead, made};
 use op_trees::Expr;
 use prism_images::image;
 use prism_tree::{PrismConst, PrismExpr, PrismLabel, PrismRange, PrismRewards, PrismVar};
 use std::alloc::{AllocError, Global};
 
 // ---- names
-
-/// A name that is made.
-pub(crate) fn made(alloc: Global, name: &str) -> Result<Named, AllocError>
-    ensures { IfOk result (λ r. r ≡ made name.now) }
-{
-    Ok(Named {
-        name: Text::copy_of(alloc, name)?,
-        at: 0,
-    })
-}
-
-/// Another name at the place of an old one.
-pub(crate) fn instead(alloc: Global, old: &Named, name: &str) -> Result<Named, AllocError>
-    ensures { IfOk result (λ r. r ≡ instead old.now name.now) }
-{
-    Ok(Named {
-        name: Text::copy_of(alloc, name)?,
-        at: old.at,
-    })
-}
 
 /// The name of a reward structure, at the place of the old one, if it had one.
 pub(crate) fn instead_if(

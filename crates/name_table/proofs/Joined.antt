@@ -36,5 +36,7 @@ six t0 t1 t2 t3 t4 t5 t6 a b c d e f ha hb hc hd he hf =
     joined t0 t1 t6 a (b ++ (c ++ (d ++ (e ++ f)))) a (b ++ (c ++ (d ++ (e ++ f)))) ha from1 refl refl
 
 -- a table that had no entries
-pub from_none : (k : Target) (t0 t : Table) (xs : List Ask) → t0 ≡ no_entries k → t ≡ told t0 xs → t.entries ≡ entries_of k xs
-from_none k t0 t xs e h = ap (λ (u : Table). u.entries) (h ∙ ap (λ (u : Table). told u xs) e)
+pub from_none : (k : Target) (t0 t : Table) (xs : List Ask) → t0 ≡ no_entries k → t ≡ told t0 xs → (t.target ≡ k) × (t.entries ≡ entries_of k xs)
+from_none k t0 t xs e h =
+    let is : t ≡ told (no_entries k) xs = h ∙ ap (λ (u : Table). told u xs) e in
+    (ap (λ (u : Table). u.target) is, ap (λ (u : Table). u.entries) is)

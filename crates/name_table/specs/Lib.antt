@@ -7,3 +7,4 @@ pub mod PrismAsks
 pub mod Correspond
 pub mod Gathered
 pub mod JaniParts
+pub mod Made

@@ -3,6 +3,7 @@
 ghost use Rattle.std.specs.Prelude.{◌≡◌, map, IfOk, OnOk};
 ghost use Rattle.prism_names.specs.Flat.{flat};
 ghost use Rattle.prism_tree.specs.Syntax.{file_of, var_of};
+ghost use Rattle.name_table.specs.declared.class.Target.TheVariants.{Jani};
 ghost use Rattle.name_table.specs.Asks.{asks, entries, variables, actions};
 ghost use Rattle.name_table.specs.Gathered.{told};
 
@@ -20,7 +21,7 @@ use std::alloc::{AllocError, Global};
 /// column order, of labels, of reward structures, of modules, and of actions of commands in order of first occurrence, all
 /// of the file with its formulas and copies of modules written out. `Err` is want of memory, alone.
 pub fn jani_names(alloc: Global, checked: &CheckedPrism) -> Result<NameTable, AllocError>
-    ensures { IfOk result (λ t. t.entries ≡ entries (flat checked.now.file)) }
+    ensures { IfOk result (λ t. (t.target ≡ Jani) × (t.entries ≡ entries (flat checked.now.file))) }
 {
     let flat = flatten(alloc, checked)?;
     found_names(alloc, flat.file())
@@ -28,7 +29,7 @@ pub fn jani_names(alloc: Global, checked: &CheckedPrism) -> Result<NameTable, Al
 
 /// The table of a file that is written out.
 fn found_names(alloc: Global, file: &PrismFile) -> Result<NameTable, AllocError>
-    ensures { IfOk result (λ t. t.entries ≡ entries (file_of file.now)) }
+    ensures { IfOk result (λ t. (t.target ≡ Jani) × (t.entries ≡ entries (file_of file.now))) }
 {
     let vars = variables(alloc, file)?;
     let acts = actions(alloc, file)?;
@@ -46,7 +47,7 @@ pub fn flat_names(
 ) -> Result<NameTable, AllocError>
     requires vars { map (λ x. var_of x.now) vars.now ≡ variables (file_of file.now) }
     requires acts { map (λ x. x.now) acts.now ≡ actions (file_of file.now) }
-    ensures { IfOk result (λ t. t.entries ≡ entries (file_of file.now)) }
+    ensures { IfOk result (λ t. (t.target ≡ Jani) × (t.entries ≡ entries (file_of file.now))) }
 {
     let mut table = NameTable::new(alloc, Target::Jani);
     ask_file(&mut table, file, vars, acts)?;
@@ -55,7 +56,7 @@ pub fn flat_names(
 
 /// Asks for the names of all that a file declares that is written out, where these are its variables and its actions, in the order of
 /// `jani_names`. `Err` is want of memory, alone, and leaves the table with some of them.
-pub fn ask_file(
+fn ask_file(
     table: &mut NameTable,
     file: &PrismFile,
     vars: &[&PrismVar],

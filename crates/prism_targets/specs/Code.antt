@@ -3,12 +3,11 @@ use Rattle.std.specs.Prelude.{◌≡◌, ℕ, List, [], ◌++◌, map, length, B
 use Rattle.std.specs.Borrow.{Bor}
 use Rattle.std.specs.List.{filter, flat_map, sum_by}
 use Rattle.std.specs.Option.{option_map}
-use Rattle.indexmap.specs.IndexMap.{get_by}
 use Rattle.bridge_io.specs.declared.reason.Named.{Named}
 use Rattle.op_trees.specs.Tree.{capped}
 use Rattle.process_core.specs.Ready.{Name}
 use Rattle.jani_tree.specs.Syntax.{Automaton, Edge, Write, edge_of, vector_of}
-use Rattle.name_rules.specs.Names.{has_name}
+use Rattle.name_rules.specs.Names.{has_name, under}
 use Rattle.prism_translation.specs.Elements.{is_at, some_write}
 use Rattle.gathering.specs.Lists.{list_under}
 use Rattle.prism_targets.specs.declared.places.Places.{Places}
@@ -82,7 +81,7 @@ served_elements ss each = served_from (rows_from 0 ss) 0 (length (flat_map vecto
 
 -- ---- sums
 abbrev pub sum_under : Sums → Name → ℕ
-sum_under t x = unwrap_or (get_by (λ k. bytes_eq x k.now) t.by_name) 0
+sum_under t x = unwrap_or (under t.by_name x) 0
 
 -- for each action, how many targets an edge of the element of this number with it serves
 abbrev pub AreSums : Sums → List Split → ℕ → Type 0

@@ -4,13 +4,13 @@ ghost use Rattle.std.specs.Prelude.{◌≡◌, ◌+◌, List, ℕ, OnOk, bytes_e
 ghost use Rattle.op_trees.specs.Tree.{capped};
 ghost use Rattle.prism_targets.specs.Code.{sum_under};
 
-use indexmap::IndexMap;
+use name_rules::NameMap;
 use std::alloc::{AllocError, Global};
 
 /// A sum under each name; most are 0.
 #[derive(Drop)]
 pub(crate) struct Sums<'a> {
-    by_name: IndexMap<&'a str, u64>,
+    by_name: NameMap<'a, u64>,
 }
 
 impl<'a> Sums<'a> {
@@ -19,7 +19,7 @@ impl<'a> Sums<'a> {
         ensures { (x : List ℕ) → sum_under result x ≡ 0 }
     {
         Sums {
-            by_name: IndexMap::new(alloc),
+            by_name: NameMap::new(alloc),
         }
     }
 
@@ -28,7 +28,7 @@ impl<'a> Sums<'a> {
         ensures { result ≡ sum_under self.now name.now }
     {
         match self.by_name.get(name) {
-            Some(sum) => *sum,
+            Some(sum) => sum,
             None => 0,
         }
     }
@@ -39,9 +39,6 @@ impl<'a> Sums<'a> {
             ≡ (if bytes_eq name.now x then capped (sum_under self.old x + number) else sum_under self.old x)) }
     {
         let sum = self.get(name).saturating_add(number);
-        match self.by_name.insert(name, sum) {
-            Ok(_) => Ok(()),
-            Err(_) => Err(AllocError),
-        }
+        self.by_name.put(name, sum)
     }
 }

@@ -2,7 +2,6 @@
 -- Language": "Constants", "Modules And Variables"). The places that the trees keep are of no account.
 use Rattle.std.specs.Prelude.{ℕ, ◌-◌, pos, length, false, Option, Some, None, unwrap_or}
 use Rattle.std.specs.Option.{option_map}
-use Rattle.bridge_io.specs.declared.reason.Named.{Named}
 use Rattle.frac_core.specs.declared.decimal.Decimal.{Decimal}
 use Rattle.op_trees.specs.Tree.{Number, Name as At, Two}
 use Rattle.process_core.specs.Ready.{Name}
@@ -13,14 +12,7 @@ use Rattle.jani_meaning.specs.Elements.{Owned, initial_number}
 use Rattle.name_table.specs.PrismAsks.{NewNames, name_at, value_name, outside}
 use Rattle.jani_images.specs.Image.{image}
 use Rattle.prism_translation.specs.Elements.{Element, Lasting}
-
--- ---- names
-abbrev pub made : Name → Named
-made x = record { name = x; at = 0 }
-
--- another name at the place of an old one
-abbrev pub instead : Named → Name → Named
-instead n x = record { name = x; at = n.at }
+pub use Rattle.name_table.specs.Made.{made, instead}
 
 -- ---- expressions that are made
 abbrev pub whole_literal : ℕ → Decimal

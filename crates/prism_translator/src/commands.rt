@@ -14,9 +14,10 @@ ghost use Rattle.prism_translator.specs.Code.{file_in, names_in, IsReady, elemen
 use crate::elements::Element;
 use crate::entries::{Names, name_at};
 use crate::image::image;
-use crate::parts::{counted, falsehood, instead, is_there, made, truth};
+use crate::parts::{counted, is_there, truth};
 use bridge_io::{List, Named};
 use jani_tree::{JaniDestination, JaniEdge, JaniExpr, JaniWrite};
+use name_table::{instead, made};
 use op_trees::Expr;
 use prism_tree::{PrismBranch, PrismCommand, PrismExpr, PrismOp, PrismWrite};
 use std::alloc::{AllocError, Global};

@@ -1,6 +1,6 @@
 // Elements as modules.
 
-ghost use Rattle.std.specs.Prelude.{◌≡◌, ◌++◌, ℕ, map, IfOk, OnOk};
+ghost use Rattle.std.specs.Prelude.{◌≡◌, ◌++◌, ℕ, map, IfOk};
 ghost use Rattle.std.specs.List.{All};
 ghost use Rattle.prism_tree.specs.Syntax as prism;
 ghost use Rattle.prism_tree.specs.Syntax.{plain};
@@ -15,10 +15,11 @@ ghost use Rattle.prism_translator.specs.Code.{file_in, names_in, IsReady, elemen
 
 use crate::elements::Element;
 use crate::entries::{Names, name_at};
-use crate::parts::{LastingVar, counted, made, variable};
+use crate::parts::{LastingVar, counted, variable};
 use crate::served::commands;
 use bridge_io::List;
 use gathering::NumberLists;
+use name_table::made;
 use prism_targets::ElementServing;
 use prism_tree::{PlainModule, PrismModule, PrismRange, PrismVar};
 use std::alloc::{AllocError, Global};

@@ -1,4 +1,4 @@
-// Names and expressions that are made; constants and variables.
+// Expressions that are made; constants and variables.
 
 ghost use Rattle.std.specs.Prelude.{◌≡◌, map, IfOk};
 ghost use Rattle.std.specs.List.{zip};
@@ -9,42 +9,20 @@ ghost use Rattle.jani_tree.specs.Syntax as jani;
 ghost use Rattle.name_table.specs.JaniParts.{owned_of};
 ghost use Rattle.name_table.specs.PrismAsks.{value_name};
 ghost use Rattle.jani_images.specs.Image.{image};
-ghost use Rattle.prism_translation.specs.Parts.{made, instead, counted, constant, range_of, variable, scope_of, is_there};
+ghost use Rattle.prism_translation.specs.Parts.{counted, constant, range_of, variable, scope_of, is_there};
 ghost use Rattle.prism_translation.specs.Modules.{truth, falsehood};
 ghost use Rattle.prism_translator.specs.Code.{file_in, names_in, IsReady, lasting_of};
 
 use crate::entries::{Names, name_at};
 use crate::image::image;
-use bridge_io::{List, Named, Text};
+use bridge_io::{List, Text};
 use frac_core::Decimal;
 use gathering::shorter;
 use jani_tree::{JaniConst, JaniExpr, JaniKind};
-use name_table::{Entry, OwnedVar};
+use name_table::{Entry, OwnedVar, instead};
 use op_trees::Expr;
 use prism_tree::{PrismConst, PrismExpr, PrismOp, PrismRange, PrismVar};
 use std::alloc::{AllocError, Global};
-
-// ---- names
-
-/// A name that is made.
-pub(crate) fn made(alloc: Global, name: &str) -> Result<Named, AllocError>
-    ensures { IfOk result (λ r. r ≡ made name.now) }
-{
-    Ok(Named {
-        name: Text::copy_of(alloc, name)?,
-        at: 0,
-    })
-}
-
-/// Another name at the place of an old one.
-pub(crate) fn instead(alloc: Global, old: &Named, name: &str) -> Result<Named, AllocError>
-    ensures { IfOk result (λ r. r ≡ instead old.now name.now) }
-{
-    Ok(Named {
-        name: Text::copy_of(alloc, name)?,
-        at: old.at,
-    })
-}
 
 // ---- expressions that are made
 

@@ -19,10 +19,10 @@ use crate::gains::Gain;
 use crate::given::{Given, GivenTable};
 use crate::image::image;
 use crate::labels::given_image;
-use crate::parts::{counted, instead, is_there, made, truth};
+use crate::parts::{counted, is_there, truth};
 use bridge_io::List;
 use gathering::NumberLists;
-use name_table::OwnedVar;
+use name_table::{OwnedVar, instead, made};
 use prism_tree::{ItemOn, PrismExpr, PrismItem, PrismRewards};
 use std::alloc::{AllocError, Global};
 

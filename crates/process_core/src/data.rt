@@ -1,6 +1,6 @@
 // What is seen of a process at a state: states, branches, choices and marks.
 
-ghost use Rattle.std.specs.Prelude.{◌≡◌, IfOk};
+ghost use Rattle.std.specs.Prelude.{◌≡◌, IfOk, option_copied};
 
 use bridge_io::{List, Text};
 use frac_core::Frac;
@@ -20,6 +20,16 @@ pub fn copy_state(alloc: Global, state: &State) -> Result<State, AllocError>
     Ok(State {
         values: List::from_vec(state.values.as_slice().to_vec(alloc)?),
     })
+}
+
+/// The same label once more, where there is one. `Err` is want of memory.
+pub fn copy_label(alloc: Global, label: Option<&Text>) -> Result<Option<Text>, AllocError>
+    ensures { IfOk result (λ copy. copy ≡ option_copied label.entry) }
+{
+    match label {
+        Some(text) => Ok(Some(Text::copy_of(alloc, text.as_str())?)),
+        None => Ok(None),
+    }
 }
 
 /// The kinds of faults that a choice has: something in it is undefined, a value is assigned outside its range, or the

@@ -11,7 +11,7 @@ mod steps;
 
 pub use data::{
     Bad, Branch, Choice, FaultKind, Given, InstanceFault, Mark, Outcome, StartFail, State,
-    StepFail, copy_state,
+    StepFail, copy_label, copy_state,
 };
 pub use equality::{same_choice, same_label, same_state, times};
 pub use laws::{

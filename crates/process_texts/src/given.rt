@@ -2,14 +2,13 @@
 
 ghost use Rattle.std.specs.Prelude.{◌≡◌, ◌<◌, ◌^◌};
 ghost use Rattle.frac_core.specs.Fraction.{fraction, signed};
-ghost use Rattle.frac_core.specs.Gcd.{gcd};
 ghost use Rattle.frac_core.specs.Results.{narrow};
 ghost use Rattle.prism_lex.specs.Automaton.{step};
 ghost use Rattle.prism_lex.specs.Numbers.{is_number};
 ghost use Rattle.process_texts.specs.Given.{Answers, IsLiteral, IsRatio, IsValue};
 
 use crate::bytes::{LIMIT, digits_of, is_letter, place_of, truth_of, without_minus};
-use frac_core::{Frac, FracFail, decimal_of};
+use frac_core::{Frac, FracFail, decimal_of, gcd_of};
 use op_trees::Value;
 use prism_lex::State;
 
@@ -146,18 +145,4 @@ pub(crate) fn signed(minus: bool, size: u128) -> i64
 {
     let number = size as i64;
     if minus { -number } else { number }
-}
-
-/// The greatest common divisor, by Euclid's algorithm.
-fn gcd_of(a: u128, b: u128) -> u128
-    ensures { result ≡ gcd a b }
-{
-    let mut x = a;
-    let mut y = b;
-    while y != 0 {
-        let rest = x % y;
-        x = y;
-        y = rest;
-    }
-    x
 }

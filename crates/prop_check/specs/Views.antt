@@ -2,15 +2,9 @@
 use Rattle.std.specs.Prelude.{List, [], ◌∷◌}
 use Rattle.op_trees.specs.Tree.{tree}
 use Rattle.prism_tree.specs.Syntax.{Expression}
-use Rattle.prop_trees.specs.Trees.{Role, state, steps, probability}
-use Rattle.prop_check.specs.declared.parts.Role as code
-use Rattle.prop_check.specs.declared.parts.Role.TheVariants as R
+use Rattle.prop_trees.specs.Syntax.{role_of}
+use Rattle.prop_trees.specs.Trees.{Role, state}
 use Rattle.prop_check.specs.declared.parts.Part.{Part}
-
-abbrev pub role_of : code.Role → Role
-role_of R.State = state
-role_of R.Steps = steps
-role_of R.Probability = probability
 
 abbrev pub part_of : Part → Role × Expression
 part_of p = (role_of p.role, tree p.e.now)

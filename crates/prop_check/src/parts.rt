@@ -5,22 +5,13 @@ ghost use Rattle.op_trees.specs.Tree.{tree};
 ghost use Rattle.prop_grammar.specs.Syntax.{ask_of, path_of, written_of};
 ghost use Rattle.prop_trees.specs.PrismFaults.{all_parts};
 ghost use Rattle.prop_trees.specs.Trees.{ask_parts, path_parts};
-ghost use Rattle.prop_check.specs.Views.{part_of, role_of, states};
+ghost use Rattle.prop_trees.specs.Syntax.{role_of};
+ghost use Rattle.prop_check.specs.Views.{part_of, states};
 
 use prism_tree::PrismExpr;
 use prop_grammar::{PathForm, Query, Written};
+use prop_trees::Role;
 use std::alloc::{AllocError, Global};
-
-/// What an expression stands for in a property.
-#[derive(Clone, Copy)]
-pub(crate) enum Role {
-    /// A state formula.
-    State,
-    /// A bound of steps.
-    Steps,
-    /// A bound of a probability.
-    Probability,
-}
 
 /// An expression of a property.
 #[derive(Clone, Copy)]

@@ -3,20 +3,21 @@
 ghost use Rattle.std.specs.Prelude.{◌≡◌, map, None};
 ghost use Rattle.std.specs.List.{flat_map};
 ghost use Rattle.bridge_io.specs.declared.reason.Reason.TheVariants.{NotConstant};
-ghost use Rattle.op_trees.specs.Names.{offset_of, some_name};
+ghost use Rattle.op_trees.specs.Names.{offset_of};
 ghost use Rattle.op_trees.specs.Tree.{tree};
 ghost use Rattle.name_rules.specs.Least.{fault_if, soonest};
-ghost use Rattle.prop_grammar.specs.Grammar.{has_quotes};
-ghost use Rattle.prop_trees.specs.PrismFaults.{part_faults, type_faults_of, varies, wanted_of};
-ghost use Rattle.prop_check.specs.Views.{part_of, role_of};
+ghost use Rattle.prop_trees.specs.PrismFaults.{part_faults, type_faults_of, varies};
+ghost use Rattle.prop_trees.specs.Syntax.{role_of};
+ghost use Rattle.prop_check.specs.Views.{part_of};
 
 use crate::labels::has_quotes;
-use crate::parts::{Part, Role};
+use crate::parts::Part;
 use crate::scope::Scope;
 use bridge_io::{Fault, Reason};
-use name_rules::{sooner, sooner_if};
-use op_trees::{Expr, Wanted, is_wanted, offset_of, type_of};
+use name_rules::{Telling, some_name, sooner, sooner_if};
+use op_trees::{is_wanted, offset_of, type_of};
 use prism_tree::PrismExpr;
+use prop_trees::{Role, wanted_of};
 
 /// The least fault of the types of these bounds and state formulas, if they have one.
 pub(crate) fn judge_types(scope: &Scope, parts: &[Part]) -> Option<Fault>
@@ -37,17 +38,6 @@ fn judge_part(scope: &Scope, part: &Part, best: Option<Fault>) -> Option<Fault>
         Role::State => typed,
         Role::Steps => judge_constant(scope, part.e, typed),
         Role::Probability => judge_constant(scope, part.e, typed),
-    }
-}
-
-// What it has to be.
-fn wanted_of(role: Role) -> Wanted
-    ensures { result ≡ wanted_of (role_of role) }
-{
-    match role {
-        Role::State => Wanted::Bool,
-        Role::Steps => Wanted::Int,
-        Role::Probability => Wanted::Number,
     }
 }
 
@@ -79,19 +69,19 @@ fn judge_constant(scope: &Scope, e: &PrismExpr, best: Option<Fault>) -> Option<F
 fn is_varying(scope: &Scope, e: &PrismExpr) -> bool
     ensures { result ≡ varies scope.now.file (tree e.now) }
 {
-    names_label(e) || scope.varies(e)
+    some_name(&Labels, e) || scope.varies(e)
 }
 
-// Whether it names a label.
-fn names_label(e: &PrismExpr) -> bool
-    ensures { result ≡ some_name has_quotes (tree e.now) }
-{
-    match e {
-        Expr::Truth(_, _) => false,
-        Expr::Number(_, _) => false,
-        Expr::Name(_, name) => has_quotes(name.as_str()),
-        Expr::One(_, _, a) => names_label(a),
-        Expr::Two(_, _, a, b) => names_label(a) || names_label(b),
-        Expr::Three(_, _, a, b, c) => names_label(a) || names_label(b) || names_label(c),
+// Names of labels.
+#[derive(Drop)]
+struct Labels;
+
+impl Telling for Labels {
+    ghost use Rattle.prop_grammar.specs.Grammar.{has_quotes};
+
+    ghost tells = { λ l. has_quotes };
+
+    fn tells(&self, name: &str) -> bool {
+        has_quotes(name)
     }
 }

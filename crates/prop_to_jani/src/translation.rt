@@ -12,7 +12,7 @@ ghost use Rattle.prism_tree.specs.Syntax.{file_of, var_of};
 ghost use Rattle.jani_table.specs.Node.{node};
 ghost use Rattle.jani_tree.specs.Canonical.{list_node};
 ghost use Rattle.name_table.specs.declared.class.Target.TheVariants.{Jani};
-ghost use Rattle.name_table.specs.Asks.{actions, entries, new_names, variables};
+ghost use Rattle.name_table.specs.Asks.{entries, new_names, variables};
 ghost use Rattle.name_table.specs.Gathered.{told};
 ghost use Rattle.prop_trees.specs.Form.{AreOfPrism};
 ghost use Rattle.prop_trees.specs.Names.{marked};
@@ -25,10 +25,10 @@ use crate::bodies::FormulaBodies;
 use crate::expressions::Translator;
 use crate::names::PropertyNames;
 use crate::tables::{marked_names, property_names};
-use bridge_io::{List, Text};
+use bridge_io::List;
 use decimal_json::Json;
 use gathering::{drop_from, first_of, shorter};
-use name_table::{Entry, NameClass, NameTable, Target, actions, ask_file, variables};
+use name_table::{Entry, NameClass, NameTable, actions, flat_names, variables};
 use prism_check::CheckedPrism;
 use prism_places::{FlatPrism, flatten};
 use prism_tree::{PrismFile, PrismVar};
@@ -117,23 +117,7 @@ fn model_table(alloc: Global, file: &PrismFile, vars: &[&PrismVar]) -> Result<Na
     ensures { IfOk result (λ t. (t.target ≡ Jani) × (t.entries ≡ entries (file_of file.now))) }
 {
     let acts = actions(alloc, file)?;
-    asked_table(alloc, file, vars, acts.as_slice())
-}
-
-/// The same, where these are the model's actions.
-fn asked_table(
-    alloc: Global,
-    file: &PrismFile,
-    vars: &[&PrismVar],
-    acts: &[&Text],
-) -> Result<NameTable, AllocError>
-    requires vars { map (λ x. var_of x.now) vars.now ≡ variables (file_of file.now) }
-    requires acts { map (λ x. x.now) acts.now ≡ actions (file_of file.now) }
-    ensures { IfOk result (λ t. (t.target ≡ Jani) × (t.entries ≡ entries (file_of file.now))) }
-{
-    let mut table = NameTable::new(alloc, Target::Jani);
-    ask_file(&mut table, file, vars, acts)?;
-    Ok(table)
+    flat_names(alloc, file, vars, acts.as_slice())
 }
 
 /// Asks for the names of properties.

@@ -15,6 +15,8 @@ use Rattle.prop_trees.specs.declared.jani.JaniAsk.TheVariants as JA
 use Rattle.prop_trees.specs.declared.jani.JaniPath.{JaniPath}
 use Rattle.prop_trees.specs.declared.jani.JaniPath.TheVariants as JP
 use Rattle.prop_trees.specs.declared.jani.JaniProperty.{JaniProperty}
+use Rattle.prop_trees.specs.declared.roles.Role.{Role}
+use Rattle.prop_trees.specs.declared.roles.Role.TheVariants as R
 use Rattle.prop_trees.specs.Trees as trees
 
 abbrev pub ask_of : Ask → form.Ask (Tree PrismOp) ℕ
@@ -52,3 +54,9 @@ jani_path_of (JP.UntilWithin k a b) = until_within (tree k) (tree a) (tree b)
 
 abbrev pub jani_property_of : JaniProperty → trees.JaniProperty
 jani_property_of p = record { name = p.name; ask = jani_ask_of p.ask; path = jani_path_of p.path }
+
+-- what an expression stands for
+abbrev pub role_of : Role → trees.Role
+role_of R.State = trees.state
+role_of R.Steps = trees.steps
+role_of R.Probability = trees.probability

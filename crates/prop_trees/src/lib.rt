@@ -4,8 +4,10 @@
 mod jani;
 mod names;
 mod prism;
+mod roles;
 
 pub use jani::{JaniAsk, JaniPath, JaniProperty};
 pub use names::marked;
 pub use prism::{Ask, Path, Property};
 pub use prop_grammar::Compare;
+pub use roles::{Role, wanted_of};

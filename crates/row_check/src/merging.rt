@@ -1,17 +1,15 @@
 // Choices merged by their targets.
 
-ghost use Rattle.std.specs.Prelude.{◌≡◌, ◌↔◌, ◌<◌, ℕ, List, IsTrue, IfOk, length, map};
-ghost use Rattle.std.specs.List.{count_by, AllZip};
+ghost use Rattle.std.specs.Prelude.{◌≡◌, ◌↔◌, ◌<◌, ℕ, List, IfOk, length, map};
 ghost use Rattle.process_core.specs.Seen.{seen_branch};
-ghost use Rattle.process_core.specs.Process.{EquallyOften};
 ghost use Rattle.row_check.specs.Index.{IsIndex};
-ghost use Rattle.row_check.specs.Merging.{HoldsRows, Keeps, NumbersBranches, Sums, equal_sums};
+ghost use Rattle.row_check.specs.Merging.{HoldsRows, NumbersBranches};
 
 use crate::data::Row;
 use crate::index::StateIndex;
 use bridge_io::{List, Text};
 use frac_core::Frac;
-use process_core::{Branch, State, same_label};
+use process_core::{Branch, State, copy_label};
 use std::alloc::{AllocError, Global};
 use std::collections::BTreeMap;
 
@@ -41,7 +39,7 @@ impl MergedChoice {
                 None => return Ok(None),
             }
         }
-        let label = copy_label(alloc, label)?;
+        let label = copy_label(alloc, label.as_ref())?;
         Ok(Some(MergedChoice { label, sums }))
     }
 
@@ -56,16 +54,7 @@ impl MergedChoice {
                 sums.insert(row.target, row.weight)?;
             }
         }
-        let label = copy_label(alloc, &rows[0].label)?;
+        let label = copy_label(alloc, rows[0].label.as_ref())?;
         Ok(MergedChoice { label, sums })
-    }
-}
-
-fn copy_label(alloc: Global, label: &Option<Text>) -> Result<Option<Text>, AllocError>
-    ensures { IfOk result (λ l. l ≡ label.now) }
-{
-    match label {
-        Some(text) => Ok(Some(Text::copy_of(alloc, text.as_str())?)),
-        None => Ok(None),
     }
 }

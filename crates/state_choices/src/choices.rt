@@ -19,7 +19,7 @@ use crate::values::{is_false, is_undefined};
 use bridge_io::{List, Text};
 use frac_core::Frac;
 use op_trees::{EvalFail, Value};
-use process_core::{Bad, Choice, Outcome, State, StepFail};
+use process_core::{Bad, Choice, Outcome, State, StepFail, copy_label};
 use std::alloc::{AllocError, Global};
 
 /// The choices of a state, in order, from the groups of its combinations. `Wide` where a guard is, else `TooMany` where
@@ -155,7 +155,7 @@ fn push_choice(
 ) -> Result<(), AllocError>
     ensures { OnOk result (map seen_choice all.new ≡ map seen_choice all.old ++ record { label = option_copied label.entry; outcome = seen_outcome outcome } ∷ []) }
 {
-    let label = copy_of_label(alloc, label)?;
+    let label = copy_label(alloc, label)?;
     all.push(Choice { label, outcome })?;
     Ok(())
 }
@@ -214,14 +214,4 @@ fn outcome_of(
     }
     let branches = branches(alloc, s, rewards, participants)?;
     Ok(Outcome::Good(branches))
-}
-
-/// A label copied, where there is one.
-fn copy_of_label(alloc: Global, label: Option<&Text>) -> Result<Option<Text>, AllocError>
-    ensures { IfOk result (λ copy. copy ≡ option_copied label.entry) }
-{
-    match label {
-        Some(text) => Ok(Some(Text::copy_of(alloc, text.as_str())?)),
-        None => Ok(None),
-    }
 }

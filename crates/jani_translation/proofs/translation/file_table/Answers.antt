@@ -10,4 +10,4 @@ flat_names-requires-clause-acts c =
     actions_are c.as_slice-2.result.now c.args.acts.now.items c.args.file.now c.as_slice-2.ensures.value c.requires.acts
 
 pub returns : goal.returns
-returns c = are_entries c.in_ok-table.table.entries c.args.file.now c.in_ok-table.ensures
+returns c = are_entries c.in_ok-table.table.entries c.args.file.now c.in_ok-table.ensures.1

@@ -7,4 +7,4 @@ use Rattle.name_table.proofs.asking.jani_names.Goals as goal
 
 pub returns : goal.returns
 returns c =
-    if_ok _ _ (λ t h. h ∙ ap entries c.file.ensures.tree ∙ entries_alike c.in_ok-flat.flat (flat c.args.checked.now.file) c.in_ok-flat.ensures.tree) c.found_names.result c.found_names.ensures
+    if_ok _ _ (λ t h. (h.0, h.1 ∙ ap entries c.file.ensures.tree ∙ entries_alike c.in_ok-flat.flat (flat c.args.checked.now.file) c.in_ok-flat.ensures.tree)) c.found_names.result c.found_names.ensures

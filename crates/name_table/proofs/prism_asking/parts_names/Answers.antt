@@ -1,13 +1,8 @@
-use Rattle.std.proofs.Common.{◌∙◌, ap}
 use Rattle.jani_tree.specs.Syntax.{file_of}
 use Rattle.name_table.specs.declared.class.Target.TheVariants.{Prism}
-use Rattle.name_table.specs.Entries.{Table}
 use Rattle.name_table.specs.PrismAsks.{asks}
 use Rattle.name_table.proofs.Joined.{from_none}
 use Rattle.name_table.proofs.prism_asking.parts_names.Goals as goal
 
 pub returns : goal.returns
-returns c = (
-  ap (λ (t : Table). t.target) c.in_ok-ask_parts.ensures ∙ ap (λ (t : Table). t.target) c.new-table.ensures,
-  from_none Prism c.new-table.result c.ask_parts.new.table (asks (file_of c.args.file.now)) c.new-table.ensures c.in_ok-ask_parts.ensures,
-)
+returns c = from_none Prism c.new-table.result c.ask_parts.new.table (asks (file_of c.args.file.now)) c.new-table.ensures c.in_ok-ask_parts.ensures

@@ -4,7 +4,7 @@ use Rattle.op_trees.specs.Tree.{tree}
 use Rattle.name_rules.specs.Least.{soonest}
 use Rattle.name_rules.proofs.Append.{soonest_then}
 use Rattle.prop_trees.specs.PrismFaults.{constant_faults, type_faults_of}
-use Rattle.prop_check.specs.Views.{role_of}
+use Rattle.prop_trees.specs.Syntax.{role_of}
 use Rattle.prop_check.proofs.types.judge_part.Goals as goal
 
 pub returns-in-State : goal.returns-in-State

@@ -2,7 +2,7 @@ use Rattle.std.specs.Prelude.{not}
 use Rattle.std.proofs.Common.{◌∙◌, ap}
 use Rattle.op_trees.specs.Tree.{tree}
 use Rattle.op_trees.specs.Wanted.{is_wanted}
-use Rattle.prop_check.specs.Views.{role_of}
+use Rattle.prop_trees.specs.Syntax.{role_of}
 use Rattle.prop_check.proofs.Misfits.{of_misfit, of_type}
 use Rattle.prop_check.proofs.types.judge_type.Goals as goal
 
