@@ -35,9 +35,9 @@ fn translated(alloc: Global, checked: CheckedPrism, room: usize) -> Result<List<
     text_of(alloc, room, &model)
 }
 
-/// How many bytes the text of a file takes, by and large, where what it is translated from takes so many.
+/// How many bytes the text of a file takes at most, by and large, where what it is translated from takes so many.
 pub(crate) fn room_for(length: usize) -> usize {
-    length.saturating_mul(4)
+    length.saturating_mul(6)
 }
 
 /// The canonical text of a file of the profile, and a line feed; so many bytes are set aside for it at first. `Err` is want of memory.
