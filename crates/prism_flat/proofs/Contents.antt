@@ -1,5 +1,5 @@
 -- What modules are written out to, and the whole file.
-use Rattle.std.specs.Prelude.{◌≡◌, ℕ, List, [], map, Option, Some, Result, Ok, Err, IfOk}
+use Rattle.std.specs.Prelude.{◌≡◌, ℕ, List, map, Option, Some, Result, Ok, Err, IfOk}
 use Rattle.std.specs.Option.{option_map}
 use Rattle.std.proofs.Common.{refl, sym, ap, ◌∙◌}
 use Rattle.std.proofs.Math.Path.{fun_ext}
@@ -7,13 +7,12 @@ use Rattle.basics.specs.Lists.{map_agree}
 use Rattle.bridge_io.specs.declared.reason.Named.{Named}
 use Rattle.op_trees.specs.Tree.{substituted}
 use Rattle.process_core.specs.Ready.{Name}
-use Rattle.prism_tree.specs.declared.syntax.PrismFile.{PrismFile}
 use Rattle.prism_tree.specs.declared.syntax.CopiedModule.{CopiedModule}
-use Rattle.prism_tree.specs.Syntax.{Expression, Const, Var, Formula, Command, Body, Module, plain, copied, Label, Rewards, File, const_of, var_of, formula_of, module_of, label_of, rewards_of, file_of}
+use Rattle.prism_tree.specs.Syntax.{Expression, Const, Var, Formula, Command, Body, Module, plain, copied, Label, Rewards, File}
 use Rattle.prism_names.specs.Names.{formula_body, unchanged, renaming, module_called, copy_of}
 use Rattle.prism_names.specs.Flat.{flat_module, flat}
 use Rattle.prism_names.specs.Order.{whole}
-use Rattle.prism_flat.specs.Rewritten.{rewritten_const, rewritten_var, rewritten_body, rewritten_label, rewritten_rewards, rewriting_by, flat_rewriting, flat_rewriting_is, written_as, written_as_flat}
+use Rattle.prism_flat.specs.Rewritten.{rewritten_const, rewritten_var, rewritten_body, rewritten_label, rewritten_rewards, rewriting_by, flat_rewriting, flat_rewriting_is, rewritten_file, written_as, written_as_flat}
 
 -- what follows of a value follows of a result
 pub if_ok : {A E : Type 0} (P Q : A → Type 0) → ((x : A) → P x → Q x) → (r : Result A E) → IfOk r P → IfOk r Q
@@ -38,37 +37,25 @@ copy_as file bodies new m source e same =
     ap (λ r. plain (rewritten_body (rewriting_by bodies r) m.name source.vars source.commands)) (fun_ext same)
     ∙ ap (λ o. let p = copy_of (renaming m.pairs) o in plain (rewritten_body (rewriting_by bodies p.rename) m.name p.vars p.commands)) e
 
-same_file : (cs ds : List Const) (gs hs : List Var) (fs es : List Formula) (ms ns : List Module) (ls ks : List Label) (rs qs : List Rewards) (i j : ℕ) →
+pub same_file : (cs ds : List Const) (gs hs : List Var) (fs es : List Formula) (ms ns : List Module) (ls ks : List Label) (rs qs : List Rewards) (i j : ℕ) →
     cs ≡ ds → gs ≡ hs → fs ≡ es → ms ≡ ns → ls ≡ ks → rs ≡ qs → i ≡ j →
     ◌≡◌ {A = File} (record { constants = cs; globals = gs; formulas = fs; modules = ms; labels = ls; rewards = rs; end = i })
     (record { constants = ds; globals = hs; formulas = es; modules = ns; labels = ks; rewards = qs; end = j })
 same_file cs ds gs hs fs es ms ns ls ks rs qs i j a b c d e f g = cc
 
-module _ (file : PrismFile) (bodies : Name → Option Expression) (new : Name → Name)
-    (filled : (x : Name) → bodies x ≡ option_map (whole (file_of file)) (formula_body (file_of file) x)) (same : (x : Name) → new x ≡ x)
-    (fills : (e : Expression) → substituted (λ x. option_map (whole (file_of file)) (formula_body (file_of file) x)) e ≡ whole (file_of file) e) where
-  -- the parts of a new file are those of the file written out
-  pub record IsRewritten (f : PrismFile) : Type 0 where
-    pub constants : map const_of f.constants ≡ map (rewritten_const (rewriting_by bodies new)) (map const_of file.constants)
-    pub globals : map var_of f.globals ≡ map (rewritten_var (rewriting_by bodies new)) (map var_of file.globals)
-    pub formulas : f.formulas ≡ []
-    pub modules : map module_of f.modules ≡ map (written_as (file_of file) bodies) (map module_of file.modules)
-    pub labels : map label_of f.labels ≡ map (rewritten_label (rewriting_by bodies new)) (map label_of file.labels)
-    pub rewards : map rewards_of f.rewards ≡ map (rewritten_rewards (rewriting_by bodies new)) (map rewards_of file.rewards)
-    pub end : f.end ≡ file.end
-
-  -- so the new file is the file written out
-  pub flat_is : (f : PrismFile) → IsRewritten f → file_of f ≡ flat (file_of file)
-  flat_is f h =
-      let whole_file = file_of file in
-      let e = flat_rewriting_is whole_file bodies new unchanged filled same fills in
-      let each : (rename : Name → Name) → rewriting_by bodies rename ≡ flat_rewriting whole_file rename =
-      λ rename. flat_rewriting_is whole_file bodies rename rename filled (λ x. refl) fills in
-      same_file _ _ _ _ _ _ _ _ _ _ _ _ _ _
-      (h.constants ∙ ap (λ w. map (rewritten_const w) (map const_of file.constants)) e)
-      (h.globals ∙ ap (λ w. map (rewritten_var w) (map var_of file.globals)) e)
-      (ap (map formula_of) h.formulas)
-      (h.modules ∙ map_agree (written_as whole_file bodies) (flat_module whole_file) (λ m. written_as_flat whole_file bodies m each) (map module_of file.modules))
-      (h.labels ∙ ap (λ w. map (rewritten_label w) (map label_of file.labels)) e)
-      (h.rewards ∙ ap (λ w. map (rewritten_rewards w) (map rewards_of file.rewards)) e)
-      h.end
+-- a file with its parts rewritten is the file written out
+pub flat_is : (file : File) (bodies : Name → Option Expression) (new : Name → Name) →
+    ((x : Name) → bodies x ≡ option_map (whole file) (formula_body file x)) → ((x : Name) → new x ≡ x) →
+    ((e : Expression) → substituted (λ x. option_map (whole file) (formula_body file x)) e ≡ whole file e) → rewritten_file file bodies new ≡ flat file
+flat_is file bodies new filled same fills =
+    let e = flat_rewriting_is file bodies new unchanged filled same fills in
+    let each : (rename : Name → Name) → rewriting_by bodies rename ≡ flat_rewriting file rename =
+    λ rename. flat_rewriting_is file bodies rename rename filled (λ x. refl) fills in
+    same_file _ _ _ _ _ _ _ _ _ _ _ _ _ _
+    (ap (λ w. map (rewritten_const w) file.constants) e)
+    (ap (λ w. map (rewritten_var w) file.globals) e)
+    refl
+    (map_agree (written_as file bodies) (flat_module file) (λ m. written_as_flat file bodies m each) file.modules)
+    (ap (λ w. map (rewritten_label w) file.labels) e)
+    (ap (λ w. map (rewritten_rewards w) file.rewards) e)
+    refl

@@ -1,5 +1,5 @@
 -- The parts of a file with each expression and each name changed, and the change that writes formulas and copies out.
-use Rattle.std.specs.Prelude.{List, map, Option, Some, None, is_some, if◌then◌else◌}
+use Rattle.std.specs.Prelude.{List, [], map, Option, Some, None, is_some, if◌then◌else◌}
 use Rattle.std.specs.Option.{option_map}
 use Rattle.std.proofs.Common.{◌≡◌, refl, ap, ap₂, ◌∙◌}
 use Rattle.std.proofs.Math.Path.{fun_ext}
@@ -98,3 +98,16 @@ pub written_as_flat : (file : File) (bodies : Name → Option Expression) (m : M
 written_as_flat file bodies m h =
     let p = part_of file m in
     ap (λ w. plain (rewritten_body w (module_name m) p.vars p.commands)) (h p.rename)
+
+-- ---- files
+-- a file with all its parts changed, without formulas
+abbrev pub rewritten_file : File → (Name → Option Expression) → (Name → Name) → File
+rewritten_file file bodies rename = record {
+  constants = map (rewritten_const (rewriting_by bodies rename)) file.constants;
+  globals = map (rewritten_var (rewriting_by bodies rename)) file.globals;
+  formulas = [];
+  modules = map (written_as file bodies) file.modules;
+  labels = map (rewritten_label (rewriting_by bodies rename)) file.labels;
+  rewards = map (rewritten_rewards (rewriting_by bodies rename)) file.rewards;
+  end = file.end;
+}

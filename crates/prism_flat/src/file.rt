@@ -1,11 +1,13 @@
 // A file written out.
 
-ghost use Rattle.std.specs.Prelude.{◌≡◌, IfOk};
+ghost use Rattle.std.specs.Prelude.{◌≡◌, IfOk, OnOk, []};
 ghost use Rattle.prism_tree.specs.Syntax.{file_of};
 ghost use Rattle.prism_names.specs.Flat.{flat};
 ghost use Rattle.prism_names.specs.Places.{IsPlaceOrder};
 ghost use Rattle.prism_print.specs.Same.{bare_file};
 ghost use Rattle.prism_flat.specs.Kept.{IsWrittenOut, SameMeaning, SameThings};
+ghost use Rattle.prism_flat.specs.Rewritten.{rewritten_file};
+ghost use Rattle.prism_flat.specs.Tables.{body_in, name_in};
 
 use crate::bodies::written_bodies;
 use crate::modules::written_modules;
@@ -40,13 +42,48 @@ fn written_file(alloc: Global, file: &PrismFile, order: &[usize]) -> Result<Pris
         bodies: &bodies,
         renaming: &renaming,
     };
-    Ok(PrismFile {
-        constants: all_rewritten(alloc, file.constants.as_slice(), &rewriter)?,
-        globals: all_rewritten(alloc, file.globals.as_slice(), &rewriter)?,
+    rewritten_file(alloc, file, &rewriter)
+}
+
+/// The file with all its parts rewritten, without formulas.
+fn rewritten_file<'t>(
+    alloc: Global,
+    file: &'t PrismFile,
+    rewriter: &Rewriter<'_, 't>,
+) -> Result<PrismFile, AllocError>
+    ensures { IfOk result
+        (λ f. file_of f ≡ rewritten_file (file_of file.now) (body_in rewriter.now.bodies.now) (name_in rewriter.now.renaming.now)) }
+{
+    let mut written = PrismFile {
+        constants: List::new(alloc),
+        globals: List::new(alloc),
         formulas: List::new(alloc),
-        modules: written_modules(alloc, file, file.modules.as_slice(), &bodies)?,
-        labels: all_rewritten(alloc, file.labels.as_slice(), &rewriter)?,
-        rewards: all_rewritten(alloc, file.rewards.as_slice(), &rewriter)?,
+        modules: List::new(alloc),
+        labels: List::new(alloc),
+        rewards: List::new(alloc),
         end: file.end,
-    })
+    };
+    write_parts(alloc, file, rewriter, &mut written)?;
+    Ok(written)
+}
+
+/// Puts the rewritten parts of a file into a file of its length that has no formulas.
+fn write_parts<'t>(
+    alloc: Global,
+    file: &'t PrismFile,
+    rewriter: &Rewriter<'_, 't>,
+    written: &mut PrismFile,
+) -> Result<(), AllocError>
+    requires formulas { written.old.formulas ≡ [] }
+    requires end { written.old.end ≡ file.now.end }
+    ensures { OnOk result
+        (file_of written.new
+        ≡ rewritten_file (file_of file.now) (body_in rewriter.now.bodies.now) (name_in rewriter.now.renaming.now)) }
+{
+    written.constants = all_rewritten(alloc, file.constants.as_slice(), rewriter)?;
+    written.globals = all_rewritten(alloc, file.globals.as_slice(), rewriter)?;
+    written.modules = written_modules(alloc, file, file.modules.as_slice(), rewriter.bodies)?;
+    written.labels = all_rewritten(alloc, file.labels.as_slice(), rewriter)?;
+    written.rewards = all_rewritten(alloc, file.rewards.as_slice(), rewriter)?;
+    Ok(())
 }

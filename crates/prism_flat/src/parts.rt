@@ -47,8 +47,8 @@ impl Rewritten for PrismVar {
     fn rewritten(&self, alloc: Global, rewriter: &Rewriter) -> Result<PrismVar, AllocError> {
         Ok(PrismVar {
             name: rewriter.name(alloc, &self.name)?,
-            range: rewriter.range(alloc, &self.range)?,
             start: rewriter.optional(alloc, &self.start)?,
+            range: rewriter.range(alloc, &self.range)?,
         })
     }
 }
@@ -77,8 +77,8 @@ impl Rewritten for PrismBranch {
 
     fn rewritten(&self, alloc: Global, rewriter: &Rewriter) -> Result<PrismBranch, AllocError> {
         Ok(PrismBranch {
-            weight: rewriter.optional(alloc, &self.weight)?,
             writes: all_rewritten(alloc, self.writes.as_slice(), rewriter)?,
+            weight: rewriter.optional(alloc, &self.weight)?,
         })
     }
 }
@@ -93,8 +93,8 @@ impl Rewritten for PrismCommand {
     fn rewritten(&self, alloc: Global, rewriter: &Rewriter) -> Result<PrismCommand, AllocError> {
         Ok(PrismCommand {
             action: rewriter.action(alloc, &self.action)?,
-            guard: rewriter.expression(alloc, &self.guard)?,
             branches: all_rewritten(alloc, self.branches.as_slice(), rewriter)?,
+            guard: rewriter.expression(alloc, &self.guard)?,
         })
     }
 }
