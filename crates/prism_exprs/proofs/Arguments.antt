@@ -1,5 +1,6 @@
 -- The steps of the readers of a name and of arguments.
 use Rattle.std.proofs.Common.{rules, ◌≡◌, ℕ, true, false, List, [], ◌∷◌, Option, Some, None, refl, sym, subst, map, length, ◌<◌}
+use Rattle.std.specs.Prelude.{Result}
 use Rattle.std.proofs.lemmas.Bool.{or_left, or_from}
 use Rattle.op_trees.specs.Tree.{One, Two}
 use Rattle.prism_lex.specs.declared.token.TokenKind.TheVariants as K
@@ -15,16 +16,17 @@ use Rattle.prism_exprs.specs.declared.tokens.Kept.TheVariants as H
 use Rattle.prism_exprs.specs.declared.tokens.Found.{Found}
 use Rattle.prism_exprs.specs.declared.tokens.Literal.{Literal}
 use Rattle.prism_exprs.specs.declared.tokens.Stop.{Stop}
+use Rattle.prism_exprs.specs.declared.tokens.Tokens.{Tokens}
 use Rattle.prism_tree.specs.Syntax.{Expression}
 use Rattle.prism_tree.specs.Lang.{Lang, gives, never, ◌>>=◌, ◌or◌}
 use Rattle.prism_exprs.specs.Kept.{lexeme_at}
-use Rattle.prism_exprs.specs.Reading.{Ends, none, Reads, Fails, Stops, starts, is_kind}
+use Rattle.prism_exprs.specs.Reading.{Ends, none, Parses, Reads, Fails, Stops, starts, is_kind}
 use Rattle.prism_tree.specs.Grammar.{symbol, word, argument, one_argument, two_arguments, arguments, extremum, prim, expr}
-use Rattle.prism_exprs.specs.Levels.{more, goes_on, lists_on, more_arguments, both, listed}
+use Rattle.prism_exprs.specs.Levels.{more, enclosed, goes_on, lists_on, more_arguments, both, listed}
 use Rattle.prism_exprs.proofs.Laws.{IsOne, HasWord, Follows, token_one, token_word, token_follows, gives_one, gives_word, step_one, then_one, then_word}
 use Rattle.prism_exprs.proofs.Grouping.{same_trans, same_sym, same_then, assoc, gives_then}
 use Rattle.prism_exprs.proofs.Choice.{Same, Barred, or_reads_left, gives_barred, token_opens, then_opens, opens_follows, folding_word, folding_follows, folding_one}
-use Rattle.prism_exprs.proofs.Loops.{Leads, leads_on, begin, same_leads, step, step_to, halt, halt_at, or_leads_right, folding_leads, folding_stops, folding_reads, starts_cons, reads_shorter}
+use Rattle.prism_exprs.proofs.Loops.{Leads, leads_on, begin, same_leads, step, step_to, halt, halt_at, or_leads_right, parses_via, folding_leads, folding_stops, folding_reads, starts_cons, reads_shorter}
 use Rattle.prism_exprs.proofs.Keeping.{place_kept}
 use Rattle.prism_exprs.proofs.Cut.{gives_or_fails}
 use Rattle.prism_exprs.proofs.Exprs.{expr_one, expr_word, argument_opens, argument_one, comma_repeats, comma_not_on, gives_follows, then_follows}
@@ -118,6 +120,14 @@ pub end_leads : {L : Lang Expression} (ts us vs : List Lexeme) (x y : Expression
 end_leads {L} ts us vs x y c l p q =
     let F : Expression → Type 0 = λ u. Leads (more 0) L ts (gives u) vs in
     subst F (sym q) (step _ _ l (token_one _) p)
+
+-- what stands behind it is read as what gives this expression
+pub enclosed_parses : {X : Type 0} {L : Lang Expression} (view : X → Expression) (ts us : List Lexeme) (x y : Expression) (r : Result (X × Tokens) Stop) →
+    Leads (more 0) L ts (enclosed x) us → y ≡ x → Parses view (enclosed y) (more 0) us r →
+    Parses view L (more 0) ts r
+enclosed_parses {L = L} view ts us x y r l q p =
+    let F : Expression → Type 0 = λ u. Leads (more 0) L ts (enclosed u) us in
+    parses_via view L _ (more 0) ts us r (subst F (sym q) l) p
 
 -- ---- ( E , E
 

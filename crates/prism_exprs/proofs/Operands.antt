@@ -20,7 +20,7 @@ use Rattle.prism_exprs.specs.Reading.{none, Reads, Fails, Stops}
 use Rattle.prism_tree.specs.Grammar.{symbol, word, truth, parenthesised, prim, expr}
 use Rattle.prism_exprs.specs.Levels.{more, goes_on, begins_prim}
 use Rattle.prism_exprs.proofs.Laws.{token_one, token_word, token_follows, token_reads, gives_word, then_word}
-use Rattle.prism_exprs.proofs.Loops.{Leads, leads_on, begin, step, step_to, halt, halt_at}
+use Rattle.prism_exprs.proofs.Loops.{Leads, leads_on, begin, step, step_to, halt_at}
 use Rattle.prism_exprs.proofs.Keeping.{place_kept, of_name}
 use Rattle.prism_exprs.proofs.Symbols.{map_empty}
 use Rattle.prism_exprs.proofs.Exprs.{expr_one}
@@ -85,15 +85,6 @@ inner_stops ts us at e l p = halt_at _ _ l (λ x. then_word (token_word _) (λ c
 
 pub inner_leads : (ts us vs : List Lexeme) (at : ℕ) (x : Expression) → Leads (more 0) (prim expr) ts (behind_open at) us → Reads expr goes_on us x vs → Leads (more 0) (prim expr) ts (symbol S.RightParenthesis >>= λ c. gives (moved at x)) vs
 inner_leads ts us vs at x l p = step_to _ _ l expr_one (token_follows goes_on (K.Symbol S.RightParenthesis) _ (more 0) refl) p
-
-pub close_stops : (ts vs : List Lexeme) (at : ℕ) (x : Expression) (e : Stop) → Leads (more 0) (prim expr) ts (symbol S.RightParenthesis >>= λ c. gives (moved at x)) vs → Stops (symbol S.RightParenthesis) none vs e → Stops (prim expr) (more 0) ts e
-close_stops ts vs at x e l p = halt _ _ l (λ c. gives_word (moved at x)) e p
-
-pub close_leads : (ts vs ws : List Lexeme) (at : ℕ) (x y : Expression) (c : Lexeme) → Leads (more 0) (prim expr) ts (symbol S.RightParenthesis >>= λ c. gives (moved at x)) vs → Reads (symbol S.RightParenthesis) none vs c ws →
-    y ≡ moved at x → Leads (more 0) (prim expr) ts (gives y) ws
-close_leads ts vs ws at x y c l p q =
-    let F : Expression → Type 0 = λ u. Leads (more 0) (prim expr) ts (gives u) ws in
-    subst F (sym q) (step _ _ l (token_one _) p)
 
 pub operand_missing : (f : Found → Lexeme) (found : List Found) → length found ≡ 0 → Fails (prim expr) (more 0) (map f found) (map f found)
 operand_missing f found e = prim_fails_end (map f found) (map_empty f found e)

@@ -90,6 +90,12 @@ others n e = folding joined_by (operand n (level expr n)) e
 abbrev pub more_arguments : PrismOp → ℕ → Expression → Lang Expression
 more_arguments o at e = folding (λ x y. Two at o x y) (argument expr) e
 
+-- a closing parenthesis, which gives what stands before it
+abbrev pub enclosed : Expression → Lang Expression
+enclosed e = do
+  symbol S.RightParenthesis
+  gives e
+
 -- ( E , E, as a node at this offset
 unfoldable pub both : PrismOp → ℕ → Lang Expression
 both o at = do

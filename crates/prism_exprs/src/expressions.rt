@@ -9,7 +9,7 @@ ghost use Rattle.prism_exprs.specs.Levels.{more, goes_on, lists_on, others, more
 
 use crate::leaf::{leaf_next, parse_leaf};
 use crate::parts::{
-    chain_next, choice, closed, function_of, level_next, moved, next_is, one, read_signs,
+    chain_next, choice, closed, enclosed, function_of, level_next, moved, next_is, one, read_signs,
     read_symbol, sign_next, two, with_signs,
 };
 use crate::tokens::{Cause, Kept, Stop, Tokens};
@@ -202,8 +202,7 @@ pub(crate) fn parse_prim<'a>(
         Kept::Symbol(symbol) => match symbol {
             Symbol::LeftParenthesis => {
                 let (inner, rest) = parse_expr(alloc, rest)?;
-                let (_close, rest) = read_symbol(rest, Symbol::RightParenthesis)?;
-                closed(moved(inner, at), rest)
+                enclosed(moved(inner, at), rest)
             }
             _ => Err(Stop::At(tokens, Cause::Form)),
         },
@@ -254,9 +253,8 @@ fn parse_one_argument<'a>(
 {
     let (_open, rest) = read_symbol(tokens, Symbol::LeftParenthesis)?;
     let (argument, rest) = parse_expr(alloc, rest)?;
-    let (_close, rest) = read_symbol(rest, Symbol::RightParenthesis)?;
     let whole = one(alloc, at, op, argument)?;
-    closed(whole, rest)
+    enclosed(whole, rest)
 }
 
 /// `( E , E`, as a node.
@@ -287,8 +285,7 @@ fn parse_two_arguments<'a>(
     ensures { Parses tree (two_arguments expr op at) (more 0) (seen tokens.entry) result }
 {
     let (whole, rest) = parse_both(alloc, op, at, tokens)?;
-    let (_close, rest) = read_symbol(rest, Symbol::RightParenthesis)?;
-    closed(whole, rest)
+    enclosed(whole, rest)
 }
 
 /// `( E , E { , E } )`
@@ -303,8 +300,7 @@ fn parse_listed<'a>(
 {
     let (both, rest) = parse_both(alloc, op, at, tokens)?;
     let (whole, rest) = parse_others(alloc, op, at, both, rest)?;
-    let (_close, rest) = read_symbol(rest, Symbol::RightParenthesis)?;
-    closed(whole, rest)
+    enclosed(whole, rest)
 }
 
 /// `{ , E }` behind the first two arguments.

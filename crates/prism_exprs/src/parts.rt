@@ -8,11 +8,11 @@ ghost use Rattle.prism_tree.specs.Syntax.{moved};
 ghost use Rattle.prism_exprs.specs.Kept.{seen, lexeme_at, kept_symbol, kept_word, kept_infix};
 ghost use Rattle.prism_exprs.specs.Reading.{Parses, Reads, none, starts, is_kind};
 ghost use Rattle.prism_tree.specs.Grammar.{symbol, applied, at_level, function_of};
-ghost use Rattle.prism_exprs.specs.Levels.{more, joins_at, sign_first, next_level};
+ghost use Rattle.prism_exprs.specs.Levels.{more, enclosed, joins_at, sign_first, next_level};
 ghost use Rattle.prism_tree.specs.declared.operator.PrismOp.TheVariants as O;
 
 use crate::tokens::{Cause, Found, Kept, Stop, Tokens};
-use op_trees::{Expr, offset_of};
+use op_trees::{Expr, offset_of, three};
 use prism_lex::{Reserved, Symbol};
 use prism_tree::{PrismExpr, PrismOp};
 use std::alloc::{AllocError, Global};
@@ -145,6 +145,18 @@ pub(crate) fn closed<'a>(
     Ok((e, tokens))
 }
 
+/// A closing parenthesis behind an expression, behind which no `(` stands.
+#[inline(always)]
+pub(crate) fn enclosed<'a>(
+    e: PrismExpr,
+    tokens: Tokens<'a>,
+) -> Result<(PrismExpr, Tokens<'a>), Stop<'a>>
+    ensures { Parses tree (enclosed (tree e)) (more 0) (seen tokens.entry) result }
+{
+    let (_close, rest) = read_symbol(tokens, Symbol::RightParenthesis)?;
+    closed(e, rest)
+}
+
 /// The function that an identifier names where `(` follows.
 pub fn function_of(name: &str) -> Option<PrismOp>
     ensures { result ≡ function_of name.now }
@@ -207,10 +219,7 @@ pub(crate) fn choice(
     ensures { IfOk result (λ e. tree e ≡ Three (offset_of (tree test)) O.Ite (tree test) (tree a) (tree b)) }
 {
     let at = offset_of(&test);
-    let test = Box::new(alloc, test)?;
-    let a = Box::new(alloc, a)?;
-    let b = Box::new(alloc, b)?;
-    Ok(Expr::Three(at, PrismOp::Ite, test, a, b))
+    three(alloc, at, PrismOp::Ite, Ok(test), Ok(a), Ok(b))
 }
 
 /// The same operator for each sign before an operand, each node at its sign.

@@ -1,4 +1,4 @@
-use Rattle.std.proofs.Common.{rules, ◌≡◌, ◌∙◌, ap, sym, refl, ℕ, ◌≤◌, arith}
+use Rattle.std.proofs.Common.{rules, ◌≡◌, ◌∙◌, ap, sym, ℕ, ◌≤◌, arith}
 use Rattle.op_trees.specs.Tree.{tree, Two}
 use Rattle.op_trees.specs.Names.{offset_of}
 use Rattle.prism_tree.specs.Grammar.{expr}
@@ -6,13 +6,13 @@ use Rattle.prism_exprs.specs.Levels.{more, goes_on}
 use Rattle.prism_exprs.proofs.Laws.{leaves}
 use Rattle.prism_exprs.proofs.Exprs.{argument_opens}
 use Rattle.prism_exprs.proofs.Loops.{leads_on, begin, parses_via, reads_shorter}
-use Rattle.prism_exprs.proofs.Operands.{true_leads, false_leads, open_leads, inner_stops, inner_leads, close_stops, close_leads, operand_missing, other_word, other_symbol, quoted_name}
+use Rattle.prism_exprs.proofs.Operands.{true_leads, false_leads, open_leads, inner_stops, inner_leads, operand_missing, other_word, other_symbol, quoted_name}
 use Rattle.prism_exprs.proofs.Climb.{IsPlain, prefix_none, climb_stops, chain_stops, chain_reads, neg_reads, neg_stops, not_reads, not_stops}
 use Rattle.prism_exprs.proofs.Conditionals.{kept_end, kept_end_empty, kept_lead, kept_stops, kept_shorter, test_stops, test_alone, choice_leads, question_stops, question_leads, inside_stops, inside_leads, colon_stops, colon_reads, first_stops, first_leads, second_stops, choice_reads, first_shorter, reads_length, token_shorter}
 use Rattle.prism_exprs.proofs.Alone.{leaf_expr, chain_misses}
 use Rattle.prism_exprs.proofs.Rising.{sign_missing, stop_rises, risen_first, comes, risen_next, risen_stops, risen_done, chain_shorter}
 use Rattle.prism_exprs.proofs.Numbers.{number_leads, number_missing, name_leads, name_missing}
-use Rattle.prism_exprs.proofs.Arguments.{name_alone, one_called, two_called, not_called, comma_stops, comma_leads, one_open_stops, one_open_leads, one_inner_stops, one_inner_leads, end_stops, end_leads, two_open_stops, two_open_leads, two_first_stops, two_first_leads, two_second_stops, two_reads, two_both_stops, two_both_leads, both_shorter, more_ended, more_leads, more_stops, listed_both_stops, listed_both_leads, listed_more_stops, listed_more_leads, min_leads, max_leads}
+use Rattle.prism_exprs.proofs.Arguments.{name_alone, one_called, two_called, not_called, comma_stops, comma_leads, one_open_stops, one_open_leads, one_inner_stops, one_inner_leads, enclosed_parses, two_open_stops, two_open_leads, two_first_stops, two_first_leads, two_second_stops, two_reads, two_both_stops, two_both_leads, both_shorter, more_ended, more_leads, more_stops, listed_both_stops, listed_both_leads, listed_more_stops, listed_more_leads, min_leads, max_leads}
 use Rattle.prism_exprs.proofs.expressions.+expressions.Goals.{parse_low-then-chain_next+in_ok-whole, parse_low-else-chain_next, parse_climb-then-chain_next+in_ok-whole, parse_climb-else-chain_next}
 use Rattle.prism_exprs.proofs.expressions.+expressions.Goals as goal
 
@@ -244,21 +244,12 @@ parse_prim-returns-in_err-inner-in-LeftParenthesis t c =
     leaves _ _ _ _ _ _ c.from_residual.ensures
     (inner_stops _ _ c.in-Some.first.now.at _ (open_leads _ _ _ _ c.in-Some.first.now _ c.in-Some.ensures.cases.0 (search rules) c.with-rest.ensures) c.in_err-inner-in-LeftParenthesis.ensures)
 
-pub parse_prim-returns-in_err-_close-in-LeftParenthesis : goal.parse_prim-returns-in_err-_close-in-LeftParenthesis
-parse_prim-returns-in_err-_close-in-LeftParenthesis t c =
-    let x = tree c.in_ok-inner-in-LeftParenthesis.inner in
-    let at = c.in-Some.first.now.at in
-    leaves _ _ _ _ _ _ c.from_residual-in_err-_close-in-LeftParenthesis.ensures
-    (close_stops _ _ at x _ (inner_leads _ _ _ at x (open_leads _ _ _ _ c.in-Some.first.now _ c.in-Some.ensures.cases.0 (search rules) c.with-rest.ensures) c.in_ok-inner-in-LeftParenthesis.ensures)
-    c.in_err-_close-in-LeftParenthesis.ensures)
-
-pub parse_prim-returns-in_ok-_close-in-LeftParenthesis : goal.parse_prim-returns-in_ok-_close-in-LeftParenthesis
-parse_prim-returns-in_ok-_close-in-LeftParenthesis t c =
+pub parse_prim-returns-in_ok-inner-in-LeftParenthesis : goal.parse_prim-returns-in_ok-inner-in-LeftParenthesis
+parse_prim-returns-in_ok-inner-in-LeftParenthesis t c =
     let x = tree c.in_ok-inner-in-LeftParenthesis.inner in
     let at = c.in-Some.first.now.at in
     let l = inner_leads _ _ _ at x (open_leads _ _ _ _ c.in-Some.first.now _ c.in-Some.ensures.cases.0 (search rules) c.with-rest.ensures) c.in_ok-inner-in-LeftParenthesis.ensures in
-    parses_via _ _ _ (more 0) _ _ c.closed-in-LeftParenthesis.result
-    (close_leads _ _ _ at x (tree c.moved.result) _ l c.in_ok-_close-in-LeftParenthesis.ensures c.moved.ensures) c.closed-in-LeftParenthesis.ensures
+    enclosed_parses tree _ _ _ (tree c.moved.result) c.enclosed.result l c.moved.ensures c.enclosed.ensures
 
 pub parse_prim-returns-in-Min : goal.parse_prim-returns-in-Min
 parse_prim-returns-in-Min t c =
@@ -333,17 +324,11 @@ parse_one_argument-returns-in_err-argument t c =
     leaves _ _ _ _ _ _ c.from_residual-in_err-argument.ensures
     (one_inner_stops c.args.op c.args.at _ _ _ (one_open_leads c.args.op c.args.at _ _ _ c.in_ok-_open.ensures) c.in_err-argument.ensures)
 
-pub parse_one_argument-returns-in_err-_close : goal.parse_one_argument-returns-in_err-_close
-parse_one_argument-returns-in_err-_close t c =
-    let x = tree c.in_ok-argument.argument in
-    let l = one_inner_leads c.args.op c.args.at _ _ _ x (one_open_leads c.args.op c.args.at _ _ _ c.in_ok-_open.ensures) c.in_ok-argument.ensures in
-    leaves _ _ _ _ _ _ c.from_residual-in_err-_close.ensures (end_stops _ _ _ _ l c.in_err-_close.ensures)
-
 pub parse_one_argument-returns : goal.parse_one_argument-returns
 parse_one_argument-returns t c =
     let x = tree c.in_ok-argument.argument in
     let l = one_inner_leads c.args.op c.args.at _ _ _ x (one_open_leads c.args.op c.args.at _ _ _ c.in_ok-_open.ensures) c.in_ok-argument.ensures in
-    parses_via _ _ _ (more 0) _ _ c.closed.result (end_leads _ _ _ _ (tree c.in_ok-whole.whole) _ l c.in_ok-_close.ensures c.in_ok-whole.ensures) c.closed.ensures
+    enclosed_parses tree _ _ _ (tree c.in_ok-whole.whole) c.enclosed.result l c.in_ok-whole.ensures c.enclosed.ensures
 
 pub parse_both-returns-in_err-_open : goal.parse_both-returns-in_err-_open
 parse_both-returns-in_err-_open t c = leaves _ _ _ _ _ _ c.from_residual.ensures (two_open_stops _ _ _ _ c.in_err-_open.ensures)
@@ -377,14 +362,10 @@ parse_both-returns t c =
 pub parse_two_arguments-returns-in_err-whole : goal.parse_two_arguments-returns-in_err-whole
 parse_two_arguments-returns-in_err-whole t c = leaves _ _ _ _ _ _ c.from_residual.ensures (two_both_stops c.args.op c.args.at _ _ c.in_err-whole.ensures)
 
-pub parse_two_arguments-returns-in_err-_close : goal.parse_two_arguments-returns-in_err-_close
-parse_two_arguments-returns-in_err-_close t c =
-    leaves _ _ _ _ _ _ c.from_residual-in_err-_close.ensures (end_stops _ _ _ _ (two_both_leads c.args.op c.args.at _ _ (tree c.in_ok-whole.whole) c.in_ok-whole.ensures) c.in_err-_close.ensures)
-
 pub parse_two_arguments-returns : goal.parse_two_arguments-returns
 parse_two_arguments-returns t c =
     let x = tree c.in_ok-whole.whole in
-    parses_via _ _ _ (more 0) _ _ c.closed.result (end_leads _ _ _ _ x _ (two_both_leads c.args.op c.args.at _ _ x c.in_ok-whole.ensures) c.in_ok-_close.ensures refl) c.closed.ensures
+    parses_via _ _ _ (more 0) _ _ c.enclosed.result (two_both_leads c.args.op c.args.at _ _ x c.in_ok-whole.ensures) c.enclosed.ensures
 
 -- ---- min and max
 
@@ -402,17 +383,11 @@ parse_listed-returns-in_err-whole t c =
     let x = tree c.in_ok-both.both in
     leaves _ _ _ _ _ _ c.from_residual-in_err-whole.ensures (listed_more_stops c.args.op c.args.at _ _ x _ (listed_both_leads c.args.op c.args.at _ _ x c.in_ok-both.ensures) c.in_err-whole.ensures)
 
-pub parse_listed-returns-in_err-_close : goal.parse_listed-returns-in_err-_close
-parse_listed-returns-in_err-_close t c =
-    let x = tree c.in_ok-both.both in
-    let n = listed_more_leads c.args.op c.args.at _ _ _ x (tree c.in_ok-whole.whole) (listed_both_leads c.args.op c.args.at _ _ x c.in_ok-both.ensures) c.in_ok-whole.ensures in
-    leaves _ _ _ _ _ _ c.from_residual-in_err-_close.ensures (end_stops _ _ _ _ n c.in_err-_close.ensures)
-
 pub parse_listed-returns : goal.parse_listed-returns
 parse_listed-returns t c =
     let x = tree c.in_ok-both.both in
     let n = listed_more_leads c.args.op c.args.at _ _ _ x (tree c.in_ok-whole.whole) (listed_both_leads c.args.op c.args.at _ _ x c.in_ok-both.ensures) c.in_ok-whole.ensures in
-    parses_via _ _ _ (more 0) _ _ c.closed.result (end_leads _ _ _ _ (tree c.in_ok-whole.whole) _ n c.in_ok-_close.ensures refl) c.closed.ensures
+    parses_via _ _ _ (more 0) _ _ c.enclosed.result n c.enclosed.ensures
 
 pub parse_others-arguments-init : goal.parse_others-arguments-init
 parse_others-arguments-init t c = record { shorter = omega arith; ends = c.requires; leads = begin _ _ _ }
