@@ -4,7 +4,8 @@ use Rattle.std.specs.Prelude.{Result, Ok, Err}
 use Rattle.std.proofs.lemmas.List.{map_push, append_cancel_left}
 use Rattle.prism_lex.specs.declared.token.TokenKind.{TokenKind}
 use Rattle.prism_lex.specs.Tokens.{Lexeme}
-use Rattle.prism_tree.specs.Lang.{Lang, gives, folding, front, with_last, ◌>>=◌, ◌or◌, many, Begins}
+use Rattle.prism_tree.specs.Lang.{Lang, token, gives, folding, front, with_last, ◌>>=◌, ◌or◌, many, Begins}
+use Rattle.prism_exprs.specs.declared.tokens.Found.{Found}
 use Rattle.prism_exprs.specs.declared.tokens.Tokens.{Tokens}
 use Rattle.prism_exprs.specs.declared.tokens.Cause.{Cause}
 use Rattle.prism_exprs.specs.declared.tokens.Cause.TheVariants as C
@@ -13,8 +14,9 @@ use Rattle.prism_exprs.specs.declared.tokens.Stop.TheVariants.{Memory, At}
 use Rattle.prism_exprs.specs.Kept.{seen}
 use Rattle.prism_exprs.specs.Reading.{Ends, none, next, Dead, Reads, starts}
 use Rattle.prism_exprs.specs.Scope.{Scope, Halts, StopsIn, ParsesIn}
-use Rattle.prism_exprs.proofs.Laws.{IsOne, HasWord, Follows, none_follows, Ends-next, next-append, then_reads}
+use Rattle.prism_exprs.proofs.Laws.{IsOne, HasWord, Follows, none_follows, token_one, gives_reads, gives_word, Ends-next, next-append, then_reads}
 use Rattle.prism_exprs.proofs.Choice.{Same, same_reads, Barred, or_dead, or_reads_left, or_reads_right, gives_barred, Opens, folding-unfold, folding_word}
+use Rattle.prism_items.specs.Parts.{followed_by}
 use Rattle.prism_exprs.proofs.Loops.{Begun, many-folding, starts_cons, starts_ends, folding_reads}
 
 -- Behind the front, M is left to be read from us, where L was to be read from ts.
@@ -153,6 +155,17 @@ halt_at K M s l word fol e p = stops_by s e l (then_stops K M _ s e word fol p)
 pub parses_by : {X A : Type 0} (view : X → A) (L M : Scope → Lang A) (more : TokenKind → Bool) (ts us : List Lexeme) (r : Result (X × Tokens) Stop) → ((s : Scope) → Leads more (L s) ts (M s) us) → ParsesIn view M more us r → ParsesIn view L more ts r
 parses_by view L M more ts us (Ok y) l p = λ s. (l s).reads _ _ (p s)
 parses_by view L M more ts us (Err e) l p = λ s. stops_by s e (l s) (p s)
+
+-- a value, and the token behind it
+pub followed : {X A : Type 0} (view : X → A) (L : Scope → Lang A) (lexeme : Found → Lexeme) (k : TokenKind) (x : X) (ts us : List Lexeme) (read : Result (Found × Tokens) Stop) (r : Result (X × Tokens) Stop) →
+    ((s : Scope) → Leads none (L s) ts (token k >>= λ _. gives (view x)) us) → ParsesIn lexeme (λ s. token k) none us read → r ≡ followed_by x read → ParsesIn view L none ts r
+followed {X} view L lexeme k x ts us read r l p e =
+    let F : Result (X × Tokens) Stop → Type 0 = λ u. ParsesIn view L none ts u in
+    subst F (sym e) (by_read read p)
+  where
+    by_read : (read : Result (Found × Tokens) Stop) → ParsesIn lexeme (λ s. token k) none us read → ParsesIn view L none ts (followed_by x read)
+    by_read (Ok y) p = λ s. (step _ _ (l s) (token_one _) (p s)).reads _ _ (gives_reads _ _)
+    by_read (Err e) p = λ s. halt _ _ s (l s) (λ _. gives_word _) e (p s)
 
 -- ---- repetitions
 

@@ -1,5 +1,5 @@
 -- Parts of a file in a scope, what closes them, and which tokens go on with them.
-use Rattle.std.specs.Prelude.{ℕ, Bool, true, false, not, ◌&&◌, ◌||◌, List, [], ◌∷◌, Option, Some, None, if◌then◌else◌}
+use Rattle.std.specs.Prelude.{ℕ, Bool, true, false, not, ◌&&◌, ◌||◌, List, [], ◌∷◌, Option, Some, None, Result, Ok, Err, if◌then◌else◌}
 use Rattle.prism_lex.specs.declared.token.TokenKind.{TokenKind}
 use Rattle.prism_lex.specs.declared.token.TokenKind.TheVariants as K
 use Rattle.prism_lex.specs.declared.words.Reserved.TheVariants as W
@@ -14,6 +14,9 @@ use Rattle.prism_tree.specs.declared.syntax.NamePair.{NamePair}
 use Rattle.prism_tree.specs.declared.syntax.ItemOn.{ItemOn}
 use Rattle.op_trees.specs.declared.tree.Ty.{Ty}
 use Rattle.op_trees.specs.declared.tree.Ty.TheVariants as T
+use Rattle.prism_exprs.specs.declared.tokens.Found.{Found}
+use Rattle.prism_exprs.specs.declared.tokens.Stop.{Stop}
+use Rattle.prism_exprs.specs.declared.tokens.Tokens.{Tokens}
 use Rattle.prism_exprs.specs.declared.tokens.Kept.{Kept}
 use Rattle.prism_exprs.specs.declared.tokens.Kept.TheVariants as H
 use Rattle.prism_exprs.specs.Reading.{is_kind, starts}
@@ -23,6 +26,11 @@ use Rattle.prism_exprs.specs.Scope.{Scope, expressions, also}
 -- a part of a file, in a scope
 abbrev pub in_scope : {A : Type 0} → (Lang Expression → Lang (Option Range) → Lang A) → Scope → Lang A
 in_scope L s = L (expressions s) (also s)
+
+-- a value, with the tokens behind what was read after it
+abbrev pub followed_by : {X : Type 0} → X → Result (Found × Tokens) Stop → Result (X × Tokens) Stop
+followed_by x (Ok read) = Ok (x, read.1)
+followed_by x (Err stop) = Err stop
 
 -- a part, and the token that closes it
 unfoldable pub closed_by : {A : Type 0} → TokenKind → Lang A → Lang A

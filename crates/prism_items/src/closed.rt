@@ -8,7 +8,7 @@ ghost use Rattle.prism_exprs.specs.Reading.{none};
 ghost use Rattle.prism_exprs.specs.Scope.{ParsesIn};
 ghost use Rattle.prism_items.specs.Parts.{in_scope, closed_expression, definition};
 
-use crate::readers::read_symbol;
+use crate::readers::{followed_by, read_symbol};
 use prism_exprs::{Stop, Tokens, parse_outer};
 use prism_lex::Symbol;
 use prism_tree::PrismExpr;
@@ -24,8 +24,7 @@ pub(crate) fn parse_closed<'a>(
     ensures { ParsesIn tree (in_scope (closed_expression closing)) none (seen tokens.entry) result }
 {
     let (value, rest) = parse_outer(alloc, tokens)?;
-    let (_close, rest) = read_symbol(rest, closing)?;
-    Ok((value, rest))
+    followed_by(value, read_symbol(rest, closing))
 }
 
 /// `= E ;`

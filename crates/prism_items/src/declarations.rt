@@ -14,7 +14,9 @@ ghost use Rattle.prism_exprs.specs.Scope.{ParsesIn};
 ghost use Rattle.prism_items.specs.Parts.{in_scope, domain, value_part, domain_part, start_part, kept_type, type_front};
 
 use crate::closed::{parse_closed, parse_definition};
-use crate::readers::{read_name, read_quoted, read_symbol, read_word, symbol_next, word_next};
+use crate::readers::{
+    followed_by, read_name, read_quoted, read_symbol, read_word, symbol_next, word_next,
+};
 use op_trees::Ty;
 use prism_exprs::{Cause, Kept, Stop, Tokens};
 use prism_lex::{Reserved, Symbol};
@@ -54,8 +56,7 @@ fn parse_value<'a>(
     ensures { ParsesIn (option_map tree) (in_scope value_part) none (seen tokens.entry) result }
 {
     if !symbol_next(tokens, Symbol::Equal) {
-        let (_end, rest) = read_symbol(tokens, Symbol::Semicolon)?;
-        return Ok((None, rest));
+        return followed_by(None, read_symbol(tokens, Symbol::Semicolon));
     }
     let (value, rest) = parse_definition(alloc, tokens)?;
     Ok((Some(value), rest))
@@ -123,8 +124,7 @@ fn parse_domain<'a>(
         return Ok((Some(range), rest));
     }
     if word_next(tokens, Reserved::BoolWord) {
-        let (_bool, rest) = read_word(tokens, Reserved::BoolWord)?;
-        return Ok((None, rest));
+        return followed_by(None, read_word(tokens, Reserved::BoolWord));
     }
     if word_next(tokens, Reserved::Int) {
         return Err(Stop::At(tokens, Cause::Type));
@@ -151,8 +151,7 @@ fn parse_start<'a>(
     ensures { ParsesIn (option_map tree) (in_scope start_part) none (seen tokens.entry) result }
 {
     if !word_next(tokens, Reserved::Init) {
-        let (_end, rest) = read_symbol(tokens, Symbol::Semicolon)?;
-        return Ok((None, rest));
+        return followed_by(None, read_symbol(tokens, Symbol::Semicolon));
     }
     let (_init, rest) = read_word(tokens, Reserved::Init)?;
     let (start, rest) = parse_closed(alloc, rest, Symbol::Semicolon)?;

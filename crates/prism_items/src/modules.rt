@@ -13,7 +13,7 @@ ghost use Rattle.prism_items.specs.Parts.{in_scope, action_part, bracketed_actio
 
 use crate::closed::parse_closed;
 use crate::declarations::parse_var;
-use crate::readers::{other_next, read_name, read_symbol, read_word, symbol_next};
+use crate::readers::{followed_by, other_next, read_name, read_symbol, read_word, symbol_next};
 use crate::updates::parse_updates;
 use bridge_io::{List, Named};
 use prism_exprs::{Stop, Tokens};
@@ -29,12 +29,10 @@ fn parse_action<'a>(
     ensures { ParsesIn (λ x. x) (in_scope action_part) none (seen tokens.entry) result }
 {
     if symbol_next(tokens, Symbol::RightBracket) {
-        let (_end, rest) = read_symbol(tokens, Symbol::RightBracket)?;
-        return Ok((None, rest));
+        return followed_by(None, read_symbol(tokens, Symbol::RightBracket));
     }
     let (name, rest) = read_name(alloc, tokens)?;
-    let (_right, rest) = read_symbol(rest, Symbol::RightBracket)?;
-    Ok((Some(name), rest))
+    followed_by(Some(name), read_symbol(rest, Symbol::RightBracket))
 }
 
 /// `'[' [ Ident ] ']'`
@@ -184,8 +182,7 @@ fn parse_renaming<'a>(
 {
     let (_left, rest) = read_symbol(tokens, Symbol::LeftBracket)?;
     let (pairs, rest) = parse_pairs(alloc, rest)?;
-    let (_right, rest) = read_symbol(rest, Symbol::RightBracket)?;
-    Ok((pairs, rest))
+    followed_by(pairs, read_symbol(rest, Symbol::RightBracket))
 }
 
 /// `= Ident '[' Ident = Ident { , Ident = Ident } ']'`
@@ -216,8 +213,7 @@ fn parse_rest<'a>(
         parse_body(alloc, name, tokens)
     };
     let (module, rest) = read?;
-    let (_end, rest) = read_word(rest, Reserved::Endmodule)?;
-    Ok((module, rest))
+    followed_by(module, read_word(rest, Reserved::Endmodule))
 }
 
 /// `module Ident .. endmodule`

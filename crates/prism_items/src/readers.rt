@@ -5,7 +5,7 @@ ghost use Rattle.prism_tree.specs.Grammar.{symbol, word, name, quoted, unquoted}
 ghost use Rattle.prism_exprs.specs.Kept.{seen, lexeme_at};
 ghost use Rattle.prism_exprs.specs.Reading.{none, starts, is_kind};
 ghost use Rattle.prism_exprs.specs.Scope.{ParsesIn};
-ghost use Rattle.prism_items.specs.Parts.{text_if, all_but};
+ghost use Rattle.prism_items.specs.Parts.{text_if, all_but, followed_by};
 
 use bridge_io::{Named, Text};
 use prism_exprs::{Cause, Found, Kept, Stop, Tokens};
@@ -131,6 +131,19 @@ pub fn read_word<'a>(tokens: Tokens<'a>, wanted: Reserved) -> Result<(Found, Tok
         return Err(Stop::At(tokens, Cause::Form));
     }
     Ok((*first, tokens.with(rest)))
+}
+
+/// A value, with the tokens behind what was read after it.
+pub(crate) fn followed_by<'a, T: Drop>(
+    value: T,
+    read: Result<(Found, Tokens<'a>), Stop<'a>>,
+) -> Result<(T, Tokens<'a>), Stop<'a>>
+    ensures { result ≡ followed_by value read.entry }
+{
+    match read {
+        Ok((_token, rest)) => Ok((value, rest)),
+        Err(stop) => Err(stop),
+    }
 }
 
 /// One name.

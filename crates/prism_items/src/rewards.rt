@@ -12,7 +12,7 @@ ghost use Rattle.prism_items.specs.Parts.{in_scope, gain, gains, all_but};
 
 use crate::closed::parse_closed;
 use crate::modules::parse_brackets;
-use crate::readers::{other_next, quoted_next, read_quoted, read_word, symbol_next};
+use crate::readers::{followed_by, other_next, quoted_next, read_quoted, read_word, symbol_next};
 use bridge_io::{List, Named};
 use prism_exprs::{Stop, Tokens};
 use prism_lex::{Reserved, Symbol};
@@ -79,8 +79,8 @@ fn parse_gains<'a>(
     ensures { ParsesIn rewards_of (in_scope (gains name)) none (seen tokens.entry) result }
 {
     let (items, rest) = parse_items(alloc, tokens)?;
-    let (_end, rest) = read_word(rest, Reserved::Endrewards)?;
-    Ok((PrismRewards { name, items }, rest))
+    let rewards = PrismRewards { name, items };
+    followed_by(rewards, read_word(rest, Reserved::Endrewards))
 }
 
 /// `rewards [ Quoted ] { RItem } endrewards`

@@ -9,7 +9,7 @@ ghost use Rattle.prism_items.specs.Parts.{in_scope, target, further_write, sever
 
 use crate::closed::parse_closed;
 use crate::readers::{
-    behind, name_next, read_name, read_symbol, read_word, symbol_next, word_next,
+    behind, followed_by, name_next, read_name, read_symbol, read_word, symbol_next, word_next,
 };
 use bridge_io::{List, Named};
 use prism_exprs::{Cause, Stop, Tokens};
@@ -24,8 +24,7 @@ fn parse_target<'a>(alloc: Global, tokens: Tokens<'a>) -> Result<(Named, Tokens<
     let (_open, rest) = read_symbol(tokens, Symbol::LeftParenthesis)?;
     let (name, rest) = read_name(alloc, rest)?;
     let (_prime, rest) = read_symbol(rest, Symbol::Prime)?;
-    let (_equal, rest) = read_symbol(rest, Symbol::Equal)?;
-    Ok((name, rest))
+    followed_by(name, read_symbol(rest, Symbol::Equal))
 }
 
 /// `( Ident ' = E )`
@@ -152,8 +151,7 @@ fn parse_ended_branches<'a>(
     ensures { ParsesIn (map branch_of) (in_scope ended_branches) none (seen tokens.entry) result }
 {
     let (branches, rest) = parse_branches(alloc, tokens)?;
-    let (_close, rest) = read_symbol(rest, Symbol::Semicolon)?;
-    Ok((branches, rest))
+    followed_by(branches, read_symbol(rest, Symbol::Semicolon))
 }
 
 /// The one branch of an update without a probability.

@@ -1,8 +1,10 @@
+use Rattle.prism_lex.specs.declared.token.TokenKind.TheVariants as K
+use Rattle.prism_lex.specs.declared.symbols.Symbol.TheVariants as S
 use Rattle.prism_exprs.specs.Reading.{none}
-use Rattle.prism_exprs.proofs.Laws.{token_one, token_word, then_word, gives_word, gives_reads}
+use Rattle.prism_exprs.proofs.Laws.{token_one, token_word, then_word, gives_word}
 use Rattle.prism_exprs.proofs.Outer.{leaves_in}
 use Rattle.prism_items.specs.Parts.{in_scope, target}
-use Rattle.prism_items.proofs.Leading.{begin, step, halt}
+use Rattle.prism_items.proofs.Leading.{begin, followed, step, halt}
 use Rattle.prism_items.proofs.Declaring.{name_one, name_word}
 use Rattle.prism_items.proofs.updates.parse_target.Goals as goal
 
@@ -15,8 +17,8 @@ returns-in_err-name c = leaves_in _ _ _ _ _ _ c.from_residual-in_err-name.ensure
 pub returns-in_err-_prime : goal.returns-in_err-_prime
 returns-in_err-_prime c = leaves_in _ _ _ _ _ _ c.from_residual-in_err-_prime.ensures (λ s. halt _ _ s (step _ _ (step _ _ (begin (in_scope target s) none _) (token_one _) (c.in_ok-_open.ensures s)) name_one (c.in_ok-name.ensures s)) (λ _. then_word (token_word _) (λ _. gives_word _)) _ (c.in_err-_prime.ensures s))
 
-pub returns-in_err-_equal : goal.returns-in_err-_equal
-returns-in_err-_equal c = leaves_in _ _ _ _ _ _ c.from_residual-in_err-_equal.ensures (λ s. halt _ _ s (step _ _ (step _ _ (step _ _ (begin (in_scope target s) none _) (token_one _) (c.in_ok-_open.ensures s)) name_one (c.in_ok-name.ensures s)) (token_one _) (c.in_ok-_prime.ensures s)) (λ _. gives_word _) _ (c.in_err-_equal.ensures s))
-
 pub returns : goal.returns
-returns c = λ s. (step _ _ (step _ _ (step _ _ (step _ _ (begin (in_scope target s) none _) (token_one _) (c.in_ok-_open.ensures s)) name_one (c.in_ok-name.ensures s)) (token_one _) (c.in_ok-_prime.ensures s)) (token_one _) (c.in_ok-_equal.ensures s)).reads _ _ (gives_reads _ _)
+returns c =
+    followed (λ x. x) (in_scope target) _ (K.Symbol S.Equal) c.in_ok-name.name _ _ c.read_symbol-3.result c.followed_by.result
+    (λ s. step _ _ (step _ _ (step _ _ (begin (in_scope target s) none _) (token_one _) (c.in_ok-_open.ensures s)) name_one (c.in_ok-name.ensures s)) (token_one _) (c.in_ok-_prime.ensures s))
+    c.read_symbol-3.ensures c.followed_by.ensures
