@@ -91,16 +91,16 @@ numbered : (file : File) (i : ℕ) (ms : List Module) → numbered_by (module_ca
 numbered file i [] = refl
 numbered file i (m ∷ ms) = ap₂ (λ vs us. vs ++ us) (module_variables file i m) (numbered file (i + 1) ms)
 
-pub variables_are : (f : PrismFile) (xs : List PrismVar) (ms : List PrismModule) (called : Name → Option Module) (unchanged : Name → Option Name) (none globals all : Name → Option Owned) →
-    xs ≡ f.globals → ms ≡ f.modules → ((x : Name) → called x ≡ module_called (file_of f) x) → ((x : Name) → unchanged x ≡ pair_for [] x) →
-    ((x : Name) → none x ≡ None) → ((x : Name) → globals x ≡ option_or (none x) (owned_in (variables_by unchanged None (map var_of xs)) x)) →
+pub variables_are : (f : PrismFile) (xs : List PrismVar) (ms : List PrismModule) (called : Name → Option Module) (none globals all : Name → Option Owned) →
+    xs ≡ f.globals → ms ≡ f.modules → ((x : Name) → called x ≡ module_called (file_of f) x) →
+    ((x : Name) → none x ≡ None) → ((x : Name) → globals x ≡ option_or (none x) (owned_in (variables_by (pair_for []) None (map var_of xs)) x)) →
     ((x : Name) → all x ≡ option_or (globals x) (owned_in (numbered_by called 0 (map module_of ms)) x)) →
     (x : Name) → all x ≡ option_map owned (variable_called (file_of f) x)
-variables_are f xs ms called unchanged none globals all ex em c u e g a x =
+variables_are f xs ms called none globals all ex em c e g a x =
     let file = file_of f in
     a x
     ∙ ap₂ (λ o vs. option_or o (owned_in vs x))
     (g x
-    ∙ ap₂ (λ o vs. option_or o (owned_in vs x)) (e x) (ap₂ (λ h ys. variables_by h None (map var_of ys)) (fun_ext u) ex))
+    ∙ ap₂ (λ o vs. option_or o (owned_in vs x)) (e x) (ap (λ ys. variables_by (pair_for []) None (map var_of ys)) ex))
     (ap₂ (λ h l. numbered_by h 0 (map module_of l)) (fun_ext c) em ∙ numbered file 0 file.modules)
     ∙ sym (owned-append (variables_by (pair_for []) None file.globals) (numbered_variables 0 (parts file)) x)

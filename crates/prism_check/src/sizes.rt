@@ -1,11 +1,12 @@
 // Whether a file is too large once its formulas and its copies of modules are written out.
 
-ghost use Rattle.std.specs.Prelude.{◌≡◌, ◌+◌, ◌*◌, ◌||◌, List, map, length, IfOk, nat_lt};
+ghost use Rattle.std.specs.Prelude.{◌≡◌, ◌+◌, ◌*◌, ◌||◌, List, ℕ, map, length, IfOk, nat_lt};
 ghost use Rattle.std.specs.List.{list_any};
 ghost use Rattle.op_trees.specs.Tree.{capped};
 ghost use Rattle.prism_tree.specs.Syntax.{file_of, rewards_of};
 ghost use Rattle.prism_names.specs.Places.{IsPlaceOrder};
 ghost use Rattle.prism_check.specs.Counted.{sizes_of};
+ghost use Rattle.prism_check.specs.Tables.{module_under, named_module};
 ghost use Rattle.prism_check.specs.SizeFaults.{counted_height, counted_nodes};
 
 use crate::actions::{count_actions, count_commands};
@@ -50,7 +51,21 @@ pub(crate) fn judge_sizes(
     ensures { IfOk result (λ sizes. sizes ≡ sizes_of (file_of file.now)) }
 {
     let modules = Modules::of(alloc, file.modules.as_slice())?;
-    let commands = count_commands(file.modules.as_slice(), &modules);
+    judge_by(alloc, file, order, &modules)
+}
+
+// The same by the modules of the file.
+fn judge_by(
+    alloc: Global,
+    file: &PrismFile,
+    order: &[usize],
+    modules: &Modules,
+) -> Result<Sizes, AllocError>
+    requires order { IsPlaceOrder (file_of file.now) order.now }
+    requires modules { (x : List ℕ) → module_under modules.now x ≡ named_module file.now.modules x }
+    ensures { IfOk result (λ sizes. sizes ≡ sizes_of (file_of file.now)) }
+{
+    let commands = count_commands(file.modules.as_slice(), modules);
     if commands > COMMAND_LIMIT || has_long_rewards(file.rewards.as_slice()) {
         return Ok(Sizes::TooLarge);
     }
@@ -58,7 +73,7 @@ pub(crate) fn judge_sizes(
     if size.nodes > NODE_LIMIT || size.height > HEIGHT_LIMIT {
         return Ok(Sizes::TooLarge);
     }
-    let actions = count_actions(alloc, file.modules.as_slice(), &modules)?;
+    let actions = count_actions(alloc, file.modules.as_slice(), modules)?;
     if has_many_vectors(file.modules.len(), actions) {
         return Ok(Sizes::TooLarge);
     }

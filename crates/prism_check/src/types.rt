@@ -7,7 +7,7 @@ ghost use Rattle.prism_names.specs.Places.{IsPlaceOrder};
 ghost use Rattle.name_rules.specs.Least.{soonest};
 ghost use Rattle.prism_check.specs.TypeFaults.{module_faults, numbered_faults, type_faults};
 ghost use Rattle.prism_check.specs.Tables.{module_under, named_module};
-ghost use Rattle.prism_check.specs.Typing.{AreNames, contents_faults, contents_in, faults_in, soonest_at};
+ghost use Rattle.prism_check.specs.Typing.{AreNames, IsDeclared, contents_faults, contents_in, faults_in, soonest_at};
 ghost use Rattle.prism_check.specs.Views.{demand_by};
 ghost use Rattle.prism_check.specs.Writings.{IsWriting};
 
@@ -16,7 +16,7 @@ use crate::scope::body_demands;
 use crate::tables::{Modules, Renaming};
 use crate::typing::{Names, Spot, judge_type, known_formulas, sooner_at, varies};
 use crate::values::{commands_in, vars_in};
-use crate::variables::declarations;
+use crate::variables::{Declared, declarations};
 use crate::writes::{judge_repeated, judge_write};
 use crate::writing::Writing;
 use bridge_io::{Fault, Reason};
@@ -36,14 +36,30 @@ pub(crate) fn judge_types(
 {
     let modules = Modules::of(alloc, file.modules.as_slice())?;
     let declared = declarations(alloc, file, &modules)?;
-    let formulas = known_formulas(alloc, &declared, file.formulas.as_slice(), order)?;
+    judge_typed(alloc, file, order, &modules, &declared)
+}
+
+// The same by the modules and the declarations of the file.
+fn judge_typed<'t>(
+    alloc: Global,
+    file: &'t PrismFile,
+    order: &[usize],
+    modules: &Modules<'t>,
+    declared: &Declared<'t>,
+) -> Result<Option<Fault>, AllocError>
+    requires order { IsPlaceOrder (file_of file.now) order.now }
+    requires modules { (x : List ℕ) → module_under modules.now x ≡ named_module file.now.modules x }
+    requires declared { IsDeclared declared.now (file_of file.now) }
+    ensures { IfOk result (λ best. best ≡ soonest None (type_faults (file_of file.now))) }
+{
+    let formulas = known_formulas(alloc, declared, file.formulas.as_slice(), order)?;
     let writing = Writing::of(alloc, file, order)?;
     let names = Names {
-        declared: &declared,
+        declared,
         formulas: &formulas,
         renaming: None,
     };
-    judge_all(alloc, file, &modules, &names, &writing)
+    judge_all(alloc, file, modules, &names, &writing)
 }
 
 // The same by the tables of the file, what stands outside of modules first.

@@ -1,13 +1,13 @@
 // The constants and variables of a file with their types, by name.
 
-ghost use Rattle.std.specs.Prelude.{◌≡◌, List, ℕ, map, IfOk, OnOk, unwrap_or};
+ghost use Rattle.std.specs.Prelude.{◌≡◌, List, ℕ, [], map, IfOk, OnOk, unwrap_or};
 ghost use Rattle.std.specs.Option.{option_map, option_or};
 ghost use Rattle.std.specs.List.{find};
 ghost use Rattle.prism_tree.specs.Syntax.{file_of, module_of, var_of, const_of};
 ghost use Rattle.op_trees.specs.Names.{is_called};
 ghost use Rattle.prism_check.specs.Demands.{var_type};
 ghost use Rattle.name_rules.specs.Names.{under};
-ghost use Rattle.prism_check.specs.Tables.{module_under, named_module, new_name};
+ghost use Rattle.prism_check.specs.Tables.{module_under, named_module, new_name, pair_for};
 ghost use Rattle.prism_check.specs.TypeFaults.{variable_called};
 ghost use Rattle.prism_check.specs.Typing.{IsDeclared, module_variables_by, numbered_by, owned, owned_in, variables_by};
 
@@ -60,8 +60,7 @@ fn owned_variables<'a>(
         (λ table. (x : List ℕ) → under table x ≡ option_map owned (variable_called (file_of file.now) x)) }
 {
     let mut variables = NameMap::new(alloc);
-    let unchanged = Renaming::of(alloc, &[])?;
-    add_variables(file.globals.as_slice(), &unchanged, None, &mut variables)?;
+    add_unchanged(alloc, file.globals.as_slice(), None, &mut variables)?;
     add_all(alloc, file.modules.as_slice(), modules, &mut variables)?;
     Ok(variables)
 }
@@ -118,6 +117,21 @@ fn add_variables<'a>(
     Ok(())
 }
 
+// Adds these variables under their own names.
+fn add_unchanged<'a>(
+    alloc: Global,
+    vars: &'a [PrismVar],
+    owner: Option<usize>,
+    table: &mut NameMap<'a, Owned>,
+) -> Result<(), AllocError>
+    ensures { OnOk result
+        ((x : List ℕ) → under table.new x
+        ≡ option_or (under table.old x) (owned_in (variables_by (pair_for []) owner (map var_of vars.now)) x)) }
+{
+    let unchanged = Renaming::of(alloc, &[])?;
+    add_variables(vars, &unchanged, owner, table)
+}
+
 // Adds the variables of all modules.
 fn add_all<'a>(
     alloc: Global,
@@ -148,10 +162,7 @@ fn add_module<'a>(
         ≡ option_or (under table.old x) (owned_in (module_variables_by (module_under modules.now) number (module_of entry.now)) x)) }
 {
     match entry {
-        PrismModule::Plain(m) => {
-            let renaming = Renaming::of(alloc, &[])?;
-            add_variables(m.vars.as_slice(), &renaming, Some(number), table)
-        }
+        PrismModule::Plain(m) => add_unchanged(alloc, m.vars.as_slice(), Some(number), table),
         PrismModule::Copied(m) => {
             let renaming = Renaming::of(alloc, m.pairs.as_slice())?;
             let from = modules.called(m.from.name.as_str());
