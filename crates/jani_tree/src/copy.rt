@@ -1,12 +1,51 @@
 // A copy of a value, whose lists are its own.
-ghost use Rattle.std.specs.Prelude.{◌≡◌, IfOk};
-ghost use Rattle.jani_table.specs.Node.{node};
+ghost use Rattle.std.specs.Prelude.{◌≡◌, IfOk, map};
+ghost use Rattle.jani_table.specs.Node.{named_node, node};
 
 use bridge_io::{List, Named, Text};
 use decimal_json::{Json, Member};
 use std::alloc::{AllocError, Global};
 
+/// The same name, offset too.
+fn copy_name(alloc: Global, name: &Named) -> Result<Named, AllocError>
+    ensures { IfOk result (λ copy. copy ≡ name.now) }
+{
+    let text = Text::copy_of(alloc, name.name.as_str())?;
+    Ok(Named {
+        name: text,
+        at: name.at,
+    })
+}
+
+/// The same items.
+#[cycle(copy_json)]
+fn copy_items(alloc: Global, items: &[Json]) -> Result<List<Json>, AllocError>
+    ensures { IfOk result (λ copies. map node copies ≡ map node items.now) }
+{
+    let mut copies = List::new(alloc);
+    'items: for x in items {
+        let copy = copy_json(alloc, x)?;
+        copies.push(copy)?;
+    }
+    Ok(copies)
+}
+
+/// The same members.
+#[cycle(copy_json)]
+fn copy_members(alloc: Global, members: &[Member]) -> Result<List<Member>, AllocError>
+    ensures { IfOk result (λ copies. map named_node copies ≡ map named_node members.now) }
+{
+    let mut copies = List::new(alloc);
+    'members: for m in members {
+        let key = copy_name(alloc, &m.key)?;
+        let value = copy_json(alloc, &m.value)?;
+        copies.push(Member { key, value })?;
+    }
+    Ok(copies)
+}
+
 /// The same value, offsets too. `Err` is want of memory.
+#[cycle(copy_json)]
 pub(crate) fn copy_json(alloc: Global, value: &Json) -> Result<Json, AllocError>
     ensures { IfOk result (λ copy. node copy ≡ node value.now) }
 {
@@ -15,22 +54,9 @@ pub(crate) fn copy_json(alloc: Global, value: &Json) -> Result<Json, AllocError>
         Json::Truth(at, b) => Ok(Json::Truth(*at, *b)),
         Json::Number(at, d) => Ok(Json::Number(*at, *d)),
         Json::Str(at, s) => Ok(Json::Str(*at, Text::copy_of(alloc, s.as_str())?)),
-        Json::Array(at, items) => {
-            let mut copies = List::new(alloc);
-            'items: for x in items.as_slice() {
-                let copy = copy_json(alloc, x)?;
-                copies.push(copy)?;
-            }
-            Ok(Json::Array(*at, copies))
-        }
+        Json::Array(at, items) => Ok(Json::Array(*at, copy_items(alloc, items.as_slice())?)),
         Json::Object(at, members, close) => {
-            let mut copies = List::new(alloc);
-            'members: for m in members.as_slice() {
-                let value = copy_json(alloc, &m.value)?;
-                let name = Text::copy_of(alloc, m.key.name.as_str())?;
-                let key = Named { name, at: m.key.at };
-                copies.push(Member { key, value })?;
-            }
+            let copies = copy_members(alloc, members.as_slice())?;
             Ok(Json::Object(*at, copies, *close))
         }
     }

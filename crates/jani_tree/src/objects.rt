@@ -311,8 +311,8 @@ impl Build for JaniDestination {
     ghost is = { IsDestination };
 
     fn build(alloc: Global, value: &Json) -> Result<JaniDestination, AllocError> {
-        let location = name_of(alloc, Form::Destination, Key::Location, value)?;
         let writes = assignments(alloc, value)?;
+        let location = name_of(alloc, Form::Destination, Key::Location, value)?;
         let weight = optional_boxed(alloc, Form::Destination, Key::Probability, value)?;
         Ok(JaniDestination {
             location,
@@ -352,9 +352,9 @@ impl Build for JaniEdge {
     ghost is = { IsEdge };
 
     fn build(alloc: Global, value: &Json) -> Result<JaniEdge, AllocError> {
+        let destinations = destinations(alloc, value)?;
         let location = name_of(alloc, Form::Edge, Key::Location, value)?;
         let action = optional_name(alloc, Form::Edge, Key::Action, value)?;
-        let destinations = destinations(alloc, value)?;
         let guard = optional_boxed(alloc, Form::Edge, Key::Guard, value)?;
         Ok(JaniEdge {
             location,
@@ -390,7 +390,6 @@ impl Build for JaniAutomaton {
     ghost is = { IsAutomaton };
 
     fn build(alloc: Global, value: &Json) -> Result<JaniAutomaton, AllocError> {
-        let name = name_of(alloc, Form::Automaton, Key::Name, value)?;
         let variables = list(
             alloc,
             Form::Automaton,
@@ -407,6 +406,7 @@ impl Build for JaniAutomaton {
         )?;
         let initial = initial_locations(alloc, value)?;
         let edges = list(alloc, Form::Automaton, Form::Edges, Key::Edges, value)?;
+        let name = name_of(alloc, Form::Automaton, Key::Name, value)?;
         Ok(JaniAutomaton {
             name,
             variables,

@@ -1,16 +1,16 @@
 // The canonical value of a tree.
-ghost use Rattle.std.specs.Prelude.{◌≡◌, IfOk, OnOk, Option, Some, map};
+ghost use Rattle.std.specs.Prelude.{◌≡◌, [], IfOk, OnOk, Option, Some, map};
 ghost use Rattle.std.specs.Option.{option_map};
 ghost use Rattle.bridge_io.specs.declared.reason.Named.{Named};
 ghost use Rattle.op_trees.specs.Tree.{tree};
 ghost use Rattle.jani_table.specs.declared.key.Key.TheVariants as K;
-ghost use Rattle.jani_table.specs.Node.{Node, fields, no_fields, node, text};
+ghost use Rattle.jani_table.specs.Node.{Node, fields, no_fields, node, object, text};
 ghost use Rattle.jani_table.specs.Operators.{op_text};
 ghost use Rattle.jani_table.specs.Words.{ty_text};
 ghost use Rattle.jani_tree.specs.Syntax.{bounded, Automaton, Const, Destination, Edge, Location, Var, Vector, Write, automaton_of, const_of, destination_of, edge_of, file_of, kind_of, location_of, var_of, vector_of, write_of};
 ghost use Rattle.jani_tree.specs.Jani.{IsFile};
 ghost use Rattle.jani_tree.specs.Back.{IsClean, IsWritable};
-ghost use Rattle.jani_tree.specs.Canonical.{FileForm, automaton_node, bounded_word, boxed_node, const_node, destination_node, edge_node, expr_node, features_node, file_node, flag_node, head_members, keyed_node, kind_node, list_node, location_node, name_node, part_node, some_list, system_node, var_node, vector_node, version_node, with_entry, with_maybe, with_members, word, write_node};
+ghost use Rattle.jani_tree.specs.Canonical.{FileForm, automaton_node, bounded_word, boxed_node, const_node, destination_node, edge_node, expr_node, features_node, file_members, file_node, flag_node, head_members, keyed_node, kind_node, list_node, location_node, name_node, part_node, some_list, system_node, var_node, vector_node, version_node, with_entry, with_maybe, with_members, word, write_node};
 
 use crate::copy::copy_json;
 use crate::syntax::{
@@ -132,6 +132,37 @@ fn operator_json(alloc: Global, op: JaniOp) -> Result<List<Member>, AllocError>
     Ok(members)
 }
 
+/// Adds two operands.
+#[cycle(expression_json)]
+fn add_two(
+    alloc: Global,
+    members: &mut List<Member>,
+    left: &JaniExpr,
+    right: &JaniExpr,
+) -> Result<(), AllocError>
+    ensures { OnOk result (fields members.new ≡ with_entry (with_entry (fields members.old) K.Left (expr_node (tree left.now))) K.Right (expr_node (tree right.now))) }
+{
+    add_expression(alloc, members, Key::Left, left)?;
+    add_expression(alloc, members, Key::Right, right)
+}
+
+/// Adds the operands of a choice.
+#[cycle(expression_json)]
+fn add_three(
+    alloc: Global,
+    members: &mut List<Member>,
+    test: &JaniExpr,
+    yes: &JaniExpr,
+    no: &JaniExpr,
+) -> Result<(), AllocError>
+    ensures { OnOk result (fields members.new ≡ with_entry (with_entry (with_entry (fields members.old) K.If (expr_node (tree test.now))) K.Then (expr_node (tree yes.now))) K.Else (expr_node (tree no.now))) }
+{
+    add_expression(alloc, members, Key::If, test)?;
+    add_expression(alloc, members, Key::Then, yes)?;
+    add_expression(alloc, members, Key::Else, no)
+}
+
+#[cycle(expression_json)]
 fn expression_json(alloc: Global, e: &JaniExpr) -> Result<Json, AllocError>
     ensures { IfOk result (λ v. node v ≡ expr_node (tree e.now)) }
 {
@@ -141,26 +172,24 @@ fn expression_json(alloc: Global, e: &JaniExpr) -> Result<Json, AllocError>
         Expr::Name(at, x) => text_json(alloc, *at, x.as_str()),
         Expr::One(at, op, a) => {
             let mut members = operator_json(alloc, *op)?;
-            add(alloc, &mut members, Key::Exp, expression_json(alloc, a)?)?;
+            add_expression(alloc, &mut members, Key::Exp, a)?;
             Ok(Json::Object(*at, members, 0))
         }
         Expr::Two(at, op, a, b) => {
             let mut members = operator_json(alloc, *op)?;
-            add(alloc, &mut members, Key::Left, expression_json(alloc, a)?)?;
-            add(alloc, &mut members, Key::Right, expression_json(alloc, b)?)?;
+            add_two(alloc, &mut members, a, b)?;
             Ok(Json::Object(*at, members, 0))
         }
         Expr::Three(at, op, a, b, c) => {
             let mut members = operator_json(alloc, *op)?;
-            add(alloc, &mut members, Key::If, expression_json(alloc, a)?)?;
-            add(alloc, &mut members, Key::Then, expression_json(alloc, b)?)?;
-            add(alloc, &mut members, Key::Else, expression_json(alloc, c)?)?;
+            add_three(alloc, &mut members, a, b, c)?;
             Ok(Json::Object(*at, members, 0))
         }
     }
 }
 
 /// Adds an expression.
+#[cycle(expression_json)]
 fn add_expression(
     alloc: Global,
     members: &mut List<Member>,
@@ -396,6 +425,18 @@ fn flag_json(flag: bool) -> Option<Json>
     }
 }
 
+/// Adds the members of a variable.
+fn add_var(alloc: Global, members: &mut List<Member>, var: &JaniVar) -> Result<(), AllocError>
+    ensures { OnOk result (members.old ≡ [] → object 0 (fields members.new) 0 ≡ var_node (var_of var.now)) }
+{
+    add_name(alloc, members, Key::Name, &var.name)?;
+    let kind = kind_json(alloc, var.kind_at, &var.kind)?;
+    add(alloc, members, Key::Type, kind)?;
+    add_some(alloc, members, Key::Transient, flag_json(var.transient))?;
+    add_some_expression(alloc, members, Key::InitialValue, &var.start)?;
+    add_note(alloc, members, &var.note)
+}
+
 impl Written for JaniVar {
     ghost Tree = { Var };
 
@@ -405,21 +446,7 @@ impl Written for JaniVar {
 
     fn json(&self, alloc: Global) -> Result<Json, AllocError> {
         let mut members = List::new(alloc);
-        add_name(alloc, &mut members, Key::Name, &self.name)?;
-        add(
-            alloc,
-            &mut members,
-            Key::Type,
-            kind_json(alloc, self.kind_at, &self.kind)?,
-        )?;
-        add_some(
-            alloc,
-            &mut members,
-            Key::Transient,
-            flag_json(self.transient),
-        )?;
-        add_some_expression(alloc, &mut members, Key::InitialValue, &self.start)?;
-        add_note(alloc, &mut members, &self.note)?;
+        add_var(alloc, &mut members, self)?;
         Ok(Json::Object(0, members, 0))
     }
 }
@@ -495,6 +522,22 @@ impl Written for JaniEdge {
     }
 }
 
+/// Adds the members of an automaton.
+fn add_automaton(
+    alloc: Global,
+    members: &mut List<Member>,
+    automaton: &JaniAutomaton,
+) -> Result<(), AllocError>
+    ensures { OnOk result (members.old ≡ [] → object 0 (fields members.new) 0 ≡ automaton_node (automaton_of automaton.now)) }
+{
+    add_name(alloc, members, Key::Name, &automaton.name)?;
+    add_some_list(alloc, members, Key::Variables, &automaton.variables)?;
+    add_list(alloc, members, Key::Locations, 0, &automaton.locations)?;
+    let initial = names_json(alloc, &automaton.initial)?;
+    add(alloc, members, Key::InitialLocations, initial)?;
+    add_list(alloc, members, Key::Edges, 0, &automaton.edges)
+}
+
 impl Written for JaniAutomaton {
     ghost Tree = { Automaton };
 
@@ -504,16 +547,7 @@ impl Written for JaniAutomaton {
 
     fn json(&self, alloc: Global) -> Result<Json, AllocError> {
         let mut members = List::new(alloc);
-        add_name(alloc, &mut members, Key::Name, &self.name)?;
-        add_some_list(alloc, &mut members, Key::Variables, &self.variables)?;
-        add_list(alloc, &mut members, Key::Locations, 0, &self.locations)?;
-        add(
-            alloc,
-            &mut members,
-            Key::InitialLocations,
-            names_json(alloc, &self.initial)?,
-        )?;
-        add_list(alloc, &mut members, Key::Edges, 0, &self.edges)?;
+        add_automaton(alloc, &mut members, self)?;
         Ok(Json::Object(0, members, 0))
     }
 }
@@ -579,40 +613,35 @@ fn version_json() -> Json
     )
 }
 
-/// The members before the declarations.
-fn head_json(alloc: Global) -> Result<List<Member>, AllocError>
-    ensures { IfOk result (λ ms. fields ms ≡ with_members no_fields head_members) }
+/// Adds the members before the declarations.
+fn add_head(alloc: Global, members: &mut List<Member>) -> Result<(), AllocError>
+    ensures { OnOk result (fields members.new ≡ with_members (fields members.old) head_members) }
 {
-    let mut members = List::new(alloc);
-    add(alloc, &mut members, Key::JaniVersion, version_json())?;
-    add_word(alloc, &mut members, Key::Name, "model")?;
-    add_word(alloc, &mut members, Key::Type, "mdp")?;
-    add(alloc, &mut members, Key::Features, features_json(alloc)?)?;
-    Ok(members)
+    add(alloc, members, Key::JaniVersion, version_json())?;
+    add_word(alloc, members, Key::Name, "model")?;
+    add_word(alloc, members, Key::Type, "mdp")?;
+    add(alloc, members, Key::Features, features_json(alloc)?)
+}
+
+/// Adds the members of a file behind those before the declarations.
+fn add_file(alloc: Global, members: &mut List<Member>, file: &JaniFile) -> Result<(), AllocError>
+    ensures { OnOk result (fields members.new ≡ with_members (fields members.old) (file_members (file_of file.now))) }
+{
+    add_keyed(alloc, members, Key::Actions, 0, Key::Name, &file.actions)?;
+    add_list(alloc, members, Key::Constants, 0, &file.constants)?;
+    add_list(alloc, members, Key::Variables, 0, &file.variables)?;
+    let properties = copy_json(alloc, &file.properties)?;
+    add(alloc, members, Key::Properties, properties)?;
+    add_list(alloc, members, Key::Automata, 0, &file.automata)?;
+    add(alloc, members, Key::System, system_json(alloc, file)?)
 }
 
 fn file_json(alloc: Global, file: &JaniFile) -> Result<Json, AllocError>
     ensures { IfOk result (λ v. node v ≡ file_node (file_of file.now)) }
 {
-    let mut members = head_json(alloc)?;
-    add_keyed(
-        alloc,
-        &mut members,
-        Key::Actions,
-        0,
-        Key::Name,
-        &file.actions,
-    )?;
-    add_list(alloc, &mut members, Key::Constants, 0, &file.constants)?;
-    add_list(alloc, &mut members, Key::Variables, 0, &file.variables)?;
-    add(
-        alloc,
-        &mut members,
-        Key::Properties,
-        copy_json(alloc, &file.properties)?,
-    )?;
-    add_list(alloc, &mut members, Key::Automata, 0, &file.automata)?;
-    add(alloc, &mut members, Key::System, system_json(alloc, file)?)?;
+    let mut members = List::new(alloc);
+    add_head(alloc, &mut members)?;
+    add_file(alloc, &mut members, file)?;
     Ok(Json::Object(0, members, 0))
 }
 
