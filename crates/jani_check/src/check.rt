@@ -51,8 +51,13 @@ impl CheckedJani {
         requires { IsChecked (file_of file) }
         ensures { IfOk result (λ c. c ≡ file) }
     {
-        let edges = count_edges(alloc, &file)?;
-        Ok(CheckedJani { file, edges })
+        match count_edges(alloc, &file) {
+            Ok(edges) => Ok(CheckedJani { file, edges }),
+            Err(e) => {
+                drop(file);
+                Err(e)
+            }
+        }
     }
 
     /// The tree. It takes no memory.
@@ -107,12 +112,24 @@ pub fn check_jani(alloc: Global, file: JaniFile) -> Result<CheckedJani, Refused>
     ensures clean { IfOk result (λ c. faults (file_of file) ≡ []) }
     ensures least { IfErr result (λ e. FailsFor (faults (file_of file)) e) }
 {
-    match first_fault(alloc, &file)? {
-        Some(fault) => Err(Refused::At(fault)),
-        None => {
-            let edges = count_edges(alloc, &file)?;
-            Ok(CheckedJani { file, edges })
+    match judge(alloc, &file) {
+        Ok(edges) => Ok(CheckedJani { file, edges }),
+        Err(refused) => {
+            drop(file);
+            Err(refused)
         }
+    }
+}
+
+// How many edges the automata that take part have, where the file has no fault.
+fn judge(alloc: Global, file: &JaniFile) -> Result<u128, Refused>
+    ensures edges { IfOk result (λ n. n ≡ edge_count (file_of file.now)) }
+    ensures clean { IfOk result (λ n. faults (file_of file.now) ≡ []) }
+    ensures least { IfErr result (λ e. FailsFor (faults (file_of file.now)) e) }
+{
+    match first_fault(alloc, file)? {
+        Some(fault) => Err(Refused::At(fault)),
+        None => Ok(count_edges(alloc, file)?),
     }
 }
 

@@ -1,14 +1,15 @@
 // Names that are not declared.
 
-ghost use Rattle.std.specs.Prelude.{◌≡◌, List, ℕ, ◌++◌, IfOk, map};
+ghost use Rattle.std.specs.Prelude.{◌≡◌, List, [], ℕ, ◌++◌, IfOk, map};
 ghost use Rattle.std.specs.List.{flat_map};
 ghost use Rattle.op_trees.specs.Tree.{tree};
 ghost use Rattle.name_rules.specs.Least.{soonest};
 ghost use Rattle.jani_tree.specs.Syntax.{automaton_of, edge_of, file_of};
 ghost use Rattle.basics.specs.Options.{if_some};
-ghost use Rattle.jani_check.specs.NameFaults.{unknown_by, unknown_names, unknown_within, unless_known};
+ghost use Rattle.jani_check.specs.NameFaults.{automaton_names, unknown_by, unknown_names, unknown_within, unless_known};
 ghost use Rattle.name_rules.specs.Names.{is_among};
 ghost use Rattle.op_trees.specs.Names.{names_of};
+ghost use Rattle.jani_check.specs.Phases.{file_by};
 ghost use Rattle.jani_check.specs.Scopes.{is_known, scope_thing};
 ghost use Rattle.name_rules.specs.Names.{has_name};
 ghost use Rattle.jani_check.specs.Views.{demand_by};
@@ -26,13 +27,41 @@ use std::alloc::{AllocError, Global};
 pub(crate) fn judge_unknown_names(alloc: Global, file: &JaniFile, before: Option<Fault>) -> Judged
     ensures { IfOk result (λ best. best ≡ soonest before (unknown_names (file_of file.now))) }
 {
-    let global = Things::global(alloc, file)?;
     let actions = set_of(alloc, file.actions.as_slice())?;
-    let declared = Declared { actions: &actions };
-    let inside = judge_phase(alloc, &declared, file, &global, before)?;
+    judge_by_actions(alloc, &actions, file, before)
+}
+
+// The same by the actions of the file.
+fn judge_by_actions(
+    alloc: Global,
+    actions: &NameSet,
+    file: &JaniFile,
+    before: Option<Fault>,
+) -> Judged
+    requires { has_name actions.now ≡ is_among file.now.actions }
+    ensures { IfOk result (λ best. best ≡ soonest before (unknown_names (file_of file.now))) }
+{
+    let inside = judge_inside(alloc, actions, file, before)?;
+    let elements = judge_elements(alloc, file, inside)?;
+    judge_uses_of(alloc, actions, file.vectors.as_slice(), elements)
+}
+
+// The names in demands, and those that automata name.
+fn judge_inside(alloc: Global, actions: &NameSet, file: &JaniFile, before: Option<Fault>) -> Judged
+    ensures { IfOk result
+        (λ best. best ≡ soonest before (file_by (λ x. []) (λ things. unknown_by (is_known things)) (λ things. unknown_within (has_name actions.now)) (file_of file.now))) }
+{
+    let global = Things::global(alloc, file)?;
+    judge_phase(alloc, &Declared { actions }, file, &global, before)
+}
+
+// The automata that the elements name.
+fn judge_elements(alloc: Global, file: &JaniFile, before: Option<Fault>) -> Judged
+    ensures { IfOk result
+        (λ best. best ≡ soonest before (flat_map (unless_known (is_among (automaton_names (file_of file.now)))) file.now.elements)) }
+{
     let automata = set_of(alloc, file.automata.as_slice())?;
-    let elements = judge_uses_of(alloc, &automata, file.elements.as_slice(), inside)?;
-    judge_uses_of(alloc, &actions, file.vectors.as_slice(), elements)
+    judge_uses_of(alloc, &automata, file.elements.as_slice(), before)
 }
 
 // The names in demands, and the locations and actions that an automaton names.
@@ -43,7 +72,7 @@ struct Declared<'s, 'a> {
 
 impl<'s, 'a> Phase for Declared<'s, 'a> {
     ghost use Rattle.std.specs.Prelude.{[]};
-    ghost use Rattle.jani_check.specs.NameFaults.{unknown_by, unknown_within};
+    ghost use Rattle.jani_check.specs.NameFaults.{automaton_names, unknown_by, unknown_within};
     ghost use Rattle.jani_check.specs.Scopes.{is_known};
     ghost use Rattle.name_rules.specs.Names.{has_name};
 
