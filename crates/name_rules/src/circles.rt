@@ -3,7 +3,7 @@
 ghost use Rattle.std.specs.Prelude.{◌≡◌, ◌<◌, [], ℕ, true, length, map, IfOk, OnOk};
 ghost use Rattle.name_rules.specs.Least.{soonest};
 ghost use Rattle.name_rules.specs.Circles.{AreTurns, circles, circular, declared_at, declared_by, is_circular};
-ghost use Rattle.name_rules.specs.Names.{has_name};
+ghost use Rattle.name_rules.specs.Names.{has_name, no_name};
 ghost use Rattle.name_rules.specs.Rounds.{FallIn, StillLeading, IsLeadingTry, IsLeadingTurn, IsPlaced, is_past};
 
 use crate::declarations::{Declaration, some_use};
@@ -127,11 +127,25 @@ fn is_circular<'a>(
     ensures { IfOk result (λ b. b ≡ is_circular (map declared_by all.now) (declared_by declaration.now)) }
 {
     let mut leading = NameSet::new(alloc);
+    is_led_round(alloc, all, users, declaration, &mut leading)
+}
+
+// The same where the names that lead to this one are to be added to none.
+fn is_led_round<'a>(
+    alloc: Global,
+    all: &[Declaration<'a>],
+    users: &Users,
+    declaration: &Declaration<'a>,
+    leading: &mut NameSet<'a>,
+) -> Result<bool, AllocError>
+    requires { has_name leading.old ≡ no_name }
+    ensures { IfOk result (λ b. b ≡ is_circular (map declared_by all.now) (declared_by declaration.now)) }
+{
     leading.add(declaration.name)?;
-    add_found(alloc, all, users, declaration.name, &mut leading)?;
+    add_found(alloc, all, users, declaration.name, leading)?;
     loop {
-        if !add_some(all, &mut leading)? {
-            return Ok(some_use(&leading, declaration));
+        if !add_some(all, leading)? {
+            return Ok(some_use(leading, declaration));
         }
     }
 }

@@ -6,14 +6,14 @@ use Rattle.name_rules.specs.Circles.{declared_by}
 use Rattle.name_rules.specs.Rounds.{IsLeadingTurn}
 use Rattle.name_rules.proofs.Leads.{leading_one, circular_is}
 use Rattle.name_rules.proofs.Maps.{at}
-use Rattle.name_rules.proofs.circles.is_circular.Goals as goal
+use Rattle.name_rules.proofs.circles.is_led_round.Goals as goal
 
 pub loop-leading-init : goal.loop-leading-init
 loop-leading-init c =
     let name = c.args.declaration.now.name.now in
     c.in_ok-add_found.ensures name
     (leading_one (map declared_by c.args.all.now) name (has_name c.add.new.self)
-    (λ x. at c.in_ok-add.ensures x ∙ ap (λ b. bytes_eq name x || b) (at c.new-leading.ensures x) ∙ or-false (bytes_eq name x)))
+    (λ x. at c.in_ok-add.ensures x ∙ ap (λ b. bytes_eq name x || b) (at c.requires x) ∙ or-false (bytes_eq name x)))
 
 pub returns-then-not-branch : goal.returns-then-not-branch
 returns-then-not-branch c =
