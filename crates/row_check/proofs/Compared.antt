@@ -1,5 +1,5 @@
 -- Merged choices that a program keeps are compared as the sums are.
-use Rattle.std.proofs.Common.{◌≡◌, ℕ, zero, suc, ◌+◌, ◌<◌, List, [], ◌∷◌, ◌&&◌, Bool, true, false, Option, Some, None, if◌then◌else◌, length, get_or, count_by, refl, sym, ap, ◌∙◌, subst, arith, below_more}
+use Rattle.std.proofs.Common.{◌≡◌, ℕ, zero, suc, ◌+◌, ◌<◌, List, [], ◌∷◌, Bool, true, false, Option, Some, None, if◌then◌else◌, length, get_or, count_by, refl, sym, ap, ◌∙◌, subst, arith, below_more}
 use Rattle.std.specs.List.{sum_by}
 use Rattle.std.proofs.lemmas.List.Sums.{sum_by-cons}
 use Rattle.process_core.specs.Process.{EquallyOften}
