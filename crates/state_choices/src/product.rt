@@ -64,10 +64,17 @@ fn each_added<T: Copy>(alloc: Global, front: &[T], list: &[T]) -> Result<Vec<Vec
 {
     let mut all = Vec::new(alloc);
     for member in list {
-        let mut longer = Vec::with_capacity(alloc, front.len().saturating_add(1))?;
-        longer.extend_from_slice(front)?;
-        longer.push(*member)?;
-        all.push(longer)?;
+        all.push(longer(alloc, front, *member)?)?;
     }
     Ok(all)
+}
+
+/// A front with a member added at its end.
+fn longer<T: Copy>(alloc: Global, front: &[T], member: T) -> Result<Vec<T>, AllocError>
+    ensures { IfOk result (λ v. v.items ≡ front.now ++ member ∷ []) }
+{
+    let mut longer = Vec::with_capacity(alloc, front.len().saturating_add(1))?;
+    longer.extend_from_slice(front)?;
+    longer.push(member)?;
+    Ok(longer)
 }
