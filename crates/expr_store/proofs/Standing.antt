@@ -1,5 +1,7 @@
 -- Expressions stand where their parts do.
-use Rattle.std.proofs.Common.{◌≡◌, ℕ, List, ◌++◌, Bool, true, false, Option, Some, Ok, refl, sym, ap, ap₂, ◌∙◌}
+use Rattle.std.proofs.Common.{◌≡◌, ℕ, List, ◌++◌, Bool, true, false, Option, Some, Result, Ok, Err, refl, sym, ap, ap₂, ◌∙◌}
+use Rattle.std.specs.Prelude.{IfOk}
+use Rattle.std.specs.declared.alloc.AllocError.{AllocError}
 use Rattle.std.proofs.lemmas.Option.{slice_get_within}
 use Rattle.frac_core.specs.declared.decimal.Decimal.{Decimal}
 use Rattle.op_trees.specs.Meaning.{Meaning, answered, is_wide_value, narrowed}
@@ -8,9 +10,10 @@ use Rattle.op_trees.specs.Tree as T
 use Rattle.op_trees.specs.Tree.{Tree}
 use Rattle.op_trees.specs.declared.tree.Value.{Value}
 use Rattle.instance_start.specs.declared.data.Place.{Place}
+use Rattle.expr_store.specs.declared.node.ExprId.{ExprId}
 use Rattle.expr_store.specs.declared.node.Node.{Node}
 use Rattle.expr_store.specs.declared.node.Node.TheVariants.{Fixed, Number, Name, One, Two, Three}
-use Rattle.expr_store.specs.Nodes.{Holds, IsGrown, OneIs, TwoIs, seen_at, seen_node, Stands}
+use Rattle.expr_store.specs.Nodes.{Holds, IsGrown, IsIn, OneIs, TwoIs, seen_at, seen_node, Stands}
 use Rattle.expr_store.specs.NodeLaws.{held_later, seen_held, stands_later}
 
 module _ {O : Type 0} (m : Meaning O) (places : List ℕ → Option Place) (old new : List (Node O)) (i : ℕ) where
@@ -72,6 +75,12 @@ module _ {O : Type 0} (m : Meaning O) (places : List ℕ → Option Place) (old 
         λ later there. held_then (Three o a b c) h later there
         ∙ ap₂ {B = Seen → Seen} (λ r g. g r) ((stands_later g s).sees later there) (ap₂ (λ s t r. lazy_node m o r s t) ((stands_later g r).sees later there) ((stands_later g q).sees later there));
   }
+
+-- a number at which an expression stands is that of a node, also once nodes have come later
+pub standing_in : {O : Type 0} (m : Meaning O) (places : List ℕ → Option Place) (old new : List (Node O)) (r : Result ExprId AllocError) (t : Tree O) →
+    IsGrown old new → IfOk r (λ id. Stands m places old id.number t) → IfOk r (IsIn new)
+standing_in m places old new (Ok id) t g s = (stands_later g s).within
+standing_in m places old new (Err e) t g s = tt
 
 -- the value of a literal
 pub literal_is : (w v : Value) → narrowed (Some w) ≡ Ok v → w ≡ v

@@ -4,11 +4,11 @@ use Rattle.std.specs.Prelude.{IfOk}
 use Rattle.op_trees.specs.Tree.{tree}
 use Rattle.op_trees.specs.Tree as T
 use Rattle.op_trees.specs.declared.tree.Value.TheVariants as V
-use Rattle.expr_store.specs.NodeLaws.{grown_then, stands_later}
+use Rattle.expr_store.specs.NodeLaws.{grown_none, grown_then, stands_later}
 use Rattle.expr_store.specs.Nodes.{Holds, Stands}
 use Rattle.expr_store.specs.Views.{nodes}
 use Rattle.expr_store.specs.declared.node.Node.TheVariants.{Fixed, Name}
-use Rattle.expr_store.proofs.Standing.{fixed_stands, name_stands}
+use Rattle.expr_store.proofs.Standing.{fixed_stands, name_stands, standing_in}
 use Rattle.expr_store.proofs.store.ExprStore.+put.Goals as goal
 
 pub returns-in-Truth-clause-stands : goal.returns-in-Truth-clause-stands
@@ -64,3 +64,67 @@ returns-in-Three-clause-stands g t c =
     let third = subst (λ e. IfOk c.put-third.result (λ id. Stands m places before id.number (tree e))) c.deref-in-Three-3.ensures c.put-third.ensures.stands in
     subst (λ e. IfOk c.put_three.result (λ id. Stands m places new id.number e)) (sym (ap tree c.in-Three.is))
     (c.put_three.ensures.stands places c.in-Three.field-0 (tree c.in-Three.a.value) (tree c.in-Three.b.value) (tree c.in-Three.c.value) first second third)
+
+pub put_one-requires : goal.put_one-requires
+put_one-requires g t c =
+    let m = g.O.Operator.meaning in
+    let places = g.S.Scope.places c.args.scope.now in
+    let ns = nodes c.put-first.new.self in
+    standing_in m places ns ns c.put-first.result (tree c.deref.result.now) (grown_none ns) c.put-first.ensures.stands
+
+pub put_two-requires-clause-first : goal.put_two-requires-clause-first
+put_two-requires-clause-first g t c =
+    let m = g.O.Operator.meaning in
+    let places = g.S.Scope.places c.args.scope.now in
+    let one = nodes c.put-first-in-Two.new.self in
+    let before = nodes c.put-second.new.self in
+    standing_in m places one before c.put-first-in-Two.result (tree c.deref-in-Two.result.now) c.put-second.ensures.grows c.put-first-in-Two.ensures.stands
+
+pub put_two-requires-clause-second : goal.put_two-requires-clause-second
+put_two-requires-clause-second g t c =
+    let m = g.O.Operator.meaning in
+    let places = g.S.Scope.places c.args.scope.now in
+    let before = nodes c.put-second.new.self in
+    standing_in m places before before c.put-second.result (tree c.deref-in-Two-2.result.now) (grown_none before) c.put-second.ensures.stands
+
+pub put_three-requires-clause-first : goal.put_three-requires-clause-first
+put_three-requires-clause-first g t c =
+    let m = g.O.Operator.meaning in
+    let places = g.S.Scope.places c.args.scope.now in
+    let one = nodes c.put-first-in-Three.new.self in
+    let before = nodes c.put-third.new.self in
+    standing_in m places one before c.put-first-in-Three.result (tree c.deref-in-Three.result.now) (grown_then c.put-second-in-Three.ensures.grows c.put-third.ensures.grows) c.put-first-in-Three.ensures.stands
+
+pub put_three-requires-clause-second : goal.put_three-requires-clause-second
+put_three-requires-clause-second g t c =
+    let m = g.O.Operator.meaning in
+    let places = g.S.Scope.places c.args.scope.now in
+    let two = nodes c.put-second-in-Three.new.self in
+    let before = nodes c.put-third.new.self in
+    standing_in m places two before c.put-second-in-Three.result (tree c.deref-in-Three-2.result.now) c.put-third.ensures.grows c.put-second-in-Three.ensures.stands
+
+pub put_three-requires-clause-third : goal.put_three-requires-clause-third
+put_three-requires-clause-third g t c =
+    let m = g.O.Operator.meaning in
+    let places = g.S.Scope.places c.args.scope.now in
+    let before = nodes c.put-third.new.self in
+    standing_in m places before before c.put-third.result (tree c.deref-in-Three-3.result.now) (grown_none before) c.put-third.ensures.stands
+
+pub returns-in-One-clause-grows : goal.returns-in-One-clause-grows
+returns-in-One-clause-grows g t c = grown_then c.put-first.ensures.grows c.put_one.ensures.grows
+
+pub returns-in-Two-clause-grows : goal.returns-in-Two-clause-grows
+returns-in-Two-clause-grows g t c = grown_then (grown_then c.put-first-in-Two.ensures.grows c.put-second.ensures.grows) c.put_two.ensures.grows
+
+pub returns-in-Three-clause-grows : goal.returns-in-Three-clause-grows
+returns-in-Three-clause-grows g t c = grown_then (grown_then (grown_then c.put-first-in-Three.ensures.grows c.put-second-in-Three.ensures.grows) c.put-third.ensures.grows) c.put_three.ensures.grows
+
+pub returns-in-One-clause-stands : goal.returns-in-One-clause-stands
+returns-in-One-clause-stands g t c =
+    let m = g.O.Operator.meaning in
+    let places = g.S.Scope.places c.args.scope.now in
+    let before = nodes c.put-first.new.self in
+    let new = nodes c.put_one.new.self in
+    let first = subst (λ e. IfOk c.put-first.result (λ id. Stands m places before id.number (tree e))) c.deref.ensures c.put-first.ensures.stands in
+    subst (λ e. IfOk c.put_one.result (λ id. Stands m places new id.number e)) (sym (ap tree c.in-One.is))
+    (c.put_one.ensures.stands places c.in-One.field-0 (tree c.in-One.a.value) first)

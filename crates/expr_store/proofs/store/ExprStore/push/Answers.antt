@@ -1,0 +1,30 @@
+use Rattle.std.proofs.Common.{◌≡◌, List, [], ◌∷◌, ◌++◌, length, Some, slice_get, refl, sym, ap, ap₂, ◌∙◌, arith}
+use Rattle.std.proofs.lemmas.List.{append-nil}
+use Rattle.expr_store.specs.Nodes.{is_behind}
+use Rattle.expr_store.specs.Views.{nodes}
+use Rattle.expr_store.proofs.store.ExprStore.push.Goals as goal
+
+last_there : {A : Type 0} (xs : List A) (x : A) → slice_get (xs ++ x ∷ []) (length xs) ≡ Some x
+last_there [] x = refl
+last_there (y ∷ xs) x = last_there xs x
+
+pub returns-in_err-pushed-in-Ok-clause-grows : goal.returns-in_err-pushed-in-Ok-clause-grows
+returns-in_err-pushed-in-Ok-clause-grows g c = record {
+  later = [];
+  is = c.in_err-pushed-in-Ok.ensures.items ∙ c.note-noted.ensures ∙ sym (append-nil (nodes c.args.self.now));
+}
+
+pub returns-in_ok-pushed-in-Ok-clause-grows : goal.returns-in_ok-pushed-in-Ok-clause-grows
+returns-in_ok-pushed-in-Ok-clause-grows g c = record {
+  later = c.args.node ∷ [];
+  is = c.in_ok-pushed-in-Ok.ensures.items ∙ ap (λ ns. ns ++ c.args.node ∷ []) c.note-noted.ensures;
+}
+
+pub returns-in_ok-pushed-in-Ok-clause-holds : goal.returns-in_ok-pushed-in-Ok-clause-holds
+returns-in_ok-pushed-in-Ok-clause-holds g c =
+    let ns = nodes c.args.self.now in
+    let e : c.len-number.result ≡ length ns = omega (arith, c.args.self.now.nodes.ok.0) in
+    record {
+      is = ap₂ slice_get (c.in_ok-pushed-in-Ok.ensures.items ∙ ap (λ all. all ++ c.args.node ∷ []) c.note-noted.ensures) e ∙ last_there ns c.args.node;
+      behind = ap (λ i. is_behind i c.args.node) e ∙ c.requires;
+    }
