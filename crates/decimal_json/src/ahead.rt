@@ -98,6 +98,7 @@ fn whole_text(alloc: Global, at: usize, bytes: &[u8]) -> Result<Option<(Json, us
     let (n, now, text) = Letters::new(alloc).along(Within::Between, &bytes[1..])?;
     let end = n + 1;
     if end == bytes.len() || !closes(now, bytes[end]) || end + 1 == bytes.len() {
+        drop(text);
         return Ok(None);
     }
     Ok(Some((Json::Str(at, text.into_text()?), end + 1)))
@@ -148,10 +149,12 @@ fn named(alloc: Global, at: usize, members: Members, bytes: &[u8]) -> Result<Ahe
     let (n, now, text) = Letters::new(alloc).along(Within::Between, &bytes[1..])?;
     let end = n + 1;
     if end == bytes.len() || !closes(now, bytes[end]) || members.has(text.as_str()) {
+        drop(text);
         return Ok(Ahead::Open(members));
     }
     let colon = past_spaces(bytes, end + 1);
     if colon == bytes.len() || bytes[colon] != b':' {
+        drop(text);
         return Ok(Ahead::Open(members));
     }
     let behind = past_spaces(bytes, colon + 1);
@@ -177,9 +180,13 @@ pub(crate) fn look(
             if m == bytes.len() {
                 return Ok(Ahead::Named(pending, m));
             }
-            match whole(alloc, depth, at + m, &bytes[m..])? {
-                None => Ok(Ahead::Named(pending, m)),
-                Some((value, size)) => Ok(Ahead::Valued(pending, m, value, size)),
+            match whole(alloc, depth, at + m, &bytes[m..]) {
+                Ok(None) => Ok(Ahead::Named(pending, m)),
+                Ok(Some((value, size))) => Ok(Ahead::Valued(pending, m, value, size)),
+                Err(e) => {
+                    drop(pending);
+                    Err(e)
+                }
             }
         }
         other => Ok(other),
@@ -278,7 +285,6 @@ fn whole_array(
     ensures whole { IfOk result (λ o. IfSome o (λ r. IsWhole (depth + 1) at bytes.now r.0 r.1)) }
     ensures none { IfOk result (λ o. IfNone o (NoValue (depth + 1) at bytes.now)) }
 {
-    let mut list = List::new(alloc);
     let mut n = past_spaces(bytes, 1);
     if n == bytes.len() {
         return Ok(None);
@@ -287,8 +293,9 @@ fn whole_array(
         if n + 1 == bytes.len() {
             return Ok(None);
         }
-        return Ok(Some((Json::Array(at, list), n + 1)));
+        return Ok(Some((Json::Array(at, List::new(alloc)), n + 1)));
     }
+    let mut list = List::new(alloc);
     while n < bytes.len() {
         match item(alloc, depth, at + n, &bytes[n..])? {
             None => return Ok(None),
@@ -322,7 +329,6 @@ fn whole_object(
     ensures whole { IfOk result (λ o. IfSome o (λ r. IsWhole (depth + 1) at bytes.now r.0 r.1)) }
     ensures none { IfOk result (λ o. IfNone o (NoValue (depth + 1) at bytes.now)) }
 {
-    let mut done = Members::new(alloc);
     let mut n = past_spaces(bytes, 1);
     if n == bytes.len() {
         return Ok(None);
@@ -331,8 +337,9 @@ fn whole_object(
         if n + 1 == bytes.len() {
             return Ok(None);
         }
-        return Ok(Some((Json::Object(at, done.into_list(), at + n), n + 1)));
+        return Ok(Some((Json::Object(at, List::new(alloc), at + n), n + 1)));
     }
+    let mut done = Members::new(alloc);
     while n < bytes.len() && bytes[n] == b'"' {
         match look(alloc, depth, at + n, done, &bytes[n..])? {
             Ahead::Valued(pending, m, value, size) => {
@@ -346,7 +353,10 @@ fn whole_object(
                 }
                 n = past_spaces(bytes, end + 1);
             }
-            _ => return Ok(None),
+            other => {
+                drop(other);
+                return Ok(None);
+            }
         }
     }
     Ok(None)

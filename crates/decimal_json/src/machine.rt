@@ -1,7 +1,7 @@
 // The reader as a machine that takes a byte a step: what may stand next, and the brackets that are open. Each state has a
 // language, what may follow it, and a step goes from the language of one state to that of the next.
 
-ghost use Rattle.std.specs.Prelude.{◌≡◌, ◌≢◌, false, ℕ, ◌+◌, [], ◌∷◌, ◌++◌, reverse};
+ghost use Rattle.std.specs.Prelude.{◌≡◌, ◌≢◌, Some, None, if◌then◌else◌, false, ℕ, ◌+◌, [], ◌∷◌, ◌++◌, reverse};
 ghost use Rattle.decimal_json.specs.Grammar.{is_space, value, text};
 ghost use Rattle.decimal_json.specs.declared.brackets.Frame.TheVariants.{InArray, InObject};
 ghost use Rattle.decimal_json.specs.declared.machine.Mode.TheVariants.{InNumber};
@@ -233,6 +233,7 @@ pub(crate) fn in_next_key(
         });
     }
     if c != b'"' {
+        drop(members);
         return Err(Stop::Here);
     }
     Ok(State {
@@ -258,6 +259,7 @@ fn in_colon(
         });
     }
     if c != b':' {
+        drop(pending);
         return Err(Stop::Here);
     }
     frames.push(Frame::InObject(start, pending))?;
@@ -295,7 +297,11 @@ pub(crate) fn in_array(
                 frames,
             })
         }
-        _ => Err(Stop::Here),
+        _ => {
+            drop(items);
+            drop(value);
+            Err(Stop::Here)
+        }
     }
 }
 
@@ -328,7 +334,11 @@ pub(crate) fn in_object(
                 frames,
             })
         }
-        _ => Err(Stop::Here),
+        _ => {
+            drop(pending);
+            drop(value);
+            Err(Stop::Here)
+        }
     }
 }
 
@@ -378,6 +388,7 @@ pub(crate) fn in_text(
         }
         None => {
             if !closes(within, c) {
+                drop(text);
                 return Err(Stop::Here);
             }
             Ok(State {
@@ -411,9 +422,13 @@ pub(crate) fn in_key(
         }
         None => {
             if !closes(within, c) {
+                drop(members);
+                drop(text);
                 return Err(Stop::Here);
             }
             if members.has(text.as_str()) {
+                drop(members);
+                drop(text);
                 return Err(Stop::At(from, Reason::TwiceMember));
             }
             Ok(State {
@@ -523,35 +538,42 @@ fn finish_number(start: usize, digits: Digits, frames: Brackets) -> Result<Optio
     }
 }
 
+/// This value, if it is kept; else it is let go.
+fn only<T: Drop>(kept: bool, value: T) -> Option<T>
+    ensures { result ≡ (if kept then Some value else None) }
+{
+    if kept { Some(value) } else { None }
+}
+
 /// The value, where the bytes end; or the start of a number that breaks a limit.
 pub(crate) fn finish(state: State) -> Result<Option<Json>, usize>
     ensures { Finishes state result }
 {
     let State { mode, frames } = state;
-    let open = frames.len() != 0;
+    let closed = frames.len() == 0;
     match mode {
-        Mode::After(value) => {
-            if open {
-                return Ok(None);
-            }
-            Ok(Some(value))
-        }
-        Mode::Word(bytes, value) => {
-            if open {
-                return Ok(None);
-            }
-            if !bytes.is_empty() {
-                return Ok(None);
-            }
-            Ok(Some(value))
-        }
+        Mode::After(value) => Ok(only(closed, value)),
+        Mode::Word(bytes, value) => Ok(only(closed && bytes.is_empty(), value)),
         Mode::InNumber(start, digits) => finish_number(start, digits, frames),
         Mode::Value => Ok(None),
         Mode::First(_) => Ok(None),
         Mode::FirstKey(_) => Ok(None),
-        Mode::Key(_, _) => Ok(None),
-        Mode::Colon(_, _) => Ok(None),
-        Mode::InKey(_, _, _, _, _) => Ok(None),
-        Mode::InString(_, _, _) => Ok(None),
+        Mode::Key(_, members) => {
+            drop(members);
+            Ok(None)
+        }
+        Mode::Colon(_, pending) => {
+            drop(pending);
+            Ok(None)
+        }
+        Mode::InKey(_, members, _, _, text) => {
+            drop(members);
+            drop(text);
+            Ok(None)
+        }
+        Mode::InString(_, _, text) => {
+            drop(text);
+            Ok(None)
+        }
     }
 }

@@ -131,9 +131,16 @@ impl Members {
         ensures { IfOk result (λ all. all ≡ self ++ member ∷ []) }
     {
         let mut list = self.list;
-        let late = with_name(alloc, self.late, list.len(), member.key.name.as_str())?;
-        list.push(member)?;
-        Ok(Members { list, late })
+        match with_name(alloc, self.late, list.len(), member.key.name.as_str()) {
+            Ok(late) => {
+                list.push(member)?;
+                Ok(Members { list, late })
+            }
+            Err(e) => {
+                drop(member);
+                Err(e)
+            }
+        }
     }
 
     /// The list of the members.
@@ -185,10 +192,16 @@ impl Pending {
     pub(crate) fn with(self, alloc: Global, value: Json) -> Result<Members, AllocError>
         ensures { IfOk result (λ all. all ≡ self.0 ++ record { key = self.1; value = value } ∷ []) }
     {
-        let key = Named {
-            name: self.key.into_text()?,
-            at: self.at,
-        };
-        self.before.with(alloc, Member { key, value })
+        match self.key.into_text() {
+            Ok(name) => {
+                let key = Named { name, at: self.at };
+                self.before.with(alloc, Member { key, value })
+            }
+            Err(e) => {
+                drop(self.before);
+                drop(value);
+                Err(e)
+            }
+        }
     }
 }

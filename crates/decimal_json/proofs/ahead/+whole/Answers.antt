@@ -21,7 +21,7 @@ item-returns-then-bytes-eq44-clause-whole t c =
     record { some = h.some; within = h.within; follows = λ fs answer r g q. h.follows fs answer (λ z. omega (arith, z)) g q }
 
 pub whole_array-returns-then-bytes-n-eq93-clause-whole : goal.whole_array-returns-then-bytes-n-eq93-clause-whole
-whole_array-returns-then-bytes-n-eq93-clause-whole t c = array_empty c.args.bytes.now c.args.at c.args.depth _ _ c.requires.some c.requires.bracket c.past_spaces-n.ensures.skips c.if-bytes-n-eq93.true (omega arith) c.new-list.ensures
+whole_array-returns-then-bytes-n-eq93-clause-whole t c = array_empty c.args.bytes.now c.args.at c.args.depth _ _ c.requires.some c.requires.bracket c.past_spaces-n.ensures.skips c.if-bytes-n-eq93.true (omega arith) c.new.ensures
 
 pub whole_array-loop-n-init : goal.whole_array-loop-n-init
 whole_array-loop-n-init t c = items_first c.args.bytes.now c.args.at c.args.depth _ _ c.requires.some c.requires.bracket c.past_spaces-n.ensures.skips c.past_spaces-n.ensures.stops c.if-bytes-n-eq93.false c.new-list.ensures
@@ -40,7 +40,7 @@ whole_array-loop-n-preserved t c =
     items_on c.args.bytes.now c.args.at c.args.depth _ c.loop-n.n c.in-Some.size c.loop-n.list _ c.in-Some.value e c.loop-n.invariant c.loop-n-test.true (whole_of _ _ _ _ c.in-Some.value c.in-Some.size c.in-Some.is c.in_ok-item.ensures.whole) c.in_ok-push-in-Some.ensures.ok _ c.if-bytes-end-ne44.false c.past_spaces-n-in-Some.ensures.skips c.past_spaces-n-in-Some.ensures.stops
 
 pub whole_object-returns-then-bytes-n-eq125-clause-whole : goal.whole_object-returns-then-bytes-n-eq125-clause-whole
-whole_object-returns-then-bytes-n-eq125-clause-whole t c = object_empty c.args.bytes.now c.args.at c.args.depth _ _ c.requires.some c.requires.bracket c.past_spaces-n.ensures.skips c.if-bytes-n-eq125.true (omega arith) (c.into_list.ensures ∙ c.new-done.ensures)
+whole_object-returns-then-bytes-n-eq125-clause-whole t c = object_empty c.args.bytes.now c.args.at c.args.depth _ _ c.requires.some c.requires.bracket c.past_spaces-n.ensures.skips c.if-bytes-n-eq125.true (omega arith) c.new.ensures
 
 pub whole_object-loop-n-init : goal.whole_object-loop-n-init
 whole_object-loop-n-init t c = members_first c.args.bytes.now c.args.at c.args.depth _ _ c.requires.some c.requires.bracket c.past_spaces-n.ensures.skips c.past_spaces-n.ensures.stops c.if-bytes-n-eq125.false c.new-done.ensures
@@ -48,15 +48,15 @@ whole_object-loop-n-init t c = members_first c.args.bytes.now c.args.at c.args.d
 pub whole_object-returns-then-bytes-end-ne44-clause-whole : goal.whole_object-returns-then-bytes-end-ne44-clause-whole
 whole_object-returns-then-bytes-end-ne44-clause-whole t c =
     let e = tail_is c.loop-n.n c.args.bytes.now in
-    let k = looks_of _ _ _ _ _ (Valued c.in-Valued.pending c.in-Valued.m c.in-Valued.value c.in-Valued.size) c.in-Valued.is c.in_ok-pending.ensures.whole in
-    let a = members_within c.args.bytes.now c.args.at c.args.depth _ c.loop-n.n c.in-Valued.m c.in-Valued.size c.loop-n.done _ c.in-Valued.pending c.in-Valued.value e c.loop-n.invariant c.loop-n-test.true c.if-bytes-n-eq34.true k.0 k.1 (c.into_list-then-bytes-end-ne44.ensures ∙ c.in_ok-done-in-Valued.ensures) in
+    let k = looks_of _ _ _ _ _ (Valued c.in-Valued.pending c.in-Valued.m c.in-Valued.value c.in-Valued.size) c.in-Valued.is c.in_ok-other.ensures.whole in
+    let a = members_within c.args.bytes.now c.args.at c.args.depth _ c.loop-n.n c.in-Valued.m c.in-Valued.size c.loop-n.done _ c.in-Valued.pending c.in-Valued.value e c.loop-n.invariant c.loop-n-test.true c.if-bytes-n-eq34.true k.0 k.1 (c.into_list.ensures ∙ c.in_ok-done-in-Valued.ensures) in
     let b = c.if-end-bytes.false in
-    members_end c.args.bytes.now c.args.at c.args.depth _ c.loop-n.n c.in-Valued.m c.in-Valued.size c.loop-n.done _ c.in-Valued.pending c.in-Valued.value e c.loop-n.invariant c.loop-n-test.true c.if-bytes-n-eq34.true k.0 k.1 (c.into_list-then-bytes-end-ne44.ensures ∙ c.in_ok-done-in-Valued.ensures) _ refl c.if-bytes-end-ne125.false (omega (arith, a, b))
+    members_end c.args.bytes.now c.args.at c.args.depth _ c.loop-n.n c.in-Valued.m c.in-Valued.size c.loop-n.done _ c.in-Valued.pending c.in-Valued.value e c.loop-n.invariant c.loop-n-test.true c.if-bytes-n-eq34.true k.0 k.1 (c.into_list.ensures ∙ c.in_ok-done-in-Valued.ensures) _ refl c.if-bytes-end-ne125.false (omega (arith, a, b))
 
 pub whole_object-loop-n-preserved : goal.whole_object-loop-n-preserved
 whole_object-loop-n-preserved t c =
     let e = tail_is c.loop-n.n c.args.bytes.now in
-    let k = looks_of _ _ _ _ _ (Valued c.in-Valued.pending c.in-Valued.m c.in-Valued.value c.in-Valued.size) c.in-Valued.is c.in_ok-pending.ensures.whole in
+    let k = looks_of _ _ _ _ _ (Valued c.in-Valued.pending c.in-Valued.m c.in-Valued.value c.in-Valued.size) c.in-Valued.is c.in_ok-other.ensures.whole in
     members_on c.args.bytes.now c.args.at c.args.depth _ c.loop-n.n c.in-Valued.m c.in-Valued.size c.loop-n.done _ c.in-Valued.pending c.in-Valued.value e c.loop-n.invariant c.loop-n-test.true c.if-bytes-n-eq34.true k.0 k.1 c.in_ok-done-in-Valued.ensures _ c.if-bytes-end-ne44.false c.past_spaces-n-in-Valued.ensures.skips c.past_spaces-n-in-Valued.ensures.stops
 
 -- ---- why nothing stands whole
@@ -64,20 +64,20 @@ whole_object-loop-n-preserved t c =
 pub look-returns-then-m-bytes-clause-none : goal.look-returns-then-m-bytes-clause-none
 look-returns-then-m-bytes-clause-none t c = nothing_left c.args.depth c.args.at c.args.bytes.now c.in-Named.m c.if-m-bytes.true
 
-pub look-returns-in-None-clause-none : goal.look-returns-in-None-clause-none
-look-returns-in-None-clause-none t c =
+pub look-returns-in-Ok-None-clause-none : goal.look-returns-in-Ok-None-clause-none
+look-returns-in-Ok-None-clause-none t c =
     let k = looks_of _ _ _ _ _ (Keyed c.in-Named.pending c.in-Named.m) c.in-Named.is c.in_ok-other.ensures.whole in
     let n = looks_named _ _ _ _ c.in-Named.pending c.in-Named.m c.in-Named.is c.in_ok-other.ensures.none in
     let l = named_end _ _ _ _ _ k c.if-m-bytes.false in
     let e = tail_is c.in-Named.m c.args.bytes.now in
     let F : List ℕ → Type 0 = λ u. NoValue c.args.depth (c.args.at + c.in-Named.m) u in
-    subst F e (none_of _ _ c.in-None.is c.in_ok-whole-in-Named.ensures.none (at_tail c.args.bytes.now _ c.in-Named.m e (n l)))
+    subst F e (none_of _ _ c.in-Ok-None.field-0-is c.in-Ok-None.ensures.none (at_tail c.args.bytes.now _ c.in-Named.m e (n l)))
 
-pub look-returns-in-Some-clause-whole : goal.look-returns-in-Some-clause-whole
-look-returns-in-Some-clause-whole t c =
+pub look-returns-in-Ok-Some-clause-whole : goal.look-returns-in-Ok-Some-clause-whole
+look-returns-in-Ok-Some-clause-whole t c =
     let k = looks_of _ _ _ _ _ (Keyed c.in-Named.pending c.in-Named.m) c.in-Named.is c.in_ok-other.ensures.whole in
-    let F : List ℕ → Type 0 = λ u. IsWhole c.args.depth (c.args.at + c.in-Named.m) u c.in-Some.value c.in-Some.size in
-    (k, subst F (tail_is c.in-Named.m c.args.bytes.now) (whole_of _ _ _ _ c.in-Some.value c.in-Some.size c.in-Some.is c.in_ok-whole-in-Named.ensures.whole))
+    let F : List ℕ → Type 0 = λ u. IsWhole c.args.depth (c.args.at + c.in-Named.m) u c.in-Ok-Some.value c.in-Ok-Some.size in
+    (k, subst F (tail_is c.in-Named.m c.args.bytes.now) (whole_of _ _ _ _ c.in-Ok-Some.value c.in-Ok-Some.size c.in-Ok-Some.field-0-is c.in-Ok-Some.ensures.whole))
 
 pub look-returns-in_default : goal.look-returns-in_default
 look-returns-in_default t c =
@@ -134,11 +134,11 @@ whole_object-returns-then-n-bytes-2-clause-none t c = object_out c.args.bytes.no
 pub whole_object-returns-then-bytes-end-ne125-clause-none : goal.whole_object-returns-then-bytes-end-ne125-clause-none
 whole_object-returns-then-bytes-end-ne125-clause-none t c =
     let e = tail_is c.loop-n.n c.args.bytes.now in
-    let k = looks_of _ _ _ _ _ (Valued c.in-Valued.pending c.in-Valued.m c.in-Valued.value c.in-Valued.size) c.in-Valued.is c.in_ok-pending.ensures.whole in
+    let k = looks_of _ _ _ _ _ (Valued c.in-Valued.pending c.in-Valued.m c.in-Valued.value c.in-Valued.size) c.in-Valued.is c.in_ok-other.ensures.whole in
     elim c.then-bytes-end-ne125.branch [
       | whole_object-then-bytes-end-ne125-via-then-bytes-end-ne125 w ↦
           members_refused c.args.bytes.now c.args.at c.args.depth _ c.loop-n.n c.in-Valued.m c.in-Valued.size c.loop-n.done _ c.in-Valued.pending c.in-Valued.value e c.loop-n.invariant c.loop-n-test.true c.if-bytes-n-eq34.true k.0 k.1 c.in_ok-done-in-Valued.ensures
-          (stops_on c.args.bytes.now _ c.loop-n.n (c.in-Valued.m + c.in-Valued.size) _ e (omega arith) (looks_all c.args.depth (c.args.at + c.loop-n.n) (take (length c.args.bytes.now - c.loop-n.n) (drop c.loop-n.n c.args.bytes.now)) c.loop-n.done c.in_ok-pending.field-0 (Valued c.in-Valued.pending c.in-Valued.m c.in-Valued.value c.in-Valued.size) c.in-Valued.is c.in_ok-pending.ensures.none)) (ne_eqb _ _ c.if-bytes-end-ne44.true) (ne_eqb _ _ w.if-bytes-end-ne125.true)
+          (stops_on c.args.bytes.now _ c.loop-n.n (c.in-Valued.m + c.in-Valued.size) _ e (omega arith) (looks_all c.args.depth (c.args.at + c.loop-n.n) (take (length c.args.bytes.now - c.loop-n.n) (drop c.loop-n.n c.args.bytes.now)) c.loop-n.done c.in_ok-other.other (Valued c.in-Valued.pending c.in-Valued.m c.in-Valued.value c.in-Valued.size) c.in-Valued.is c.in_ok-other.ensures.none)) (ne_eqb _ _ c.if-bytes-end-ne44.true) (ne_eqb _ _ w.if-bytes-end-ne125.true)
       | whole_object-then-bytes-end-ne125-via-else-bytes-end-ne125+then-end-bytes w ↦ members_out c.args.bytes.now c.args.at c.args.depth _ c.loop-n.n c.in-Valued.m c.in-Valued.size c.loop-n.done _ c.in-Valued.pending c.in-Valued.value e c.loop-n.invariant c.loop-n-test.true c.if-bytes-n-eq34.true k.0 k.1 c.in_ok-done-in-Valued.ensures w.if-bytes-end-ne125.false w.if-end-bytes.true
     ]
 
@@ -146,7 +146,7 @@ pub whole_object-returns-in_default : goal.whole_object-returns-in_default
 whole_object-returns-in_default t c =
     record {
       whole = tt;
-      none = members_held c.args.bytes.now c.args.at c.args.depth _ c.loop-n.n c.loop-n.done (tail_is c.loop-n.n c.args.bytes.now) c.loop-n.invariant c.loop-n-test.true c.if-bytes-n-eq34.true (no_member c.args.depth (c.args.at + c.loop-n.n) (take (length c.args.bytes.now - c.loop-n.n) (drop c.loop-n.n c.args.bytes.now)) c.loop-n.done c.in_ok-pending.field-0 (tail_some _ _ c.loop-n.n (tail_is c.loop-n.n c.args.bytes.now) c.loop-n-test.true) c.in_ok-pending.ensures.whole c.in_ok-pending.ensures.none c.in_default.not-Valued);
+      none = members_held c.args.bytes.now c.args.at c.args.depth _ c.loop-n.n c.loop-n.done (tail_is c.loop-n.n c.args.bytes.now) c.loop-n.invariant c.loop-n-test.true c.if-bytes-n-eq34.true (no_member c.args.depth (c.args.at + c.loop-n.n) (take (length c.args.bytes.now - c.loop-n.n) (drop c.loop-n.n c.args.bytes.now)) c.loop-n.done c.in_ok-other.other (tail_some _ _ c.loop-n.n (tail_is c.loop-n.n c.args.bytes.now) c.loop-n-test.true) c.in_ok-other.ensures.whole c.in_ok-other.ensures.none c.in_default.not-Valued);
     }
 
 pub whole_object-returns-clause-none : goal.whole_object-returns-clause-none

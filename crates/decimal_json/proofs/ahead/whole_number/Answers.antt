@@ -28,3 +28,12 @@ returns-in_err-value-clause-none c =
     if_none c.from_residual-in_err-value.result _
     (inr (number_too_far c.args.bytes.now c.args.at c.number_front-n.result.0 _ _ c.requires.some (sym c.first.ensures ∙ c.in_ok-stage.was) (front_runs c.args.bytes.now _ c.number_front-n.result.0 _ _ refl c.number_front-n.ensures.runs) l
     (front_stops c.args.bytes.now _ c.number_front-n.result.0 _ refl l c.number_front-n.ensures.stops) (sym c.is_end.ensures ∙ c.if-not-is_end.false) (measured_none _ _ c.decimal_of.ensures c.in_err-value.was)))
+
+pub returns-clause-none : goal.returns-clause-none
+returns-clause-none c = tt
+
+pub returns-then-end-bytes-clause-whole : goal.returns-then-end-bytes-clause-whole
+returns-then-end-bytes-clause-whole c = tt
+
+pub returns-then-not-is_end-clause-whole : goal.returns-then-not-is_end-clause-whole
+returns-then-not-is_end-clause-whole c = tt
