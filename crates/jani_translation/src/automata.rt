@@ -221,8 +221,8 @@ fn destination(alloc: Global, b: &PrismBranch, names: &Names) -> Result<JaniDest
 {
     Ok(JaniDestination {
         location: loc(alloc)?,
-        weight: image_if(alloc, &b.weight, &names.value)?,
         writes: writes(alloc, b.writes.as_slice(), names)?,
+        weight: image_if(alloc, &b.weight, &names.value)?,
     })
 }
 
@@ -277,8 +277,8 @@ fn edge(
     Ok(JaniEdge {
         location: loc(alloc)?,
         action: edge_action(alloc, silently, &c.action, names)?,
-        guard: Some(image(alloc, &c.guard, &names.value)?),
         destinations: destinations(alloc, c.branches.as_slice(), names)?,
+        guard: Some(image(alloc, &c.guard, &names.value)?),
         at: 0,
     })
 }

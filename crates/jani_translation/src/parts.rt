@@ -128,8 +128,8 @@ fn constant(
     Ok(JaniConst {
         name: instead(alloc, &c.name, e.name.as_str())?,
         ty: c.ty,
-        value: image_if(alloc, &c.value, names)?,
         note: note(alloc, "constant:", &c.name.name, e)?,
+        value: image_if(alloc, &c.value, names)?,
     })
 }
 
@@ -179,11 +179,11 @@ fn variable(
 {
     Ok(JaniVar {
         name: instead(alloc, &x.name, e.name.as_str())?,
+        note: note(alloc, "variable:", &x.name.name, e)?,
+        start: Some(start_of(alloc, x, names)?),
         kind: kind_of(alloc, &x.range, names)?,
         kind_at: 0,
         transient: false,
-        start: Some(start_of(alloc, x, names)?),
-        note: note(alloc, "variable:", &x.name.name, e)?,
     })
 }
 
@@ -251,11 +251,11 @@ fn label(alloc: Global, l: &PrismLabel, e: &Entry) -> Result<JaniVar, AllocError
 {
     Ok(JaniVar {
         name: instead(alloc, &l.name, e.name.as_str())?,
+        note: note(alloc, "label:", &l.name.name, e)?,
         kind: JaniKind::Bool,
         kind_at: 0,
         transient: true,
         start: Some(falsehood()),
-        note: note(alloc, "label:", &l.name.name, e)?,
     })
 }
 
@@ -265,11 +265,11 @@ fn structure(alloc: Global, r: &PrismRewards, e: &Entry) -> Result<JaniVar, Allo
 {
     Ok(JaniVar {
         name: instead_if(alloc, &r.name, e.name.as_str())?,
+        note: note_if(alloc, "reward:", &r.name, e)?,
         kind: JaniKind::Real,
         kind_at: 0,
         transient: true,
         start: Some(nought()),
-        note: note_if(alloc, "reward:", &r.name, e)?,
     })
 }
 

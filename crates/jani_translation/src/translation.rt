@@ -28,10 +28,35 @@ pub fn translate(alloc: Global, file: &PrismFile) -> Result<JaniFile, AllocError
     ensures { IfOk result (λ r. IsTranslation (jani.file_of r) (prism.file_of file.now)) }
 {
     let vars = file_variables(alloc, file)?;
+    file_with_variables(alloc, file, &vars)
+}
+
+/// The translation of the file, where these are its variables.
+fn file_with_variables(
+    alloc: Global,
+    file: &PrismFile,
+    vars: &Vec<&PrismVar>,
+) -> Result<JaniFile, AllocError>
+    requires { AreVariables vars.now.items file.now }
+    ensures { IfOk result (λ r. IsTranslation (jani.file_of r) (prism.file_of file.now)) }
+{
     let acts = file_actions(alloc, file)?;
-    let table = file_table(alloc, file, &vars, &acts)?;
-    let all = file_with(alloc, file, &vars, &acts, table.as_slice())?;
-    Ok(all)
+    file_with_actions(alloc, file, vars, &acts)
+}
+
+/// The translation of the file, where these are its variables and its actions.
+fn file_with_actions(
+    alloc: Global,
+    file: &PrismFile,
+    vars: &Vec<&PrismVar>,
+    acts: &Vec<&Text>,
+) -> Result<JaniFile, AllocError>
+    requires vars { AreVariables vars.now.items file.now }
+    requires acts { AreActions acts.now.items file.now }
+    ensures { IfOk result (λ r. IsTranslation (jani.file_of r) (prism.file_of file.now)) }
+{
+    let table = file_table(alloc, file, vars, acts)?;
+    file_with(alloc, file, vars, acts, table.as_slice())
 }
 
 /// The variables of the file.
@@ -79,8 +104,7 @@ fn file_with(
     ensures { IfOk result (λ r. IsTranslation (jani.file_of r) (prism.file_of file.now)) }
 {
     let names = file_names(alloc, file, vars, acts, entries)?;
-    let all = file_by(alloc, file, vars, acts, &names)?;
-    Ok(all)
+    file_by(alloc, file, vars, acts, &names)
 }
 
 /// The new names of the file, where these are its entries.

@@ -1,5 +1,5 @@
 use Rattle.jani_translation.proofs.Statements.{same_entries}
-use Rattle.jani_translation.proofs.translation.translate.Goals as goal
+use Rattle.jani_translation.proofs.translation.file_with_actions.Goals as goal
 
 pub file_with-requires-clause-entries : goal.file_with-requires-clause-entries
 file_with-requires-clause-entries c =
