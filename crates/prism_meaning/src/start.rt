@@ -241,8 +241,7 @@ fn known_variables<'a>(
 {
     let places = constant_places(alloc, file.constants.as_slice())?;
     let variables = all_variables(alloc, file)?;
-    let all = variables_by(alloc, variables.as_slice(), &places, table)?;
-    Ok(all)
+    variables_by(alloc, variables.as_slice(), &places, table)
 }
 
 fn variables_by<'a>(

@@ -3,6 +3,7 @@ use Rattle.std.proofs.Math.Path.{fun_ext}
 use Rattle.op_trees.specs.Seen.{known}
 use Rattle.prism_tree.specs.Syntax.{const_of, file_of, Var}
 use Rattle.prism_flat.specs.Scene.{column}
+use Rattle.prism_flat.proofs.Contents.{if_ok}
 use Rattle.prism_names.specs.Names.{unchanged}
 use Rattle.process_core.specs.Instance.{Column}
 use Rattle.instance_start.specs.Columns.{trimmed_column, value_at}
@@ -12,11 +13,13 @@ use Rattle.prism_meaning.specs.Views.{names_by}
 use Rattle.prism_meaning.proofs.start.known_variables.Goals as goal
 
 pub returns : goal.returns
-returns c names h =
+returns c =
     let table = c.args.table.now in
     let by = names_by c.in_ok-places.places table in
-    c.in_ok-all.ensures
+    if_ok _ _
+    (λ all made names h. made
     ∙ ap (λ l. map {A = Var} {B = Column} (λ x. trimmed_column (column unchanged by x)) (vars_of l)) c.as_slice-2.ensures.value
     ∙ ap (map {A = Var} {B = Column} (λ x. trimmed_column (column unchanged by x))) c.in_ok-variables.ensures
     ∙ ap (λ n. map {A = Var} {B = Column} (λ x. trimmed_column (column unchanged n x)) (all_variables (file_of c.args.file.now)))
-    (fun_ext (λ x. ap (λ p. known (value_at [] table p)) (c.in_ok-places.ensures x ∙ ap (λ l. constant_place 0 (map const_of l) x) c.as_slice.ensures) ∙ h x))
+    (fun_ext (λ x. ap (λ p. known (value_at [] table p)) (c.in_ok-places.ensures x ∙ ap (λ l. constant_place 0 (map const_of l) x) c.as_slice.ensures) ∙ h x)))
+    c.variables_by.result c.variables_by.ensures
