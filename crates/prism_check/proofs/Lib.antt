@@ -32,3 +32,4 @@ pub mod CleanValues
 pub mod CleanCircles
 pub mod CleanTypes
 pub mod CleanFile
+pub mod Lists

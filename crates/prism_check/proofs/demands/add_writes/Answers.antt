@@ -1,0 +1,14 @@
+use Rattle.std.specs.Prelude.{map}
+use Rattle.std.proofs.Common.{◌∙◌, ap, refl}
+use Rattle.std.proofs.lemmas.List.{map-append}
+use Rattle.prism_tree.specs.Syntax.{write_of}
+use Rattle.prism_check.specs.Demands.{written}
+use Rattle.prism_check.specs.Views.{demand_by}
+use Rattle.prism_check.proofs.Lists.{map_left}
+use Rattle.prism_check.proofs.demands.add_writes.Goals as goal
+
+pub loop-write-preserved : goal.loop-write-preserved
+loop-write-preserved c =
+    map_left (written c.args.acts) write_of _ (map demand_by c.loop-write.list.items) (map demand_by c.push.new.self.items) c.args.writes.now c.loop-write.write-index
+    c.write-item.result _ c.loop-write-test.true c.write-item.is c.loop-write.invariant
+    (ap (map demand_by) c.in_ok-push.ensures.items ∙ map-append demand_by c.loop-write.list.items _) refl
