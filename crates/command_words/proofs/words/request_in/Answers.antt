@@ -1,9 +1,18 @@
-use Rattle.std.proofs.Common.{rules, ◌≡◌, ◌≢◌, refl, ◌+◌}
+use Rattle.std.proofs.Common.{rules, ◌≡◌, ◌≢◌, refl, ℕ, ◌+◌, ◌-◌, ◌≤◌, List, ◌∷◌, length, take, drop, length-take, length-drop, inl, inr, arith}
+use Rattle.std.proofs.lemmas.List.{length-map}
+use Rattle.std.specs.Prelude.{String}
+use Rattle.std.specs.Global.{Global}
 use Rattle.std.specs.Prelude.{string_bytes, codes}
-use Rattle.command_words.specs.Words.{HasForm}
+use Rattle.command_words.specs.Words.{HasFileWord, HasForm, IsWrong, texts}
+use Rattle.command_words.specs.Fronts.{HeadForm, PathForm, RowsForm, ShowForm, SimulateForm}
 use Rattle.command_words.proofs.Wrong.{read_none, read_first}
 use Rattle.command_words.proofs.Requests.{no_verb, other_verb, behind_to_jani, behind_to_prism, behind_to_prism_props, behind_check, behind_show, behind_simulate, behind_path, behind_rows}
 use Rattle.command_words.proofs.words.request_in.Goals as goal
+
+-- a position among the words behind the first is one of all words
+behind_first : (Form : List (List ℕ) → Type 0) (words : List (String Global)) (k : ℕ) → 1 ≤ length words → IsWrong Form (texts (take (length words - 1) (drop 1 words))) k → k ≤ length words
+behind_first Form words k some (inl h) = let e : length (texts (take (length words - 1) (drop 1 words))) ≡ length words - 1 = simp (length-map, length-take, length-drop) (omega arith) in omega (arith, h.1)
+behind_first Form words k some (inr h) = let e : length (texts (take (length words - 1) (drop 1 words))) ≡ length words - 1 = simp (length-map, length-take, length-drop) (omega arith) in omega (arith, h.0)
 
 pub returns-in_default : goal.returns-in_default
 returns-in_default c = read_none HasForm 1 _ c.in_default.len_below no_verb
@@ -60,3 +69,27 @@ returns-in_default-as_str c =
     let not_path : string_bytes c.verb-item.result ≢ codes "check-path" = search rules in
     let not_rows : string_bytes c.verb-item.result ≢ codes "check-rows" = search rules in
     read_first HasForm 1 _ c.verb-item.result _ c.in-len1-up.len_at_least c.verb-item.is refl (other_verb _ _ not_to_jani not_to_prism not_props not_check not_show not_simulate not_path not_rows)
+
+pub overflow_add-result : goal.overflow_add-result
+overflow_add-result c = let h = behind_first (λ ws. HasForm (codes "to-jani" ∷ ws)) c.args.words.now c.in-Err.k c.in-len1-up.len_at_least c.in-Err.ensures in omega arith
+
+pub overflow_add-result-in-Err-file_in : goal.overflow_add-result-in-Err-file_in
+overflow_add-result-in-Err-file_in c = let h = behind_first HasFileWord c.args.words.now c.in-Err-file_in.k c.in-len1-up.len_at_least c.in-Err-file_in.ensures in omega arith
+
+pub overflow_add-result-in-Err-file_in-2 : goal.overflow_add-result-in-Err-file_in-2
+overflow_add-result-in-Err-file_in-2 c = let h = behind_first HasFileWord c.args.words.now c.in-Err-file_in-2.k c.in-len1-up.len_at_least c.in-Err-file_in-2.ensures in omega arith
+
+pub overflow_add-result-in-Err-check_in : goal.overflow_add-result-in-Err-check_in
+overflow_add-result-in-Err-check_in c = let h = behind_first (λ ws. HasForm (codes "check" ∷ ws)) c.args.words.now c.in-Err-check_in.k c.in-len1-up.len_at_least c.in-Err-check_in.ensures in omega arith
+
+pub overflow_add-result-in-Err-show_in : goal.overflow_add-result-in-Err-show_in
+overflow_add-result-in-Err-show_in c = let h = behind_first ShowForm c.args.words.now c.in-Err-show_in.k c.in-len1-up.len_at_least c.in-Err-show_in.ensures in omega arith
+
+pub overflow_add-result-in-Err-path_in : goal.overflow_add-result-in-Err-path_in
+overflow_add-result-in-Err-path_in c = let h = behind_first (HeadForm PathForm) c.args.words.now c.in-Err-path_in.k c.in-len1-up.len_at_least c.in-Err-path_in.ensures in omega arith
+
+pub overflow_add-result-in-Err-rows_in : goal.overflow_add-result-in-Err-rows_in
+overflow_add-result-in-Err-rows_in c = let h = behind_first (HeadForm RowsForm) c.args.words.now c.in-Err-rows_in.k c.in-len1-up.len_at_least c.in-Err-rows_in.ensures in omega arith
+
+pub overflow_add-result-in-Err-At : goal.overflow_add-result-in-Err-At
+overflow_add-result-in-Err-At c = let h = behind_first SimulateForm c.args.words.now c.in-Err-At.k c.in-len1-up.len_at_least (rw c.in-Err-At.field-0-is at c.in-Err-At.ensures) in let e = c.in-Err-At.k-is in omega arith
