@@ -80,7 +80,10 @@ pub fn unless_deep(cause: Cause, reason: Reason) -> Reason
 fn is_left_out_text(text: &[u8]) -> bool
     ensures { result ≡ is_left_out_text text.now }
 {
-    matches!(text, b"pow" | b"log" | b"round" | b"multi")
+    text == b"pow".as_slice()
+        || text == b"log".as_slice()
+        || text == b"round".as_slice()
+        || text == b"multi".as_slice()
 }
 
 fn is_left_out_name(tokens: Tokens, token: Found) -> bool
