@@ -40,8 +40,7 @@ fn guard(alloc: Global, names: &Names, el: &Element, e: &JaniEdge) -> Result<Pri
     ensures { IfOk result (λ r. tree r ≡ guard (file_in names.now) (names_in names.now) (element_of el.now) (jani.edge_of e.now)) }
 {
     if !el.has_several() {
-        let all = guard_alone(alloc, names, el, &e.guard)?;
-        return Ok(all);
+        return guard_alone(alloc, names, el, &e.guard);
     }
     let there = is_there(
         alloc,
@@ -70,10 +69,7 @@ fn guard_alone(
 {
     match guard {
         None => Ok(truth()),
-        Some(g) => {
-            let holds = image(alloc, names, el.number, g)?;
-            Ok(holds)
-        }
+        Some(g) => image(alloc, names, el.number, g),
     }
 }
 
@@ -235,8 +231,8 @@ pub(crate) fn command(
     ensures { IfOk result (λ r. prism.command_of r ≡
         command_with (file_in names.now) (names_in names.now) (element_of el.now) (jani.edge_of e.now) action) }
 {
-    let guard = guard(alloc, names, el, e)?;
     let branches = branches(alloc, names, el, e.destinations.as_slice())?;
+    let guard = guard(alloc, names, el, e)?;
     Ok(PrismCommand {
         action,
         guard,

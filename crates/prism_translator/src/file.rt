@@ -80,8 +80,7 @@ fn modules_by(
     ensures { IfOk result (λ ms. map prism.module_of ms ≡ modules_in (file_in names.now) (names_in names.now)) }
 {
     let homes = at_home(alloc, names, writers, vars)?;
-    let all = modules(alloc, names, els, &homes, serving)?;
-    Ok(all)
+    modules(alloc, names, els, &homes, serving)
 }
 
 /// The variables that stay global, and the modules.
@@ -121,8 +120,7 @@ fn gains_by<'a>(
     ensures { IfOk result (λ b. (j : ℕ) → map gain_of (list_for b j) ≡ numbered (λ i t. gains_of (file_in names.now) j i t.maker) 0 (targets (file_in names.now))) }
 {
     let places = Places::of(alloc, vars)?;
-    let all = gains(alloc, names, els, &places, made)?;
-    Ok(all)
+    gains(alloc, names, els, &places, made)
 }
 
 /// The reward structures, by what locations give.
@@ -143,8 +141,7 @@ fn rewards_by(
     ensures { IfOk result (λ rs. map prism.rewards_of rs ≡ rewards_in (file_in names.now) (names_in names.now)) }
 {
     let gains = gains_by(alloc, names, els, vars, made)?;
-    let all = structures(alloc, names, table, &gains, vars)?;
-    Ok(all)
+    structures(alloc, names, table, &gains, vars)
 }
 
 /// The table of what locations give.
@@ -179,8 +176,31 @@ fn marks(
     ensures rewards { IfOk result (λ m. map prism.rewards_of m.rewards ≡ rewards_in (file_in names.now) (names_in names.now)) }
 {
     let table = given(alloc, names, els)?;
-    let labels = labels(alloc, names, &table, label_vars)?;
-    let rewards = rewards_by(alloc, names, els, &table, vars, made)?;
+    marks_by(alloc, names, els, &table, label_vars, vars, made)
+}
+
+/// The same by what locations give.
+fn marks_by(
+    alloc: Global,
+    names: &Names,
+    els: &[Element],
+    table: &GivenTable,
+    label_vars: &[OwnedVar],
+    vars: &[OwnedVar],
+    made: &[Target],
+) -> Result<LabelsAndRewards, AllocError>
+    requires names { IsReady names.now }
+    requires actions { HasActions names.now }
+    requires elements { map element_of els.now ≡ elements (file_in names.now) }
+    requires given { AreGiven table.now (elements (file_in names.now)) }
+    requires labels { map owned_of label_vars.now ≡ labels_of (file_in names.now) }
+    requires vars { map owned_of vars.now ≡ structures_of (file_in names.now) }
+    requires targets { map (target_in (file_in names.now)) made.now ≡ targets (file_in names.now) }
+    ensures labels { IfOk result (λ m. map prism.label_of m.labels ≡ labels_in (file_in names.now) (names_in names.now)) }
+    ensures rewards { IfOk result (λ m. map prism.rewards_of m.rewards ≡ rewards_in (file_in names.now) (names_in names.now)) }
+{
+    let labels = labels(alloc, names, table, label_vars)?;
+    let rewards = rewards_by(alloc, names, els, table, vars, made)?;
     Ok(LabelsAndRewards { labels, rewards })
 }
 
@@ -202,8 +222,7 @@ fn moving_by(
     ensures modules { IfOk result (λ m. map prism.module_of m.modules ≡ modules_in (file_in names.now) (names_in names.now)) }
 {
     let vars = lasting_variables(alloc, lasting)?;
-    let all = moving(alloc, names, els, vars.as_slice(), serving)?;
-    Ok(all)
+    moving(alloc, names, els, vars.as_slice(), serving)
 }
 
 /// The file under its new names, where these are its elements, its parts, and what its edges serve.

@@ -56,8 +56,7 @@ fn made_line(alloc: Global, what: &str, name: &str, old: Option<&str>) -> Result
     out.extend_from_slice(name.as_bytes())?;
     out.push(b' ')?;
     push_old(&mut out, old)?;
-    let text = text_of(alloc, out.as_slice())?;
-    Ok(text)
+    text_of(alloc, out.as_slice())
 }
 
 /// Adds the line of an entry; a name that was kept has none.
@@ -173,8 +172,7 @@ fn several_line(alloc: Global, name: &str, locations: &[JaniLocation]) -> Result
     out.extend_from_slice(b" [")?;
     push_locations(&mut out, locations)?;
     out.push(b']')?;
-    let text = text_of(alloc, out.as_slice())?;
-    Ok(text)
+    text_of(alloc, out.as_slice())
 }
 
 /// Adds the line of an element, if it has several locations.

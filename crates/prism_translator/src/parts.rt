@@ -169,7 +169,7 @@ pub(crate) fn variable(alloc: Global, names: &Names, x: &LastingVar) -> Result<P
     let var = x.owned.var;
     Ok(PrismVar {
         name: instead(alloc, &var.name, new)?,
-        range: range_of(alloc, names, element, &var.kind)?,
         start: image_if(alloc, names, element, &var.start)?,
+        range: range_of(alloc, names, element, &var.kind)?,
     })
 }

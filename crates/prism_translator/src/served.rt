@@ -94,8 +94,7 @@ fn target_command(
         command (file_in names.now) (names_in names.now) (element_of el.now) (jani.edge_of e.now) (Some (name_at (names_in names.now).actions target))) }
 {
     let action = made(alloc, name_at(names.entries.actions, target))?;
-    let all = command(alloc, names, el, e, Some(action))?;
-    Ok(all)
+    command(alloc, names, el, e, Some(action))
 }
 
 /// A command that is never enabled.

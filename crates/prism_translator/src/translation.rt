@@ -5,11 +5,12 @@ ghost use Rattle.std.specs.List.{All};
 ghost use Rattle.jani_tree.specs.Syntax.{file_of};
 ghost use Rattle.name_rules.specs.Least.{soonest};
 ghost use Rattle.jani_tree.specs.Faults.{FailsFor};
+ghost use Rattle.name_table.specs.declared.class.Target.TheVariants.{Prism};
+ghost use Rattle.name_table.specs.PrismAsks as asked;
 ghost use Rattle.prism_translation.specs.Names.{entries};
-ghost use Rattle.prism_translation.specs.Targets.{targets};
 ghost use Rattle.prism_translation.specs.Elements.{elements};
 ghost use Rattle.prism_translation.specs.Refused.{refused};
-ghost use Rattle.prism_targets.specs.Serving.{target_in, IsServing};
+ghost use Rattle.prism_targets.specs.Serving.{IsServing};
 ghost use Rattle.prism_translator.specs.Code.{file_in, names_in, IsReady, HasActions, element_of, IsElement};
 ghost use Rattle.prism_translator.specs.Gathered.{AreGathered};
 ghost use Rattle.prism_translator.specs.Translation.{IsTranslation, IsTextBy};
@@ -25,7 +26,7 @@ use bridge_io::{Fault, List, Refused, Text};
 use jani_check::CheckedJani;
 use jani_tree::JaniFile;
 use name_table::{Entry, NameTable, parts_names};
-use prism_targets::{Serving, Target, least_refused, serving};
+use prism_targets::{Serving, least_refused, serving};
 use prism_tree::PrismFile;
 use std::alloc::{AllocError, Global};
 
@@ -100,8 +101,7 @@ fn translated(
         parts.automata.as_slice(),
         parts.structures.as_slice(),
     )?;
-    let text = served_text(alloc, file, parts, &serving)?;
-    Ok(text)
+    served_text(alloc, file, parts, &serving)
 }
 
 /// The same by what the edges of the file serve.
@@ -115,22 +115,6 @@ fn served_text(
     requires serving { IsServing (file_of file.now) serving.now }
     ensures { IfOk result (λ t. IsTranslation t (file_of file.now)) }
 {
-    let table = table(alloc, file, parts, serving.targets.as_slice())?;
-    let text = text(alloc, file, parts, serving, table.as_slice())?;
-    Ok(text)
-}
-
-/// The table of all new names.
-fn table(
-    alloc: Global,
-    file: &JaniFile,
-    parts: &FileParts,
-    made: &[Target],
-) -> Result<NameTable, AllocError>
-    requires parts { AreGathered parts.now (file_of file.now) }
-    requires targets { map (target_in (file_of file.now)) made.now ≡ targets (file_of file.now) }
-    ensures { IfOk result (λ t. t.entries ≡ entries (file_of file.now)) }
-{
     let mut table = parts_names(
         alloc,
         file,
@@ -138,8 +122,25 @@ fn table(
         parts.labels.as_slice(),
         parts.structures.as_slice(),
     )?;
-    ask_actions(&mut table, made)?;
-    Ok(table)
+    asked_text(alloc, file, parts, serving, &mut table)
+}
+
+/// The same by the table of the new names of the file's parts, to which those of the actions are added.
+fn asked_text(
+    alloc: Global,
+    file: &JaniFile,
+    parts: &FileParts,
+    serving: &Serving,
+    table: &mut NameTable,
+) -> Result<CheckedPrismText, AllocError>
+    requires parts { AreGathered parts.now (file_of file.now) }
+    requires serving { IsServing (file_of file.now) serving.now }
+    requires target { table.old.target ≡ Prism }
+    requires entries { table.old.entries ≡ asked.entries (file_of file.now) }
+    ensures { IfOk result (λ t. IsTranslation t (file_of file.now)) }
+{
+    ask_actions(table, serving.targets.as_slice())?;
+    text(alloc, file, parts, serving, table.as_slice())
 }
 
 /// The translation of a file, where these are its parts, what its edges serve, and its entries.
@@ -156,8 +157,7 @@ fn text(
     ensures { IfOk result (λ t. IsTranslation t (file_of file.now)) }
 {
     let els = elements(alloc, parts.automata.as_slice())?;
-    let text = text_of(alloc, file, parts, serving, all, els.as_slice())?;
-    Ok(text)
+    text_of(alloc, file, parts, serving, all, els.as_slice())
 }
 
 /// The same where these are the elements of the file.
@@ -184,8 +184,7 @@ fn text_of(
         parts.structures.len(),
         all,
     )?;
-    let text = text_by(alloc, &names, els, parts, serving)?;
-    Ok(text)
+    text_by(alloc, &names, els, parts, serving)
 }
 
 /// The same under new names.

@@ -1,4 +1,5 @@
 use Rattle.std.proofs.Common.{◌≡◌, ◌∙◌, ap, ap₂, sym, length, drop, List}
+use Rattle.std.proofs.lemmas.Result.{IfOk-weaker}
 use Rattle.prism_print.specs.Same.{bare_file}
 use Rattle.jani_tree.specs.Syntax.{File, file_of}
 use Rattle.name_table.specs.declared.entry.Entry.{Entry}
@@ -7,7 +8,8 @@ use Rattle.prism_translation.specs.Names.{new_names}
 use Rattle.prism_translation.specs.Targets.{targets}
 use Rattle.prism_translation.specs.Translated.{translated_by}
 use Rattle.prism_translation.specs.Lines.{lines_by}
-use Rattle.prism_translator.specs.Code.{names_in}
+use Rattle.prism_translator.specs.Code.{names_in, file_in}
+use Rattle.prism_translator.specs.Translation.{IsTranslation, IsTextBy}
 use Rattle.prism_translator.proofs.LongActions.{actions_long}
 use Rattle.prism_translator.proofs.translation.text_of.Goals as goal
 
@@ -25,8 +27,12 @@ text_by-requires-clause-actions c =
 pub returns : goal.returns
 returns c =
     let f : File = file_of c.args.file.now in
-    let named : names_in c.in_ok-names.names ≡ new_names f = c.in_ok-names.ensures.names ∙ ap (names_by f) c.requires.entries in
-    record {
-      file_is = ap bare_file (c.in_ok-text.ensures.text_is ∙ ap₂ (λ (k : NewNames) (g : File). translated_by k g) named c.in_ok-names.ensures.file);
-      lines_are = c.in_ok-text.ensures.told ∙ ap₂ (λ (k : NewNames) (g : File). lines_by k g) named c.in_ok-names.ensures.file;
-    }
+    let k : NewNames = names_in c.in_ok-names.names in
+    let g : File = file_in c.in_ok-names.names in
+    let named : k ≡ new_names f = c.in_ok-names.ensures.names ∙ ap (names_by f) c.requires.entries in
+    IfOk-weaker c.text_by.result (λ t. IsTextBy t k g) (λ t. IsTranslation t f)
+    (λ t h. record {
+      file_is = ap bare_file (h.text_is ∙ ap₂ (λ (n : NewNames) (x : File). translated_by n x) named c.in_ok-names.ensures.file);
+      lines_are = h.told ∙ ap₂ (λ (n : NewNames) (x : File). lines_by n x) named c.in_ok-names.ensures.file;
+    })
+    c.text_by.ensures

@@ -11,16 +11,17 @@ use Rattle.prism_translation.specs.Targets.{targets}
 use Rattle.prism_translation.specs.Names.{action_ask}
 use Rattle.prism_targets.specs.Serving.{target_in}
 use Rattle.prism_translator.specs.Asks.{vector_in, vector_ask}
-use Rattle.prism_translator.proofs.translation.table.Goals as goal
+use Rattle.prism_translator.proofs.translation.asked_text.Goals as goal
 
-pub returns : goal.returns
-returns c =
+pub text-requires-clause-entries : goal.text-requires-clause-entries
+text-requires-clause-entries c =
     let f : File = file_of c.args.file.now in
-    let as_made : map vector_ask (map vector_in c.args.made.now) ≡ map action_ask (targets f) =
-    map-map vector_ask vector_in c.args.made.now
-    ∙ sym (map-map action_ask (target_in f) c.args.made.now)
-    ∙ ap (map action_ask) c.requires.targets in
-    ap (λ (t : Table). t.entries) c.in_ok-ask_actions.ensures
-    ∙ ap (λ (l : List Ask). entries_after c.in_ok-table.table.target c.in_ok-table.table.entries l) as_made
-    ∙ ap₂ (λ (t : class.Target) (es : List Entry). entries_after t es (map action_ask (targets f))) c.in_ok-table.ensures.0 c.in_ok-table.ensures.1
+    let as_made : map vector_ask (map vector_in c.as_slice.result.now) ≡ map action_ask (targets f) =
+    map-map vector_ask vector_in c.as_slice.result.now
+    ∙ sym (map-map action_ask (target_in f) c.as_slice.result.now)
+    ∙ ap (map action_ask) (ap (map (target_in f)) c.as_slice.ensures.value ∙ c.requires.serving.targets_are) in
+    c.as_slice-2.ensures
+    ∙ ap (λ (t : Table). t.entries) c.in_ok-ask_actions.ensures
+    ∙ ap (λ (l : List Ask). entries_after c.args.table.now.target c.args.table.now.entries l) as_made
+    ∙ ap₂ (λ (t : class.Target) (es : List Entry). entries_after t es (map action_ask (targets f))) c.requires.target c.requires.entries
     ∙ sym (after_append Prism [] (asks f) (map action_ask (targets f)))
