@@ -2,6 +2,9 @@
 //! and error.
 #![tactic(auto)]
 
+#[cfg(test)]
+mod tests;
+
 use bridge_io::{FileShelf, StdSink};
 use model_command::run;
 use std::process::ExitCode;

@@ -1,7 +1,7 @@
 use Rattle.std.proofs.Common.{arith, ◌∙◌, IsSome, refl, ap, sym, subst, codes}
 use Rattle.std.proofs.lemmas.Grind.{common_steps}
 use Rattle.bridge_io.specs.Tally.{IsCalm, no_counts, with_call, with_failing, with_fault}
-use Rattle.bridge_tests.proofs.tests.steady.after_its_failing_call.Goals as goal
+use Rattle.bridge.proofs.tests.steady.after_its_failing_call.Goals as goal
 
 once : IsCalm (with_fault (with_call (with_failing no_counts 1)))
 once = λ k d below. grind (arith, common_steps)
