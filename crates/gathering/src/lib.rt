@@ -6,8 +6,10 @@ mod choosing;
 mod fronts;
 mod name_lists;
 mod number_lists;
+mod single;
 
 pub use choosing::{each_once, keep_if};
 pub use fronts::{drop_from, first_of, shorter};
 pub use name_lists::NameLists;
 pub use number_lists::NumberLists;
+pub use single::one_of;
