@@ -2,7 +2,7 @@
 use Rattle.std.proofs.Common.{◌≡◌, ℕ, List, Bool, true, false, ◌||◌, Option, Some, None, Result, Ok, Err, if◌then◌else◌, refl, sym, ap, subst, ◌∙◌}
 use Rattle.std.proofs.Math.Bool.{or-false, or-true}
 use Rattle.std.proofs.lemmas.Bool.{or_left}
-use Rattle.basics.specs.Booleans.{or_absorbs}
+use Rattle.op_trees.proofs.Answered.{or_absorbs}
 use Rattle.op_trees.specs.declared.tree.Value.{Value}
 use Rattle.op_trees.specs.declared.tree.Next.{Next}
 use Rattle.op_trees.specs.declared.tree.Next.TheVariants.{Done, Second, Third, All}

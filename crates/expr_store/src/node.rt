@@ -5,10 +5,10 @@ ghost use Rattle.expr_store.specs.Nodes.{is_behind};
 use frac_core::Decimal;
 use instance_start::{Place, equal_values};
 use op_trees::{Operator, Value};
+use std::alloc::AllocError;
 
 /// A node: a value that an expression without names has, a literal that passes the bound of fractions, the place of a name, or an
 /// operator over nodes, each by its number.
-#[derive(Clone, Copy)]
 pub enum Node<O> {
     Fixed(Value),
     Number(Decimal),
@@ -17,6 +17,18 @@ pub enum Node<O> {
     Two(O, usize, usize),
     Three(O, usize, usize, usize),
 }
+
+impl<O: Copy> Clone for Node<O> {
+    ghost is_clone = { λ x y. y ≡ x };
+
+    ghost is_infallible = { λ _. Unit {0} };
+
+    fn clone(&self) -> Result<Node<O>, AllocError> {
+        Ok(*self)
+    }
+}
+
+impl<O: Copy> Copy for Node<O> {}
 
 /// The number of a node.
 #[derive(Clone, Copy)]

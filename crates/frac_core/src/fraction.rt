@@ -15,7 +15,7 @@ use std::marker::Model;
 pub(crate) const BOUND: u128 = 1 << 62;
 
 /// Why a call has no fraction to give.
-#[derive(Clone, Copy, Debug, PartialEq, Eq)]
+#[derive(Clone, Copy, PartialEq, Eq)]
 pub enum FracFail {
     /// The exact result has a part of 2^62 or more in size.
     Wide,
@@ -24,7 +24,7 @@ pub enum FracFail {
 }
 
 /// A fraction in lowest terms, with a positive denominator and parts below 2^62 in size.
-#[derive(Clone, Copy, Debug)]
+#[derive(Clone, Copy)]
 pub struct Frac {
     num: i64,
     den: i64,

@@ -1,6 +1,6 @@
 // The canonical texts of literals.
 
-ghost use Rattle.std.specs.Prelude.{◌≡◌, ◌++◌, ◌≤◌, ◌<◌, ◌^◌, OnOk};
+ghost use Rattle.std.specs.Prelude.{◌≡◌, ◌++◌, ◌/◌, ◌%◌, ◌≤◌, ◌<◌, ◌^◌, codes, OnOk};
 ghost use Rattle.frac_core.specs.Text.{digits, padded, real_text, number_text};
 
 use crate::decimal::Decimal;
@@ -38,6 +38,26 @@ fn power_of_ten(k: u32) -> u128
     10u128.pow(k)
 }
 
+/// Writes two numbers in decimal, with a mark between them.
+fn write_marked(out: &mut Vec<u8>, n: u128, mark: &[u8], size: u32) -> Result<(), AllocError>
+    ensures { OnOk result (out.new.items ≡ out.old.items ++ (digits n ++ (mark.now ++ digits size))) }
+{
+    write_digits(out, n)?;
+    out.extend_from_slice(mark)?;
+    write_digits(out, size as u128)
+}
+
+/// Writes a number whose last digits, so many, stand behind a point.
+fn write_pointed(out: &mut Vec<u8>, n: u128, places: u32) -> Result<(), AllocError>
+    requires { places ≤ 20 }
+    ensures { OnOk result (out.new.items ≡ out.old.items ++ (digits (n / 10 ^ places) ++ (codes "." ++ padded places (n % 10 ^ places)))) }
+{
+    let power = power_of_ten(places);
+    write_digits(out, n / power)?;
+    out.extend_from_slice(b".")?;
+    write_padded(out, n % power, places)
+}
+
 /// Writes a real: a point where the exponent is from -20 to 0, else an exponent.
 #[tactic(auto, using(crate::proofs::Digits::text_zero, crate::proofs::Digits::text_high, crate::proofs::Digits::text_point, crate::proofs::Digits::text_low))]
 fn write_real(out: &mut Vec<u8>, digits: u128, exponent: i32) -> Result<(), AllocError>
@@ -46,22 +66,14 @@ fn write_real(out: &mut Vec<u8>, digits: u128, exponent: i32) -> Result<(), Allo
     let size = exponent.unsigned_abs();
     if exponent == 0 {
         write_digits(out, digits)?;
-        out.extend_from_slice(b".0")?;
+        out.extend_from_slice(b".0")
     } else if exponent > 0 {
-        write_digits(out, digits)?;
-        out.extend_from_slice(b"e")?;
-        write_digits(out, size as u128)?;
+        write_marked(out, digits, b"e", size)
     } else if size <= 20 {
-        let power = power_of_ten(size);
-        write_digits(out, digits / power)?;
-        out.extend_from_slice(b".")?;
-        write_padded(out, digits % power, size)?;
+        write_pointed(out, digits, size)
     } else {
-        write_digits(out, digits)?;
-        out.extend_from_slice(b"e-")?;
-        write_digits(out, size as u128)?;
+        write_marked(out, digits, b"e-", size)
     }
-    Ok(())
 }
 
 /// Writes the canonical text of a literal behind what `out` holds. `Err` is want of memory, alone.

@@ -1,5 +1,5 @@
 -- One branch more, and the end.
-use Rattle.std.proofs.Common.{◌≡◌, ℕ, ◌+◌, ◌<◌, ℤ, List, [], ◌∷◌, ◌++◌, map, Bool, true, false, not, if◌then◌else◌, Result, Ok, Err, length, slice_set, get_or, take, drop, refl, sym, ap, ap₂, ◌∙◌, take-append-drop}
+use Rattle.std.proofs.Common.{◌≡◌, ℕ, ◌+◌, ◌<◌, ℤ, List, [], ◌∷◌, ◌++◌, map, Bool, true, false, not, if◌then◌else◌, Ok, Err, length, slice_set, get_or, take, drop, refl, sym, ap, ap₂, ◌∙◌, take-append-drop}
 use Rattle.std.specs.List.{list_any, position_or_len, filter}
 use Rattle.std.specs.Ordering.{int_eq}
 use Rattle.std.specs.Cmp.Lexicographic.{pointwise}
@@ -93,12 +93,16 @@ pub ends : {B : Type 0} (seen : B → Branch Fraction Values) (done : List (Bran
 ends seen done keys sums kept h e =
     ap (map seen) e ∙ sym (filter-map (λ b. not (same_number b.probability nought)) seen sums) ∙ ap (filter (λ b. not (same_number b.probability nought))) h.sums_are
 
+-- the branches so far and this one
+pub so_far : {B : Type 0} (seen : B → Branch Fraction Values) (xs : List B) (i : ℕ) (b : B) → i < length xs → b ≡ get_or xs i b →
+    map seen (take (i + 1) xs) ≡ map seen (take i xs) ++ seen b ∷ []
+so_far seen xs i b l e =
+    ap (map seen) (take_more xs i b l) ∙ map-append seen (take i xs) (get_or xs i b ∷ [])
+    ∙ ap (λ x. map seen (take i xs) ++ seen x ∷ []) (sym e)
+
 -- the branches so far, this one, and the rest
 pub parted : {B : Type 0} (seen : B → Branch Fraction Values) (xs : List B) (i : ℕ) (b : B) → i < length xs → b ≡ get_or xs i b →
     map seen xs ≡ (map seen (take i xs) ++ seen b ∷ []) ++ map seen (drop (i + 1) xs)
 parted seen xs i b l e =
     ap (map seen) (sym (take-append-drop (i + 1) xs)) ∙ map-append seen (take (i + 1) xs) (drop (i + 1) xs)
     ∙ ap (λ l. l ++ map seen (drop (i + 1) xs)) (so_far seen xs i b l e)
-  where
-    so_far : {B : Type 0} (seen : B → Branch Fraction Values) (xs : List B) (i : ℕ) (b : B) → i < length xs → b ≡ get_or xs i b → map seen (take (i + 1) xs) ≡ map seen (take i xs) ++ seen b ∷ []
-    so_far seen xs i b l e = ap (map seen) (take_more xs i b l) ∙ map-append seen (take i xs) (get_or xs i b ∷ []) ∙ ap (λ x. map seen (take i xs) ++ seen x ∷ []) (sym e)

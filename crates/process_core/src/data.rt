@@ -34,7 +34,7 @@ pub fn copy_label(alloc: Global, label: Option<&Text>) -> Result<Option<Text>, A
 
 /// The kinds of faults that a choice has: something in it is undefined, a value is assigned outside its range, or the
 /// probabilities of a participant are no distribution.
-#[derive(Clone, Copy, Debug, PartialEq, Eq)]
+#[derive(Clone, Copy, PartialEq, Eq)]
 pub struct Bad {
     pub undef: bool,
     pub range: bool,
@@ -64,14 +64,14 @@ pub struct Choice {
 }
 
 /// A label or a reward at a state; `None` is undefined.
-#[derive(Clone, Copy, Debug)]
+#[derive(Clone, Copy)]
 pub enum Mark {
     Truth(Option<bool>),
     Number(Option<Frac>),
 }
 
 /// Why the choices or marks of a state aren't given.
-#[derive(Debug, Drop)]
+#[derive(Drop)]
 pub enum StepFail {
     /// Want of memory.
     Memory(AllocError),
@@ -82,7 +82,7 @@ pub enum StepFail {
 }
 
 /// What may be wrong with a model under given constants.
-#[derive(Clone, Copy, Debug, PartialEq, Eq)]
+#[derive(Clone, Copy, PartialEq, Eq)]
 pub enum FaultKind {
     /// A constant is undefined.
     ConstUndef,

@@ -11,7 +11,7 @@ use bridge_io::{List, Text};
 use std::alloc::{AllocError, Global};
 
 /// The test of whether a state is initial has a value that passes the bound of fractions.
-#[derive(Clone, Copy, Debug, PartialEq, Eq)]
+#[derive(Clone, Copy, PartialEq, Eq)]
 pub struct InitialWide;
 
 /// A process that can be stepped, a model under given constants. `process` says what it is over unbounded numbers, and

@@ -51,7 +51,7 @@ pub struct Counts {
 }
 
 /// Why there is no verdict on rows.
-#[derive(Debug, Drop)]
+#[derive(Drop)]
 pub enum RowsRefused {
     /// Memory was refused.
     Memory(AllocError),
@@ -72,7 +72,7 @@ impl From<AllocError> for RowsRefused {
 }
 
 /// Whether a path or rows are the model's.
-#[derive(Clone, Copy, Debug, PartialEq, Eq)]
+#[derive(Clone, Copy)]
 pub enum Verdict {
     Yes,
     /// They aren't, for this reason.
@@ -84,7 +84,7 @@ pub enum Verdict {
 }
 
 /// Why a path or rows aren't the model's. All numbers count from 0.
-#[derive(Clone, Copy, Debug, PartialEq, Eq)]
+#[derive(Clone, Copy)]
 pub enum Why {
     /// The first state isn't an initial one, at 0; else the model has no such step to the state of this number.
     Step(usize),

@@ -66,10 +66,9 @@ wide_ways ws all e =
     ∙ ap (list_any (λ us. list_any is_wide (partial_products unit (map weight_of us)))) e
 
 pub branches_of_ways : (s : Values) (rewards : List Sum) (ws : List (Vec (Bor Update) Global)) (all : List (List core.Update)) → map (λ w. updates_of w.items) ws ≡ all →
-    flat_map (way_branch s rewards) ws ≡ map (branch_of s rewards) all
+    map (λ w. branch_of s rewards (updates_of w.items)) ws ≡ map (branch_of s rewards) all
 branches_of_ways s rewards ws all e =
-    flat_map_single (λ (w : Vec (Bor Update) Global). branch_of s rewards (updates_of w.items)) ws
-    ∙ sym (map-map (branch_of s rewards) (λ (w : Vec (Bor Update) Global). updates_of w.items) ws)
+    sym (map-map (branch_of s rewards) (λ (w : Vec (Bor Update) Global). updates_of w.items) ws)
     ∙ ap (map (branch_of s rewards)) e
 
 -- the combinations by themselves

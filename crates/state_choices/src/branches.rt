@@ -1,5 +1,5 @@
 //! The branches of a combination.
-ghost use Rattle.std.specs.Prelude.{◌≡◌, ◌∷◌, [], map, IfOk};
+ghost use Rattle.std.specs.Prelude.{◌≡◌, ◌++◌, ◌∷◌, [], map, IfOk};
 ghost use Rattle.std.specs.List.{flat_map, list_any};
 ghost use Rattle.frac_core.specs.Fraction.{is_wide, unit};
 ghost use Rattle.frac_core.specs.Sums.{product};
@@ -49,7 +49,7 @@ fn branches_alone(
 {
     let mut all = List::with_capacity(alloc, updates.len())?;
     for update in updates {
-        all.push(branch_of(alloc, s, rewards, &[update])?)?;
+        add_branch(alloc, s, rewards, &[update], &mut all)?;
     }
     Ok(all)
 }
@@ -65,11 +65,39 @@ fn branches_together(
         (λ bs. map seen_branch bs ≡ map (branch_of s.now (map sum_of rewards.now)) (ways (participants_of participants.now))) result }
 {
     let ways = ways(alloc, participants)?;
+    branches_of(alloc, s, rewards, ways.as_slice())
+}
+
+/// The branch of each of these ways.
+fn branches_of(
+    alloc: Global,
+    s: &[Value],
+    rewards: &[Result<Frac, EvalFail>],
+    ways: &[Vec<&Update>],
+) -> Result<List<Branch>, StepFail>
+    ensures { Answers (only_wide (list_any (λ w. is_wide_way (updates_of w.items)) ways.now))
+        (λ bs. map seen_branch bs ≡ map (λ w. branch_of s.now (map sum_of rewards.now) (updates_of w.items)) ways.now) result }
+{
     let mut all = List::with_capacity(alloc, ways.len())?;
-    for way in ways.as_slice() {
-        all.push(branch_of(alloc, s, rewards, way.as_slice())?)?;
+    for way in ways {
+        add_branch(alloc, s, rewards, way.as_slice(), &mut all)?;
     }
     Ok(all)
+}
+
+/// Adds the branch of one update from each participant.
+fn add_branch(
+    alloc: Global,
+    s: &[Value],
+    rewards: &[Result<Frac, EvalFail>],
+    updates: &[&Update],
+    all: &mut List<Branch>,
+) -> Result<(), StepFail>
+    ensures { Answers (only_wide (is_wide_way (updates_of updates.now)))
+        (λ u. map seen_branch all.new ≡ map seen_branch all.old ++ branch_of s.now (map sum_of rewards.now) (updates_of updates.now) ∷ []) result }
+{
+    let branch = branch_of(alloc, s, rewards, updates)?;
+    Ok(all.push(branch)?)
 }
 
 /// The ways to take one update from each participant.
@@ -80,8 +108,7 @@ fn ways<'a>(alloc: Global, participants: &[&'a Command]) -> Result<Vec<Vec<&'a U
     for r in participants {
         lists.push(references(alloc, r.updates.as_slice())?)?;
     }
-    let all = one_of_each(alloc, lists.as_slice())?;
-    Ok(all)
+    one_of_each(alloc, lists.as_slice())
 }
 
 /// A reference to each update.

@@ -8,7 +8,7 @@ use process_core::{Bad, Branch, Choice, State, copy_state};
 use std::alloc::{AllocError, Global};
 
 /// Why a walk goes no further.
-#[derive(Clone, Copy, Debug, PartialEq, Eq)]
+#[derive(Clone, Copy, PartialEq, Eq)]
 pub enum Stop {
     /// All pairs or steps are taken.
     Done,

@@ -7,7 +7,7 @@ use Rattle.process_core.specs.Merged.{merged}
 use Rattle.process_core.specs.Seen.{seen_branch}
 use Rattle.process_core.specs.Merging.{IsSummed}
 use Rattle.process_core.specs.Answers.{handed_on}
-use Rattle.process_core.proofs.Adding.{fails_as, parted, ends, ends_narrow}
+use Rattle.process_core.proofs.Adding.{fails_as, parted, so_far, ends, ends_narrow}
 use Rattle.process_core.proofs.merging.merged.Goals as goal
 
 pub returns-in_err-add_branch : goal.returns-in_err-add_branch
@@ -33,3 +33,17 @@ returns c =
       ends seen_branch _ _ c.loop-branch.sums.items c.from_vec.result h
           (c.from_vec.ensures ∙ filter_same _ (λ b. not (same_number b.weight nought)) _ (λ x b f' k. search rules) _ _ c.retain.ensures.filtered),
     )
+
+pub loop-branch-preserved : goal.loop-branch-preserved
+loop-branch-preserved c =
+    let xs = c.as_slice-branch-items.result.now in
+    let i = c.loop-branch.branch-index in record {
+      summed =
+          subst (λ l. IsSummed l (map (λ k. k.items) c.add_branch.new.keys.keys) (map seen_branch c.add_branch.new.sums.items))
+          (sym (so_far seen_branch xs i c.branch-item.result c.loop-branch-test.true c.branch-item.is))
+          (c.in_ok-add_branch.ensures.sums (map seen_branch (take i xs)) c.loop-branch.invariant.summed);
+      same_length = c.in_ok-add_branch.ensures.same_length;
+    }
+
+pub add_branch-requires : goal.add_branch-requires
+add_branch-requires c = c.loop-branch.invariant.same_length
