@@ -40,7 +40,3 @@ pub same_test : (a b : Bool) → (a ≡ true → b ≡ true) → (b ≡ true →
 same_test true b h k = sym (h refl)
 same_test false true h k = k refl
 same_test false false h k = refl
-
-pub or_absorbs : (a b : Bool) → (a ≡ true → b ≡ true) → (a || b) ≡ b
-or_absorbs true b h = sym (h refl)
-or_absorbs false b h = refl

@@ -5,6 +5,7 @@ ghost use Rattle.name_rules.specs.Rounds.{IsPlaced, IsStuckIn, IsTry, IsTurn};
 
 use crate::declarations::{Declaration, some_use};
 use crate::waiting::Waiting;
+use bridge_io::together;
 use std::alloc::{AllocError, Global};
 
 /// How many of each name wait for their places, which declarations have theirs, and their order.
@@ -34,9 +35,11 @@ pub(crate) fn place_all<'a>(
 fn placed_none<'a>(alloc: Global, all: &[Declaration<'a>]) -> Result<Placing<'a>, AllocError>
     ensures { IfOk result (IsPlaced all.now) }
 {
+    let unplaced = vec![in alloc; false; all.len()];
+    let (waiting, placed) = together(Waiting::of(alloc, all), unplaced)?;
     Ok(Placing {
-        waiting: Waiting::of(alloc, all)?,
-        placed: vec![in alloc; false; all.len()]?,
+        waiting,
+        placed,
         turns: Vec::new(alloc),
     })
 }

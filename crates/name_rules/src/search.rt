@@ -2,6 +2,7 @@
 
 use crate::declarations::Declaration;
 use crate::map::NameMap;
+use bridge_io::together;
 use std::alloc::{AllocError, Global};
 
 // The name that is declared first at a place is to be gone into, or all that its declarations use was gone into.
@@ -22,20 +23,28 @@ struct Search {
 /// The places of these declarations as a search by depth leaves them, those of one name together: what leads round in no
 /// circle is left after all that it leads to.
 pub(crate) fn by_depth(alloc: Global, all: &[Declaration]) -> Result<Vec<usize>, AllocError> {
-    let mut search = Search::of(alloc, all.len())?;
-    let places = Places::of(alloc, all)?;
-    search.visit_all(all, &places)?;
-    Ok(search.left)
+    let (search, places) = together(Search::of(alloc, all.len()), Places::of(alloc, all))?;
+    search.left_of(all, &places)
 }
 
 impl Search {
     // Nothing to do, and nothing done, with room for so many places.
     fn of(alloc: Global, count: usize) -> Result<Search, AllocError> {
+        let visits = Vec::with_capacity(alloc, count);
+        let left = Vec::with_capacity(alloc, count);
+        let entered = vec![in alloc; false; count];
+        let ((visits, left), entered) = together(together(visits, left), entered)?;
         Ok(Search {
-            visits: Vec::with_capacity(alloc, count)?,
-            entered: vec![in alloc; false; count]?,
-            left: Vec::with_capacity(alloc, count)?,
+            visits,
+            entered,
+            left,
         })
+    }
+
+    // The places that are left once all names were gone into.
+    fn left_of(mut self, all: &[Declaration], places: &Places) -> Result<Vec<usize>, AllocError> {
+        let visited = self.visit_all(all, places);
+        visited.and(Ok(self.left))
     }
 
     // Goes into all names.
@@ -132,18 +141,23 @@ struct Places<'a> {
 
 impl<'a> Places<'a> {
     fn of(alloc: Global, all: &[Declaration<'a>]) -> Result<Places<'a>, AllocError> {
-        let mut places = Places {
-            first: NameMap::with_capacity(alloc, all.len())?,
-            next: vec![in alloc; None; all.len()]?,
-        };
+        let first = NameMap::with_capacity(alloc, all.len());
+        let (first, next) = together(first, vec![in alloc; None; all.len()])?;
+        let mut places = Places { first, next };
+        let noted = places.note_all(all);
+        noted.and(Ok(places))
+    }
+
+    // Notes all, from the last on.
+    fn note_all(&mut self, all: &[Declaration<'a>]) -> Result<(), AllocError> {
         for i in (0..all.len()).rev() {
-            let after = places.first.get(all[i].name);
-            places.first.put(all[i].name, i)?;
-            if let Some(next) = places.next.get_mut(i) {
+            let after = self.first.get(all[i].name);
+            self.first.put(all[i].name, i)?;
+            if let Some(next) = self.next.get_mut(i) {
                 *next = after;
             }
         }
-        Ok(places)
+        Ok(())
     }
 
     fn after(&self, i: usize) -> Option<usize> {

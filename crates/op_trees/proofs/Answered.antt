@@ -3,14 +3,17 @@ use Rattle.std.proofs.Common.{◌≡◌, ℕ, List, [], ◌++◌, Bool, true, fa
 use Rattle.std.specs.List.{list_any}
 use Rattle.std.proofs.lemmas.List.Folds.{list_any-append}
 use Rattle.std.proofs.Math.Bool.{or-false, or-true}
-use Rattle.basics.specs.Booleans.{or_absorbs}
 use Rattle.op_trees.specs.declared.tree.Value.{Value}
 use Rattle.op_trees.specs.declared.tree.Next.{Next}
 use Rattle.op_trees.specs.declared.tree.Next.TheVariants.{Done, Second, Third, All}
 use Rattle.op_trees.specs.declared.tree.EvalFail.{EvalFail}
 use Rattle.op_trees.specs.declared.tree.EvalFail.TheVariants.{Undef}
 use Rattle.op_trees.specs.Tree.{Tree, Truth, Number, Name, One, Two, Three}
-use Rattle.op_trees.specs.Meaning.{Meaning, Environment, value_of, needed, needs_wide, is_wide_value, answered, answer, narrowed, both_answer, of_both, of_lazy, chosen, asked, asked_by}
+use Rattle.op_trees.specs.Meaning.{Meaning, Environment, value_of, needed, needs_wide, is_wide_value, answered, answer, narrowed, one_answer, both_answer, of_one, of_both, of_lazy, chosen, asked, asked_by}
+
+pub or_absorbs : (a b : Bool) → (a ≡ true → b ≡ true) → (a || b) ≡ b
+or_absorbs true b h = sym (h refl)
+or_absorbs false b h = refl
 
 -- ---- a lazy node's answer, from the answers for its operands
 abbrev pub next_answer : Next → Result Value EvalFail → Result Value EvalFail → Result Value EvalFail
@@ -37,6 +40,27 @@ module _ {O : Type 0} (m : Meaning O) (o : O) where
   both_answered false false (Some x) None = refl
   both_answered false false (Some x) (Some y) =
       ap (λ b. answered b (m.value o x (Some y))) (or-false (is_wide_value (m.value o x (Some y))))
+
+  -- a node with one operand asks for no other
+  single_answered : (p : Bool) (a : Option Value) →
+      answered (is_wide_value (of_one m o a) || p) (of_one m o a) ≡ one_answer m o (answered p a)
+  single_answered true a = ap (λ t. answered t (of_one m o a)) (or-true (is_wide_value (of_one m o a)))
+  single_answered false None = refl
+  single_answered false (Some x) = ap (λ t. answered t (m.value o x None)) (or-false (is_wide_value (m.value o x None)))
+
+  settled : (n : Next) → answered (is_wide_value (chosen n None None) || false) (chosen n None None)
+      ≡ next_answer n (Err Undef) (Err Undef)
+  settled (Done v) = ap (λ t. answered t (Some v)) (or-false (is_wide_value (Some v)))
+  settled Second = refl
+  settled Third = refl
+  settled All = refl
+
+  lone_answered : (p : Bool) (a : Option Value) →
+      answered (is_wide_value (of_lazy m o a None None) || p) (of_lazy m o a None None)
+      ≡ lazy_answer m o (answered p a) (Err Undef) (Err Undef)
+  lone_answered true a = ap (λ t. answered t (of_lazy m o a None None)) (or-true (is_wide_value (of_lazy m o a None None)))
+  lone_answered false None = refl
+  lone_answered false (Some x) = settled (m.first o x)
 
   module _ (P : Tree O → Bool) (b c : Option Value) (bs cs : List (Tree O)) (b_counts : is_wide_value b
       ≡ true → list_any P bs ≡ true) (c_counts : is_wide_value c ≡ true → list_any P cs ≡ true) where
@@ -91,18 +115,39 @@ module _ {O : Type 0} (m : Meaning O) (env : Environment) where
       ap (λ t. answered (is_wide_value v || t) v) (list_any-append P (needed m a env) (asked_by m o (value_of m a env) (needed m b env) (needed m c env)))
       ∙ (lazy_answered m o (λ s. is_wide_value (value_of m s env)) (value_of m b env) (value_of m c env) (needed m b env) (needed m c env) (self_counts b) (self_counts c) (needs_wide m a env) (value_of m a env))
 
+  strict_one : (at : ℕ) (o : O) (a : Tree O) → m.strict o ≡ true → answer m (One at o a) env
+      ≡ one_answer m o (answer m a env)
+  strict_one at o a s = rw s (single_answered m o (needs_wide m a env) (value_of m a env))
+
+  lazy_one : (at : ℕ) (o : O) (a : Tree O) → m.strict o ≡ false → answer m (One at o a) env
+      ≡ lazy_answer m o (answer m a env) (Err Undef) (Err Undef)
+  lazy_one at o a s = rw s (lone_answered m o (needs_wide m a env) (value_of m a env))
+
   -- ---- the arms of an evaluation
+  pub arm_one_strict : (e : Tree O) (at : ℕ) (o : O) (a : Tree O) (f r : Result Value EvalFail) → e
+      ≡ One at o a → m.strict o ≡ true → f ≡ answer m a env → r ≡ one_answer m o f → r ≡ answer m e env
+  arm_one_strict e at o a f r is st h j =
+      j ∙ ap (one_answer m o) h ∙ sym (strict_one at o a st) ∙ ap (λ t. answer m t env) (sym is)
+
+  pub arm_one : (e : Tree O) (at : ℕ) (o : O) (a : Tree O) (x : Value) (r : Result Value EvalFail) (n : Next) → e
+      ≡ One at o a → m.strict o ≡ false → answer m a env ≡ Ok x → m.first o x ≡ n → r
+      ≡ next_answer n (Err Undef) (Err Undef) → r ≡ answer m e env
+  arm_one e at o a x r n is st h k j =
+      j ∙ ap (λ t. next_answer t (Err Undef) (Err Undef)) (sym k)
+      ∙ ap (λ t. lazy_answer m o t (Err Undef) (Err Undef)) (sym h)
+      ∙ sym (lazy_one at o a st) ∙ ap (λ t. answer m t env) (sym is)
+
   pub arm_two_strict : (e : Tree O) (at : ℕ) (o : O) (a b : Tree O) (f s r : Result Value EvalFail) → e
       ≡ Two at o a b → m.strict o ≡ true → f ≡ answer m a env → s ≡ answer m b env → r
       ≡ both_answer m o f s → r ≡ answer m e env
   arm_two_strict e at o a b f s r is st h k j =
       j ∙ ap₂ (both_answer m o) h k ∙ sym (strict_two at o a b st) ∙ ap (λ t. answer m t env) (sym is)
 
-  pub arm_two_second : (e : Tree O) (at : ℕ) (o : O) (a b : Tree O) (x : Value) (r : Result Value EvalFail) →
-      e ≡ Two at o a b → m.strict o ≡ false → answer m a env ≡ Ok x → m.first o x ≡ Second → r
-      ≡ answer m b env → r ≡ answer m e env
-  arm_two_second e at o a b x r is st h n j =
-      j ∙ ap (λ t. next_answer t (answer m b env) (Err Undef)) (sym n)
+  pub arm_two : (e : Tree O) (at : ℕ) (o : O) (a b : Tree O) (x : Value) (r : Result Value EvalFail) (n : Next) →
+      e ≡ Two at o a b → m.strict o ≡ false → answer m a env ≡ Ok x → m.first o x ≡ n → r
+      ≡ next_answer n (answer m b env) (Err Undef) → r ≡ answer m e env
+  arm_two e at o a b x r n is st h k j =
+      j ∙ ap (λ t. next_answer t (answer m b env) (Err Undef)) (sym k)
       ∙ ap (λ t. lazy_answer m o t (answer m b env) (Err Undef)) (sym h)
       ∙ sym (lazy_two at o a b st) ∙ ap (λ t. answer m t env) (sym is)
 

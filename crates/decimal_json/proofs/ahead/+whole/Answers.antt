@@ -155,3 +155,68 @@ whole_object-returns-clause-none t c =
       | whole_object-then-loop-n-test+else-bytes-n-eq34 w ↦ members_no_key c.args.bytes.now c.args.at c.args.depth c.loop-n.n c.loop-n.done c.loop-n.invariant w.loop-n-test.true (ne_eqb _ _ w.if-bytes-n-eq34.false)
       | whole_object-else-loop-n-test w ↦ members_over c.args.bytes.now c.args.at c.args.depth c.loop-n.n c.loop-n.done c.loop-n.invariant (let a = c.loop-n.invariant.0 in let b = w.loop-n-test.false in omega (arith, a, b))
     ]
+
+-- ---- what asks for nothing there
+
+pub tight-returns-then-depth-eq0-clause-whole : goal.tight-returns-then-depth-eq0-clause-whole
+tight-returns-then-depth-eq0-clause-whole t c = tt
+
+pub tight-returns-then-depth-eq0-2-clause-whole : goal.tight-returns-then-depth-eq0-2-clause-whole
+tight-returns-then-depth-eq0-2-clause-whole t c = tt
+
+pub whole-returns-in-None-clause-whole : goal.whole-returns-in-None-clause-whole
+whole-returns-in-None-clause-whole t c = tt
+
+pub whole-returns-in-None-clause-stops : goal.whole-returns-in-None-clause-stops
+whole-returns-in-None-clause-stops t c = tt
+
+pub whole-returns-then-end-bytes-clause-whole : goal.whole-returns-then-end-bytes-clause-whole
+whole-returns-then-end-bytes-clause-whole t c = tt
+
+pub whole-returns-then-end-bytes-clause-stops : goal.whole-returns-then-end-bytes-clause-stops
+whole-returns-then-end-bytes-clause-stops t c = tt
+
+pub whole-returns-else-end-bytes-clause-none : goal.whole-returns-else-end-bytes-clause-none
+whole-returns-else-end-bytes-clause-none t c = tt
+
+pub item-returns-then-bytes-eq44-clause-none : goal.item-returns-then-bytes-eq44-clause-none
+item-returns-then-bytes-eq44-clause-none t c = tt
+
+pub whole_array-returns-then-n-bytes-clause-whole : goal.whole_array-returns-then-n-bytes-clause-whole
+whole_array-returns-then-n-bytes-clause-whole t c = tt
+
+pub whole_array-returns-then-n-bytes-2-clause-whole : goal.whole_array-returns-then-n-bytes-2-clause-whole
+whole_array-returns-then-n-bytes-2-clause-whole t c = tt
+
+pub whole_array-returns-then-bytes-n-eq93-clause-none : goal.whole_array-returns-then-bytes-n-eq93-clause-none
+whole_array-returns-then-bytes-n-eq93-clause-none t c = tt
+
+pub whole_array-returns-in-None-clause-whole : goal.whole_array-returns-in-None-clause-whole
+whole_array-returns-in-None-clause-whole t c = tt
+
+pub whole_array-returns-then-bytes-end-ne93-clause-whole : goal.whole_array-returns-then-bytes-end-ne93-clause-whole
+whole_array-returns-then-bytes-end-ne93-clause-whole t c = tt
+
+pub whole_array-returns-then-bytes-end-ne44-clause-none : goal.whole_array-returns-then-bytes-end-ne44-clause-none
+whole_array-returns-then-bytes-end-ne44-clause-none t c = tt
+
+pub whole_array-returns-clause-whole : goal.whole_array-returns-clause-whole
+whole_array-returns-clause-whole t c = tt
+
+pub whole_object-returns-then-n-bytes-clause-whole : goal.whole_object-returns-then-n-bytes-clause-whole
+whole_object-returns-then-n-bytes-clause-whole t c = tt
+
+pub whole_object-returns-then-n-bytes-2-clause-whole : goal.whole_object-returns-then-n-bytes-2-clause-whole
+whole_object-returns-then-n-bytes-2-clause-whole t c = tt
+
+pub whole_object-returns-then-bytes-n-eq125-clause-none : goal.whole_object-returns-then-bytes-n-eq125-clause-none
+whole_object-returns-then-bytes-n-eq125-clause-none t c = tt
+
+pub whole_object-returns-then-bytes-end-ne125-clause-whole : goal.whole_object-returns-then-bytes-end-ne125-clause-whole
+whole_object-returns-then-bytes-end-ne125-clause-whole t c = tt
+
+pub whole_object-returns-then-bytes-end-ne44-clause-none : goal.whole_object-returns-then-bytes-end-ne44-clause-none
+whole_object-returns-then-bytes-end-ne44-clause-none t c = tt
+
+pub whole_object-returns-clause-whole : goal.whole_object-returns-clause-whole
+whole_object-returns-clause-whole t c = tt

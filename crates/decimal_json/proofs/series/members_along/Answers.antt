@@ -85,3 +85,46 @@ loop-frames-preserved c =
             key_opens (c.args.at + c.past_spaces-next.result) c.args.start c.in-Ok.more c.loop-frames.frames,
           ),
     )
+
+-- ---- within the bytes
+pub overflow_add-end : goal.overflow_add-end
+overflow_add-end c =
+    let i = c.loop-frames.invariant in
+    let e = tail_is c.loop-frames.n c.args.bytes.now in
+    let k = looks_of _ _ _ _ _ (Valued c.in-Ok-Valued.pending c.in-Ok-Valued.m c.in-Ok-Valued.value c.in-Ok-Valued.size) c.in-Ok-Valued.field-0-is c.in-Ok-Valued.ensures.whole in
+    let l = named_within c.args.bytes.now _ _ c.loop-frames.n c.in-Ok-Valued.m _ _ e i.1 k.0 in
+    let r = c.requires.room in
+    omega (arith, l, r)
+
+pub bounds-bytes-end : goal.bounds-bytes-end
+bounds-bytes-end c =
+    let i = c.loop-frames.invariant in
+    let e = tail_is c.loop-frames.n c.args.bytes.now in
+    let k = looks_of _ _ _ _ _ (Valued c.in-Ok-Valued.pending c.in-Ok-Valued.m c.in-Ok-Valued.value c.in-Ok-Valued.size) c.in-Ok-Valued.field-0-is c.in-Ok-Valued.ensures.whole in
+    let l = named_within c.args.bytes.now _ _ c.loop-frames.n c.in-Ok-Valued.m _ _ e i.1 k.0 in
+    let f = drop_on c.args.bytes.now _ c.loop-frames.n c.in-Ok-Valued.m e in
+    whole_within c.args.bytes.now _ _ _ (c.loop-frames.n + c.in-Ok-Valued.m) c.in-Ok-Valued.size c.in-Ok-Valued.value f l k.1
+
+pub after_member-requires : goal.after_member-requires
+after_member-requires c =
+    let i = c.loop-frames.invariant in
+    let e = tail_is c.loop-frames.n c.args.bytes.now in
+    let k = looks_of _ _ _ _ _ (Valued c.in-Ok-Valued.pending c.in-Ok-Valued.m c.in-Ok-Valued.value c.in-Ok-Valued.size) c.in-Ok-Valued.field-0-is c.in-Ok-Valued.ensures.whole in
+    let l = named_within c.args.bytes.now _ _ c.loop-frames.n c.in-Ok-Valued.m _ _ e i.1 k.0 in
+    let f = drop_on c.args.bytes.now _ c.loop-frames.n c.in-Ok-Valued.m e in
+    let w = whole_within c.args.bytes.now _ _ _ (c.loop-frames.n + c.in-Ok-Valued.m) c.in-Ok-Valued.size c.in-Ok-Valued.value f l k.1 in
+    let r = c.requires.room in
+    omega (arith, w, r)
+
+pub key_only-requires : goal.key_only-requires
+key_only-requires c =
+    let a = c.loop-frames.invariant.1 in
+    let r = c.requires.room in
+    omega (arith, a, r)
+
+pub bounds-bytes-next : goal.bounds-bytes-next
+bounds-bytes-next c =
+    let a = c.if-next-bytes.false in
+    let b = c.past_spaces-next.ensures.skips in
+    let w = b.within in
+    omega (arith, a, w)

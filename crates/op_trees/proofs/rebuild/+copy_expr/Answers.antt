@@ -1,0 +1,27 @@
+use Rattle.std.proofs.Common.{◌≡◌, sym, subst}
+use Rattle.std.specs.Prelude.{IfOk}
+use Rattle.op_trees.specs.declared.tree.Expr.{Expr}
+use Rattle.op_trees.specs.Tree.{tree, One, Two, Three}
+use Rattle.op_trees.proofs.Made.{over_one, over_two, over_three}
+use Rattle.op_trees.proofs.rebuild.+copy_expr.Goals as goal
+
+pub returns-in-One : goal.returns-in-One
+returns-in-One g t c =
+    subst (λ (e : Expr _). IfOk c.one.result (λ v. tree v ≡ tree e)) (sym c.in-One.is)
+    (over_one tree tree (One c.in-One.at c.in-One.o) _ _ (tree c.in-One.a.value) c.one.ensures
+    (subst (λ (x : Expr _). IfOk c.copy_expr.result (λ v. tree v ≡ tree x)) c.deref.ensures c.copy_expr.ensures))
+
+pub returns-in-Two : goal.returns-in-Two
+returns-in-Two g t c =
+    subst (λ (e : Expr _). IfOk c.two.result (λ v. tree v ≡ tree e)) (sym c.in-Two.is)
+    (over_two tree tree (Two c.in-Two.at c.in-Two.o) _ _ _ (tree c.in-Two.a.value) (tree c.in-Two.b.value) c.two.ensures
+    (subst (λ (x : Expr _). IfOk c.copy_expr-in-Two.result (λ v. tree v ≡ tree x)) c.deref-in-Two.ensures c.copy_expr-in-Two.ensures)
+    (subst (λ (x : Expr _). IfOk c.copy_expr-in-Two-2.result (λ v. tree v ≡ tree x)) c.deref-in-Two-2.ensures c.copy_expr-in-Two-2.ensures))
+
+pub returns-in-Three : goal.returns-in-Three
+returns-in-Three g t c =
+    subst (λ (e : Expr _). IfOk c.three.result (λ v. tree v ≡ tree e)) (sym c.in-Three.is)
+    (over_three tree tree (Three c.in-Three.at c.in-Three.o) _ _ _ _ (tree c.in-Three.a.value) (tree c.in-Three.b.value) (tree c.in-Three.c.value) c.three.ensures
+    (subst (λ (x : Expr _). IfOk c.copy_expr-in-Three.result (λ v. tree v ≡ tree x)) c.deref-in-Three.ensures c.copy_expr-in-Three.ensures)
+    (subst (λ (x : Expr _). IfOk c.copy_expr-in-Three-2.result (λ v. tree v ≡ tree x)) c.deref-in-Three-2.ensures c.copy_expr-in-Three-2.ensures)
+    (subst (λ (x : Expr _). IfOk c.copy_expr-in-Three-3.result (λ v. tree v ≡ tree x)) c.deref-in-Three-3.ensures c.copy_expr-in-Three-3.ensures))
