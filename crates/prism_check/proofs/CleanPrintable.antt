@@ -14,7 +14,7 @@ use Rattle.op_trees.specs.Names.{is_called}
 use Rattle.prism_names.specs.Names.{formula_body, is_formula, unchanged, written_name, renaming, module_name, module_called, Part, copy_of, part_of}
 use Rattle.prism_names.specs.Flat.{flat_expression, flat_name, flat_range, flat_var, flat_write, flat_branch, flat_command, flat_module, flat_constant, flat_label, flat_item, flat_rewards, flat}
 use Rattle.basics.specs.Options.{IfAny}
-use Rattle.prism_print.specs.Printable.{IsIdentifier, IsPrintableExpression, IsPrintableConst, IsPrintableRange, IsPrintableVar, IsPrintableFormula, IsPrintableLabel, IsPrintableWrite, IsPrintableBranch, HasWeight, AreBranches, IsPrintableCommand, IsPrintablePair, IsPrintableModule, IsPrintableItem, IsPrintableRewards, IsPrintable}
+use Rattle.prism_flat.specs.Printable.{IsIdentifier, IsPrintableExpression, IsPrintableConst, IsPrintableRange, IsPrintableVar, IsPrintableFormula, IsPrintableLabel, IsPrintableWrite, IsPrintableBranch, HasWeight, AreBranches, IsPrintableCommand, IsPrintablePair, IsPrintableModule, IsPrintableItem, IsPrintableRewards, IsPrintable}
 
 -- ---- expressions
 replaced_printable : (t : Expression) (o : Option Expression) → IsPrintableExpression t → IfAny IsPrintableExpression o → IsPrintableExpression (replaced t o)

@@ -22,3 +22,13 @@ flat_left f s total old new xs i x h e so_far added =
     ∙ append_assoc old (f (s x)) rest
     ∙ ap (λ l. old ++ flat_map f (map s l)) (sym (drop_item xs i x h e))
     ∙ so_far
+
+-- the same where the members are taken as they are
+pub each_left : {B X : Type 0} (f : B → List X) (total old new : List X) (xs : List B) (i : ℕ) (x : B) → i < length xs → x ≡ get_or xs i x →
+    old ++ flat_map f (drop i xs) ≡ total → new ≡ old ++ f x → new ++ flat_map f (drop (i + 1) xs) ≡ total
+each_left f total old new xs i x h e so_far added =
+    let rest = flat_map f (drop (i + 1) xs) in
+    ap (λ l. l ++ rest) added
+    ∙ append_assoc old (f x) rest
+    ∙ ap (λ l. old ++ flat_map f l) (sym (drop_item xs i x h e))
+    ∙ so_far

@@ -14,3 +14,5 @@ pub mod Counted
 pub mod Typing
 pub mod Writings
 pub mod FileNames
+pub use Rattle.prism_flat.specs.Same
+pub use Rattle.prism_flat.specs.Printable

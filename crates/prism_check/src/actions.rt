@@ -49,7 +49,9 @@ pub(crate) fn count_actions<'a>(
     for entry in all {
         add_actions(alloc, entry, modules, &mut actions)?;
     }
-    Ok(actions.len())
+    let count = actions.len();
+    drop(actions);
+    Ok(count)
 }
 
 // Adds the actions of a module.
@@ -63,7 +65,9 @@ fn add_actions<'a>(
         (names_in actions.new ≡ insert_all bytes_eq (names_in actions.old) (actions_by (module_under modules.now) (module_of entry.now))) }
 {
     let renaming = Renaming::of(alloc, pairs_of(entry))?;
-    add_renamed(commands_of(entry, modules), &renaming, actions)
+    let added = add_renamed(commands_of(entry, modules), &renaming, actions);
+    drop(renaming);
+    added
 }
 
 // The pairs of a copy.

@@ -2,7 +2,7 @@
 
 ghost use Rattle.std.specs.Prelude.{◌≡◌, [], length, IfErr, IfOk};
 ghost use Rattle.prism_tree.specs.Syntax.{file_of};
-ghost use Rattle.prism_print.specs.Printable.{IsPrintable};
+ghost use Rattle.prism_flat.specs.Printable.{IsPrintable};
 ghost use Rattle.prism_check.specs.Checked.{IsChecked, Refuses};
 ghost use Rattle.prism_check.specs.Faults.{faults};
 ghost use Rattle.prism_check.specs.SizeFaults.{command_count};

@@ -46,6 +46,7 @@ fn judge_copy(
             let renaming = Renaming::of(alloc, m.pairs.as_slice())?;
             let from = modules.called(m.from.name.as_str());
             let lacks = lacks_pair(vars_in(from), &renaming);
+            drop(renaming);
             let first = sooner_if(lacks, m.name.at, Reason::RenameMissing, before);
             Ok(sooner_if(is_copy(from), m.from.at, Reason::RenameOfRenamed, first))
         }

@@ -19,6 +19,7 @@ use crate::tree_size::{Size, measure};
 use crate::typing::{Known, Names, known_formulas, varies};
 use crate::values::values;
 use crate::variables::{Declared, declarations};
+use bridge_io::together;
 use name_rules::{NameMap, NameSet, Telling};
 use op_trees::Ty;
 use prism_tree::{PrismExpr, PrismFile};
@@ -39,8 +40,13 @@ impl<'a> TypeTables<'a> {
         ensures { IfOk result (λ tables. AreTyped tables (file_of file.now)) }
     {
         let declared = declared_names(alloc, file)?;
-        let formulas = known_formulas(alloc, &declared, file.formulas.as_slice(), order)?;
-        Ok(TypeTables { declared, formulas })
+        match known_formulas(alloc, &declared, file.formulas.as_slice(), order) {
+            Ok(formulas) => Ok(TypeTables { declared, formulas }),
+            Err(refused) => {
+                drop(declared);
+                Err(refused)
+            }
+        }
     }
 
     // The type of a name.
@@ -75,7 +81,9 @@ fn declared_names<'a>(alloc: Global, file: &'a PrismFile) -> Result<Declared<'a>
     ensures { IfOk result (λ declared. IsDeclared declared (file_of file.now)) }
 {
     let modules = Modules::of(alloc, file.modules.as_slice())?;
-    declarations(alloc, file, &modules)
+    let declared = declarations(alloc, file, &modules);
+    drop(modules);
+    declared
 }
 
 // The names of a file, and how large its formulas are.
@@ -91,8 +99,8 @@ impl<'a> NameTables<'a> {
         requires { IsPlaceOrder (file_of file.now) order.now }
         ensures { IfOk result (λ tables. AreNamed tables (file_of file.now)) }
     {
-        let known = known_names(alloc, file)?;
-        let sizes = formula_sizes(alloc, file, order)?;
+        let known = known_names(alloc, file);
+        let (known, sizes) = together(known, formula_sizes(alloc, file, order))?;
         Ok(NameTables { known, sizes })
     }
 }
@@ -102,7 +110,9 @@ fn known_names<'a>(alloc: Global, file: &'a PrismFile) -> Result<NameSet<'a>, Al
     ensures { IfOk result (λ known. has_name known ≡ is_among (values (file_of file.now))) }
 {
     let modules = Modules::of(alloc, file.modules.as_slice())?;
-    let names = values(alloc, file, &modules)?;
+    let listed = values(alloc, file, &modules);
+    drop(modules);
+    let names = listed?;
     NameSet::of(alloc, &names)
 }
 
@@ -136,8 +146,9 @@ impl<'a> FileNames<'a> {
         ensures { IfOk result (λ names. names ≡ checked.now) }
     {
         let file = checked.file();
-        let names = NameTables::of(alloc, file, checked.order())?;
-        let types = TypeTables::of(alloc, file, checked.order())?;
+        let names = NameTables::of(alloc, file, checked.order());
+        let types = TypeTables::of(alloc, file, checked.order());
+        let (names, types) = together(names, types)?;
         Ok(FileNames {
             checked,
             names,

@@ -131,6 +131,7 @@ fn lost_flags<'b>(
     for _turn in 0..formulas.len() {
         let next = next_flags(alloc, formulas, &flags, reading)?;
         if same_flags(formulas, &next, &flags) {
+            drop(flags);
             return Ok(next);
         }
         flags = next;
@@ -151,7 +152,9 @@ pub(crate) fn loses_name<'b>(
         (map demand_by demands.now)) }
 {
     let flags = lost_flags(alloc, formulas, reading)?;
-    Ok(some_demand(&flags, reading, demands))
+    let loses = some_demand(&flags, reading, demands);
+    drop(flags);
+    Ok(loses)
 }
 
 fn some_demand(flags: &NameMap<bool>, reading: &Reading, demands: &[Demand]) -> bool

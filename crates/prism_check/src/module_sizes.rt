@@ -34,7 +34,9 @@ pub(crate) fn modules_size(
         (highest (height_in formulas.now) (flat_map (copied_demands (named_module all.now)) modules)))) }
 {
     let own = own_sizes(alloc, all, formulas)?;
-    Ok(own.all.beside(copies_size(all, &own.named)))
+    let size = own.all.beside(copies_size(all, &own.named));
+    drop(own);
+    Ok(size)
 }
 
 // The size of all modules without the copies, and by their names that of each, which is none for a copy.

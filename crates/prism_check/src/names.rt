@@ -16,7 +16,7 @@ use crate::doubled::judge_twice;
 use crate::scope::{Scope, judge_unknown_names};
 use crate::tables::{Formulas, Modules};
 use crate::values::values;
-use bridge_io::{Fault, Reason};
+use bridge_io::{Fault, Reason, together};
 use name_rules::{Entry, NameSet, judge_circles, sooner_if};
 use prism_tree::PrismFile;
 use std::alloc::{AllocError, Global};
@@ -66,9 +66,11 @@ fn judge_declared(alloc: Global, file: &PrismFile) -> Result<Option<Fault>, Allo
 {
     let modules = Modules::of(alloc, file.modules.as_slice())?;
     let names = values(alloc, file, &modules)?;
-    let twice = judge_twice(alloc, file, &names, None)?;
-    let scope = scope(alloc, file, modules, names)?;
-    judge_unknown_names(alloc, file, &scope, twice)
+    let twice = judge_twice(alloc, file, &names, None);
+    let (twice, scope) = together(twice, scope(alloc, file, modules, names))?;
+    let judged = judge_unknown_names(alloc, file, &scope, twice);
+    drop(scope);
+    judged
 }
 
 // The least of a fault that was found before, those of copies, and that of a file without modules.
@@ -81,7 +83,9 @@ fn judge_copied(
         IfOk result (λ best. best ≡ soonest (soonest before (flat_map (copy_faults f) f.modules)) (no_module f)) }
 {
     let modules = Modules::of(alloc, file.modules.as_slice())?;
-    let copies = judge_copies(alloc, file.modules.as_slice(), &modules, before)?;
+    let judged = judge_copies(alloc, file.modules.as_slice(), &modules, before);
+    drop(modules);
+    let copies = judged?;
     let empty = file.modules.len() == 0;
     Ok(sooner_if(empty, file.end, Reason::Nothing, copies))
 }
@@ -97,8 +101,10 @@ fn scope<'a>(
     requires names { map named_by names.items ≡ values (file_of file.now) }
     ensures { IfOk result (λ s. IsScope s (file_of file.now)) }
 {
-    let formulas = Formulas::of(alloc, file.formulas.as_slice())?;
-    let known = NameSet::of(alloc, &names)?;
+    let known = NameSet::of(alloc, &names);
+    drop(names);
+    let formulas = Formulas::of(alloc, file.formulas.as_slice());
+    let (formulas, known) = together(formulas, known)?;
     Ok(Scope {
         modules,
         formulas,

@@ -1,14 +1,17 @@
 // Names that are not declared, of a whole file.
 
-ghost use Rattle.std.specs.Prelude.{◌≡◌, map, not, is_some, IfOk};
-ghost use Rattle.std.specs.List.{flat_map};
+ghost use Rattle.std.specs.Prelude.{◌≡◌, ◌++◌, map, length, not, is_some, IfOk};
+ghost use Rattle.std.specs.List.{flat_map, list_any};
+ghost use Rattle.std.specs.Option.{option_map};
+ghost use Rattle.op_trees.specs.Tree.{written_out};
 ghost use Rattle.prism_tree.specs.Syntax.{copied, file_of, formula_of, module_of};
 ghost use Rattle.prism_names.specs.Names.{part_of};
-ghost use Rattle.prism_check.specs.Demands.{formula_demands};
+ghost use Rattle.prism_check.specs.Demands.{command_demands, formula_demands, var_demands};
+ghost use Rattle.prism_check.specs.Levels.{lost_in};
 ghost use Rattle.prism_check.specs.Views.{demand_by};
 ghost use Rattle.name_rules.specs.Least.{soonest};
-ghost use Rattle.prism_check.specs.NameFaults.{loses_name, unknown_in, unknown_names};
-ghost use Rattle.prism_check.specs.Tables.{IsScope, module_under};
+ghost use Rattle.prism_check.specs.NameFaults.{loses_name, some_used, unknown_in, unknown_names};
+ghost use Rattle.prism_check.specs.Tables.{IsScope, body_in, commands_in, module_under, vars_in};
 
 use crate::demands::{Demand, add_all, contents_demands, outer_demands};
 use crate::lost_names::{Reading, loses_name};
@@ -115,12 +118,30 @@ fn copy_loses_name(
     ensures { IfOk result (λ b. b ≡ loses_name (file_of file.now) (part_of (file_of file.now) (copied m.now))) }
 {
     let from = scope.modules.called(m.from.name.as_str());
-    let demands = contents_demands(alloc, vars_in(from), commands_in(from))?;
     let renaming = Renaming::of(alloc, m.pairs.as_slice())?;
     let reading = Reading {
         known: &scope.known,
         formulas: &scope.formulas,
         renaming: &renaming,
     };
-    loses_name(alloc, file.formulas.as_slice(), &reading, &demands)
+    let loses = contents_lose_name(alloc, file.formulas.as_slice(), from, &reading);
+    drop(renaming);
+    loses
+}
+
+// Whether some name in the contents of a module is lost.
+fn contents_lose_name<'b>(
+    alloc: Global,
+    formulas: &'b [PrismFormula],
+    from: Option<&PrismModule>,
+    reading: &Reading,
+) -> Result<bool, AllocError>
+    ensures { let contents = option_map (λ m. module_of m.now) from.entry in
+        IfOk result
+        (λ b. b
+        ≡ list_any (some_used (lost_in reading.now) (written_out (body_in formulas.now) (length formulas.now)))
+        (flat_map var_demands (vars_in contents) ++ flat_map command_demands (commands_in contents))) }
+{
+    let demands = contents_demands(alloc, vars_in(from), commands_in(from))?;
+    loses_name(alloc, formulas, reading, &demands)
 }

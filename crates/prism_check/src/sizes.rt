@@ -5,7 +5,7 @@ ghost use Rattle.std.specs.List.{list_any};
 ghost use Rattle.op_trees.specs.Tree.{capped};
 ghost use Rattle.prism_tree.specs.Syntax.{file_of, rewards_of};
 ghost use Rattle.prism_names.specs.Places.{IsPlaceOrder};
-ghost use Rattle.prism_check.specs.Counted.{sizes_of};
+ghost use Rattle.prism_check.specs.Counted.{AreSizes, size_in, sizes_of};
 ghost use Rattle.prism_check.specs.Tables.{module_under, named_module};
 ghost use Rattle.prism_check.specs.SizeFaults.{counted_height, counted_nodes};
 
@@ -15,6 +15,7 @@ use crate::formula_sizes::formula_sizes;
 use crate::module_sizes::modules_size;
 use crate::tables::Modules;
 use crate::tree_size::{Size, measure_all};
+use name_rules::NameMap;
 use prism_tree::{PrismFile, PrismRewards};
 use std::alloc::{AllocError, Global};
 
@@ -51,7 +52,9 @@ pub(crate) fn judge_sizes(
     ensures { IfOk result (λ sizes. sizes ≡ sizes_of (file_of file.now)) }
 {
     let modules = Modules::of(alloc, file.modules.as_slice())?;
-    judge_by(alloc, file, order, &modules)
+    let sizes = judge_by(alloc, file, order, &modules);
+    drop(modules);
+    sizes
 }
 
 // The same by the modules of the file.
@@ -99,9 +102,20 @@ fn file_size(alloc: Global, file: &PrismFile, order: &[usize]) -> Result<Size, A
     ensures height { IfOk result (λ size. size.height ≡ capped (counted_height (file_of file.now))) }
 {
     let formulas = formula_sizes(alloc, file, order)?;
+    let size = size_by(alloc, file, &formulas);
+    drop(formulas);
+    size
+}
+
+// The same by the sizes of the formulas.
+fn size_by(alloc: Global, file: &PrismFile, formulas: &NameMap<Size>) -> Result<Size, AllocError>
+    requires { AreSizes (file_of file.now) (size_in formulas.now) }
+    ensures nodes { IfOk result (λ size. size.nodes ≡ capped (counted_nodes (file_of file.now))) }
+    ensures height { IfOk result (λ size. size.height ≡ capped (counted_height (file_of file.now))) }
+{
     let demands = outer_demands(alloc, file)?;
-    let outer = measure_all(&demands, &formulas);
-    let modules = modules_size(alloc, file.modules.as_slice(), &formulas)?;
+    let outer = measure_all(&demands, formulas);
+    let modules = modules_size(alloc, file.modules.as_slice(), formulas)?;
     Ok(outer.beside(modules))
 }
 

@@ -19,7 +19,7 @@ use crate::values::{commands_in, vars_in};
 use crate::variables::{Declared, declarations};
 use crate::writes::{judge_repeated, judge_write};
 use crate::writing::Writing;
-use bridge_io::{Fault, Reason};
+use bridge_io::{Fault, Reason, together};
 use op_trees::offset_of;
 use prism_tree::{CopiedModule, PrismCommand, PrismFile, PrismModule, PrismVar};
 use std::alloc::{AllocError, Global};
@@ -35,8 +35,26 @@ pub(crate) fn judge_types(
     ensures { IfOk result (λ best. best ≡ soonest None (type_faults (file_of file.now))) }
 {
     let modules = Modules::of(alloc, file.modules.as_slice())?;
-    let declared = declarations(alloc, file, &modules)?;
-    judge_typed(alloc, file, order, &modules, &declared)
+    let judged = judge_declared(alloc, file, order, &modules);
+    drop(modules);
+    judged
+}
+
+// The same by the modules of the file.
+fn judge_declared<'t>(
+    alloc: Global,
+    file: &'t PrismFile,
+    order: &[usize],
+    modules: &Modules<'t>,
+) -> Result<Option<Fault>, AllocError>
+    requires order { IsPlaceOrder (file_of file.now) order.now }
+    requires modules { (x : List ℕ) → module_under modules.now x ≡ named_module file.now.modules x }
+    ensures { IfOk result (λ best. best ≡ soonest None (type_faults (file_of file.now))) }
+{
+    let declared = declarations(alloc, file, modules)?;
+    let judged = judge_typed(alloc, file, order, modules, &declared);
+    drop(declared);
+    judged
 }
 
 // The same by the modules and the declarations of the file.
@@ -52,14 +70,17 @@ fn judge_typed<'t>(
     requires declared { IsDeclared declared.now (file_of file.now) }
     ensures { IfOk result (λ best. best ≡ soonest None (type_faults (file_of file.now))) }
 {
-    let formulas = known_formulas(alloc, declared, file.formulas.as_slice(), order)?;
-    let writing = Writing::of(alloc, file, order)?;
+    let formulas = known_formulas(alloc, declared, file.formulas.as_slice(), order);
+    let (formulas, writing) = together(formulas, Writing::of(alloc, file, order))?;
     let names = Names {
         declared,
         formulas: &formulas,
         renaming: None,
     };
-    judge_all(alloc, file, modules, &names, &writing)
+    let judged = judge_all(alloc, file, modules, &names, &writing);
+    drop(writing);
+    drop(formulas);
+    judged
 }
 
 // The same by the tables of the file, what stands outside of modules first.
@@ -207,7 +228,9 @@ fn judge_module<'t>(
                 return judge_renamed(alloc, file, modules, names, spot, m, before);
             }
             let written = writing.module(alloc, file, entry)?;
-            judge_plain(alloc, names, spot, &written, before)
+            let judged = judge_plain(alloc, names, spot, &written, before);
+            drop(written);
+            judged
         }
     }
 }
@@ -235,7 +258,9 @@ fn judge_renamed<'t>(
         renaming: Some(&renaming),
     };
     let from = modules.called(m.from.name.as_str());
-    judge_contents(alloc, &own, spot, vars_in(from), commands_in(from), before)
+    let judged = judge_contents(alloc, &own, spot, vars_in(from), commands_in(from), before);
+    drop(renaming);
+    judged
 }
 
 // These modules, numbered from 0.

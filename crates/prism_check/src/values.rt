@@ -62,7 +62,9 @@ fn add_module_vars<'a>(
         PrismModule::Copied(m) => {
             let renaming = Renaming::of(alloc, m.pairs.as_slice())?;
             let from = modules.called(m.from.name.as_str());
-            add_renamed(vars_in(from), &renaming, m.name.at, list)
+            let added = add_renamed(vars_in(from), &renaming, m.name.at, list);
+            drop(renaming);
+            added
         }
     }
 }

@@ -13,6 +13,7 @@ ghost use Rattle.prism_check.specs.Typing.{IsDeclared, module_variables_by, numb
 
 use crate::tables::{Modules, Renaming};
 use crate::values::vars_in;
+use bridge_io::together;
 use name_rules::NameMap;
 use op_trees::Ty;
 use prism_tree::{PrismConst, PrismFile, PrismModule, PrismVar};
@@ -41,8 +42,8 @@ pub(crate) fn declarations<'a>(
     requires { (x : List ℕ) → module_under modules.now x ≡ named_module file.now.modules x }
     ensures { IfOk result (λ d. IsDeclared d (file_of file.now)) }
 {
-    let constants = constant_types(alloc, file.constants.as_slice())?;
-    let variables = owned_variables(alloc, file, modules)?;
+    let constants = constant_types(alloc, file.constants.as_slice());
+    let (constants, variables) = together(constants, owned_variables(alloc, file, modules))?;
     Ok(Declared {
         constants,
         variables,
@@ -129,7 +130,9 @@ fn add_unchanged<'a>(
         ≡ option_or (under table.old x) (owned_in (variables_by (pair_for []) owner (map var_of vars.now)) x)) }
 {
     let unchanged = Renaming::of(alloc, &[])?;
-    add_variables(vars, &unchanged, owner, table)
+    let added = add_variables(vars, &unchanged, owner, table);
+    drop(unchanged);
+    added
 }
 
 // Adds the variables of all modules.
@@ -166,7 +169,9 @@ fn add_module<'a>(
         PrismModule::Copied(m) => {
             let renaming = Renaming::of(alloc, m.pairs.as_slice())?;
             let from = modules.called(m.from.name.as_str());
-            add_variables(vars_in(from), &renaming, Some(number), table)
+            let added = add_variables(vars_in(from), &renaming, Some(number), table);
+            drop(renaming);
+            added
         }
     }
 }

@@ -55,7 +55,9 @@ impl<'t, 'o> Writing<'t, 'o> {
             Some(writer) => writer.module(alloc, file, source),
             None => {
                 let writer = Writer::of(alloc, file, self.order)?;
-                writer.module(alloc, file, source)
+                let written = writer.module(alloc, file, source);
+                drop(writer);
+                written
             }
         }
     }

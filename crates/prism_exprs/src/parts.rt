@@ -206,7 +206,7 @@ pub(crate) fn two(
 ) -> Result<PrismExpr, AllocError>
     ensures { IfOk result (λ e. tree e ≡ Two at op (tree a) (tree b)) }
 {
-    Ok(Expr::Two(at, op, Box::new(alloc, a)?, Box::new(alloc, b)?))
+    op_trees::two(alloc, at, op, Ok(a), Ok(b))
 }
 
 /// The choice between two expressions, which begins where its condition begins.

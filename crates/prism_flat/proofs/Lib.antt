@@ -1,3 +1,4 @@
 pub mod Steps
 pub mod Contents
 mod Examples
+pub use Rattle.prism_print.proofs.Stands

@@ -9,3 +9,5 @@ pub mod Filling
 pub mod Tables
 pub mod Renamings
 pub mod Writers
+pub use Rattle.prism_print.specs.Printable
+pub use Rattle.prism_print.specs.Same

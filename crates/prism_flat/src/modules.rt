@@ -13,7 +13,7 @@ use crate::bodies::Table;
 use crate::parts::all_rewritten;
 use crate::renaming::Renaming;
 use crate::rewriter::{Rewriter, named};
-use bridge_io::{List, Named};
+use bridge_io::{List, Named, together};
 use prism_tree::{CopiedModule, PlainModule, PrismFile, PrismModule};
 use std::alloc::{AllocError, Global};
 
@@ -93,10 +93,17 @@ fn written_body(
         (λ m. module_of m
         ≡ plain (rewritten_body (rewriting rewriter.now) name.now (map var_of source.now.vars) (map command_of source.now.commands))) }
 {
+    let vars = all_rewritten(alloc, source.vars.as_slice(), rewriter);
+    let contents = together(
+        vars,
+        all_rewritten(alloc, source.commands.as_slice(), rewriter),
+    );
+    let name = named(alloc, name.name.as_str(), name.at);
+    let (name, (vars, commands)) = together(name, contents)?;
     Ok(PrismModule::Plain(PlainModule {
-        name: named(alloc, name.name.as_str(), name.at)?,
-        vars: all_rewritten(alloc, source.vars.as_slice(), rewriter)?,
-        commands: all_rewritten(alloc, source.commands.as_slice(), rewriter)?,
+        name,
+        vars,
+        commands,
     }))
 }
 

@@ -6,7 +6,7 @@ ghost use Rattle.prism_flat.specs.Rewritten.{Rewriting};
 ghost use Rattle.prism_flat.specs.Tables.{rewriting};
 
 use crate::rewriter::{Rewriter, named};
-use bridge_io::{List, Named};
+use bridge_io::{List, Named, together};
 use prism_tree::{
     ItemOn, PrismBranch, PrismCommand, PrismConst, PrismItem, PrismLabel, PrismRewards, PrismVar,
     PrismWrite,
@@ -45,11 +45,10 @@ impl Rewritten for PrismVar {
     ghost IsRewritten = { λ w old new. var_of new ≡ rewritten_var w (var_of old) };
 
     fn rewritten(&self, alloc: Global, rewriter: &Rewriter) -> Result<PrismVar, AllocError> {
-        Ok(PrismVar {
-            name: rewriter.name(alloc, &self.name)?,
-            start: rewriter.optional(alloc, &self.start)?,
-            range: rewriter.range(alloc, &self.range)?,
-        })
+        let start = rewriter.optional(alloc, &self.start);
+        let values = together(rewriter.range(alloc, &self.range), start);
+        let (name, (range, start)) = together(rewriter.name(alloc, &self.name), values)?;
+        Ok(PrismVar { name, range, start })
     }
 }
 
@@ -61,10 +60,9 @@ impl Rewritten for PrismWrite {
     ghost IsRewritten = { λ w old new. write_of new ≡ rewritten_write w (write_of old) };
 
     fn rewritten(&self, alloc: Global, rewriter: &Rewriter) -> Result<PrismWrite, AllocError> {
-        Ok(PrismWrite {
-            name: rewriter.target(alloc, &self.name)?,
-            value: rewriter.expression(alloc, &self.value)?,
-        })
+        let value = rewriter.expression(alloc, &self.value);
+        let (name, value) = together(rewriter.target(alloc, &self.name), value)?;
+        Ok(PrismWrite { name, value })
     }
 }
 
@@ -76,10 +74,9 @@ impl Rewritten for PrismBranch {
     ghost IsRewritten = { λ w old new. branch_of new ≡ rewritten_branch w (branch_of old) };
 
     fn rewritten(&self, alloc: Global, rewriter: &Rewriter) -> Result<PrismBranch, AllocError> {
-        Ok(PrismBranch {
-            writes: all_rewritten(alloc, self.writes.as_slice(), rewriter)?,
-            weight: rewriter.optional(alloc, &self.weight)?,
-        })
+        let writes = all_rewritten(alloc, self.writes.as_slice(), rewriter);
+        let (weight, writes) = together(rewriter.optional(alloc, &self.weight), writes)?;
+        Ok(PrismBranch { weight, writes })
     }
 }
 
@@ -91,10 +88,14 @@ impl Rewritten for PrismCommand {
     ghost IsRewritten = { λ w old new. command_of new ≡ rewritten_command w (command_of old) };
 
     fn rewritten(&self, alloc: Global, rewriter: &Rewriter) -> Result<PrismCommand, AllocError> {
+        let guard = rewriter.expression(alloc, &self.guard);
+        let branches = all_rewritten(alloc, self.branches.as_slice(), rewriter);
+        let action = rewriter.action(alloc, &self.action);
+        let (action, (guard, branches)) = together(action, together(guard, branches))?;
         Ok(PrismCommand {
-            action: rewriter.action(alloc, &self.action)?,
-            branches: all_rewritten(alloc, self.branches.as_slice(), rewriter)?,
-            guard: rewriter.expression(alloc, &self.guard)?,
+            action,
+            guard,
+            branches,
         })
     }
 }
@@ -107,10 +108,12 @@ impl Rewritten for PrismConst {
     ghost IsRewritten = { λ w old new. const_of new ≡ rewritten_const w (const_of old) };
 
     fn rewritten(&self, alloc: Global, rewriter: &Rewriter) -> Result<PrismConst, AllocError> {
+        let name = named(alloc, self.name.name.as_str(), self.name.at);
+        let (name, value) = together(name, rewriter.optional(alloc, &self.value))?;
         Ok(PrismConst {
-            name: named(alloc, self.name.name.as_str(), self.name.at)?,
+            name,
             ty: self.ty,
-            value: rewriter.optional(alloc, &self.value)?,
+            value,
         })
     }
 }
@@ -123,10 +126,9 @@ impl Rewritten for PrismLabel {
     ghost IsRewritten = { λ w old new. label_of new ≡ rewritten_label w (label_of old) };
 
     fn rewritten(&self, alloc: Global, rewriter: &Rewriter) -> Result<PrismLabel, AllocError> {
-        Ok(PrismLabel {
-            name: named(alloc, self.name.name.as_str(), self.name.at)?,
-            body: rewriter.expression(alloc, &self.body)?,
-        })
+        let name = named(alloc, self.name.name.as_str(), self.name.at);
+        let (name, body) = together(name, rewriter.expression(alloc, &self.body))?;
+        Ok(PrismLabel { name, body })
     }
 }
 
@@ -138,11 +140,10 @@ impl Rewritten for PrismItem {
     ghost IsRewritten = { λ w old new. item_of new ≡ rewritten_item w (item_of old) };
 
     fn rewritten(&self, alloc: Global, rewriter: &Rewriter) -> Result<PrismItem, AllocError> {
-        Ok(PrismItem {
-            on: copy_of_on(alloc, &self.on)?,
-            guard: rewriter.expression(alloc, &self.guard)?,
-            value: rewriter.expression(alloc, &self.value)?,
-        })
+        let guard = rewriter.expression(alloc, &self.guard);
+        let values = together(guard, rewriter.expression(alloc, &self.value));
+        let (on, (guard, value)) = together(copy_of_on(alloc, &self.on), values)?;
+        Ok(PrismItem { on, guard, value })
     }
 }
 
@@ -154,10 +155,9 @@ impl Rewritten for PrismRewards {
     ghost IsRewritten = { λ w old new. rewards_of new ≡ rewritten_rewards w (rewards_of old) };
 
     fn rewritten(&self, alloc: Global, rewriter: &Rewriter) -> Result<PrismRewards, AllocError> {
-        Ok(PrismRewards {
-            name: copy_of_name(alloc, &self.name)?,
-            items: all_rewritten(alloc, self.items.as_slice(), rewriter)?,
-        })
+        let items = all_rewritten(alloc, self.items.as_slice(), rewriter);
+        let (name, items) = together(copy_of_name(alloc, &self.name), items)?;
+        Ok(PrismRewards { name, items })
     }
 }
 

@@ -9,7 +9,7 @@ ghost use Rattle.prism_flat.specs.Tables.{body_in, name_in, rewriting};
 
 use crate::bodies::Table;
 use crate::renaming::Renaming;
-use bridge_io::{Named, Text};
+use bridge_io::{Named, Text, together};
 use op_trees::{Bodies, Expr, one, three, two};
 use prism_tree::{PrismExpr, PrismRange};
 use std::alloc::{AllocError, Global};
@@ -53,10 +53,11 @@ impl<'a, 't> Rewriter<'a, 't> {
             (λ r. option_map range_of r ≡ option_map (rewritten_range (rewriting self.now)) (option_map range_of range.now)) }
     {
         match range {
-            Some(range) => Ok(Some(PrismRange {
-                low: self.expression(alloc, &range.low)?,
-                high: self.expression(alloc, &range.high)?,
-            })),
+            Some(range) => {
+                let low = self.expression(alloc, &range.low);
+                let (low, high) = together(low, self.expression(alloc, &range.high))?;
+                Ok(Some(PrismRange { low, high }))
+            }
             None => Ok(None),
         }
     }

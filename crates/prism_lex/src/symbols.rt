@@ -2,7 +2,7 @@
 ghost use Rattle.std.specs.Prelude.{◌≡◌, get_or};
 ghost use Rattle.prism_lex.specs.Symbols.{symbol_of_one, symbol_of_two, symbol_of_three, longest_symbol, front_symbol};
 
-#[derive(Clone, Copy, Debug, PartialEq, Eq)]
+#[derive(Clone, Copy, PartialEq, Eq)]
 pub enum Symbol {
     /// `;`
     Semicolon,

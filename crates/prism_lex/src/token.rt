@@ -13,7 +13,7 @@ use bridge_io::{Fault, Reason};
 use frac_core::{Decimal, decimal_of};
 
 /// What a token is. The text of an identifier or of a quoted name, with its quotes, is read off the bytes.
-#[derive(Clone, Copy, Debug, PartialEq, Eq)]
+#[derive(Clone, Copy)]
 pub enum TokenKind {
     Word(Reserved),
     Ident,
@@ -24,7 +24,7 @@ pub enum TokenKind {
 }
 
 /// A token, from the offset of its first byte to the one behind its last.
-#[derive(Clone, Copy, Debug, PartialEq, Eq)]
+#[derive(Clone, Copy)]
 pub struct Token {
     pub kind: TokenKind,
     pub at: usize,

@@ -3,7 +3,7 @@ ghost use Rattle.std.specs.Prelude.{◌≡◌, map};
 ghost use Rattle.prism_lex.specs.Words.{lookup, words};
 
 /// The words that no name may be. A word of one letter, and `bool`, has `Word` behind it.
-#[derive(Clone, Copy, Debug, PartialEq, Eq)]
+#[derive(Clone, Copy, PartialEq, Eq)]
 pub enum Reserved {
     AWord,
     BoolWord,

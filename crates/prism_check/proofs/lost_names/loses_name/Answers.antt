@@ -10,5 +10,5 @@ pub returns : goal.returns
 returns c =
     let fs = c.args.formulas.now in
     let r = c.args.reading.now in
-    c.some_demand.ensures
+    c.some_demand-loses.ensures
     ∙ demands_written_out (body_in fs) (lost_in r) (flag_in c.in_ok-flags.flags r) (length fs) (map demand_by c.args.demands.now) c.in_ok-flags.ensures

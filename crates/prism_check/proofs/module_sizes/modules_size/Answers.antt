@@ -13,7 +13,7 @@ returns-clause-nodes c =
     let f = nodes_in c.args.formulas.now in
     let g = height_in c.args.formulas.now in
     let copies = copies_nodes f g (named_module all) (under c.in_ok-own.own.named) c.in_ok-own.ensures.named (map module_of all) in
-    omega (arith, copies, c.in_ok-own.ensures.nodes, c.copies_size.ensures.nodes, c.beside.ensures.nodes)
+    omega (arith, copies, c.in_ok-own.ensures.nodes, c.copies_size.ensures.nodes, c.beside-size.ensures.nodes)
 
 pub returns-clause-height : goal.returns-clause-height
 returns-clause-height c =
@@ -21,4 +21,4 @@ returns-clause-height c =
     let f = nodes_in c.args.formulas.now in
     let g = height_in c.args.formulas.now in
     let copies = copies_height f g (named_module all) (under c.in_ok-own.own.named) c.in_ok-own.ensures.named (map module_of all) in
-    omega (arith, copies, c.in_ok-own.ensures.height, c.copies_size.ensures.height, c.beside.ensures.height)
+    omega (arith, copies, c.in_ok-own.ensures.height, c.copies_size.ensures.height, c.beside-size.ensures.height)

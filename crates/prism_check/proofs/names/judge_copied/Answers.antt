@@ -12,10 +12,11 @@ use Rattle.prism_check.proofs.names.judge_copied.Goals as goal
 pub returns : goal.returns
 returns c =
     let f = c.args.file.now in
+    let judged = rw c.in_ok-copies.was at c.judge_copies-judged.ensures in
     let called = module_under c.in_ok-modules.modules in
     c.sooner_if.ensures
     ∙ ap (λ n. soonest c.in_ok-copies.copies (fault_if (nat_eq n 0) f.end Nothing)) (c.len-empty.ensures ∙ sym (length-map f.modules module_of))
     ∙ ap (λ b. soonest b (fault_if (nat_eq (length (map module_of f.modules)) 0) f.end Nothing))
-    (c.in_ok-copies.ensures
+    (judged
     ∙ ap (λ ms. soonest c.args.before (flat_map (copy_faults_by called) (map module_of ms))) c.as_slice-2.ensures
     ∙ ap (soonest c.args.before) (copies_are (file_of f) called (map module_of f.modules) (λ x. c.in_ok-modules.ensures x ∙ ap (λ ms. named_module ms x) c.as_slice.ensures)))

@@ -16,4 +16,4 @@ returns-in_ok-written-in-Copied c =
     if_ok _ _
     (λ best h. copy_is c.args.names.now (file_of c.args.file.now) c.requires.names c.requires.unchanged c.args.number c.in-Copied.m (module_of c.args.entry.now)
     (module_of c.in_ok-written-in-Copied.written) c.args.before best (ap module_of c.in-Copied.is) c.in_ok-written-in-Copied.ensures h)
-    c.judge_plain-in-Copied.result c.judge_plain-in-Copied.ensures
+    c.judge_plain-judged.result c.judge_plain-judged.ensures

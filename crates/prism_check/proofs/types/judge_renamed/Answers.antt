@@ -18,4 +18,4 @@ returns c =
     (option_map (λ k. module_of k.now) c.called-from.result) c.args.spot.place (map var_of c.vars_in.result.now) (map command_of c.commands_in.result.now)
     c.args.before best (λ x. c.in_ok-renaming.ensures x ∙ ap (λ ps. pair_for ps x) c.as_slice.ensures) c.requires.place
     (c.called-from.ensures ∙ ap (module_under c.args.modules.now) c.as_str.ensures ∙ c.requires.modules m.from.name) c.vars_in.ensures c.commands_in.ensures h)
-    c.judge_contents.result c.judge_contents.ensures
+    c.judge_contents-judged.result c.judge_contents-judged.ensures

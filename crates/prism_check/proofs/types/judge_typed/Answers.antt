@@ -6,16 +6,17 @@ use Rattle.prism_check.specs.Typing.{declared_type, is_declared_variable, known_
 use Rattle.prism_check.proofs.TypesJudged.{are_names}
 use Rattle.prism_check.proofs.types.judge_typed.Goals as goal
 
-pub judge_all-requires : goal.judge_all-requires
-judge_all-requires c =
+pub judge_all-judged-requires : goal.judge_all-judged-requires
+judge_all-judged-requires c =
     let file = file_of c.args.file.now in
     let order = c.args.order.now in
     let d = c.args.declared.now in
+    let known = rw c.in_ok-formulas.ensures.ok.0 at c.known_formulas-formulas.ensures in
     record {
       modules = c.requires.modules;
       names =
           are_names file order _ c.requires.order c.requires.declared
-          (λ x. c.in_ok-formulas.ensures x ∙ ap (λ fs. known_after (declared_type d) (is_declared_variable d) (at_places (map formula_of fs) order) x) c.as_slice.ensures);
+          (λ x. known x ∙ ap (λ fs. known_after (declared_type d) (is_declared_variable d) (at_places (map formula_of fs) order) x) c.as_slice.ensures);
       unchanged = refl;
-      writing = c.in_ok-writing.ensures;
+      writing = rw c.in_ok-formulas.ensures.ok.1 at c.of.ensures;
     }

@@ -20,9 +20,9 @@ returns-in-Plain c =
 pub returns-in_ok-renaming-in-Copied : goal.returns-in_ok-renaming-in-Copied
 returns-in_ok-renaming-in-Copied c =
     let called = module_under c.args.modules.now in
-    let added : List Variable → Type 0 = λ vs. OnOk c.add_variables.result ((x : List ℕ) → under c.add_variables.new.table x ≡ option_or (under c.args.table.now x) (owned_in vs x)) in
+    let added : List Variable → Type 0 = λ vs. OnOk c.add_variables-added.result ((x : List ℕ) → under c.add_variables-added.new.table x ≡ option_or (under c.args.table.now x) (owned_in vs x)) in
     subst added
     (ap₂ (λ f xs. variables_by f (Some c.args.number) xs) (fun_ext c.in_ok-renaming-in-Copied.ensures ∙ ap pair_for c.as_slice-in-Copied.ensures)
     (c.vars_in.ensures ∙ ap vars_in (c.called-from.ensures ∙ ap called c.as_str.ensures))
     ∙ ap (λ e. module_variables_by called c.args.number (module_of e)) (sym c.in-Copied.is))
-    c.add_variables.ensures
+    c.add_variables-added.ensures

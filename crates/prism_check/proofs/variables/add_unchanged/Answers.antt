@@ -10,5 +10,5 @@ use Rattle.prism_check.proofs.variables.add_unchanged.Goals as goal
 
 pub returns : goal.returns
 returns c =
-    let added : List Variable → Type 0 = λ vs. OnOk c.add_variables.result ((x : List ℕ) → under c.add_variables.new.table x ≡ option_or (under c.args.table.now x) (owned_in vs x)) in
-    subst added (ap (λ f. variables_by f c.args.owner (map var_of c.args.vars.now)) (fun_ext c.in_ok-unchanged.ensures)) c.add_variables.ensures
+    let added : List Variable → Type 0 = λ vs. OnOk c.add_variables-added.result ((x : List ℕ) → under c.add_variables-added.new.table x ≡ option_or (under c.args.table.now x) (owned_in vs x)) in
+    subst added (ap (λ f. variables_by f c.args.owner (map var_of c.args.vars.now)) (fun_ext c.in_ok-unchanged.ensures)) c.add_variables-added.ensures

@@ -9,7 +9,9 @@ use Rattle.prism_flat.proofs.modules.written_body.Goals as goal
 
 pub returns : goal.returns
 returns c =
+    let both = c.in_ok-name.ensures.ok in
+    let inner = rw both.1 at c.together-contents.ensures.ok in
     same_body _ _ _ _ _ _
-    (c.in_ok-named.ensures ∙ ap {B = Named} (λ x. record { name = x; at = c.args.name.now.at }) c.as_str.ensures)
-    (zipped var_of (rewritten_var (rewriting c.args.rewriter.now)) c.as_slice.result.now _ c.in_ok-all_rewritten.field-0 c.as_slice.ensures c.in_ok-all_rewritten.ensures)
-    (zipped command_of (rewritten_command (rewriting c.args.rewriter.now)) c.as_slice-2.result.now _ c.in_ok-all_rewritten-2.field-0 c.as_slice-2.ensures c.in_ok-all_rewritten-2.ensures)
+    ((rw both.0 at c.named-name.ensures) ∙ ap {B = Named} (λ x. record { name = x; at = c.args.name.now.at }) c.as_str.ensures)
+    (zipped var_of (rewritten_var (rewriting c.args.rewriter.now)) c.as_slice.result.now _ c.in_ok-name.vars c.as_slice.ensures (rw inner.0 at c.all_rewritten-vars.ensures))
+    (zipped command_of (rewritten_command (rewriting c.args.rewriter.now)) c.as_slice-2.result.now _ c.in_ok-name.commands c.as_slice-2.ensures (rw inner.1 at c.all_rewritten.ensures))

@@ -6,9 +6,9 @@ use Rattle.prism_check.specs.Typing.{declared_type, is_declared_variable, known_
 use Rattle.prism_check.proofs.TypedTables.{typed_tables}
 use Rattle.prism_check.proofs.file_names.TypeTables.of.Goals as goal
 
-pub returns : goal.returns
-returns c =
+pub returns-in-Ok : goal.returns-in-Ok
+returns-in-Ok c =
     let order = c.args.order.now in
     let d = c.in_ok-declared.declared in
-    typed_tables (file_of c.args.file.now) order d c.in_ok-formulas.formulas c.requires c.in_ok-declared.ensures
-    (λ x. c.in_ok-formulas.ensures x ∙ ap (λ fs. known_after (declared_type d) (is_declared_variable d) (at_places (map formula_of fs) order) x) c.as_slice.ensures)
+    typed_tables (file_of c.args.file.now) order d c.in-Ok.formulas c.requires c.in_ok-declared.ensures
+    (λ x. c.in-Ok.ensures x ∙ ap (λ fs. known_after (declared_type d) (is_declared_variable d) (at_places (map formula_of fs) order) x) c.as_slice.ensures)

@@ -7,5 +7,6 @@ use Rattle.prism_flat.proofs.parts.PrismBranchRewritten.rewritten.Goals as goal
 
 pub returns : goal.returns
 returns c =
-    ap₂ {C = Branch} (λ p ws. record { weight = p; writes = ws }) c.in_ok-optional.ensures
-    (zipped write_of (rewritten_write (rewriting c.args.rewriter.now)) c.as_slice.result.now _ c.in_ok-all_rewritten.field-0 c.as_slice.ensures c.in_ok-all_rewritten.ensures)
+    let both = c.in_ok-weight.ensures.ok in
+    ap₂ {C = Branch} (λ p ws. record { weight = p; writes = ws }) (rw both.0 at c.optional.ensures)
+    (zipped write_of (rewritten_write (rewriting c.args.rewriter.now)) c.as_slice.result.now _ c.in_ok-weight.writes c.as_slice.ensures (rw both.1 at c.all_rewritten-writes.ensures))

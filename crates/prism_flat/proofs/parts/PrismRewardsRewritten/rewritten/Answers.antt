@@ -7,5 +7,6 @@ use Rattle.prism_flat.proofs.parts.PrismRewardsRewritten.rewritten.Goals as goal
 
 pub returns : goal.returns
 returns c =
-    ap₂ {C = Rewards} (λ n is. record { name = n; items = is }) c.in_ok-copy_of_name.ensures
-    (zipped item_of (rewritten_item (rewriting c.args.rewriter.now)) c.as_slice.result.now _ c.in_ok-all_rewritten.field-0 c.as_slice.ensures c.in_ok-all_rewritten.ensures)
+    let both = c.in_ok-name.ensures.ok in
+    ap₂ {C = Rewards} (λ n is. record { name = n; items = is }) (rw both.0 at c.copy_of_name.ensures)
+    (zipped item_of (rewritten_item (rewriting c.args.rewriter.now)) c.as_slice.result.now _ c.in_ok-name.items c.as_slice.ensures (rw both.1 at c.all_rewritten-items.ensures))

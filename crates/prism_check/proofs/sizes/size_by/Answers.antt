@@ -8,12 +8,12 @@ use Rattle.prism_check.specs.Counted.{size_in, nodes_in, height_in, nodes_of, hi
 use Rattle.prism_check.specs.Tables.{named_module}
 use Rattle.prism_check.specs.Views.{demand_by}
 use Rattle.prism_check.proofs.Modular.{file_nodes, file_height}
-use Rattle.prism_check.proofs.sizes.file_size.Goals as goal
+use Rattle.prism_check.proofs.sizes.size_by.Goals as goal
 
 pub returns-clause-nodes : goal.returns-clause-nodes
 returns-clause-nodes c =
-    let f = nodes_in c.in_ok-formulas.formulas in
-    file_nodes (file_of c.args.file.now) (size_in c.in_ok-formulas.formulas) c.in_ok-formulas.ensures _ _ _
+    let f = nodes_in c.args.formulas.now in
+    file_nodes (file_of c.args.file.now) (size_in c.args.formulas.now) c.requires _ _ _
     (c.measure_all-outer.ensures.nodes ∙ ap (λ ds. capped (nodes_of f ds)) (ap (map demand_by) c.deref.ensures.value ∙ c.in_ok-demands.ensures))
     (c.in_ok-modules.ensures.nodes
     ∙ ap (λ (ms : List PrismModule). capped (nodes_of f (flat_map own_demands (map module_of ms)) + nodes_of f (flat_map (copied_demands (named_module ms)) (map module_of ms))))
@@ -22,8 +22,8 @@ returns-clause-nodes c =
 
 pub returns-clause-height : goal.returns-clause-height
 returns-clause-height c =
-    let f = height_in c.in_ok-formulas.formulas in
-    file_height (file_of c.args.file.now) (size_in c.in_ok-formulas.formulas) c.in_ok-formulas.ensures _ _ _
+    let f = height_in c.args.formulas.now in
+    file_height (file_of c.args.file.now) (size_in c.args.formulas.now) c.requires _ _ _
     (c.measure_all-outer.ensures.height ∙ ap (λ ds. capped (highest f ds)) (ap (map demand_by) c.deref.ensures.value ∙ c.in_ok-demands.ensures))
     (c.in_ok-modules.ensures.height
     ∙ ap (λ (ms : List PrismModule). capped (max (highest f (flat_map own_demands (map module_of ms))) (highest f (flat_map (copied_demands (named_module ms)) (map module_of ms)))))
