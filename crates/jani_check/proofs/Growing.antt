@@ -3,7 +3,7 @@ use Rattle.std.specs.Prelude.{ℕ, ◌<◌, ◌≤◌, ◌+◌, List, [], ◌∷
 use Rattle.std.specs.Borrow.{Bor}
 use Rattle.std.proofs.Common.{◌≡◌, refl, sym, ap, ◌∙◌, get_or, append-nil, append_assoc}
 use Rattle.std.proofs.lemmas.List.{at_drop_more, at_drop_all, map-append}
-use Rattle.process_core.specs.Instance.{only_if}
+use Rattle.gathering.specs.Instance.{only_if}
 use Rattle.name_rules.specs.Names.{Name}
 use Rattle.name_rules.proofs.Maps.{no_str}
 

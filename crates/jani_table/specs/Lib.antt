@@ -7,3 +7,4 @@ pub mod Words
 pub mod Faults
 pub mod Parts
 pub mod Laws
+pub use Rattle.name_rules.specs.Least

@@ -16,7 +16,7 @@ use Rattle.jani_table.specs.Words.{ty_text}
 use Rattle.jani_table.specs.Operators.{op_text}
 use Rattle.jani_table.specs.declared.operator.JaniOp.{JaniOp}
 use Rattle.op_trees.specs.declared.tree.Ty.TheVariants as T
-use Rattle.op_trees.specs.Tree.{Three}
+use Rattle.op_trees.specs.Tree.{Two, One, Three}
 use Rattle.jani_tree.specs.Syntax as V
 use Rattle.jani_tree.specs.Syntax.{Expression, Const, VarKind, Var, bounded, Location, Destination, Edge, Automaton, Vector, File}
 use Rattle.jani_tree.specs.Canonical.{bounded_word, version_node, features_node, file_members, with_entry, with_members, object_of, list_node, some_list, word, name_node, keyed_node, expr_node, boxed_node, kind_node, const_node, flag_node, var_node, write_node, location_node, destination_node, edge_node, automaton_node, part_node, vector_node, system_node}
@@ -80,6 +80,20 @@ object_text at k v ms =
     ap (λ u. 0x7b ∷ u) (members_text (record { name = spelled k; at = 0 }) v no_fields ms ∙ simp (append-nil, append_assoc))
 
 -- ---- expressions
+
+abbrev pub one_pieces : JaniOp → Expression → List (List ℕ)
+one_pieces o a = (codes "{\"op\":" ++ quoted (op_text o)) ∷ (codes ",\"exp\":" ++ node_text (expr_node a)) ∷ codes "}" ∷ []
+
+pub one_text : (at : ℕ) (o : JaniOp) (a : Expression) → node_text (expr_node (One at o a)) ≡ joined (one_pieces o a)
+one_text at o a = object_text at K.Op (word (op_text o)) ((K.Exp, Some (expr_node a)) ∷ [])
+
+abbrev pub two_pieces : JaniOp → Expression → Expression → List (List ℕ)
+two_pieces o a b =
+    (codes "{\"op\":" ++ quoted (op_text o)) ∷ (codes ",\"left\":" ++ node_text (expr_node a))
+    ∷ (codes ",\"right\":" ++ node_text (expr_node b)) ∷ codes "}" ∷ []
+
+pub two_text : (at : ℕ) (o : JaniOp) (a b : Expression) → node_text (expr_node (Two at o a b)) ≡ joined (two_pieces o a b)
+two_text at o a b = object_text at K.Op (word (op_text o)) ((K.Left, Some (expr_node a)) ∷ (K.Right, Some (expr_node b)) ∷ [])
 
 abbrev pub three_pieces : JaniOp → Expression → Expression → Expression → List (List ℕ)
 three_pieces o a b c =

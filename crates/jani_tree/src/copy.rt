@@ -2,7 +2,7 @@
 ghost use Rattle.std.specs.Prelude.{◌≡◌, IfOk, map};
 ghost use Rattle.jani_table.specs.Node.{named_node, node};
 
-use bridge_io::{List, Named, Text};
+use bridge_io::{List, Named, Text, together};
 use decimal_json::{Json, Member};
 use std::alloc::{AllocError, Global};
 
@@ -37,8 +37,8 @@ fn copy_members(alloc: Global, members: &[Member]) -> Result<List<Member>, Alloc
 {
     let mut copies = List::new(alloc);
     'members: for m in members {
-        let key = copy_name(alloc, &m.key)?;
-        let value = copy_json(alloc, &m.value)?;
+        let key = copy_name(alloc, &m.key);
+        let (key, value) = together(key, copy_json(alloc, &m.value))?;
         copies.push(Member { key, value })?;
     }
     Ok(copies)

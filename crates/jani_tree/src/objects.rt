@@ -23,7 +23,7 @@ use crate::syntax::{
     JaniAutomaton, JaniConst, JaniDestination, JaniEdge, JaniExpr, JaniFile, JaniKind,
     JaniLocation, JaniVar, JaniVector, JaniWrite,
 };
-use bridge_io::{List, Named, Text};
+use bridge_io::{List, Named, Text, together};
 use decimal_json::Json;
 use jani_table::{
     Form, Key, Kind, items_of, offset, optional_of, optional_part, part, required_of,
@@ -70,8 +70,8 @@ fn heading_of(alloc: Global, form: Form, value: &Json) -> Result<Heading, AllocE
     ensures name { IfOk result (λ h. IsKeyed K.Name (node value.now) h.name) }
     ensures note { IfOk result (λ h. Optional IsText (part K.Comment (node value.now)) h.note) }
 {
-    let name = name_of(alloc, form, Key::Name, value)?;
-    let note = note_of(alloc, form, value)?;
+    let name = name_of(alloc, form, Key::Name, value);
+    let (name, note) = together(name, note_of(alloc, form, value))?;
     Ok(Heading { name, note })
 }
 
@@ -86,8 +86,8 @@ impl Build for JaniConst {
 
     fn build(alloc: Global, value: &Json) -> Result<JaniConst, AllocError> {
         let ty = constant_type(required_part(Form::Constant, Key::Type, value));
-        let tree = optional_expression(alloc, Form::Constant, Key::Value, value)?;
-        let heading = heading_of(alloc, Form::Constant, value)?;
+        let tree = optional_expression(alloc, Form::Constant, Key::Value, value);
+        let (tree, heading) = together(tree, heading_of(alloc, Form::Constant, value))?;
         Ok(JaniConst {
             name: heading.name,
             ty,
@@ -106,8 +106,8 @@ fn int_range(alloc: Global, value: &Json) -> Result<JaniKind, AllocError>
     match optional_of(Kind::Range, Key::LowerBound, value) {
         Some(low) => match optional_of(Kind::Range, Key::UpperBound, value) {
             Some(high) => {
-                let first = expression(alloc, low)?;
-                let last = expression(alloc, high)?;
+                let bounds = together(expression(alloc, low), expression(alloc, high));
+                let (first, last) = bounds?;
                 Ok(JaniKind::Bounded(first, last))
             }
             None => Ok(JaniKind::OneSided),
@@ -184,8 +184,8 @@ fn typed_start(alloc: Global, value: &Json) -> Result<Typed, AllocError>
     ensures start { IfOk result (λ t. Optional IsExpr (part K.InitialValue (node value.now)) (option_map tree t.start)) }
 {
     let at = required_part(Form::Variable, Key::Type, value);
-    let start = optional_expression(alloc, Form::Variable, Key::InitialValue, value)?;
-    let kind = kind(alloc, at)?;
+    let start = optional_expression(alloc, Form::Variable, Key::InitialValue, value);
+    let (start, kind) = together(start, kind(alloc, at))?;
     Ok(Typed {
         kind,
         at: offset(at),
@@ -203,8 +203,8 @@ impl Build for JaniVar {
     ghost is = { IsVar };
 
     fn build(alloc: Global, value: &Json) -> Result<JaniVar, AllocError> {
-        let heading = heading_of(alloc, Form::Variable, value)?;
-        let typed = typed_start(alloc, value)?;
+        let heading = heading_of(alloc, Form::Variable, value);
+        let (heading, typed) = together(heading, typed_start(alloc, value))?;
         Ok(JaniVar {
             name: heading.name,
             kind: typed.kind,
@@ -230,8 +230,8 @@ fn write(alloc: Global, item: Form, value: &Json) -> Result<JaniWrite, AllocErro
     requires clean { faults item (node value.now) ≡ [] }
     ensures { IfOk result (λ w. IsWrite (node value.now) (write_of w)) }
 {
-    let target = name_of(alloc, item, Key::Ref, value)?;
-    let tree = expression_of(alloc, item, Key::Value, value)?;
+    let target = name_of(alloc, item, Key::Ref, value);
+    let (target, tree) = together(target, expression_of(alloc, item, Key::Value, value))?;
     Ok(JaniWrite {
         target,
         value: tree,
@@ -295,8 +295,8 @@ impl Build for JaniLocation {
     ghost is = { IsLocation };
 
     fn build(alloc: Global, value: &Json) -> Result<JaniLocation, AllocError> {
-        let name = name_of(alloc, Form::Location, Key::Name, value)?;
-        let values = transient_values(alloc, value)?;
+        let name = name_of(alloc, Form::Location, Key::Name, value);
+        let (name, values) = together(name, transient_values(alloc, value))?;
         Ok(JaniLocation { name, values })
     }
 }
@@ -311,9 +311,10 @@ impl Build for JaniDestination {
     ghost is = { IsDestination };
 
     fn build(alloc: Global, value: &Json) -> Result<JaniDestination, AllocError> {
-        let writes = assignments(alloc, value)?;
-        let location = name_of(alloc, Form::Destination, Key::Location, value)?;
-        let weight = optional_boxed(alloc, Form::Destination, Key::Probability, value)?;
+        let location = name_of(alloc, Form::Destination, Key::Location, value);
+        let weight = optional_boxed(alloc, Form::Destination, Key::Probability, value);
+        let place = together(location, weight);
+        let (writes, (location, weight)) = together(assignments(alloc, value), place)?;
         Ok(JaniDestination {
             location,
             weight,
@@ -352,10 +353,11 @@ impl Build for JaniEdge {
     ghost is = { IsEdge };
 
     fn build(alloc: Global, value: &Json) -> Result<JaniEdge, AllocError> {
-        let destinations = destinations(alloc, value)?;
-        let location = name_of(alloc, Form::Edge, Key::Location, value)?;
-        let action = optional_name(alloc, Form::Edge, Key::Action, value)?;
-        let guard = optional_boxed(alloc, Form::Edge, Key::Guard, value)?;
+        let location = name_of(alloc, Form::Edge, Key::Location, value);
+        let start = together(destinations(alloc, value), location);
+        let action = optional_name(alloc, Form::Edge, Key::Action, value);
+        let guard = optional_boxed(alloc, Form::Edge, Key::Guard, value);
+        let ((destinations, location), (action, guard)) = together(start, together(action, guard))?;
         Ok(JaniEdge {
             location,
             action,
@@ -396,17 +398,23 @@ impl Build for JaniAutomaton {
             Form::Variables,
             Key::Variables,
             value,
-        )?;
+        );
         let locations = list(
             alloc,
             Form::Automaton,
             Form::Locations,
             Key::Locations,
             value,
+        );
+        let initial = initial_locations(alloc, value);
+        let edges = list(alloc, Form::Automaton, Form::Edges, Key::Edges, value);
+        let name = name_of(alloc, Form::Automaton, Key::Name, value);
+        let states = together(variables, locations);
+        let moves = together(initial, edges);
+        let ((variables, locations), ((initial, edges), name)) = together(
+            states,
+            together(moves, name),
         )?;
-        let initial = initial_locations(alloc, value)?;
-        let edges = list(alloc, Form::Automaton, Form::Edges, Key::Edges, value)?;
-        let name = name_of(alloc, Form::Automaton, Key::Name, value)?;
         Ok(JaniAutomaton {
             name,
             variables,
@@ -449,8 +457,8 @@ impl Build for JaniVector {
     ghost is = { IsVector };
 
     fn build(alloc: Global, value: &Json) -> Result<JaniVector, AllocError> {
-        let parts = vector_parts(alloc, value)?;
-        let result = optional_name(alloc, Form::Vector, Key::Result, value)?;
+        let result = optional_name(alloc, Form::Vector, Key::Result, value);
+        let (parts, result) = together(vector_parts(alloc, value), result)?;
         Ok(JaniVector {
             parts: parts.list,
             result,
@@ -490,8 +498,8 @@ fn system(alloc: Global, value: &Json) -> Result<Composition, AllocError>
     requires { faults F.System (node value.now) ≡ [] }
     ensures { IfOk result (λ s. IsSystem (node value.now) s.elements.list s.elements.at (map vector_of s.vectors)) }
 {
-    let elements = elements(alloc, value)?;
-    let vectors = list(alloc, Form::System, Form::Vectors, Key::Syncs, value)?;
+    let vectors = list(alloc, Form::System, Form::Vectors, Key::Syncs, value);
+    let (elements, vectors) = together(elements(alloc, value), vectors)?;
     Ok(Composition { elements, vectors })
 }
 
@@ -528,13 +536,17 @@ pub(crate) fn file(alloc: Global, value: &Json) -> Result<JaniFile, AllocError>
     requires { faults F.Model (node value.now) ≡ [] }
     ensures { IfOk result (λ f. IsFile (node value.now) (file_of f)) }
 {
-    let actions = actions(alloc, value)?;
-    let constants = list(alloc, Form::Model, Form::Constants, Key::Constants, value)?;
-    let variables = list(alloc, Form::Model, Form::Variables, Key::Variables, value)?;
-    let automata = list(alloc, Form::Model, Form::Automata, Key::Automata, value)?;
-    let Composition { elements, vectors } = system_of(alloc, value)?;
+    let constants = list(alloc, Form::Model, Form::Constants, Key::Constants, value);
+    let variables = list(alloc, Form::Model, Form::Variables, Key::Variables, value);
+    let automata = list(alloc, Form::Model, Form::Automata, Key::Automata, value);
+    let declared = together(actions(alloc, value), together(constants, variables));
+    let composed = together(automata, system_of(alloc, value));
+    let rest = together(composed, properties(alloc, value));
+    let ((actions, (constants, variables)), ((automata, system), properties)) = together(
+        declared, rest,
+    )?;
+    let Composition { elements, vectors } = system;
     let ElementList { list: elements, at } = elements;
-    let properties = properties(alloc, value)?;
     Ok(JaniFile {
         actions,
         constants,
