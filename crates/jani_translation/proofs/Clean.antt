@@ -28,7 +28,7 @@ use Rattle.prism_check.specs.TypeFaults as source
 use Rattle.name_rules.specs.Least.{or_else}
 use Rattle.prism_check.proofs.TypeOrder.{types_of_plain}
 use Rattle.prism_check.proofs.CleanFile.{no_either}
-use Rattle.prism_places.specs.Flattened.{IsFlat}
+use Rattle.name_table.specs.Flattened.{IsFlat}
 use Rattle.name_table.specs.Asks.{contents, bodies, variables, value_names}
 
 -- ---- no fault of any kind

@@ -12,14 +12,6 @@ pub mod StateNames
 pub mod States
 pub mod Edges
 pub mod Sums
-pub mod Gathering
-pub mod Filed
-pub mod Statements
-pub mod Monitored
-pub mod Places
-pub mod Kept
-pub mod Listed
-pub mod RewardSums
 pub mod Marks
 pub mod Choices
 pub mod Assigned

@@ -1,10 +1,9 @@
 pub mod Automata
-pub mod Code
 pub mod Laws
 pub mod NameLaws
 pub mod Parts
 pub mod SeenLaws
 pub mod StateLaws
 pub mod Translated
-pub mod Filed
-pub mod Statements
+pub use Rattle.name_table.specs.Asks
+pub use Rattle.name_table.specs.Correspond

@@ -1,19 +1,8 @@
-//! The translation of PRISM files, their formulas and copies written out, to JANI files, as a function of the trees of both.
-//! It stands in `specs/`, with laws, and `translate` computes it.
+//! The JANI file that a PRISM file, its formulas and copies written out, is translated to, as a function of the trees of both,
+//! and the laws of this function. The definition stands in `specs/`: `translated`. The code that makes the file is in crates
+//! above.
 #![tactic(auto)]
 
-mod automata;
-mod composition;
 mod laws;
-mod naming;
-mod new_names;
-mod partners;
-mod parts;
-mod rewards;
-mod shares;
-mod syncs;
-mod translation;
 
 pub use laws::{new_names_law, one_for_one_law, seen_law, state_law, vectors_law};
-pub use new_names::value_names;
-pub use translation::translate;

@@ -23,7 +23,7 @@ use Rattle.prism_check.specs.Demands.{var_type}
 use Rattle.prism_check.specs.TypeFaults as source
 use Rattle.prism_check.specs.TypeFaults.{types}
 use Rattle.prism_places.specs.Flattened.{IsFlat}
-use Rattle.name_table.specs.Asks.{variables}
+use Rattle.jani_translation.specs.Asks.{variables}
 use Rattle.jani_translation.specs.SeenLaws.{SoundRange, SoundVariable, SoundConstant, IsSoundUnder}
 use Rattle.jani_translation.proofs.Written.{given_reading}
 use Rattle.jani_translation.proofs.Clean.{values_distinct, types_declared}

@@ -28,7 +28,7 @@ use Rattle.op_trees.specs.Names.{bare_name}
 use Rattle.jani_tree.specs.Places.{bare_const, bare_file}
 use Rattle.jani_meaning.proofs.Bare.{places_mean_nothing}
 use Rattle.jani_meaning.specs.Process as jani_process
-use Rattle.name_table.specs.Asks.{new_names}
+use Rattle.jani_translation.specs.Asks.{new_names}
 use Rattle.jani_translation.specs.Translated.{translated}
 use Rattle.jani_translation.specs.SeenLaws.{GivesAlike}
 use Rattle.jani_translation.specs.StateLaws.{at_home, state_of}
@@ -39,7 +39,7 @@ use Rattle.jani_translation.proofs.States.{states_alike, initial_alike, states_a
 use Rattle.jani_translation.proofs.Marks.{marks_alike}
 use Rattle.jani_translation.proofs.WatchedSilently.{choices_watched}
 use Rattle.jani_translation_meaning.specs.MeaningLaws.{GivesTyped}
-use Rattle.name_table.specs.Correspond.{GivenAlike, Correspond}
+use Rattle.jani_translation.specs.Correspond.{GivenAlike, Correspond}
 use Rattle.jani_translation_meaning.specs.SameMeaning.{placed, homes, label_in, MeansTheSame, TranslationMeansTheSame}
 use Rattle.jani_translation_meaning.proofs.Constants.{flat_is_sound}
 use Rattle.jani_translation_meaning.proofs.States.{commands_are_sound, marks_are_sound, items_are_sound}

@@ -32,7 +32,7 @@ use Rattle.prism_check.specs.TypeFaults.{types}
 use Rattle.prism_places.specs.Flattened.{IsFlat}
 use Rattle.prism_images.specs.Laws.{IsNoNumber}
 use Rattle.prism_images.proofs.Typed.{agreeing}
-use Rattle.name_table.specs.Asks.{bodies, variables}
+use Rattle.jani_translation.specs.Asks.{bodies, variables}
 use Rattle.jani_translation.specs.Automata.{for_states}
 use Rattle.jani_translation.specs.SeenLaws.{IsSound}
 use Rattle.jani_translation.specs.StateLaws.{IsSoundHere, SoundWrite, SoundBranch, SoundCommand, CommandsAreSound, SoundItem, MarksAreSound, ItemsAreSound}

@@ -9,7 +9,7 @@ ghost use Rattle.jani_translation.specs.Translated.{translated};
 ghost use Rattle.prism_to_jani.specs.Promise.{IsTranslated};
 
 use jani_check::CheckedJani;
-use jani_translation::translate;
+use jani_translator::translate;
 use jani_tree::JaniFile;
 use prism_check::CheckedPrism;
 use prism_places::{FlatPrism, flatten};

@@ -5,7 +5,7 @@ ghost use Rattle.jani_table.specs.Node.{fields_of, named_node, node, object, tex
 ghost use Rattle.jani_tree.specs.Canonical.{word};
 ghost use Rattle.prop_to_jani.specs.Code.{member};
 
-use bridge_io::{List, Named, Text};
+use bridge_io::{List, Named, Text, together};
 use decimal_json::{Json, Member};
 use std::alloc::{AllocError, Global};
 
@@ -36,9 +36,8 @@ pub(crate) fn with(
     ensures { IfOk result (λ new. IsOkAnd members (λ old. IsOkAnd value
         (λ v. map named_node new ≡ map named_node old ++ member key.now (node v) ∷ []))) }
 {
-    let mut all = members?;
-    let value = value?;
-    let name = Text::copy_of(alloc, key)?;
+    let named = together(value, Text::copy_of(alloc, key));
+    let (mut all, (value, name)) = together(members, named)?;
     let key = Named { name, at: 0 };
     all.push(Member { key, value })?;
     Ok(all)

@@ -12,7 +12,7 @@ ghost use Rattle.prop_to_jani.specs.ToJani.{new_property_name};
 use crate::names::PropertyNames;
 use bridge_io::Text;
 use gathering::{drop_from, shorter};
-use jani_translation::value_names;
+use jani_automata::value_names;
 use name_rules::NameMap;
 use name_table::Entry;
 use prism_tree::{PrismConst, PrismFile, PrismLabel, PrismVar};

@@ -1,0 +1,5 @@
+mod Gathering
+mod Kept
+mod Monitored
+mod RewardSums
+mod Listed

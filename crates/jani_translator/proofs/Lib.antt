@@ -1,0 +1,4 @@
+mod Filed
+mod Listed
+mod Places
+mod Statements
