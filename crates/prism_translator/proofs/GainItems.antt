@@ -18,10 +18,10 @@ use Rattle.prism_translation.specs.Targets.{Target, targets}
 use Rattle.prism_translation.specs.Parts.{instead}
 use Rattle.prism_translation.specs.Modules.{actions}
 use Rattle.prism_translation.specs.Marks.{Given, assigned_to, given_to, state_item, or_nought, target_item, target_items, target_items_by, structure}
-use Rattle.prism_translator.specs.declared.elements.Element.{Element as CodeElement}
-use Rattle.prism_translator.specs.Code.{element_of}
+use Rattle.prism_modules.specs.declared.element.Element.{Element as CodeElement}
+use Rattle.prism_modules.specs.Code.{element_of}
 use Rattle.prism_translator.specs.Gains.{Gain, gain_by, gains_of, gain_item, structure_by}
-use Rattle.prism_translator.proofs.ByPlaces.{action_with, placed_with, later, named_at, whole_list}
+use Rattle.prism_modules.proofs.ByPlaces.{action_with, placed_with, later, named_at, whole_list}
 
 -- ---- edges that are looked up
 pub numbered_get : {A X Y : Type 0} (f : ℕ → X → Y) (s : A → X) (k : ℕ) (xs : List A) (i : ℕ) → slice_get (numbered (λ j z. f j z ∷ []) k (map s xs)) i ≡ option_map (λ x. f (k + i) (s x)) (slice_get xs i)

@@ -12,7 +12,7 @@ use Rattle.prism_translation.specs.Marks.{Given, given_by, given_to}
 use Rattle.prism_translator.specs.declared.given.Given.{Given as CodeGiven}
 use Rattle.prism_translator.specs.declared.given.GivenTable.{GivenTable}
 use Rattle.gathering.specs.declared.name_lists.NameLists.{NameLists}
-use Rattle.prism_translator.specs.Code.{element_with}
+use Rattle.prism_modules.specs.Code.{element_with}
 use Rattle.prism_translator.specs.Given.{list_at, given_of, given_in, lists_in, GivesOf, AreGiven}
 
 -- what an element gives, if there is one

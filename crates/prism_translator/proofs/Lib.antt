@@ -1,9 +1,6 @@
-mod ByPlaces
 mod EntryClasses
 mod GainItems
 mod GivenTo
-mod Kept
 mod LineLists
 mod LongActions
-mod Singles
-mod WritersOf
+pub use Rattle.prism_targets.proofs.Positions

@@ -1,4 +1,4 @@
--- Lines where no old name is left, and the names of locations with commas between them.
+-- Lines where no old name is left, the names of locations with commas between them, and pieces of a line.
 use Rattle.std.proofs.Common.{◌≡◌, ℕ, ◌-◌, ◌≤◌, List, [], ◌∷◌, ◌++◌, map, length, take, drop, get_or, refl, sym, ap, ◌∙◌, append-nil, append_assoc, take_all, arith}
 use Rattle.std.specs.Prelude.{codes}
 use Rattle.std.specs.List.{flat_map}
@@ -31,3 +31,11 @@ locations_joined (l ∷ ls) first i before h e t =
     (ap (λ (z : JaniLocation). quoted z.name.name ++ flat_map (λ (k : Location). codes "," ++ quoted k.name.name) (map location_of ls)) e
     ∙ ap (λ z. quoted l.name.name ++ z) (sym (flat_map-map (λ y. codes "," ++ y) (λ (k : Location). quoted k.name.name) (map location_of ls)))
     ∙ sym (joined_by (quoted l.name.name) (map (λ (k : Location). quoted k.name.name) (map location_of ls))))
+
+-- five pieces that are written one after another
+pub five_behind : (l a b c d e : List ℕ) → ((((l ++ a) ++ b) ++ c) ++ d) ++ e ≡ l ++ (a ++ (b ++ (c ++ (d ++ e))))
+five_behind l a b c d e =
+    append_assoc (((l ++ a) ++ b) ++ c) d e
+    ∙ append_assoc ((l ++ a) ++ b) c (d ++ e)
+    ∙ append_assoc (l ++ a) b (c ++ (d ++ e))
+    ∙ append_assoc l a (b ++ (c ++ (d ++ e)))

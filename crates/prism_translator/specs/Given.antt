@@ -15,7 +15,7 @@ use Rattle.prism_translator.specs.declared.given.Given.{Given as CodeGiven}
 use Rattle.prism_translator.specs.declared.given.GivenTable.{GivenTable}
 use Rattle.gathering.specs.declared.name_lists.NameLists.{NameLists}
 use Rattle.gathering.specs.Lists.{list_under}
-use Rattle.prism_translator.specs.Code.{element_of}
+use Rattle.prism_modules.specs.Code.{element_of}
 
 abbrev pub given_of : CodeGiven → Given
 given_of g = record { element = element_of g.element.now; location = g.location; value = tree g.value.now }

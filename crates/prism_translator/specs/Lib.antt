@@ -1,10 +1,8 @@
 pub mod Asks
-pub mod Code
 pub mod Gains
 pub mod Gathered
 pub mod Given
-pub mod Homes
 pub mod LineParts
 pub mod Parts
 pub mod Translation
-pub mod Writers
+pub use Rattle.prism_targets.specs.Places

@@ -12,27 +12,25 @@ ghost use Rattle.prism_targets.specs.Serving.{target_in, served_in, IsServing};
 ghost use Rattle.jani_meaning.specs.Elements.{lasting as lasting_of_file, labels as labels_of, structures as structures_of};
 ghost use Rattle.name_table.specs.JaniParts.{owned_of};
 ghost use Rattle.gathering.specs.Lists.{list_for};
-ghost use Rattle.prism_translator.specs.Code.{file_in, names_in, IsReady, element_of, IsElement, HasActions, lasting_of};
+ghost use Rattle.prism_modules.specs.Code.{file_in, names_in, IsReady, element_of, IsElement, HasActions, lasting_of};
 ghost use Rattle.prism_translator.specs.Gains.{gain_of, gains_of};
-ghost use Rattle.prism_translator.specs.Homes.{AreWriters};
+ghost use Rattle.prism_modules.specs.Homes.{AreWriters};
 ghost use Rattle.prism_translator.specs.Gathered.{AreGathered};
 ghost use Rattle.prism_translator.specs.Given.{AreGiven};
 ghost use Rattle.prism_translator.specs.Parts.{globals_in, modules_in, labels_in, rewards_in};
 
-use crate::elements::Element;
-use crate::entries::Names;
 use crate::gains::{Gain, gains};
 use crate::gathered::FileParts;
 use crate::given::GivenTable;
-use crate::homes::{at_home, globals, lasting_variables};
 use crate::labels::labels;
-use crate::modules::modules;
-use crate::parts::{LastingVar, constants};
 use crate::rewards::structures;
-use crate::writers::WriterTable;
-use bridge_io::List;
+use bridge_io::{List, together};
 use gathering::NumberLists;
 use name_table::OwnedVar;
+use prism_modules::{
+    Element, LastingVar, Names, WriterTable, at_home, constants, globals, lasting_variables,
+    modules,
+};
 use prism_targets::{ElementServing, Places, Serving, Target};
 use prism_tree::{PrismFile, PrismLabel, PrismModule, PrismRewards, PrismVar};
 use std::alloc::{AllocError, Global};
@@ -101,8 +99,8 @@ fn moving(
     ensures modules { IfOk result (λ m. map prism.module_of m.modules ≡ modules_in (file_in names.now) (names_in names.now)) }
 {
     let writers = writers(alloc, names, els)?;
-    let globals = globals(alloc, names, &writers, vars)?;
-    let modules = modules_by(alloc, names, els, &writers, vars, serving)?;
+    let modules = modules_by(alloc, names, els, &writers, vars, serving);
+    let (globals, modules) = together(globals(alloc, names, &writers, vars), modules)?;
     Ok(GlobalsAndModules { globals, modules })
 }
 
@@ -199,8 +197,8 @@ fn marks_by(
     ensures labels { IfOk result (λ m. map prism.label_of m.labels ≡ labels_in (file_in names.now) (names_in names.now)) }
     ensures rewards { IfOk result (λ m. map prism.rewards_of m.rewards ≡ rewards_in (file_in names.now) (names_in names.now)) }
 {
-    let labels = labels(alloc, names, table, label_vars)?;
-    let rewards = rewards_by(alloc, names, els, table, vars, made)?;
+    let labels = labels(alloc, names, table, label_vars);
+    let (labels, rewards) = together(labels, rewards_by(alloc, names, els, table, vars, made))?;
     Ok(LabelsAndRewards { labels, rewards })
 }
 
@@ -241,14 +239,13 @@ pub(crate) fn file_by(
     requires serving { IsServing (file_in names.now) serving.now }
     ensures { IfOk result (λ r. prism.file_of r ≡ translated_by (names_in names.now) (file_in names.now)) }
 {
-    let constants = constants(alloc, names)?;
     let moving = moving_by(
         alloc,
         names,
         els,
         parts.lasting.as_slice(),
         serving.elements.as_slice(),
-    )?;
+    );
     let marks = marks(
         alloc,
         names,
@@ -256,7 +253,8 @@ pub(crate) fn file_by(
         parts.labels.as_slice(),
         parts.structures.as_slice(),
         serving.targets.as_slice(),
-    )?;
+    );
+    let (constants, (moving, marks)) = together(constants(alloc, names), together(moving, marks))?;
     Ok(PrismFile {
         constants,
         globals: moving.globals,

@@ -13,13 +13,12 @@ ghost use Rattle.prism_targets.specs.Code.{maker_view};
 ghost use Rattle.prism_targets.specs.Made.{placed_at};
 ghost use Rattle.prism_targets.specs.Serving.{target_in};
 ghost use Rattle.gathering.specs.Lists.{list_for};
-ghost use Rattle.prism_translator.specs.Code.{file_in, element_of};
+ghost use Rattle.prism_modules.specs.Code.{file_in, element_of};
 ghost use Rattle.prism_translator.specs.Gains.{gain_of, gain_with, gains_of, ArePlaces};
 
-use crate::elements::Element;
-use crate::entries::Names;
 use gathering::NumberLists;
 use jani_tree::{JaniEdge, JaniExpr, JaniWrite};
+use prism_modules::{Element, Names};
 use prism_targets::{Maker, Places, Target};
 use std::alloc::{AllocError, Global};
 

@@ -8,13 +8,13 @@ ghost use Rattle.op_trees.specs.Names.{is_called};
 ghost use Rattle.name_table.specs.JaniParts.{owned_of};
 ghost use Rattle.prism_translation.specs.Marks.{given_by};
 ghost use Rattle.gathering.specs.Lists.{list_under};
-ghost use Rattle.prism_translator.specs.Code.{element_of};
+ghost use Rattle.prism_modules.specs.Code.{element_of};
 ghost use Rattle.prism_translator.specs.Given.{given_of, given_with, given_in, list_at, lists_in, GivesOf, AreGiven};
 
-use crate::elements::Element;
 use gathering::NameLists;
 use jani_tree::{JaniExpr, JaniLocation, JaniWrite};
 use name_table::OwnedVar;
+use prism_modules::Element;
 use std::alloc::{AllocError, Global};
 
 /// A value that a location of an element gives, by the number of the location.

@@ -2,23 +2,20 @@
 
 ghost use Rattle.std.specs.Prelude.{◌≡◌, map, IfOk};
 ghost use Rattle.std.specs.List.{zip};
-ghost use Rattle.op_trees.specs.Tree.{tree, Three};
-ghost use Rattle.prism_tree.specs.declared.operator.PrismOp.TheVariants.{Ite};
+ghost use Rattle.op_trees.specs.Tree.{tree};
 ghost use Rattle.prism_tree.specs.Syntax as prism;
 ghost use Rattle.name_table.specs.JaniParts.{owned_of};
 ghost use Rattle.prism_translation.specs.Elements.{elements};
 ghost use Rattle.prism_translation.specs.Marks.{given_image, label_body, first_value, label};
-ghost use Rattle.prism_translator.specs.Code.{file_in, names_in, IsReady};
+ghost use Rattle.prism_modules.specs.Code.{file_in, names_in, IsReady};
 ghost use Rattle.prism_translator.specs.Given.{given_of, label_step, AreGiven};
 
-use crate::entries::Names;
 use crate::given::{Given, GivenTable};
-use crate::image::image;
-use crate::parts::{falsehood, image_if, is_there};
-use bridge_io::List;
+use bridge_io::{List, together};
 use gathering::shorter;
 use name_table::{Entry, OwnedVar, instead};
-use op_trees::Expr;
+use op_trees::three;
+use prism_modules::{Names, falsehood, image, image_if, is_there};
 use prism_tree::{PrismExpr, PrismLabel, PrismOp};
 use std::alloc::{AllocError, Global};
 
@@ -40,27 +37,12 @@ fn label_step(
     requires { IsReady names.now }
     ensures { IfOk result (λ r. tree r ≡ label_step (file_in names.now) (names_in names.now) (given_of g.now) (tree other)) }
 {
-    let value = given_image(alloc, names, g)?;
+    let value = given_image(alloc, names, g);
     if !g.element.has_several() {
-        return Ok(value);
+        return value;
     }
-    let there = is_there(alloc, names, g.element.number, g.location)?;
-    either(alloc, there, value, other)
-}
-
-/// One value where a condition holds, else another.
-fn either(
-    alloc: Global,
-    condition: PrismExpr,
-    value: PrismExpr,
-    other: PrismExpr,
-) -> Result<PrismExpr, AllocError>
-    ensures { IfOk result (λ r. tree r ≡ Three 0 Ite (tree condition) (tree value) (tree other)) }
-{
-    let test = Box::new(alloc, condition)?;
-    let first = Box::new(alloc, value)?;
-    let second = Box::new(alloc, other)?;
-    Ok(Expr::Three(0, PrismOp::Ite, test, first, second))
+    let there = is_there(alloc, names, g.element.number, g.location);
+    three(alloc, 0, PrismOp::Ite, there, value, Ok(other))
 }
 
 /// The value of the location that the element is at, else another.
@@ -107,11 +89,9 @@ fn label(
     ensures { IfOk result (λ r. prism.label_of r ≡ label (file_in names.now) (names_in names.now) (owned_of var.now) e.now.name) }
 {
     let first = first_value(alloc, names, var)?;
-    let body = label_body(alloc, names, table.given(var), first)?;
-    Ok(PrismLabel {
-        name: instead(alloc, &var.var.name, e.name.as_str())?,
-        body,
-    })
+    let body = label_body(alloc, names, table.given(var), first);
+    let (name, body) = together(instead(alloc, &var.var.name, e.name.as_str()), body)?;
+    Ok(PrismLabel { name, body })
 }
 
 /// The labels: boolean transient variables.

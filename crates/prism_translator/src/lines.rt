@@ -9,19 +9,18 @@ ghost use Rattle.prism_translation.specs.Targets.{targets};
 ghost use Rattle.prism_translation.specs.Elements.{elements};
 ghost use Rattle.prism_translation.specs.Lines.{name_line, name_lines, location_line, old_text, joined, called, lines_by};
 ghost use Rattle.prism_targets.specs.Serving.{target_in};
-ghost use Rattle.prism_translator.specs.Code.{file_in, names_in, element_of};
+ghost use Rattle.prism_modules.specs.Code.{file_in, names_in, element_of};
 ghost use Rattle.prism_translator.specs.Gathered.{AreGathered};
 ghost use Rattle.prism_translator.specs.LineParts.{made_line, several_line, old_of, value_lines, moving_lines, mark_lines};
 
 use crate::actions::old_name;
-use crate::elements::Element;
-use crate::entries::{Names, name_at};
 use crate::gathered::FileParts;
 use bridge_io::{List, Named, Text};
 use decimal_json::push_string;
 use gathering::shorter;
 use jani_tree::{JaniConst, JaniLocation};
 use name_table::{Entry, OwnedVar};
+use prism_modules::{Element, Names, name_at};
 use prism_targets::Target;
 use std::alloc::{AllocError, Global};
 
@@ -50,13 +49,20 @@ fn made_line(alloc: Global, what: &str, name: &str, old: Option<&str>) -> Result
     ensures { IfOk result (λ t. t ≡ made_line what.now name.now (option_copied old.entry)) }
 {
     let mut out = Vec::new(alloc);
+    push_made(&mut out, what, name, old)?;
+    text_of(alloc, out.as_slice())
+}
+
+/// Writes the line of a made name.
+fn push_made(out: &mut Vec<u8>, what: &str, name: &str, old: Option<&str>) -> Result<(), AllocError>
+    ensures { OnOk result (out.new.items ≡ out.old.items ++ made_line what.now name.now (option_copied old.entry)) }
+{
     out.extend_from_slice(b"// ")?;
     out.extend_from_slice(what.as_bytes())?;
     out.push(b' ')?;
     out.extend_from_slice(name.as_bytes())?;
     out.push(b' ')?;
-    push_old(&mut out, old)?;
-    text_of(alloc, out.as_slice())
+    push_old(out, old)
 }
 
 /// Adds the line of an entry; a name that was kept has none.
@@ -167,12 +173,20 @@ fn several_line(alloc: Global, name: &str, locations: &[JaniLocation]) -> Result
     ensures { IfOk result (λ t. t ≡ several_line name.now (map jani.location_of locations.now)) }
 {
     let mut out = Vec::new(alloc);
+    push_several(&mut out, name, locations)?;
+    text_of(alloc, out.as_slice())
+}
+
+/// Writes the line of an element with several locations.
+fn push_several(out: &mut Vec<u8>, name: &str, locations: &[JaniLocation]) -> Result<(), AllocError>
+    ensures { OnOk result (out.new.items ≡ out.old.items ++ several_line name.now (map jani.location_of locations.now)) }
+{
     out.extend_from_slice(b"// location ")?;
     out.extend_from_slice(name.as_bytes())?;
     out.extend_from_slice(b" [")?;
-    push_locations(&mut out, locations)?;
+    push_locations(out, locations)?;
     out.push(b']')?;
-    text_of(alloc, out.as_slice())
+    Ok(())
 }
 
 /// Adds the line of an element, if it has several locations.

@@ -8,13 +8,13 @@ ghost use Rattle.jani_meaning.specs.Elements.{lasting as lasting_of_file, labels
 ghost use Rattle.name_rules.specs.Names.{under};
 ghost use Rattle.name_table.specs.JaniParts.{owned_of};
 ghost use Rattle.name_table.specs.PrismAsks.{names_by};
-ghost use Rattle.prism_translator.specs.Code.{file_in, names_in, classes_in, IsReady};
+ghost use Rattle.prism_modules.specs.Code.{file_in, names_in, classes_in, IsReady};
 
-use crate::entries::{Classes, Names};
 use gathering::{drop_from, first_of};
 use jani_tree::{JaniConst, JaniFile};
 use name_rules::NameMap;
 use name_table::{Entry, OwnedVar};
+use prism_modules::{Classes, Names};
 use prism_targets::Places;
 use std::alloc::{AllocError, Global};
 

@@ -10,19 +10,17 @@ ghost use Rattle.prism_translation.specs.Elements.{elements};
 ghost use Rattle.prism_translation.specs.Targets.{targets};
 ghost use Rattle.prism_translation.specs.Marks.{given_where, state_item, or_nought, structure};
 ghost use Rattle.gathering.specs.Lists.{list_for};
-ghost use Rattle.prism_translator.specs.Code.{file_in, names_in, IsReady, HasActions};
+ghost use Rattle.prism_modules.specs.Code.{file_in, names_in, IsReady, HasActions};
 ghost use Rattle.prism_translator.specs.Given.{given_of, AreGiven};
 ghost use Rattle.prism_translator.specs.Gains.{gain_of, gain_item, gains_of, structure_by};
 
-use crate::entries::{Names, name_at};
 use crate::gains::Gain;
 use crate::given::{Given, GivenTable};
-use crate::image::image;
 use crate::labels::given_image;
-use crate::parts::{counted, is_there, truth};
-use bridge_io::List;
+use bridge_io::{List, together};
 use gathering::NumberLists;
 use name_table::{OwnedVar, instead, made};
+use prism_modules::{Names, counted, image, is_there, name_at, truth};
 use prism_tree::{ItemOn, PrismExpr, PrismItem, PrismRewards};
 use std::alloc::{AllocError, Global};
 
@@ -41,8 +39,8 @@ fn state_item(alloc: Global, names: &Names, g: &Given) -> Result<PrismItem, Allo
     requires { IsReady names.now }
     ensures { IfOk result (λ r. prism.item_of r ≡ state_item (file_in names.now) (names_in names.now) (given_of g.now)) }
 {
-    let guard = given_where(alloc, names, g)?;
-    let value = given_image(alloc, names, g)?;
+    let guard = given_where(alloc, names, g);
+    let (guard, value) = together(guard, given_image(alloc, names, g))?;
     Ok(PrismItem {
         on: ItemOn::InState,
         guard,
@@ -55,8 +53,8 @@ fn target_item(alloc: Global, names: &Names, g: &Gain) -> Result<PrismItem, Allo
     requires { IsReady names.now }
     ensures { IfOk result (λ r. prism.item_of r ≡ gain_item (file_in names.now) (names_in names.now) (gain_of g.now)) }
 {
-    let action = made(alloc, name_at(names.entries.actions, g.target))?;
-    let value = image(alloc, names, g.element, g.value)?;
+    let action = made(alloc, name_at(names.entries.actions, g.target));
+    let (action, value) = together(action, image(alloc, names, g.element, g.value))?;
     Ok(PrismItem {
         on: ItemOn::Action(action),
         guard: truth(),

@@ -11,21 +11,20 @@ ghost use Rattle.prism_translation.specs.Names.{entries};
 ghost use Rattle.prism_translation.specs.Elements.{elements};
 ghost use Rattle.prism_translation.specs.Refused.{refused};
 ghost use Rattle.prism_targets.specs.Serving.{IsServing};
-ghost use Rattle.prism_translator.specs.Code.{file_in, names_in, IsReady, HasActions, element_of, IsElement};
+ghost use Rattle.prism_modules.specs.Code.{file_in, names_in, IsReady, HasActions, element_of, IsElement};
 ghost use Rattle.prism_translator.specs.Gathered.{AreGathered};
 ghost use Rattle.prism_translator.specs.Translation.{IsTranslation, IsTextBy};
 
 use crate::actions::ask_actions;
-use crate::elements::{Element, elements};
-use crate::entries::Names;
 use crate::file::file_by;
 use crate::gathered::{FileParts, file_parts};
 use crate::lines::lines;
 use crate::naming::new_names;
-use bridge_io::{Fault, List, Refused, Text};
+use bridge_io::{Fault, List, Refused, Text, together};
 use jani_check::CheckedJani;
 use jani_tree::JaniFile;
 use name_table::{Entry, NameTable, parts_names};
+use prism_modules::{Element, Names, elements};
 use prism_targets::{Serving, least_refused, serving};
 use prism_tree::PrismFile;
 use std::alloc::{AllocError, Global};
@@ -203,7 +202,7 @@ fn text_by(
     requires serving { IsServing (file_in names.now) serving.now }
     ensures { IfOk result (λ t. IsTextBy t (names_in names.now) (file_in names.now)) }
 {
-    let lines = lines(alloc, names, els, parts, serving.targets.as_slice())?;
-    let file = file_by(alloc, names, els, parts, serving)?;
+    let lines = lines(alloc, names, els, parts, serving.targets.as_slice());
+    let (file, lines) = together(file_by(alloc, names, els, parts, serving), lines)?;
     Ok(CheckedPrismText { file, lines })
 }

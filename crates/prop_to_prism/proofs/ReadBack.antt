@@ -20,7 +20,7 @@ use Rattle.op_trees.specs.Names.{is_called}
 use Rattle.prism_lex.specs.Tokens.{is_name}
 use Rattle.prism_tree.specs.Syntax.{Expression, Rewards}
 use Rattle.prism_tree.specs.Syntax as prism
-use Rattle.prism_places.proofs.Trees.{renamed-bare}
+use Rattle.name_table.proofs.Trees.{renamed-bare}
 use Rattle.jani_tree.specs.Syntax.{File}
 use Rattle.jani_tree.specs.Syntax as jani
 use Rattle.jani_check.specs.Faults.{IsChecked}

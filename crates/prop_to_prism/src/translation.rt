@@ -6,7 +6,7 @@ ghost use Rattle.jani_meaning.specs.Elements.{labels as labels_of_file};
 ghost use Rattle.name_table.specs.Gathered.{told};
 ghost use Rattle.name_table.specs.JaniParts.{owned_of};
 ghost use Rattle.jani_check.specs.NameFaults.{name_faults};
-ghost use Rattle.prism_translator.specs.Code.{file_in, names_in, IsReady};
+ghost use Rattle.prism_modules.specs.Code.{file_in, names_in, IsReady};
 ghost use Rattle.prism_translator.specs.Gathered.{AreGathered};
 ghost use Rattle.prop_trees.specs.Syntax.{jani_property_of};
 ghost use Rattle.jani_props.specs.Reading.{AreOfJani};
@@ -20,7 +20,8 @@ use bridge_io::List;
 use jani_check::CheckedJani;
 use jani_tree::JaniFile;
 use name_table::{Entry, NameClass, NameTable, OwnedVar, prism_names};
-use prism_translator::{FileParts, Names, file_parts, new_names};
+use prism_modules::Names;
+use prism_translator::{FileParts, file_parts, new_names};
 use prop_trees::JaniProperty;
 use std::alloc::{AllocError, Global};
 

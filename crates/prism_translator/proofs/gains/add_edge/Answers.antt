@@ -9,9 +9,9 @@ use Rattle.jani_meaning.specs.Elements.{structure_number}
 use Rattle.prism_translation.specs.Elements.{Placed, is_at}
 use Rattle.prism_translation.specs.Marks.{first_writes}
 use Rattle.gathering.specs.Lists.{list_for}
-use Rattle.prism_translator.specs.Code.{file_in, element_of}
+use Rattle.prism_modules.specs.Code.{file_in, element_of}
 use Rattle.prism_translator.specs.Gains.{Gain, gain_of, gain_with, gain_by, gains_of}
-use Rattle.prism_translator.proofs.ByPlaces.{placed_with}
+use Rattle.prism_modules.proofs.ByPlaces.{placed_with}
 use Rattle.prism_translator.proofs.GainItems.{edge_there}
 use Rattle.prism_translator.proofs.gains.add_edge.Goals as goal
 

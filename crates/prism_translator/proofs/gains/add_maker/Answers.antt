@@ -5,7 +5,7 @@ use Rattle.std.proofs.lemmas.Option.{slice_get_past}
 use Rattle.prism_translation.specs.Elements.{Element, elements}
 use Rattle.prism_targets.specs.Made.{edge_at}
 use Rattle.gathering.specs.Lists.{list_for}
-use Rattle.prism_translator.specs.Code.{file_in, element_of}
+use Rattle.prism_modules.specs.Code.{file_in, element_of}
 use Rattle.prism_translator.specs.Gains.{gain_of, gains_of}
 use Rattle.prism_translator.proofs.GainItems.{element_in, get_there}
 use Rattle.prism_translator.proofs.gains.add_maker.Goals as goal

@@ -7,9 +7,9 @@ use Rattle.jani_meaning.specs.Elements.{structure_number}
 use Rattle.prism_translation.specs.Elements.{is_at}
 use Rattle.choice_laws.proofs.Walks.{filter_walk}
 use Rattle.gathering.specs.Lists.{list_for}
-use Rattle.prism_translator.specs.Code.{file_in}
+use Rattle.prism_modules.specs.Code.{file_in}
 use Rattle.prism_translator.specs.Gains.{gain_of, gain_with}
-use Rattle.prism_translator.proofs.Kept.{walk_more}
+use Rattle.prism_modules.proofs.Kept.{walk_more}
 use Rattle.prism_translator.proofs.gains.add_writes.Goals as goal
 
 pub loop-w-preserved : goal.loop-w-preserved

@@ -5,7 +5,7 @@ use Rattle.jani_tree.specs.Syntax.{write_of}
 use Rattle.jani_meaning.specs.Elements.{structure_number}
 use Rattle.prism_translation.specs.Elements.{is_at}
 use Rattle.gathering.specs.Lists.{list_for}
-use Rattle.prism_translator.specs.Code.{file_in}
+use Rattle.prism_modules.specs.Code.{file_in}
 use Rattle.prism_translator.specs.Gains.{gain_of, gain_with}
 use Rattle.prism_translator.proofs.gains.add_writes.Given as goal
 

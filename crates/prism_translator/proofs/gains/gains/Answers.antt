@@ -5,7 +5,7 @@ use Rattle.prism_targets.specs.declared.targets.Target.{Target}
 use Rattle.prism_targets.specs.Serving.{target_in}
 use Rattle.gathering.proofs.Loops.{numbered_step, numbered_all}
 use Rattle.gathering.specs.Lists.{list_for}
-use Rattle.prism_translator.specs.Code.{file_in}
+use Rattle.prism_modules.specs.Code.{file_in}
 use Rattle.prism_translator.specs.Gains.{gain_of, gains_of}
 use Rattle.prism_translator.proofs.gains.gains.Goals as goal
 

@@ -2,7 +2,7 @@ use Rattle.std.proofs.Common.{◌≡◌, ◌++◌, ℕ, map, drop}
 use Rattle.process_core.specs.Instance.{numbered}
 use Rattle.prism_targets.specs.Serving.{target_in}
 use Rattle.gathering.specs.Lists.{list_for}
-use Rattle.prism_translator.specs.Code.{file_in}
+use Rattle.prism_modules.specs.Code.{file_in}
 use Rattle.prism_translator.specs.Gains.{gain_of, gains_of}
 use Rattle.prism_translator.proofs.gains.gains.Given as goal
 

@@ -6,7 +6,7 @@ use Rattle.jani_tree.specs.Syntax.{Location, location_of}
 use Rattle.op_trees.specs.Names.{is_called}
 use Rattle.gathering.proofs.Loops.{numbered_step, numbered_all}
 use Rattle.gathering.specs.Lists.{list_under}
-use Rattle.prism_translator.specs.Code.{element_of}
+use Rattle.prism_modules.specs.Code.{element_of}
 use Rattle.prism_translator.specs.Given.{given_of, given_with}
 use Rattle.prism_translator.proofs.given.add_given.Goals as goal
 

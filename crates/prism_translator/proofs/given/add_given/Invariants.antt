@@ -4,7 +4,7 @@ use Rattle.process_core.specs.Instance.{numbered}
 use Rattle.jani_tree.specs.Syntax.{location_of}
 use Rattle.op_trees.specs.Names.{is_called}
 use Rattle.gathering.specs.Lists.{list_under}
-use Rattle.prism_translator.specs.Code.{element_of}
+use Rattle.prism_modules.specs.Code.{element_of}
 use Rattle.prism_translator.specs.Given.{given_of, given_with}
 use Rattle.prism_translator.proofs.given.add_given.Given as goal
 

@@ -6,9 +6,9 @@ use Rattle.jani_tree.specs.Syntax.{Write, write_of}
 use Rattle.op_trees.specs.Names.{is_called}
 use Rattle.choice_laws.proofs.Walks.{filter_walk}
 use Rattle.gathering.specs.Lists.{list_under}
-use Rattle.prism_translator.specs.Code.{element_of}
+use Rattle.prism_modules.specs.Code.{element_of}
 use Rattle.prism_translator.specs.Given.{given_of, given_with}
-use Rattle.prism_translator.proofs.Kept.{walk_more}
+use Rattle.prism_modules.proofs.Kept.{walk_more}
 use Rattle.prism_translator.proofs.given.add_location.Goals as goal
 
 pub loop-w-preserved : goal.loop-w-preserved

@@ -3,7 +3,7 @@ use Rattle.std.specs.List.{AllZip}
 use Rattle.std.proofs.lemmas.List.{map-append}
 use Rattle.std.proofs.lemmas.Slice.Zip.{all_zipped_more}
 use Rattle.gathering.proofs.Loops.{taken}
-use Rattle.prism_translator.specs.Code.{element_of}
+use Rattle.prism_modules.specs.Code.{element_of}
 use Rattle.prism_translator.specs.Given.{GivesOf}
 use Rattle.prism_translator.proofs.given.given_by_each.Goals as goal
 

@@ -1,6 +1,6 @@
 use Rattle.std.proofs.Common.{map, take}
 use Rattle.std.specs.List.{AllZip}
-use Rattle.prism_translator.specs.Code.{element_of}
+use Rattle.prism_modules.specs.Code.{element_of}
 use Rattle.prism_translator.specs.Given.{GivesOf}
 use Rattle.prism_translator.proofs.given.given_by_each.Given as goal
 

@@ -3,7 +3,7 @@ use Rattle.std.specs.List.{zip}
 use Rattle.prism_tree.specs.Syntax as prism
 use Rattle.name_table.specs.JaniParts.{owned_of}
 use Rattle.prism_translation.specs.Marks.{label}
-use Rattle.prism_translator.specs.Code.{file_in, names_in}
+use Rattle.prism_modules.specs.Code.{file_in, names_in}
 use Rattle.prism_translator.proofs.labels.labels.Given as goal
 
 abbrev pub invariant-loop-i : goal.invariant-loop-i

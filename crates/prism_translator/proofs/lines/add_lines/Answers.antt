@@ -7,7 +7,7 @@ use Rattle.name_table.specs.JaniParts.{owned_of}
 use Rattle.prism_translation.specs.Elements.{Element}
 use Rattle.prism_translation.specs.Targets.{old_name}
 use Rattle.prism_targets.specs.Serving.{target_in}
-use Rattle.prism_translator.specs.Code.{file_in, names_in}
+use Rattle.prism_modules.specs.Code.{file_in, names_in}
 use Rattle.prism_translator.specs.LineParts.{value_lines, moving_lines, mark_lines}
 use Rattle.prism_translator.proofs.LongActions.{behind, in_parts}
 use Rattle.prism_translator.proofs.lines.add_lines.Goals as goal

@@ -1,7 +1,7 @@
 use Rattle.std.proofs.Common.{◌≡◌, ◌++◌, map, take}
 use Rattle.std.specs.List.{flat_map}
 use Rattle.prism_translation.specs.Lines.{location_line}
-use Rattle.prism_translator.specs.Code.{names_in, element_of}
+use Rattle.prism_modules.specs.Code.{names_in, element_of}
 use Rattle.prism_translator.proofs.lines.add_location_lines.Given as goal
 
 abbrev pub invariant-loop-el : goal.invariant-loop-el

@@ -6,7 +6,7 @@ use Rattle.name_table.specs.JaniParts.{owned_of}
 use Rattle.name_table.specs.PrismAsks.{name_at}
 use Rattle.prism_translation.specs.Marks.{structure}
 use Rattle.gathering.proofs.Loops.{numbered_more}
-use Rattle.prism_translator.specs.Code.{file_in, names_in}
+use Rattle.prism_modules.specs.Code.{file_in, names_in}
 use Rattle.prism_translator.specs.Given.{given_of}
 use Rattle.prism_translator.specs.Gains.{gain_of}
 use Rattle.prism_translator.proofs.GivenTo.{given_is}

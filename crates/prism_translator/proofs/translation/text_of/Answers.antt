@@ -8,7 +8,7 @@ use Rattle.prism_translation.specs.Names.{new_names}
 use Rattle.prism_translation.specs.Targets.{targets}
 use Rattle.prism_translation.specs.Translated.{translated_by}
 use Rattle.prism_translation.specs.Lines.{lines_by}
-use Rattle.prism_translator.specs.Code.{names_in, file_in}
+use Rattle.prism_modules.specs.Code.{names_in, file_in}
 use Rattle.prism_translator.specs.Translation.{IsTranslation, IsTextBy}
 use Rattle.prism_translator.proofs.LongActions.{actions_long}
 use Rattle.prism_translator.proofs.translation.text_of.Goals as goal

@@ -1,0 +1,4 @@
+pub mod ByPlaces
+pub mod Kept
+mod Singles
+mod WritersOf
