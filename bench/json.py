@@ -2,7 +2,7 @@
 """Times `read_json` and `write_json` of decimal_json on texts of 1 to 16 MB, beside CPython's json.load and, where RapidJSON's
 headers and a C++ compiler are there, beside RapidJSON's tree.
 
-    bench/json.py [--program crates/json_bench/out/json_bench] [--runs 3]
+    bench/json.py [--program crates/part_bench/out/part_bench] [--runs 3]
 
 For many small objects (as a JANI file nests them, and flat with the spaces of json.dump), long strings, numbers and an array of
 digits, and each size: the processor seconds of a run that only reads the file, the growth against the size before, the greatest
@@ -94,7 +94,7 @@ def tree_program(room):
 
 
 def main():
-    program, runs = words("crates/json_bench/out/json_bench")
+    program, runs = words("crates/part_bench/out/part_bench")
     with tempfile.TemporaryDirectory() as room:
         tree = tree_program(room)
         name = os.path.join(room, "null")
@@ -106,7 +106,7 @@ def main():
         for make in (objects, records, strings, numbers, digits):
             before = None
             for size in (1, 2, 4, 8, 16):
-                name, result = os.path.join(room, "f"), os.path.join(room, "out")
+                name, result = os.path.join(room, "f.json"), os.path.join(room, "out")
                 length = write_array(make, size * MEGA, name)
                 read, memory = min(timed([program, "read", name]) for _ in range(runs))
                 back, held = min(timed([program, name], 0, result) for _ in range(runs))

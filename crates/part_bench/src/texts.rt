@@ -1,6 +1,4 @@
-//! Reads the files that its words name and writes each back in canonical form: those whose names end in `.jani` as JANI files, all others
-//! as PRISM files. Refusals are printed as a reason and an offset.
-#![tactic(auto)]
+// Files read and written back in canonical form.
 
 use bridge_io::{FileShelf, List, Refused, StdSink, read_all, write_whole};
 use decimal_json::{read_json, write_json};
@@ -8,28 +6,34 @@ use jani_tree::{JaniFile, from_json, to_json};
 use prism_parse::parse;
 use prism_print::print;
 use std::alloc::{AllocError, Global};
-use std::{env, io};
+use std::io;
 
 // The most bytes that are read.
 const LIMIT: usize = 1 << 30;
 
-fn main(rt: HostRuntime) -> io::Result<()> {
-    let mut words = Vec::new(rt.alloc());
-    for word in env::args(&rt)?.skip(1) {
-        words.push(word)?;
-    }
-    for name in &words {
-        put_back(&rt, &words, name.as_str())?;
-    }
-    Ok(())
-}
-
-// Writes back the file of this name, which is one of the words.
-fn put_back(rt: &HostRuntime, words: &[String], name: &str) -> io::Result<()> {
+/// Writes back the file of this name, which is one of the words, or says only how many bytes of JSON it has.
+pub(crate) fn put_back(
+    rt: &HostRuntime,
+    words: &[String],
+    name: &str,
+    reads_only: bool,
+) -> io::Result<()> {
     let mut shelf = FileShelf::new(rt, words);
     match read_all(rt.alloc(), &mut shelf, name, LIMIT) {
+        Ok(bytes) if reads_only => put_length(rt, bytes.as_slice()),
         Ok(bytes) => put(rt, written_back(rt.alloc(), name, bytes.as_slice())),
         Err(_) => Err(io::ErrorKind::NotFound.into()),
+    }
+}
+
+// Prints how many bytes a JSON text has, or why it is refused.
+fn put_length(rt: &HostRuntime, bytes: &[u8]) -> io::Result<()> {
+    match read_json(rt.alloc(), bytes) {
+        Ok(_) => {
+            let length = bytes.len();
+            println!(rt; "{length}")
+        }
+        Err(refused) => put_refusal(rt, refused),
     }
 }
 
@@ -37,8 +41,14 @@ fn put_back(rt: &HostRuntime, words: &[String], name: &str) -> io::Result<()> {
 fn put(rt: &HostRuntime, written: Result<List<u8>, Refused>) -> io::Result<()> {
     match written {
         Ok(text) => put_text(rt, text.as_slice()),
-        Err(Refused::Memory(e)) => Err(e.into()),
-        Err(Refused::At(fault)) => {
+        Err(refused) => put_refusal(rt, refused),
+    }
+}
+
+fn put_refusal(rt: &HostRuntime, refused: Refused) -> io::Result<()> {
+    match refused {
+        Refused::Memory(e) => Err(e.into()),
+        Refused::At(fault) => {
             let (reason, at) = (fault.reason.name(), fault.at);
             println!(rt; "{reason} {at}")
         }
@@ -55,11 +65,20 @@ fn put_text(rt: &HostRuntime, text: &[u8]) -> io::Result<()> {
 
 // The canonical text of the file that the bytes spell.
 fn written_back(alloc: Global, name: &str, bytes: &[u8]) -> Result<List<u8>, Refused> {
-    if name.ends_with(".jani") {
+    if name.ends_with(".json") {
+        json_back(alloc, bytes)
+    } else if name.ends_with(".jani") {
         jani_back(alloc, bytes)
     } else {
         prism_back(alloc, bytes)
     }
+}
+
+fn json_back(alloc: Global, bytes: &[u8]) -> Result<List<u8>, Refused> {
+    let value = read_json(alloc, bytes)?;
+    let text = write_json(alloc, &value);
+    drop(value);
+    Ok(text?)
 }
 
 fn prism_back(alloc: Global, bytes: &[u8]) -> Result<List<u8>, Refused> {

@@ -1,12 +1,18 @@
-//! Times exact fractions and the evaluation of trees beside the same loops over plain integers. Without words it does each once on
-//! small sizes and prints what they come to; with the word `time` it does them on large ones and prints nanoseconds. Without words
-//! it also prints worked answers of the calls of the lowest crates, which its stored run compares with what was worked out by hand.
-//! The trees are of the operators that languages have in common, strict and lazy ones with one, two and three operands.
+//! Times parts of the bridge, and prints worked answers of them, which its stored run compares with what was worked out by hand.
+//!
+//! With the word `time`: nanoseconds of exact fractions and of the evaluation of trees, beside the same loops over plain integers. With
+//! the word `worked`: what these come to on small sizes, and answers of the calls of the lowest crates. The trees are of the operators that
+//! languages have in common, strict and lazy ones with one, two and three operands.
+//!
+//! The files that its other words name are read and written back in canonical form: those whose names end in `.json` as JSON texts,
+//! in `.jani` as JANI files, all others as PRISM files. With the word `read` before JSON texts it reads them and says only how many
+//! bytes each has. Refusals are printed as a reason and an offset.
 #![tactic(auto)]
 
 mod plain;
 mod point;
 mod tables;
+mod texts;
 mod trees;
 
 use frac_core::Frac;
@@ -16,6 +22,7 @@ use point::Point;
 use std::alloc::{AllocError, Global};
 use std::time::Instant;
 use std::{env, io};
+use texts::put_back;
 use trees::{Tree, call_laws, name, number, show_sameness, show_trees, two};
 
 const SMALL: u32 = 1_000;
@@ -23,20 +30,35 @@ const SMALL: u32 = 1_000;
 const LARGE: u32 = 1_000_000;
 
 fn main(rt: HostRuntime) -> io::Result<()> {
-    if is_timed(&rt)? {
-        time_all(&rt)
-    } else {
-        show_all(&rt)
+    let mut words = Vec::new(rt.alloc());
+    for word in env::args(&rt)?.skip(1) {
+        words.push(word)?;
+    }
+    if begins(&words, "time") {
+        return time_all(&rt);
+    }
+    if begins(&words, "worked") {
+        show_all(&rt)?;
+    }
+    put_all_back(&rt, &words)
+}
+
+// Whether this is the first of the words.
+fn begins(words: &[String], wanted: &str) -> bool {
+    match words.first() {
+        Some(word) => word.as_str() == wanted,
+        None => false,
     }
 }
 
-// Whether a word after the program's name is `time`.
-fn is_timed(rt: &HostRuntime) -> io::Result<bool> {
-    let mut timed = false;
-    for word in env::args(rt)?.skip(1) {
-        timed = timed || word.as_str() == "time";
+// Writes back the files that the words name.
+fn put_all_back(rt: &HostRuntime, words: &[String]) -> io::Result<()> {
+    let reads_only = begins(words, "read");
+    let has_task = reads_only || begins(words, "worked");
+    for name in words.iter().skip(usize::from(has_task)) {
+        put_back(rt, words, name.as_str(), reads_only)?;
     }
-    Ok(timed)
+    Ok(())
 }
 
 fn time_all(rt: &HostRuntime) -> io::Result<()> {

@@ -8,7 +8,7 @@ use Rattle.op_trees.specs.declared.tree.Ty.TheVariants as T
 use Rattle.op_trees.specs.declared.tree.Value.{Value}
 use Rattle.op_trees.specs.declared.tree.Value.TheVariants as V
 use Rattle.op_trees.specs.Types.{AgreesWith, has_type}
-use Rattle.core_bench.specs.Point.{point_types, point_values}
+use Rattle.part_bench.specs.Point.{point_types, point_values}
 
 chosen_typed : (b w : Bool) (q : Fraction) (v : Value) → q.den ≡ 1 → ◌≡◌ {A = Option Value} (if b then (if w then None else Some (V.Number q)) else None) (Some v) → IsTrue (has_type T.Int v)
 chosen_typed true true q v d h = cc

@@ -1,7 +1,7 @@
 // Names, bodies and a change of operators for the tests.
 
 ghost use Rattle.std.specs.Prelude.{◌≡◌};
-ghost use Rattle.core_bench.specs.Point.{number_at, turned};
+ghost use Rattle.part_bench.specs.Point.{number_at, turned};
 
 use bridge_io::Text;
 use frac_core::Frac;
@@ -15,8 +15,8 @@ pub struct Point {
 }
 
 impl Names for Point {
-    ghost use Rattle.core_bench.specs.Point.{point_types, point_values};
-    ghost use Rattle.core_bench.specs.PointLaws.{point_typed};
+    ghost use Rattle.part_bench.specs.Point.{point_types, point_values};
+    ghost use Rattle.part_bench.specs.PointLaws.{point_typed};
 
     ghost values = { λ p. point_values p.x };
 
@@ -49,7 +49,7 @@ pub struct Bodied {
 }
 
 impl Bodies<StandardOp> for Bodied {
-    ghost use Rattle.core_bench.specs.Point.{body_of};
+    ghost use Rattle.part_bench.specs.Point.{body_of};
     ghost use Rattle.op_trees.specs.Tree.{tree};
 
     ghost bodies = { λ b. body_of (tree b.body) };
@@ -65,7 +65,7 @@ pub struct Turned;
 
 impl OpMap<StandardOp, StandardOp> for Turned {
     ghost use Rattle.std.specs.Prelude.{◌≡◌, IfOk};
-    ghost use Rattle.core_bench.specs.Point.{turned_node};
+    ghost use Rattle.part_bench.specs.Point.{turned_node};
     ghost use Rattle.op_trees.specs.Rebuilt.{shape};
     ghost use Rattle.op_trees.specs.Tree.{tree};
 

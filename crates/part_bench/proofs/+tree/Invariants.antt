@@ -1,4 +1,4 @@
-use Rattle.core_bench.proofs.+tree.Given as goal
+use Rattle.part_bench.proofs.+tree.Given as goal
 
 abbrev pub decreases-tree : goal.decreases-tree
 decreases-tree l = l.height
