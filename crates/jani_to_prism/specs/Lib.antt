@@ -1,1 +1,2 @@
 pub mod Promise
+pub use Rattle.prism_translation_names.specs.NameLaws

@@ -10,8 +10,8 @@ use Rattle.name_rules.specs.Least.{IsLeast}
 use Rattle.command_words.specs.declared.request.Task.TheVariants.{ToJani}
 use Rattle.command_words.specs.Words.{with_properties}
 use Rattle.model_files.specs.PrismFile.{IsPrismFault}
-use Rattle.prop_check.specs.Read.{FaultsOf, of_properties as of_spelled}
-use Rattle.prop_check.specs.Laws.{OneListOfFaults}
+use Rattle.model_translation.specs.Read.{FaultsOf, of_properties as of_spelled}
+use Rattle.model_translation.specs.Laws.{OneListOfFaults}
 use Rattle.model_translation.specs.WithProperties.{AreFaultless, IsPropertiesFault, TranslatesWith}
 use Rattle.model_command.specs.Outcome.{status_of, text_of, line_of, place_in, refusal_line}
 use Rattle.model_command.specs.Run.{IsPairEnd, IsRefusal}

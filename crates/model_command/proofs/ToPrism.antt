@@ -12,7 +12,7 @@ use Rattle.jani_tree.specs.Syntax as jani
 use Rattle.jani_tree.specs.Faults.{FailsFor}
 use Rattle.prism_translation.specs.Lines.{lines}
 use Rattle.prism_translation.specs.Refused.{refused}
-use Rattle.prism_translation_names.specs.NameLaws.{LinesAreComments}
+use Rattle.jani_to_prism.specs.NameLaws.{LinesAreComments}
 use Rattle.jani_to_prism.specs.Promise.{IsTranslated, PlacesAside}
 use Rattle.command_words.specs.declared.request.Task.TheVariants.{ToPrism}
 use Rattle.model_files.specs.JaniFile.{IsFaultlessJani, RefusesJani}

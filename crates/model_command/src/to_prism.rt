@@ -16,7 +16,7 @@ use jani_to_prism::{CheckedPrismText, to_prism, translated_law};
 use model_files::read_jani;
 use prism_parse::one_tree;
 use prism_print::{commented_law, print};
-use prism_translation_names::lines_law;
+use jani_to_prism::lines_law;
 use std::alloc::{AllocError, Global};
 
 /// The text of the PRISM file that the JANI file of these bytes is translated to, or the least fault of the bytes, or of the

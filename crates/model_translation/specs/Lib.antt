@@ -1,3 +1,5 @@
 pub mod Translation
 pub mod WithProperties
 pub mod JaniProperties
+pub use Rattle.prop_check.specs.Read
+pub use Rattle.prop_check.specs.Laws

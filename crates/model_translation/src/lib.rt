@@ -9,3 +9,4 @@ mod translation;
 pub use jani_properties::translate_properties;
 pub use properties::{FilesRefused, translate_with_properties};
 pub use translation::translate;
+pub use prop_check::one_list_of_faults;

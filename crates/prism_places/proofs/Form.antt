@@ -10,9 +10,9 @@ use Rattle.prism_tree.specs.declared.syntax.ItemOn.{ItemOn}
 use Rattle.prism_tree.specs.declared.syntax.ItemOn.TheVariants.{InState, Silent, Action}
 use Rattle.prism_tree.specs.Syntax.{Expression, Range, Var, Branch, Command, Module, plain, copied, Rewards, File}
 use Rattle.basics.specs.Options.{IfAny}
-use Rattle.prism_print.specs.Printable.{IsIdentifier, IsTitle, IsPrintableExpression, IsPrintableConst, IsPrintableRange, IsPrintableVar, IsPrintableFormula, IsPrintableLabel, IsPrintableWrite, IsPrintableBranch, HasWeight, AreBranches, IsPrintableCommand, IsPrintablePair, IsPrintableModule, IsPrintableOn, IsPrintableItem, IsPrintableRewards, IsPrintable}
+use Rattle.prism_check.specs.Printable.{IsIdentifier, IsTitle, IsPrintableExpression, IsPrintableConst, IsPrintableRange, IsPrintableVar, IsPrintableFormula, IsPrintableLabel, IsPrintableWrite, IsPrintableBranch, HasWeight, AreBranches, IsPrintableCommand, IsPrintablePair, IsPrintableModule, IsPrintableOn, IsPrintableItem, IsPrintableRewards, IsPrintable}
 use Rattle.op_trees.specs.Names.{bare_name}
-use Rattle.prism_print.specs.Same.{bare_const, bare_range, bare_var, bare_formula, bare_label, bare_write, bare_branch, bare_command, bare_pair, bare_module, bare_on, bare_item, bare_rewards, bare_file}
+use Rattle.prism_check.specs.Same.{bare_const, bare_range, bare_var, bare_formula, bare_label, bare_write, bare_branch, bare_command, bare_pair, bare_module, bare_on, bare_item, bare_rewards, bare_file}
 use Rattle.prism_flat.specs.Kept.{is_plain, IsWrittenOut}
 
 -- the one holds exactly where the other does

@@ -5,3 +5,6 @@ pub mod Meaning
 pub mod Form
 pub mod Order
 pub mod Faults
+pub use Rattle.prism_flat.proofs.Contents
+pub use Rattle.prism_flat.proofs.Stands
+pub use Rattle.prism_check.proofs.NamesIn

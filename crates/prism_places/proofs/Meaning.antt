@@ -16,7 +16,7 @@ use Rattle.prism_tree.specs.declared.syntax.ItemOn.TheVariants as On
 use Rattle.prism_tree.specs.Syntax.{Expression, Const, Range, Var, Branch, Command, Item, Rewards, Label, File}
 use Rattle.prism_tree.specs.Syntax as syntax
 use Rattle.op_trees.specs.Names.{bare_name}
-use Rattle.prism_print.specs.Same.{bare_const, bare_range, bare_var, bare_label, bare_write, bare_branch, bare_command, bare_on, bare_item, bare_rewards, bare_file}
+use Rattle.prism_check.specs.Same.{bare_const, bare_range, bare_var, bare_label, bare_write, bare_branch, bare_command, bare_on, bare_item, bare_rewards, bare_file}
 use Rattle.prism_names.specs.Names.{unchanged, Part, parts, see, reading}
 use Rattle.process_core.specs.Instance.{Valuation, Between, Column, write_to}
 use Rattle.prism_flat.specs.Scene.{constant_called, constant_seen, constant_value, constant_within, constant, constant_names, domain_of, first_of, column, part_columns, columns_of, scene}

@@ -3,8 +3,8 @@
 use Rattle.std.specs.Prelude.{◌≡◌, ℕ, List, []}
 use Rattle.prism_tree.specs.Syntax.{File}
 use Rattle.prism_names.specs.Flat.{flat}
-use Rattle.prism_print.specs.Printable.{IsPrintable}
-use Rattle.prism_print.specs.Same.{bare_file}
+use Rattle.prism_check.specs.Printable.{IsPrintable}
+use Rattle.prism_check.specs.Same.{bare_file}
 use Rattle.process_core.specs.Ready.{Values}
 use Rattle.process_core.specs.Instance.{Valuation}
 use Rattle.prism_flat.specs.Scene.{scene}

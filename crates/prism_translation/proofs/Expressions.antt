@@ -9,7 +9,7 @@ use Rattle.bridge_io.specs.declared.reason.Reason.TheVariants.{Unknown, Transien
 use Rattle.op_trees.specs.Tree.{AllNames}
 use Rattle.op_trees.specs.Names.{offset_of, names_of, some_name}
 use Rattle.op_trees.specs.NameLaws.{none_named, names_with as both_names}
-use Rattle.prism_check.proofs.NamesIn.{listed_names}
+use Rattle.name_table.proofs.NamesIn.{listed_names}
 use Rattle.jani_tree.specs.Syntax.{Expression, Write, File}
 use Rattle.jani_tree.specs.Canonical.{HasOperands}
 use Rattle.name_rules.specs.Least.{fault_if}

@@ -16,7 +16,7 @@ use Rattle.jani_check.specs.Faults.{IsChecked}
 use Rattle.jani_check.proofs.Profiled.{operands}
 use Rattle.jani_meaning.specs.Elements as jani
 use Rattle.jani_meaning.specs.Elements.{Owned, owned_by, lasting}
-use Rattle.name_table.specs.PrismAsks.{outside}
+use Rattle.prism_translation.specs.PrismAsks.{outside}
 use Rattle.prism_translation.specs.Elements.{Element, elements, Placed, placed_edges}
 use Rattle.prism_translation.specs.Names.{new_names}
 use Rattle.prism_translation.specs.Parts.{scope_of}

@@ -14,9 +14,9 @@ use Rattle.prism_print.specs.Same.{bare_const, bare_file}
 use Rattle.jani_tree.specs.Syntax.{Const, File}
 use Rattle.jani_check.specs.Faults.{IsChecked}
 use Rattle.jani_meaning.specs.Process as jani_process
-use Rattle.name_table.specs.declared.entry.Entry.{Entry}
-use Rattle.name_table.specs.Correspond.{GivenAlike, Correspond}
-use Rattle.name_table.specs.PrismAsks.{name_at}
+use Rattle.prism_translation.specs.Entry.{Entry}
+use Rattle.prism_translation.specs.Correspond.{GivenAlike, Correspond}
+use Rattle.prism_translation.specs.PrismAsks.{name_at}
 use Rattle.prism_translation.specs.Names.{new_names}
 use Rattle.prism_translation.specs.Parts.{constant}
 use Rattle.prism_translation.specs.SameMeaning as translation

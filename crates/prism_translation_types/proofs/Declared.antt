@@ -21,7 +21,7 @@ use Rattle.prism_check.specs.TypeFaults.{Variable, part_variables, numbered_vari
 use Rattle.jani_tree.specs.Syntax.{Const, Automaton, File}
 use Rattle.jani_meaning.specs.Elements as jani
 use Rattle.jani_meaning.specs.Elements.{Owned, lasting, is_owner}
-use Rattle.name_table.specs.PrismAsks.{NewNames, name_at}
+use Rattle.prism_translation.specs.PrismAsks.{NewNames, name_at}
 use Rattle.prism_translation.specs.Elements.{Element, elements, has_several, Lasting, lasting_variables, is_at, writers, home, home_by, shared, own, adopted, at_home}
 use Rattle.prism_translation.specs.Names.{new_names}
 use Rattle.prism_translation.specs.Parts.{variable, location_variable}

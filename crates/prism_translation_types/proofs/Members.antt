@@ -10,7 +10,7 @@ use Rattle.process_core.specs.Instance.{numbered, only_if}
 use Rattle.jani_tree.specs.Syntax.{Edge, Vector, File}
 use Rattle.jani_check.specs.Faults.{IsChecked}
 use Rattle.jani_meaning.specs.Elements as jani
-use Rattle.name_table.specs.declared.entry.Entry.{Entry}
+use Rattle.prism_translation.specs.Entry.{Entry}
 use Rattle.prism_translation.specs.Elements.{Element, elements, Placed, placed_edges, rewards}
 use Rattle.prism_translation.specs.Targets.{names, edges_named, reward_writer, Target, targets_by, vector_targets, is_silent, silent_targets, targets}
 use Rattle.prism_translation.specs.Names.{new_names}

@@ -20,7 +20,7 @@ use Rattle.jani_tree.specs.Syntax.{Write, Destination, File}
 use Rattle.jani_check.specs.TypeFaults.{targets, repeated}
 use Rattle.jani_check.specs.Faults.{IsChecked}
 use Rattle.jani_meaning.specs.Elements.{lasting, place_of, location_number}
-use Rattle.name_table.specs.PrismAsks.{NewNames, name_at}
+use Rattle.prism_translation.specs.PrismAsks.{NewNames, name_at}
 use Rattle.prism_translation.specs.Elements.{Element, elements, has_several, placed_edges}
 use Rattle.prism_translation.specs.Targets.{serves, serves_silently, is_blocked}
 use Rattle.prism_translation.specs.Names.{new_names}

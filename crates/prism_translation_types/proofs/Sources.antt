@@ -28,7 +28,7 @@ use Rattle.jani_check.specs.ProfileFaults.{read_fault, reads}
 use Rattle.jani_check.specs.Faults.{IsChecked}
 use Rattle.jani_meaning.specs.Elements as jani
 use Rattle.jani_meaning.specs.Elements.{Owned, variables}
-use Rattle.name_table.specs.PrismAsks.{outside}
+use Rattle.prism_translation.specs.PrismAsks.{outside}
 use Rattle.prism_translation_types.specs.TypeLaws.{own_variables}
 use Rattle.prism_translation_types.proofs.Images.{HasType, has_type, is_typed}
 use Rattle.prism_translation_types.proofs.Scopes.{each_at, variables_all, own_are, constant_left, wanted_is}
