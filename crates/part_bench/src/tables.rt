@@ -190,6 +190,27 @@ fn number(real: bool, digits: u128, exponent: i32) -> TokenKind {
     })
 }
 
+// Whether what was found is what is wanted.
+fn is_found(found: Result<Token, Fault>, want: Result<Token, Fault>) -> bool {
+    match (found, want) {
+        (Ok(a), Ok(b)) => is_kind(a.kind, b.kind) && a.at == b.at && a.end == b.end,
+        (Err(a), Err(b)) => a == b,
+        _ => false,
+    }
+}
+
+fn is_kind(a: TokenKind, b: TokenKind) -> bool {
+    match (a, b) {
+        (TokenKind::Word(x), TokenKind::Word(y)) => x == y,
+        (TokenKind::Number(x), TokenKind::Number(y)) => x == y,
+        (TokenKind::Symbol(x), TokenKind::Symbol(y)) => x == y,
+        (TokenKind::Ident, TokenKind::Ident) => true,
+        (TokenKind::Quoted, TokenKind::Quoted) => true,
+        (TokenKind::End, TokenKind::End) => true,
+        _ => false,
+    }
+}
+
 // The longest token at an offset of a text.
 pub fn tokens() -> usize {
     let rows: [(&[u8], usize, Result<Token, Fault>); 24] = [
@@ -223,6 +244,6 @@ pub fn tokens() -> usize {
         ),
     ];
     rows.iter()
-        .filter(|(text, from, want)| next_token(*text, (*from).min(text.len())) == *want)
+        .filter(|(text, from, want)| is_found(next_token(*text, (*from).min(text.len())), *want))
         .count()
 }
