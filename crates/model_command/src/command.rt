@@ -18,9 +18,10 @@ use crate::to_prism::translate_back;
 use bridge_io::{List, ReadFail, Reason, Refused, Shelf, Sink, write_whole};
 use command_words::{Checking, Request, Task, WordsFail, request_in, words_law};
 use model_claims::{ClaimRefused, judge_claim};
-use model_translation::{FilesRefused, translate, translate_properties, translate_with_properties};
+use model_translation::{
+    FilesRefused, one_list_of_faults, translate, translate_properties, translate_with_properties,
+};
 use model_walks::{Ending, show_or_walk};
-use model_translation::one_list_of_faults;
 use std::alloc::Global;
 
 // The status where a write failed.

@@ -12,11 +12,10 @@ ghost use Rattle.model_command.specs.ToPrism.{IsWrittenBack};
 
 use bridge_io::{List, Refused, Text};
 use jani_check::CheckedJani;
-use jani_to_prism::{CheckedPrismText, to_prism, translated_law};
+use jani_to_prism::{CheckedPrismText, lines_law, to_prism, translated_law};
 use model_files::read_jani;
 use prism_parse::one_tree;
 use prism_print::{commented_law, print};
-use jani_to_prism::lines_law;
 use std::alloc::{AllocError, Global};
 
 /// The text of the PRISM file that the JANI file of these bytes is translated to, or the least fault of the bytes, or of the

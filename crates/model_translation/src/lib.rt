@@ -7,6 +7,6 @@ mod properties;
 mod translation;
 
 pub use jani_properties::translate_properties;
+pub use prop_check::one_list_of_faults;
 pub use properties::{FilesRefused, translate_with_properties};
 pub use translation::translate;
-pub use prop_check::one_list_of_faults;

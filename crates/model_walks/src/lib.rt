@@ -6,7 +6,6 @@ mod starting;
 mod walking;
 
 pub use ending::Ending;
+pub use prism_meaning::{described_law, start_prism};
 pub use starting::{Unstarted, begun, good_front, read_flat};
 pub use walking::show_or_walk;
-pub use prism_meaning::described_law;
-pub use prism_meaning::start_prism;

@@ -12,8 +12,7 @@ use crate::class::{NameClass, Target};
 use crate::gather::{actions, name_of, variables};
 use crate::table::NameTable;
 use bridge_io::Text;
-use prism_places::CheckedPrism;
-use prism_places::flatten;
+use prism_places::{CheckedPrism, flatten};
 use prism_tree::{PrismConst, PrismFile, PrismLabel, PrismModule, PrismRewards, PrismVar};
 use std::alloc::{AllocError, Global};
 

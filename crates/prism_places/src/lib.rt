@@ -7,5 +7,5 @@ mod laws;
 mod written_out;
 
 pub use laws::{form_law, meaning_law, places_law};
-pub use written_out::{FlatPrism, flatten};
 pub use prism_check::CheckedPrism;
+pub use written_out::{FlatPrism, flatten};
