@@ -5,8 +5,9 @@
 
 A clean clone of the commit is made in a folder of its own, `rt ci --anew` is run there with so many lanes, and twice a second the processes below it
 are looked at in /proc, each with the crate that it works on. With names only these crates and those below them are proved. What was seen so far is
-written into a file each minute, if one is named, since a run may be cut off. Two states can be compared only by runs on one machine, one after another, with nothing beside them: what runs beside makes the same proof take up to half
-as much processor time again. Crates that are the same in both show how far the two runs agree.
+written into a file each minute, if one is named, since a run may be cut off. Two states can be compared only by runs on one machine, one after
+another, with nothing beside them: what runs beside makes the same proof take up to half as much processor time again. Crates that are the same
+in both show how far the two runs agree.
 """
 import argparse
 import collections
