@@ -1,5 +1,3 @@
-mod Gathering
-mod Kept
-mod Monitored
-mod RewardSums
-mod Listed
+pub use Rattle.jani_edges.proofs.Clean
+pub use Rattle.jani_edges.proofs.Each
+pub use Rattle.jani_edges.proofs.Fresh

@@ -1,5 +1,6 @@
-pub mod Code
 pub use Rattle.name_table.specs.Asks
-pub use Rattle.jani_translation.specs.Parts
-pub use Rattle.jani_translation.specs.Automata
-pub use Rattle.jani_translation.specs.Translated
+pub use Rattle.jani_edges.specs.Parts
+pub use Rattle.jani_edges.specs.Automata
+pub use Rattle.jani_edges.specs.Translated
+pub use Rattle.jani_edges.specs.Code
+pub use Rattle.jani_edges.specs.declared.new_names.Names

@@ -6,42 +6,19 @@ ghost use Rattle.std.specs.Option.{option_map};
 ghost use Rattle.op_trees.specs.Tree.{tree};
 ghost use Rattle.prism_tree.specs.Syntax as prism;
 ghost use Rattle.jani_tree.specs.Syntax as jani;
-ghost use Rattle.prism_images.specs.Image.{image};
-ghost use Rattle.jani_translation.specs.Parts.{instead, instead_if, note, nought, falsehood, constant, kind_of, start_of, variable, label, structure};
-ghost use Rattle.jani_automata.specs.Code.{name_in};
+ghost use Rattle.jani_edges.specs.Parts.{instead, note, constant, kind_of, start_of, variable, label, structure};
+ghost use Rattle.jani_edges.specs.Code.{name_in};
 
-use crate::new_names::{Names, NewNameMap};
 use bridge_io::{List, Named, Text, together};
-use frac_core::Decimal;
 use gathering::shorter;
+use jani_edges::{Names, NewNameMap, falsehood, image_if, instead_if, nought};
 use jani_tree::{JaniConst, JaniExpr, JaniKind, JaniVar};
-use name_table::{Entry, instead, made};
-use op_trees::Expr;
+use name_table::{Entry, instead};
 use prism_images::image;
-use prism_tree::{PrismConst, PrismExpr, PrismLabel, PrismRange, PrismRewards, PrismVar};
+use prism_tree::{PrismConst, PrismLabel, PrismRange, PrismRewards, PrismVar};
 use std::alloc::{AllocError, Global};
 
 // ---- names
-
-/// The name of a reward structure, at the place of the old one, if it had one.
-pub(crate) fn instead_if(
-    alloc: Global,
-    old: &Option<Named>,
-    name: &str,
-) -> Result<Named, AllocError>
-    ensures { IfOk result (λ r. r ≡ instead_if old.now name.now) }
-{
-    match old {
-        None => {
-            let new = made(alloc, name)?;
-            Ok(new)
-        }
-        Some(n) => {
-            let new = instead(alloc, n, name)?;
-            Ok(new)
-        }
-    }
-}
 
 /// The comment of a made name, of what it names and its old name; a name that was kept has none.
 fn note(alloc: Global, what: &str, old: &Text, e: &Entry) -> Result<Option<Text>, AllocError>
@@ -87,44 +64,6 @@ fn noted(
 {
     let name = instead(alloc, old, e.name.as_str());
     together(name, note(alloc, what, &old.name, e))
-}
-
-// ---- expressions
-
-/// The number 0.
-pub(crate) fn nought() -> JaniExpr
-    ensures { tree result ≡ nought }
-{
-    Expr::Number(
-        0,
-        Decimal {
-            real: false,
-            negative: false,
-            exponent: 0,
-            digits: 0,
-        },
-    )
-}
-
-/// The truth value false.
-fn falsehood() -> JaniExpr
-    ensures { tree result ≡ falsehood }
-{
-    Expr::Truth(0, false)
-}
-
-/// The image of an expression, where there is one.
-pub(crate) fn image_if(
-    alloc: Global,
-    e: &Option<PrismExpr>,
-    names: &NewNameMap,
-) -> Result<Option<JaniExpr>, AllocError>
-    ensures { IfOk result (λ r. option_map tree r ≡ option_map (image (name_in names.now)) (option_map tree e.now)) }
-{
-    match e {
-        None => Ok(None),
-        Some(e) => Ok(Some(image(alloc, e, names)?)),
-    }
 }
 
 // ---- constants and variables

@@ -15,7 +15,7 @@ use Rattle.op_trees.specs.declared.tree.Value.{Value}
 use Rattle.process_core.specs.Product.{map-map, flat_map_agree}
 use Rattle.basics.specs.Options.{if_some}
 use Rattle.process_core.specs.Ready.{Values, Name, Write, Reward, Update, Ready, Vector}
-use Rattle.jani_table.specs.Operators.{jani_meaning}
+use Rattle.jani_tree.specs.Operators.{jani_meaning}
 use Rattle.jani_tree.specs.Syntax.{Expression, Const, VarKind, boolean, integer, number, real_bounded, one_sided, bounded, Var, Location, Destination, Edge, Automaton, File}
 use Rattle.jani_tree.specs.Syntax as syntax
 use Rattle.op_trees.specs.Names.{bare_name, is_called}

@@ -5,7 +5,7 @@ use Rattle.op_trees.specs.Tree.{AllNames}
 use Rattle.op_trees.specs.Seen.{Seen, known}
 use Rattle.op_trees.specs.SeenLaws.{names_then, seen_agree_on}
 use Rattle.process_core.specs.Ready.{Name}
-use Rattle.jani_table.specs.Operators.{jani_meaning}
+use Rattle.jani_tree.specs.Operators.{jani_meaning}
 use Rattle.jani_tree.specs.Syntax.{Expression, Const, File}
 use Rattle.process_core.specs.Instance.{Valuation}
 use Rattle.jani_meaning.specs.Scene.{see, constant_called, constant_seen, constant_value, constant_within}

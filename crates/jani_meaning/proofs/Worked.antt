@@ -14,9 +14,9 @@ use Rattle.process_core.specs.Bounds.{IsWide}
 use Rattle.process_core.specs.Instance.{Valuation, fault_of, is_wide_instance}
 use Rattle.process_core.specs.declared.data.FaultKind.TheVariants.{ConstUndef, BoundUndef, EmptyRange, InitUndef, InitOutside}
 use Rattle.process_core.proofs.Shown.{Ratio, ratio, count, shown_truth, to, Shown, good, bad, shown, shown_mark, none, with, state}
-use Rattle.jani_table.specs.Node.{null}
-use Rattle.jani_table.specs.declared.operator.JaniOp.{JaniOp}
-use Rattle.jani_table.specs.declared.operator.JaniOp.TheVariants as O
+use Rattle.jani_tree.specs.Node.{null}
+use Rattle.jani_tree.specs.JaniOp.{JaniOp}
+use Rattle.jani_tree.specs.JaniOp.TheVariants as O
 use Rattle.jani_tree.specs.Syntax.{Expression, Const, VarKind, boolean, number, bounded, Var, Write, Location, Destination, Edge, Automaton, Vector, File}
 use Rattle.jani_meaning.specs.Scene.{see, scene}
 use Rattle.jani_meaning.specs.Moment.{moment}

@@ -4,9 +4,9 @@ ghost use Rattle.std.specs.Prelude.{◌≡◌, [], IfErr, IfOk};
 ghost use Rattle.prism_tree.specs.Syntax as prism;
 ghost use Rattle.jani_tree.specs.Syntax.{file_of};
 ghost use Rattle.jani_tree.specs.Faults.{FailsFor};
-ghost use Rattle.prism_translation.specs.Lines.{lines};
-ghost use Rattle.prism_translation.specs.Refused.{refused};
-ghost use Rattle.prism_translation.specs.Translated.{translated};
+ghost use Rattle.prism_translation_names.specs.Lines.{lines};
+ghost use Rattle.prism_translation_names.specs.Refused.{refused};
+ghost use Rattle.prism_translation_names.specs.Translated.{translated};
 ghost use Rattle.jani_to_prism.specs.Promise.{IsTranslated};
 
 use crate::laws::translated_law;

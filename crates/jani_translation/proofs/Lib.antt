@@ -24,3 +24,4 @@ mod Worked
 mod StateWorked
 mod WatchedWorked
 pub mod Bare
+pub use Rattle.name_table.proofs.Parts

@@ -7,3 +7,5 @@ pub mod StateLaws
 pub mod Translated
 pub use Rattle.name_table.specs.Asks
 pub use Rattle.name_table.specs.Correspond
+pub use Rattle.name_table.specs.declared.class.NameClass
+pub use Rattle.name_table.specs.declared.entry.Entry

@@ -24,7 +24,7 @@ use Rattle.prism_check.specs.TypeFaults.{types}
 use Rattle.prism_places.specs.Flattened.{IsFlat}
 use Rattle.prism_images.specs.Laws.{IsNoNumberOf}
 use Rattle.prism_images.proofs.Typed.{compares_truths, agreeing}
-use Rattle.jani_translation.specs.SeenLaws.{IsSound}
+use Rattle.jani_translation_types.specs.SeenLaws.{IsSound}
 use Rattle.jani_translation_types.proofs.Expressions.{HasType, IsFixed}
 
 -- ---- facts of each member of a list

@@ -23,10 +23,10 @@ use Rattle.prism_check.specs.Demands.{var_type}
 use Rattle.prism_check.specs.TypeFaults as source
 use Rattle.prism_check.specs.TypeFaults.{types}
 use Rattle.prism_places.specs.Flattened.{IsFlat}
-use Rattle.jani_translation.specs.Asks.{variables}
-use Rattle.jani_translation.specs.SeenLaws.{SoundRange, SoundVariable, SoundConstant, IsSoundUnder}
-use Rattle.jani_translation.proofs.Written.{given_reading}
-use Rattle.jani_translation.proofs.Clean.{values_distinct, types_declared}
+use Rattle.jani_translation_types.specs.Asks.{variables}
+use Rattle.jani_translation_types.specs.SeenLaws.{SoundRange, SoundVariable, SoundConstant, IsSoundUnder}
+use Rattle.jani_translation_types.proofs.Written.{given_reading}
+use Rattle.jani_translation_types.proofs.Clean.{values_distinct, types_declared}
 use Rattle.jani_translation_types.proofs.Expressions.{IsFixed}
 use Rattle.jani_translation_types.proofs.Sources.{IsFineConst, IsFineRange, IsFineVar, consts_fine, variables_fine}
 use Rattle.jani_translation_meaning.specs.MeaningLaws.{GivesTyped, FlatIsSound}

@@ -28,18 +28,18 @@ use Rattle.op_trees.specs.Names.{bare_name}
 use Rattle.jani_tree.specs.Places.{bare_const, bare_file}
 use Rattle.jani_meaning.proofs.Bare.{places_mean_nothing}
 use Rattle.jani_meaning.specs.Process as jani_process
-use Rattle.jani_translation.specs.Asks.{new_names}
-use Rattle.jani_translation.specs.Translated.{translated}
-use Rattle.jani_translation.specs.SeenLaws.{GivesAlike}
-use Rattle.jani_translation.specs.StateLaws.{at_home, state_of}
-use Rattle.jani_translation.proofs.Differ.{names_of_constants}
-use Rattle.jani_translation.proofs.Clean.{values_distinct}
-use Rattle.jani_translation.proofs.SameColumns.{faults_alike}
-use Rattle.jani_translation.proofs.States.{states_alike, initial_alike, states_are_these, states_differ}
-use Rattle.jani_translation.proofs.Marks.{marks_alike}
-use Rattle.jani_translation.proofs.WatchedSilently.{choices_watched}
+use Rattle.jani_translation_types.specs.Asks.{new_names}
+use Rattle.jani_translation_types.specs.Translated.{translated}
+use Rattle.jani_translation_types.specs.SeenLaws.{GivesAlike}
+use Rattle.jani_translation_types.specs.StateLaws.{at_home, state_of}
+use Rattle.jani_translation_types.proofs.Differ.{names_of_constants}
+use Rattle.jani_translation_types.proofs.Clean.{values_distinct}
+use Rattle.jani_translation_types.proofs.SameColumns.{faults_alike}
+use Rattle.jani_translation_types.proofs.States.{states_alike, initial_alike, states_are_these, states_differ}
+use Rattle.jani_translation_types.proofs.Marks.{marks_alike}
+use Rattle.jani_translation_types.proofs.WatchedSilently.{choices_watched}
 use Rattle.jani_translation_meaning.specs.MeaningLaws.{GivesTyped}
-use Rattle.jani_translation.specs.Correspond.{GivenAlike, Correspond}
+use Rattle.jani_translation_types.specs.Correspond.{GivenAlike, Correspond}
 use Rattle.jani_translation_meaning.specs.SameMeaning.{placed, homes, label_in, MeansTheSame, TranslationMeansTheSame}
 use Rattle.jani_translation_meaning.proofs.Constants.{flat_is_sound}
 use Rattle.jani_translation_meaning.proofs.States.{commands_are_sound, marks_are_sound, items_are_sound}

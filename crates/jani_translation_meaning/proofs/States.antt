@@ -32,12 +32,12 @@ use Rattle.prism_check.specs.TypeFaults.{types}
 use Rattle.prism_places.specs.Flattened.{IsFlat}
 use Rattle.prism_images.specs.Laws.{IsNoNumber}
 use Rattle.prism_images.proofs.Typed.{agreeing}
-use Rattle.jani_translation.specs.Asks.{bodies, variables}
-use Rattle.jani_translation.specs.Automata.{for_states}
-use Rattle.jani_translation.specs.SeenLaws.{IsSound}
-use Rattle.jani_translation.specs.StateLaws.{IsSoundHere, SoundWrite, SoundBranch, SoundCommand, CommandsAreSound, SoundItem, MarksAreSound, ItemsAreSound}
-use Rattle.jani_translation.proofs.Written.{given_reading, variable_columns}
-use Rattle.jani_translation.proofs.Clean.{no_faults, values_distinct, types_declared, variable_types, declared_type}
+use Rattle.jani_translation_types.specs.Asks.{bodies, variables}
+use Rattle.jani_translation_types.specs.Automata.{for_states}
+use Rattle.jani_translation_types.specs.SeenLaws.{IsSound}
+use Rattle.jani_translation_types.specs.StateLaws.{IsSoundHere, SoundWrite, SoundBranch, SoundCommand, CommandsAreSound, SoundItem, MarksAreSound, ItemsAreSound}
+use Rattle.jani_translation_types.proofs.Written.{given_reading, variable_columns}
+use Rattle.jani_translation_types.proofs.Clean.{no_faults, values_distinct, types_declared, variable_types, declared_type}
 use Rattle.jani_translation_types.proofs.Expressions.{HasType}
 use Rattle.jani_translation_types.proofs.Sources.{IsFineLabel, IsFineItem, bodies_fine, labels_fine, rewards_fine}
 use Rattle.jani_translation_types.proofs.Writes.{IsFineWrite, no_constant}

@@ -8,8 +8,8 @@ use Rattle.prism_tree.specs.Syntax as prism
 use Rattle.process_core.specs.Instance.{Valuation}
 use Rattle.prism_flat.specs.Process.{model}
 use Rattle.prism_places.specs.Flattened.{IsFlat}
-use Rattle.jani_translation.specs.SeenLaws.{IsSoundUnder}
-use Rattle.jani_translation.specs.StateLaws.{CommandsAreSound, MarksAreSound, ItemsAreSound}
+use Rattle.jani_translation_types.specs.SeenLaws.{IsSoundUnder}
+use Rattle.jani_translation_types.specs.StateLaws.{CommandsAreSound, MarksAreSound, ItemsAreSound}
 
 -- what the valuation gives each constant without an expression, where it gives something, is a value of its type
 abbrev pub GivesTyped : prism.File → Valuation → Type 0

@@ -12,10 +12,10 @@ use Rattle.prism_check.specs.Checked.{Checked, IsChecked}
 use Rattle.jani_tree.specs.Syntax as jani
 use Rattle.jani_tree.specs.Places.{bare_file}
 use Rattle.jani_meaning.specs.Process as jani_process
-use Rattle.jani_translation.specs.Asks.{new_names}
-use Rattle.jani_translation.specs.Correspond.{Correspond}
-use Rattle.jani_translation.specs.Translated.{translated}
-use Rattle.jani_translation.specs.StateLaws.{at_home}
+use Rattle.jani_translation_types.specs.Asks.{new_names}
+use Rattle.jani_translation_types.specs.Correspond.{Correspond}
+use Rattle.jani_translation_types.specs.Translated.{translated}
+use Rattle.jani_translation_types.specs.StateLaws.{at_home}
 
 -- ---- what corresponds: constants do by their places (`Correspond`)
 

@@ -12,7 +12,7 @@ use Rattle.basics.specs.Options.{if_some, IfAny}
 use Rattle.process_core.specs.Ready.{Name}
 use Rattle.process_core.proofs.Targets.{any_firsts}
 use Rattle.prism_tree.specs.Syntax.{Command, Body, File}
-use Rattle.name_table.specs.Asks.{bodies, actions, action_of, called}
+use Rattle.jani_translation.specs.Asks.{bodies, actions, action_of, called}
 
 abbrev pub IsAction : File → Name → Type 0
 IsAction file a = list_any (λ y. bytes_eq y a) (actions file) ≡ true

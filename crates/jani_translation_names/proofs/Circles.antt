@@ -23,11 +23,11 @@ use Rattle.prism_check.specs.NameFaults as pc
 use Rattle.prism_check.specs.NameFaults.{Declared, declarations}
 use Rattle.jani_tree.specs.Syntax.{Const}
 use Rattle.jani_check.specs.NameFaults.{uses, uses_of, leads_to, is_circular, circular}
-use Rattle.name_table.specs.declared.entry.Entry.{Entry}
+use Rattle.jani_translation.specs.Entry.{Entry}
 use Rattle.prism_images.specs.Image.{image}
 use Rattle.jani_translation_names.proofs.Unknown.{one_names}
 use Rattle.prism_places.specs.Flattened.{IsFlat}
-use Rattle.name_table.specs.Asks.{variables, value_names, entries, new_names}
+use Rattle.jani_translation.specs.Asks.{variables, value_names, entries, new_names}
 use Rattle.jani_translation.specs.Parts.{constant}
 use Rattle.jani_translation.proofs.Clean.{no_faults, values_distinct}
 use Rattle.jani_translation.proofs.Fresh.{values_agree, agrees_front, Takes, takes_from}

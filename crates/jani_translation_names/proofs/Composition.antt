@@ -23,7 +23,7 @@ use Rattle.process_core.specs.Instance.{numbered, only_if}
 use Rattle.prism_check.specs.NameFaults as pc
 use Rattle.jani_tree.specs.Syntax.{Vector}
 use Rattle.jani_check.specs.NameFaults.{automaton_names, doubled_names, unknown_names, circles, repeated_elements, no_element, bad_vector, composition_faults}
-use Rattle.name_table.specs.Asks.{bodies, actions, action_of, new_names}
+use Rattle.jani_translation.specs.Asks.{bodies, actions, action_of, new_names}
 use Rattle.jani_translation.specs.Parts.{made}
 use Rattle.jani_translation.specs.Automata.{zz_silent, for_action, has_items, has_silent, earning_actions, is_some_name, earns_silently, has_monitor}
 use Rattle.jani_translation.specs.Translated.{has_command, part_if, silent_vector, silent_vectors, action_vector, translated}

@@ -19,9 +19,9 @@ use Rattle.process_core.specs.Instance.{only_if}
 use Rattle.jani_tree.specs.Syntax.{Write, Automaton}
 use Rattle.name_rules.proofs.Plain.{Apart, not_doubled}
 use Rattle.jani_check.specs.NameFaults.{doubled, var_names, global_names, automaton_names, doubled_in}
-use Rattle.name_table.specs.declared.entry.Entry.{Entry}
-use Rattle.name_table.proofs.Parts.{get_part, values_apart}
-use Rattle.name_table.specs.Asks.{bodies, variables, actions, entries, some_from, NewNames, new_names, labels_at}
+use Rattle.jani_translation.specs.Entry.{Entry}
+use Rattle.jani_translation.proofs.Parts.{get_part, values_apart}
+use Rattle.jani_translation.specs.Asks.{bodies, variables, actions, entries, some_from, NewNames, new_names, labels_at}
 use Rattle.jani_translation.specs.Parts.{made, constant, variable, label, structure, instead_if}
 use Rattle.jani_translation.specs.Automata.{zz_silent, zz_monitor, earns_silently, has_monitor, automaton, module_automata, monitor, monitor_edges, location_values}
 use Rattle.jani_translation.specs.Translated.{translated}

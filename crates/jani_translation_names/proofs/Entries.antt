@@ -6,8 +6,8 @@ use Rattle.basics.specs.Each.{each_at, each_take, each_drop}
 use Rattle.process_core.specs.Ready.{Name}
 use Rattle.prism_tree.specs.Syntax as prism
 use Rattle.basics.specs.Lists.{IsNotEmpty as HasItems}
-use Rattle.name_table.specs.declared.entry.Entry.{Entry}
-use Rattle.name_table.specs.Asks.{entries, some_from, new_name, value_names, new_names, actions, actions_at}
+use Rattle.jani_translation.specs.Entry.{Entry}
+use Rattle.jani_translation.specs.Asks.{entries, some_from, new_name, value_names, new_names, actions, actions_at}
 use Rattle.jani_translation.proofs.Each.{n_entries}
 use Rattle.jani_translation.proofs.Fresh.{no_empty, enough}
 

@@ -17,11 +17,11 @@ use Rattle.jani_table.specs.declared.operator.JaniOp.TheVariants.{Add}
 use Rattle.jani_tree.specs.Syntax.{Expression, Write, Edge, Automaton}
 use Rattle.basics.specs.Lists.{IsNotEmpty as HasItems}
 use Rattle.jani_tree.specs.Form.{IsNormal, NameForm, ExprForm, KindForm, ConstRead, VarRead, WriteRead, DestinationRead, EdgeRead, AutomatonRead, PartForm, VectorRead}
-use Rattle.name_table.specs.declared.entry.Entry.{Entry}
+use Rattle.jani_translation.specs.Entry.{Entry}
 use Rattle.prism_images.specs.Image.{image}
 use Rattle.prism_images.specs.Laws.{HasItsOperands}
 use Rattle.prism_images.proofs.Form.{form_kept}
-use Rattle.name_table.specs.Asks.{bodies, variables, actions, NewNames, new_names, entries, labels_at, rewards_at, modules_at}
+use Rattle.jani_translation.specs.Asks.{bodies, variables, actions, NewNames, new_names, entries, labels_at, rewards_at, modules_at}
 use Rattle.jani_translation.specs.Parts.{made, instead, instead_if, nought, kind_of, start_of, constant, variable, label, structure}
 use Rattle.jani_translation.specs.Automata.{loc, zz_silent, zz_monitor, for_states, for_silent, for_action, earning_actions, earns_silently, has_monitor, item_value, sum_behind, sum_to, reward_of, rewards_of, label_value, location_values, write, destination, edge_action, edge, automaton, module_automata, monitor_edge, monitor_edges, monitor, automata, has_silent, has_items}
 use Rattle.jani_translation.specs.Translated.{has_command, part_if, silent_vector, silent_vectors, global_variables, jani_actions, action_vector, vectors, translated}

@@ -23,7 +23,7 @@ use Rattle.prism_check.specs.Demands.{Demand, fixed, written, var_type, const_de
 use Rattle.prism_check.specs.NameFaults.{is_among, values, unless_known, unknown, unknown_in}
 use Rattle.prism_check.proofs.NamesIn.{listed_names}
 use Rattle.prism_places.specs.Flattened.{IsFlat}
-use Rattle.name_table.specs.Asks.{contents, bodies, variables, value_names}
+use Rattle.jani_translation.specs.Asks.{contents, bodies, variables, value_names}
 use Rattle.jani_translation.proofs.Clean.{value_names_are, no_faults}
 
 -- ---- what is known

@@ -7,3 +7,4 @@ pub mod Unknown
 pub mod Circles
 pub mod Composition
 mod Worked
+pub use Rattle.jani_translation.proofs.Bare

@@ -29,9 +29,9 @@ use Rattle.prism_tree.specs.declared.operator.PrismOp.TheVariants as P
 use Rattle.jani_table.specs.declared.operator.JaniOp.{JaniOp}
 use Rattle.jani_check.specs.Demands.{Demand, fixed, assigned, given, const_demands, bound_demands, var_demands, destination_demands, edge_demands, automaton_demands, outer_demands}
 use Rattle.jani_check.specs.NameFaults.{is_among, global_names, automaton_names, unless_known, unknown_by, edge_locations, locations_used, actions_used, unknown_in, vector_actions}
-use Rattle.name_table.specs.declared.entry.Entry.{Entry}
+use Rattle.jani_translation.specs.Entry.{Entry}
 use Rattle.prism_images.specs.Image.{image, image_one}
-use Rattle.name_table.specs.Asks.{bodies, variables, actions, new_name, value_names, entries, some_from, labels_at, rewards_at}
+use Rattle.jani_translation.specs.Asks.{bodies, variables, actions, new_name, value_names, entries, some_from, labels_at, rewards_at}
 use Rattle.jani_translation.specs.Parts.{made, instead, instead_if, kind_of, start_of, constant, variable, label, structure}
 use Rattle.jani_translation.specs.Automata.{loc, zz_silent, zz_monitor, for_states, for_silent, for_action, earning_actions, earns_silently, has_monitor, item_value, sum_behind, sum_to, reward_of, rewards_of, label_value, location_values, write, destination, edge_action, edge, automaton, module_automata, monitor_edge, monitor_edges, monitor, has_silent, has_items}
 use Rattle.jani_translation.specs.Translated.{has_command, part_if, silent_vector, silent_vectors, action_vector, translated}

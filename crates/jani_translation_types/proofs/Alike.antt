@@ -15,8 +15,8 @@ use Rattle.prism_places.specs.Flattened.{IsFlat}
 use Rattle.jani_tree.specs.Syntax.{Expression, Const, VarKind, boolean, integer, Var}
 use Rattle.jani_check.specs.Things.{is_called, kind_type, const_thing, var_thing, thing_type, global_thing, types_by, is_transient}
 use Rattle.jani_check.specs.TypeFaults.{is_variable}
-use Rattle.name_table.specs.declared.entry.Entry.{Entry}
-use Rattle.name_table.specs.Asks.{variables, entries, new_name, value_names, new_names, labels_at, rewards_at}
+use Rattle.jani_translation.specs.Entry.{Entry}
+use Rattle.jani_translation.specs.Asks.{variables, entries, new_name, value_names, new_names, labels_at, rewards_at}
 use Rattle.jani_translation.specs.Parts.{instead_if, kind_of, constant, variable, label, structure}
 use Rattle.jani_translation.specs.Translated.{translated}
 use Rattle.jani_translation.proofs.Fresh.{Agrees, no_empty, values_agree, agrees_front, agrees_back}

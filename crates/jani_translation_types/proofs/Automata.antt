@@ -18,8 +18,8 @@ use Rattle.std.specs.Option.{option_or as or_else}
 use Rattle.jani_check.specs.Things.{global_thing, beside}
 use Rattle.jani_check.specs.Demands.{given, assigned, edge_demands, automaton_demands}
 use Rattle.jani_check.specs.TypeFaults.{demand_faults}
-use Rattle.name_table.specs.declared.entry.Entry.{Entry}
-use Rattle.name_table.specs.Asks.{bodies, new_names}
+use Rattle.jani_translation.specs.Entry.{Entry}
+use Rattle.jani_translation.specs.Asks.{bodies, new_names}
 use Rattle.jani_translation.specs.Parts.{made}
 use Rattle.jani_translation.specs.Automata.{zz_silent, zz_monitor, for_states, for_action, for_silent, earning_actions, earns_silently, has_monitor, edge, automaton, rewards_of, label_value, location_values, module_automata, monitor_edge, monitor_edges, monitor}
 use Rattle.jani_translation.specs.Translated.{translated}

@@ -23,9 +23,9 @@ use Rattle.name_rules.specs.Least.{fault_if}
 use Rattle.jani_check.specs.Things.{const_thing, var_thing, global_thing, beside, is_label, is_reward}
 use Rattle.jani_check.specs.Demands.{assigned, given, destination_demands, edge_demands, automaton_demands}
 use Rattle.jani_check.specs.ProfileFaults.{reads, read_fault, demand_profile, value_for, lacks, rewards_by, differ, some_differ, branch_rewards}
-use Rattle.name_table.specs.declared.entry.Entry.{Entry}
+use Rattle.jani_translation.specs.Entry.{Entry}
 use Rattle.prism_images.specs.Image.{image}
-use Rattle.name_table.specs.Asks.{bodies, variables, new_names}
+use Rattle.jani_translation.specs.Asks.{bodies, variables, new_names}
 use Rattle.jani_translation.specs.Parts.{made, instead_if}
 use Rattle.jani_translation.specs.Automata.{zz_silent, zz_monitor, for_states, for_action, for_silent, earning_actions, earns_silently, has_monitor, item_value, sum_behind, sum_to, reward_of, rewards_of, write, destination, edge, automaton, label_value, location_values, module_automata, monitor_edge, monitor_edges, monitor}
 use Rattle.jani_translation.specs.Translated.{translated}

@@ -17,7 +17,7 @@ use Rattle.op_trees.specs.Wanted.{wanted_by}
 use Rattle.jani_check.specs.Demands.{varying, assigned, destination_demands, edge_demands}
 use Rattle.jani_check.specs.TypeFaults.{demand_faults}
 use Rattle.prism_images.specs.Image.{image}
-use Rattle.name_table.specs.Asks.{new_names}
+use Rattle.jani_translation.specs.Asks.{new_names}
 use Rattle.jani_translation.specs.Automata.{write, destination, edge}
 use Rattle.jani_translation.specs.Translated.{translated}
 use Rattle.jani_translation_types.proofs.Expressions.{HasType, has_type, known_names, image_fits}

@@ -38,7 +38,7 @@ use Rattle.op_trees.specs.Wanted.{is_wanted, is_unwanted, wanted_by}
 use Rattle.jani_check.specs.TypeFaults.{is_variable, has_variable, type_faults_of, demand_faults}
 use Rattle.prism_images.specs.Image.{image, image_one}
 use Rattle.prism_images.proofs.Types.{typed_alike}
-use Rattle.name_table.specs.Asks.{variables, new_names}
+use Rattle.jani_translation.specs.Asks.{variables, new_names}
 use Rattle.jani_translation.specs.Translated.{translated}
 use Rattle.jani_translation.proofs.Clean.{no_formula, types_declared, variable_types, declared_type, value_names_are}
 use Rattle.jani_translation_types.proofs.Alike as names

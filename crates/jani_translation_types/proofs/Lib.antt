@@ -14,3 +14,10 @@ pub mod OneWriter
 pub mod Lone
 pub mod Shared
 pub mod Whole
+pub use Rattle.jani_translation.proofs.Clean
+pub use Rattle.jani_translation.proofs.Differ
+pub use Rattle.jani_translation.proofs.Marks
+pub use Rattle.jani_translation.proofs.SameColumns
+pub use Rattle.jani_translation.proofs.States
+pub use Rattle.jani_translation.proofs.WatchedSilently
+pub use Rattle.jani_translation.proofs.Written

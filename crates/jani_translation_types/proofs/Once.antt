@@ -24,9 +24,9 @@ use Rattle.jani_tree.specs.Syntax.{Write}
 use Rattle.name_rules.specs.Least.{fault_if}
 use Rattle.jani_check.specs.NameFaults.{clash, doubled_after}
 use Rattle.jani_check.specs.TypeFaults.{repeated, edge_repeats, repeated_writes}
-use Rattle.name_table.specs.declared.entry.Entry.{Entry}
-use Rattle.name_table.specs.Asks.{bodies, variables, value_names, entries, new_names, labels_at, rewards_at}
-use Rattle.name_table.proofs.Parts.{values_apart}
+use Rattle.jani_translation.specs.Entry.{Entry}
+use Rattle.jani_translation.specs.Asks.{bodies, variables, value_names, entries, new_names, labels_at, rewards_at}
+use Rattle.jani_translation.proofs.Parts.{values_apart}
 use Rattle.jani_translation.specs.Parts.{made, instead_if}
 use Rattle.jani_translation.specs.Automata.{zz_silent, zz_monitor, for_states, for_action, for_silent, earning_actions, earns_silently, has_monitor, sum_to, reward_of, rewards_of, write, destination, edge, automaton, label_value, location_values, module_automata, monitor_edge, monitor_edges, monitor}
 use Rattle.jani_translation.proofs.SameSeen.{zip-take}

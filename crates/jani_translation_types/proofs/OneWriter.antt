@@ -17,8 +17,8 @@ use Rattle.name_rules.specs.Least.{fault_if}
 use Rattle.jani_check.specs.Things.{is_called, global_thing, is_reward}
 use Rattle.jani_check.specs.TypeFaults.{has_action, with_automaton, taken_part, participants}
 use Rattle.jani_check.specs.ProfileFaults.{assigns_reward, rewards_with, two_hold, two_writers}
-use Rattle.name_table.specs.declared.entry.Entry.{Entry}
-use Rattle.name_table.specs.Asks.{bodies, new_names}
+use Rattle.jani_translation.specs.Entry.{Entry}
+use Rattle.jani_translation.specs.Asks.{bodies, new_names}
 use Rattle.jani_translation.specs.Automata.{zz_monitor, earns_silently, has_monitor, write, destination, edge, automaton, location_values, module_automata, monitor_edges, monitor}
 use Rattle.jani_translation.specs.Translated.{translated}
 use Rattle.jani_translation_types.specs.ProfileLaws.{OneRewardWriter}

@@ -16,9 +16,9 @@ use Rattle.basics.specs.Options.{if_some, IfAny}
 use Rattle.op_trees.specs.Wanted.{wanted_by}
 use Rattle.jani_check.specs.Demands.{fixed, const_demands, bound_demands, var_demands, outer_demands}
 use Rattle.jani_check.specs.TypeFaults.{var_faults, demand_faults}
-use Rattle.name_table.specs.declared.entry.Entry.{Entry}
+use Rattle.jani_translation.specs.Entry.{Entry}
 use Rattle.prism_images.specs.Image.{image}
-use Rattle.name_table.specs.Asks.{variables, new_names}
+use Rattle.jani_translation.specs.Asks.{variables, new_names}
 use Rattle.jani_translation.specs.Parts.{constant, variable, kind_of, start_of, label, structure}
 use Rattle.jani_translation.specs.Translated.{translated}
 use Rattle.jani_translation_types.specs.TypeLaws.{KindsFit, OuterTypesFit}

@@ -26,9 +26,9 @@ use Rattle.op_trees.specs.Wanted.{wanted_by}
 use Rattle.jani_check.specs.Demands.{fixed, const_demands, bound_demands, var_demands, outer_demands}
 use Rattle.jani_check.specs.ProfileFaults.{reads, read_fault, demand_profile, start_faults, given_again, given_after}
 use Rattle.jani_check.specs.NameFaults.{is_among}
-use Rattle.name_table.specs.declared.entry.Entry.{Entry}
+use Rattle.jani_translation.specs.Entry.{Entry}
 use Rattle.prism_images.specs.Image.{image, image_one}
-use Rattle.name_table.specs.Asks.{bodies, variables, new_names}
+use Rattle.jani_translation.specs.Asks.{bodies, variables, new_names}
 use Rattle.jani_translation.specs.Parts.{constant, variable, kind_of, start_of, label, structure}
 use Rattle.jani_translation.specs.Automata.{zz_monitor, earns_silently, has_monitor, automaton, location_values, module_automata, monitor_edges, monitor}
 use Rattle.jani_translation.specs.Translated.{translated}

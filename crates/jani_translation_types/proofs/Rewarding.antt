@@ -20,8 +20,8 @@ use Rattle.jani_check.specs.Things.{var_thing, global_thing, types_by, is_consta
 use Rattle.jani_check.specs.Demands.{assigned, given}
 use Rattle.op_trees.specs.Wanted.{is_wanted, wanted_by}
 use Rattle.jani_check.specs.TypeFaults.{type_faults_of, wanted_at, demand_faults}
-use Rattle.name_table.specs.declared.entry.Entry.{Entry}
-use Rattle.name_table.specs.Asks.{new_names}
+use Rattle.jani_translation.specs.Entry.{Entry}
+use Rattle.jani_translation.specs.Asks.{new_names}
 use Rattle.jani_translation.specs.Parts.{made, label, instead_if}
 use Rattle.jani_translation.specs.Automata.{item_value, sum_behind, sum_to, reward_of, rewards_of, label_value}
 use Rattle.jani_translation.specs.Translated.{translated}

@@ -25,8 +25,8 @@ use Rattle.name_rules.specs.Least.{fault_if}
 use Rattle.jani_check.specs.Things.{is_called, automaton_called, global_thing, is_lasting}
 use Rattle.basics.specs.Options.{if_some, IfAny}
 use Rattle.jani_check.specs.TypeFaults.{has_action, with_automaton, taken_part, participants, assigned_by, edge_shared, shared_by, meet, clashing_writes}
-use Rattle.name_table.specs.declared.entry.Entry.{Entry}
-use Rattle.name_table.specs.Asks.{bodies, actions, value_names, new_names}
+use Rattle.jani_translation.specs.Entry.{Entry}
+use Rattle.jani_translation.specs.Asks.{bodies, actions, value_names, new_names}
 use Rattle.jani_translation.specs.Parts.{made}
 use Rattle.jani_translation.specs.Automata.{zz_silent, zz_monitor, for_action, for_silent, has_items, has_silent, earning_actions, earns_silently, has_monitor, rewards_of, write, destination, edge_action, edge, automaton, module_automaton, location_values, module_automata, monitor_edge, monitor_edges, monitor}
 use Rattle.jani_translation.specs.Translated.{has_command, part_if, silent_vector, silent_vectors, action_vector, translated}

@@ -11,10 +11,10 @@ use Rattle.process_core.specs.Ready.{Name}
 use Rattle.prism_tree.specs.Syntax as prism
 use Rattle.jani_tree.specs.Syntax.{Const, Var}
 use Rattle.jani_check.specs.Things.{is_called, const_thing, var_thing, global_thing}
-use Rattle.name_table.specs.declared.class.NameClass.TheVariants.{Label}
-use Rattle.name_table.specs.declared.entry.Entry.{Entry}
-use Rattle.name_table.proofs.Parts.{values_apart}
-use Rattle.name_table.specs.Asks.{variables, entries, new_names, labels_at, rewards_at, modules_at}
+use Rattle.jani_translation.specs.NameClass.TheVariants.{Label}
+use Rattle.jani_translation.specs.Entry.{Entry}
+use Rattle.jani_translation.proofs.Parts.{values_apart}
+use Rattle.jani_translation.specs.Asks.{variables, entries, new_names, labels_at, rewards_at, modules_at}
 use Rattle.jani_translation.specs.Parts.{constant, variable, label, structure}
 use Rattle.jani_translation.specs.Translated.{translated}
 use Rattle.jani_translation.proofs.SameSeen.{zip-take}

@@ -12,8 +12,8 @@ use Rattle.jani_check.specs.Demands.{automaton_demands, outer_demands}
 use Rattle.jani_check.specs.TypeFaults.{var_faults, demand_faults, repeated_writes, automaton_faults}
 use Rattle.jani_check.specs.ProfileFaults.{start_faults, demand_profile, branch_rewards, automaton_profile, given_after}
 use Rattle.jani_check.proofs.Parts.{from_none}
-use Rattle.name_table.specs.declared.entry.Entry.{Entry}
-use Rattle.name_table.specs.Asks.{bodies, new_names}
+use Rattle.jani_translation.specs.Entry.{Entry}
+use Rattle.jani_translation.specs.Asks.{bodies, new_names}
 use Rattle.jani_translation.specs.Automata.{zz_monitor, earns_silently, has_monitor, automaton, location_values, module_automata, monitor_edges, monitor}
 use Rattle.jani_translation.specs.Translated.{translated}
 use Rattle.jani_translation_types.specs.TypeLaws.{TypesButShared, NoTypeFault}

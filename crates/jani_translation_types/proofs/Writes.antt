@@ -23,7 +23,7 @@ use Rattle.jani_check.specs.Demands.{assigned}
 use Rattle.jani_check.specs.TypeFaults as jani_types
 use Rattle.jani_check.specs.TypeFaults.{demand_faults}
 use Rattle.prism_images.specs.Image.{image}
-use Rattle.name_table.specs.Asks.{variables, new_names}
+use Rattle.jani_translation.specs.Asks.{variables, new_names}
 use Rattle.jani_translation.specs.Automata.{write}
 use Rattle.jani_translation.specs.Translated.{translated}
 use Rattle.jani_translation.proofs.Clean.{no_formula, values_distinct, variable_types, declared_type}

@@ -6,9 +6,9 @@ use Rattle.bridge_io.specs.declared.reason.Named.{Named}
 use Rattle.jani_tree.specs.Syntax.{Const, Var, Automaton, Vector, File}
 use Rattle.prism_tree.specs.Syntax as prism
 use Rattle.name_table.specs.Asks.{NewNames, variables}
-use Rattle.jani_translation.specs.Parts.{constant, variable, label, structure}
-use Rattle.jani_translation.specs.Automata.{automata}
-use Rattle.jani_translation.specs.Translated.{jani_actions, vectors, global_variables, translated_by}
+use Rattle.jani_automata.specs.Parts.{constant, variable, label, structure}
+use Rattle.jani_automata.specs.Automata.{automata}
+use Rattle.jani_automata.specs.Translated.{jani_actions, vectors, global_variables, translated_by}
 use Rattle.jani_translator.specs.Filed.{filed}
 
 pub same_filed : (ns bs : List Named) (cs ds : List Const) (vs ws : List Var) (us ts : List Automaton) (xs ys : List Vector) →

@@ -9,9 +9,9 @@ use Rattle.prism_tree.specs.Syntax as prism
 use Rattle.jani_tree.specs.Places.{bare_file}
 use Rattle.jani_tree.specs.Syntax.{File}
 use Rattle.name_table.specs.declared.entry.Entry.{Entry}
-use Rattle.jani_automata.specs.declared.new_names.Names.{Names}
+use Rattle.jani_automata.specs.Names.{Names}
 use Rattle.name_table.specs.Asks.{variables, actions, entries, names_by}
-use Rattle.jani_translation.specs.Translated.{translated_by}
+use Rattle.jani_automata.specs.Translated.{translated_by}
 use Rattle.jani_automata.specs.Code.{names_in}
 use Rattle.jani_translator.specs.Statements.{AreVariables, AreActions, AreEntries, AreNames, IsTranslation}
 

@@ -1,3 +1,3 @@
 pub mod Filed
 pub mod Statements
-pub use Rattle.jani_translation.specs.Translated
+pub use Rattle.jani_automata.specs.Translated

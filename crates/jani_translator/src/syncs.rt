@@ -7,9 +7,9 @@ ghost use Rattle.jani_tree.specs.Syntax as jani;
 ghost use Rattle.name_table.specs.Asks.{actions};
 ghost use Rattle.name_rules.specs.Names.{has_name};
 ghost use Rattle.name_table.specs.Gathered.{body_in};
-ghost use Rattle.jani_translation.specs.Parts.{made};
-ghost use Rattle.jani_translation.specs.Automata.{zz_silent, has_silent, has_monitor};
-ghost use Rattle.jani_translation.specs.Translated.{part_if, silent_vector, silent_vectors, jani_actions, action_vector, vectors};
+ghost use Rattle.jani_automata.specs.Parts.{made};
+ghost use Rattle.jani_automata.specs.Automata.{zz_silent, has_silent, has_monitor};
+ghost use Rattle.jani_automata.specs.Translated.{part_if, silent_vector, silent_vectors, jani_actions, action_vector, vectors};
 ghost use Rattle.jani_automata.specs.Code.{names_in, ArePartners};
 
 use bridge_io::{List, Named, Text};

@@ -5,7 +5,7 @@ ghost use Rattle.prism_tree.specs.Syntax as prism;
 ghost use Rattle.prism_tree.specs.Syntax.{var_of};
 ghost use Rattle.jani_tree.specs.Syntax as jani;
 ghost use Rattle.name_table.specs.Asks.{variables, actions};
-ghost use Rattle.jani_translation.specs.Translated.{translated_by};
+ghost use Rattle.jani_automata.specs.Translated.{translated_by};
 ghost use Rattle.jani_automata.specs.Code.{names_in};
 ghost use Rattle.jani_translator.specs.Filed.{filed};
 ghost use Rattle.jani_translator.specs.Statements.{AreVariables, AreActions, AreEntries, AreNames, IsTranslation};

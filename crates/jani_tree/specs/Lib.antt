@@ -7,3 +7,6 @@ pub mod Form
 pub mod Back
 pub mod Text
 pub mod Pieces
+pub use Rattle.jani_table.specs.Node
+pub use Rattle.jani_table.specs.Operators
+pub use Rattle.jani_table.specs.declared.operator.JaniOp

@@ -22,10 +22,10 @@ use Rattle.jani_tree.specs.Jani.{IsFile}
 use Rattle.jani_check.specs.Faults.{faults as jani_faults}
 use Rattle.model_files.specs.PrismFile.{IsFaultless, IsPrismFault, of_text, of_tree}
 use Rattle.model_files.specs.JaniFile.{IsFaultlessJani, IsJaniFault, of_json, of_shape, of_model}
-use Rattle.prism_translation.specs.Refused.{refused}
+use Rattle.jani_to_prism.specs.Refused.{refused}
 use Rattle.prop_trees.specs.Trees.{JaniProperty}
-use Rattle.jani_props.specs.Reading.{AreRead, IsFirst}
-use Rattle.jani_props.proofs.Only.{no_first_fault}
+use Rattle.model_translation.specs.Reading.{AreRead, IsFirst}
+use Rattle.model_translation.proofs.Only.{no_first_fault}
 use Rattle.model_translation.specs.JaniProperties.{HoldsProperties, IsPropertiesRefused, of_file as of_jani_file, of_properties}
 use Rattle.model_command.specs.ToPrism.{IsTranslatable, IsRefusedBack, of_file, of_result}
 use Rattle.model_command.specs.Tasks.{IsFit, IsLeastFor}

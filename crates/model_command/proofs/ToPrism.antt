@@ -10,8 +10,8 @@ use Rattle.prism_print.specs.Same.{bare_file, SpellsFile}
 use Rattle.prism_print.specs.Comments.{lines_text, CommentedSpells}
 use Rattle.jani_tree.specs.Syntax as jani
 use Rattle.jani_tree.specs.Faults.{FailsFor}
-use Rattle.prism_translation.specs.Lines.{lines}
-use Rattle.prism_translation.specs.Refused.{refused}
+use Rattle.jani_to_prism.specs.Lines.{lines}
+use Rattle.jani_to_prism.specs.Refused.{refused}
 use Rattle.jani_to_prism.specs.NameLaws.{LinesAreComments}
 use Rattle.jani_to_prism.specs.Promise.{IsTranslated, PlacesAside}
 use Rattle.command_words.specs.declared.request.Task.TheVariants.{ToPrism}

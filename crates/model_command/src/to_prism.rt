@@ -5,7 +5,7 @@ ghost use Rattle.prism_print.specs.Comments.{lines_text};
 ghost use Rattle.prism_print.specs.Text.{file_text};
 ghost use Rattle.jani_tree.specs.Syntax.{file_of};
 ghost use Rattle.jani_tree.specs.Faults.{FailsFor};
-ghost use Rattle.prism_translation.specs.Refused.{refused};
+ghost use Rattle.jani_to_prism.specs.Refused.{refused};
 ghost use Rattle.command_words.specs.declared.request.Task.TheVariants.{ToPrism};
 ghost use Rattle.model_command.specs.Tasks.{Judged};
 ghost use Rattle.model_command.specs.ToPrism.{IsWrittenBack};

@@ -3,3 +3,4 @@ pub mod WithProperties
 pub mod JaniProperties
 pub use Rattle.prop_check.specs.Read
 pub use Rattle.prop_check.specs.Laws
+pub use Rattle.jani_props.specs.Reading

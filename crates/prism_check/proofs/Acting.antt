@@ -20,7 +20,7 @@ use Rattle.prism_tree.specs.declared.syntax.NamePair.{NamePair}
 use Rattle.prism_tree.specs.declared.syntax.PrismFile.{PrismFile}
 use Rattle.prism_tree.specs.declared.syntax.PrismModule.{PrismModule}
 use Rattle.prism_tree.specs.Syntax.{Module, plain, copied, File, file_of, module_of}
-use Rattle.prism_names.specs.Names.{renaming, module_called, copy_of, part_of}
+use Rattle.prism_flat.specs.Names.{renaming, module_called, copy_of, part_of}
 use Rattle.prism_check.specs.SizeFaults.{part_actions, command_count, has_many_vectors}
 use Rattle.prism_check.specs.Tables.{pair_for, commands_in}
 use Rattle.prism_check.specs.Counted.{actions_by, commands_by, renamed_action}

@@ -4,7 +4,7 @@ use Rattle.std.proofs.Common.{◌≡◌, refl, arith}
 use Rattle.op_trees.specs.Tree.{Tree, Truth, Number, Name as At, One, Two, Three, AllNames, capped}
 use Rattle.op_trees.specs.SeenLaws.{names_all}
 use Rattle.process_core.specs.Ready.{Name}
-use Rattle.prism_names.specs.Sizes.{nodes_by, height_by}
+use Rattle.prism_flat.specs.Sizes.{nodes_by, height_by}
 use Rattle.prism_check.specs.Demands.{Demand, expression_of}
 use Rattle.prism_check.specs.Counted.{nodes_of, highest}
 

@@ -18,9 +18,9 @@ use Rattle.op_trees.specs.NameLaws.{names_renamed}
 use Rattle.basics.specs.Options.{if_some, IfAny}
 use Rattle.process_core.specs.Ready.{Name}
 use Rattle.prism_tree.specs.Syntax.{Expression, Const, Formula, File}
-use Rattle.prism_names.specs.Names.{formula_body, unchanged}
-use Rattle.prism_names.specs.Flat.{flat_expression, flat_constant, flat}
-use Rattle.prism_names.specs.Order.{whole}
+use Rattle.prism_flat.specs.Names.{formula_body, unchanged}
+use Rattle.prism_flat.specs.Flat.{flat_expression, flat_constant, flat}
+use Rattle.prism_flat.specs.Order.{whole}
 use Rattle.name_rules.specs.Uses.{used}
 use Rattle.name_rules.specs.Circles.{Declared, uses_of, leads_to, is_circular, circular}
 use Rattle.name_rules.proofs.Plain.{no_fault, fault_none}

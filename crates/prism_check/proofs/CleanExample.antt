@@ -10,8 +10,8 @@ use Rattle.prism_lex.specs.Words.{words}
 use Rattle.process_core.specs.Ready.{Name}
 use Rattle.prism_tree.specs.declared.operator.PrismOp.TheVariants as O
 use Rattle.prism_tree.specs.Syntax.{Expression, Formula, plain, copied, File}
-use Rattle.prism_names.specs.Flat.{flat}
-use Rattle.prism_names.specs.Places.{IsPlaceOrder}
+use Rattle.prism_flat.specs.Flat.{flat}
+use Rattle.prism_flat.specs.Places.{IsPlaceOrder}
 use Rattle.prism_check.specs.Clean.{IsClean}
 use Rattle.prism_check.proofs.CleanFile.{flat_is_clean}
 

@@ -18,11 +18,11 @@ use Rattle.op_trees.specs.Names.{names_of, some_name, is_called}
 use Rattle.op_trees.specs.NameLaws.{names_with, none_named, names_renamed}
 use Rattle.process_core.specs.Ready.{Name}
 use Rattle.prism_tree.specs.Syntax.{Expression, Command, Module, plain, copied, File}
-use Rattle.prism_names.specs.Names.{formula_body, is_formula, unchanged, written_name, module_called, part_of}
-use Rattle.prism_names.specs.Flat.{flat_expression, flat_write, flat_branch, flat_command, flat_module, flat}
-use Rattle.prism_names.specs.Laws.{flat_part}
-use Rattle.prism_names.specs.Places.{IsPlaceOrder, at_places, formula_names, places_order}
-use Rattle.prism_names.specs.Order.{IsOrder, whole, whole_plain}
+use Rattle.prism_flat.specs.Names.{formula_body, is_formula, unchanged, written_name, module_called, part_of}
+use Rattle.prism_flat.specs.Flat.{flat_expression, flat_write, flat_branch, flat_command, flat_module, flat}
+use Rattle.prism_flat.specs.Laws.{flat_part}
+use Rattle.prism_flat.specs.Places.{IsPlaceOrder, at_places, formula_names, places_order}
+use Rattle.prism_flat.specs.Order.{IsOrder, whole, whole_plain}
 use Rattle.name_rules.specs.Least.{fault, fault_if, moved_to, or_else}
 use Rattle.prism_check.specs.Demands.{Demand, fixed, varying, written, formula_demands, part_demands, outer_demands}
 use Rattle.name_rules.specs.Names.{is_among}

@@ -11,8 +11,8 @@ use Rattle.process_core.specs.Ready.{Name}
 use Rattle.prism_tree.specs.declared.syntax.NamePair.{NamePair}
 use Rattle.prism_tree.specs.Syntax.{Expression, Const, Range, Var, Label, Write, Branch, Command, Module, plain, copied, Item, Rewards, File}
 use Rattle.op_trees.specs.Names.{is_called}
-use Rattle.prism_names.specs.Names.{formula_body, is_formula, unchanged, written_name, renaming, module_name, module_called, Part, copy_of, part_of}
-use Rattle.prism_names.specs.Flat.{flat_expression, flat_name, flat_range, flat_var, flat_write, flat_branch, flat_command, flat_module, flat_constant, flat_label, flat_item, flat_rewards, flat}
+use Rattle.prism_flat.specs.Names.{formula_body, is_formula, unchanged, written_name, renaming, module_name, module_called, Part, copy_of, part_of}
+use Rattle.prism_flat.specs.Flat.{flat_expression, flat_name, flat_range, flat_var, flat_write, flat_branch, flat_command, flat_module, flat_constant, flat_label, flat_item, flat_rewards, flat}
 use Rattle.basics.specs.Options.{IfAny}
 use Rattle.prism_flat.specs.Printable.{IsIdentifier, IsPrintableExpression, IsPrintableConst, IsPrintableRange, IsPrintableVar, IsPrintableFormula, IsPrintableLabel, IsPrintableWrite, IsPrintableBranch, HasWeight, AreBranches, IsPrintableCommand, IsPrintablePair, IsPrintableModule, IsPrintableItem, IsPrintableRewards, IsPrintable}
 

@@ -17,11 +17,11 @@ use Rattle.op_trees.specs.NameLaws.{some_agree_on}
 use Rattle.process_core.specs.Ready.{Name}
 use Rattle.prism_tree.specs.Operators.{prism_meaning}
 use Rattle.prism_tree.specs.Syntax.{Expression, Const, Var, File}
-use Rattle.prism_names.specs.Names.{formula_body, is_formula, unchanged, written_name, Part, parts}
-use Rattle.prism_names.specs.Flat.{flat_expression, flat_var, flat_constant, flat}
-use Rattle.prism_names.specs.WrittenOut.{substituted_none, lower, lowest}
-use Rattle.prism_names.specs.Laws.{flat_part, parts-flat}
-use Rattle.prism_names.specs.Order.{place_in, IsOrder, whole, whole_plain, fills}
+use Rattle.prism_flat.specs.Names.{formula_body, is_formula, unchanged, written_name, Part, parts}
+use Rattle.prism_flat.specs.Flat.{flat_expression, flat_var, flat_constant, flat}
+use Rattle.prism_flat.specs.WrittenOut.{substituted_none, lower, lowest}
+use Rattle.prism_flat.specs.Laws.{flat_part, parts-flat}
+use Rattle.prism_flat.specs.Order.{place_in, IsOrder, whole, whole_plain, fills}
 use Rattle.basics.specs.Options.{IfAny}
 use Rattle.basics.specs.Mapped.{mapped}
 use Rattle.op_trees.specs.declared.wanted.Wanted.{Wanted}

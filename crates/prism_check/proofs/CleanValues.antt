@@ -18,9 +18,9 @@ use Rattle.process_core.specs.Product.{map-map}
 use Rattle.prism_tree.specs.declared.syntax.CopiedModule.{CopiedModule}
 use Rattle.prism_tree.specs.Syntax.{Var, Formula, Module, plain, copied, File}
 use Rattle.op_trees.specs.Names.{is_called}
-use Rattle.prism_names.specs.Names.{formula_body, unchanged, renaming, module_name, module_called, copy_of, part_of}
-use Rattle.prism_names.specs.Flat.{flat_var, flat_module, flat_constant, flat_label, flat_rewards, flat}
-use Rattle.prism_names.specs.Places.{stands}
+use Rattle.prism_flat.specs.Names.{formula_body, unchanged, renaming, module_name, module_called, copy_of, part_of}
+use Rattle.prism_flat.specs.Flat.{flat_var, flat_module, flat_constant, flat_label, flat_rewards, flat}
+use Rattle.prism_flat.specs.Places.{stands}
 use Rattle.name_rules.specs.Least.{fault_if}
 use Rattle.name_rules.specs.Names.{is_among}
 use Rattle.name_rules.specs.Doubled.{clash, doubled_after, doubled}

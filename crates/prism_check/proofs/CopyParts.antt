@@ -9,7 +9,7 @@ use Rattle.process_core.specs.Ready.{Name}
 use Rattle.prism_tree.specs.declared.syntax.CopiedModule.{CopiedModule}
 use Rattle.prism_tree.specs.Syntax.{Var, Module, plain, copied, File}
 use Rattle.prism_tree.specs.declared.syntax.NamePair.{NamePair}
-use Rattle.prism_names.specs.Names.{renaming, module_called, part_of}
+use Rattle.prism_flat.specs.Names.{renaming, module_called, part_of}
 use Rattle.name_rules.specs.Least.{fault_if, soonest}
 use Rattle.prism_check.specs.NameFaults.{is_copy, has_pair, copy_faults}
 use Rattle.prism_check.specs.Tables.{pair_for, vars_in, lacks_pair_by, copy_faults_by}

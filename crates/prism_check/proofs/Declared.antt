@@ -16,7 +16,7 @@ use Rattle.prism_tree.specs.declared.syntax.PrismVar.{PrismVar}
 use Rattle.prism_tree.specs.declared.syntax.PrismModule.{PrismModule}
 use Rattle.prism_tree.specs.Syntax.{Var, Module, plain, copied, File, const_of, formula_of, var_of, module_of, file_of}
 use Rattle.op_trees.specs.Names.{is_called}
-use Rattle.prism_names.specs.Names.{renaming, copy_of, module_called, part_of}
+use Rattle.prism_flat.specs.Names.{renaming, copy_of, module_called, part_of}
 use Rattle.prism_check.specs.NameFaults.{has_pair, renamed_var, module_vars, values}
 use Rattle.prism_check.specs.Tables.{pair_for, vars_in, named_at, renamed_by, module_vars_by}
 

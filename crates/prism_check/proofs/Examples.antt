@@ -10,7 +10,7 @@ use Rattle.process_core.specs.Ready.{Name}
 use Rattle.prism_tree.specs.declared.operator.PrismOp.TheVariants as O
 use Rattle.prism_tree.specs.declared.syntax.NamePair.{NamePair}
 use Rattle.prism_tree.specs.Syntax.{Expression, Const, Var, Formula, Write, Command, Module, plain, copied, File}
-use Rattle.prism_names.specs.Flat.{flat}
+use Rattle.prism_flat.specs.Flat.{flat}
 use Rattle.name_rules.specs.Least.{fault, soonest}
 use Rattle.prism_check.specs.NameFaults.{name_faults}
 use Rattle.prism_check.specs.SizeFaults.{nodes, height, command_count, action_count}

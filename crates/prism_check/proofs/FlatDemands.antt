@@ -7,9 +7,9 @@ use Rattle.std.proofs.lemmas.List.{map-append}
 use Rattle.basics.specs.Options.{if_some}
 use Rattle.process_core.specs.Ready.{Name}
 use Rattle.prism_tree.specs.Syntax.{Expression, Const, Range, Var, Label, Write, Branch, Command, Rewards, File}
-use Rattle.prism_names.specs.Names.{unchanged, Part}
-use Rattle.prism_names.specs.Flat.{flat_expression, flat_name, flat_range, flat_var, flat_write, flat_branch, flat_command, flat_constant, flat_label, flat_item, flat_rewards, flat}
-use Rattle.prism_names.specs.Laws.{flat_part}
+use Rattle.prism_flat.specs.Names.{unchanged, Part}
+use Rattle.prism_flat.specs.Flat.{flat_expression, flat_name, flat_range, flat_var, flat_write, flat_branch, flat_command, flat_constant, flat_label, flat_item, flat_rewards, flat}
+use Rattle.prism_flat.specs.Laws.{flat_part}
 use Rattle.op_trees.specs.declared.wanted.Wanted.{Wanted}
 use Rattle.op_trees.specs.declared.wanted.Wanted.TheVariants as W
 use Rattle.op_trees.specs.Wanted.{wanted_by}

@@ -3,9 +3,9 @@ use Rattle.std.specs.Prelude.{◌≡◌, List, [], ◌∷◌, map, Option, Some,
 use Rattle.std.specs.Option.{option_map}
 use Rattle.std.proofs.Common.{refl, ap, ap₂, ◌∙◌}
 use Rattle.prism_tree.specs.Syntax.{Expression, Const, Range, Var, Label, Write, Branch, Command, Module, plain, Item, Rewards, File}
-use Rattle.prism_names.specs.Names.{unchanged, module_name, part_of}
-use Rattle.prism_names.specs.Flat.{flat_expression, flat_range, flat_var, flat_write, flat_branch, flat_command, flat_module, flat_constant, flat_label, flat_item, flat_rewards, flat}
-use Rattle.prism_names.specs.Laws.{flat_part}
+use Rattle.prism_flat.specs.Names.{unchanged, module_name, part_of}
+use Rattle.prism_flat.specs.Flat.{flat_expression, flat_range, flat_var, flat_write, flat_branch, flat_command, flat_module, flat_constant, flat_label, flat_item, flat_rewards, flat}
+use Rattle.prism_flat.specs.Laws.{flat_part}
 use Rattle.prism_flat.specs.ConstantLaws.{renamed_unchanged}
 
 map_same : {A : Type 0} (f : A → A) → ((x : A) → f x ≡ x) → (xs : List A) → map f xs ≡ xs

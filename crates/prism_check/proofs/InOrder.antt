@@ -14,10 +14,10 @@ use Rattle.process_core.specs.Ready.{Name}
 use Rattle.prism_tree.specs.declared.syntax.PrismFormula.{PrismFormula}
 use Rattle.prism_tree.specs.declared.syntax.PrismFile.{PrismFile}
 use Rattle.prism_tree.specs.Syntax.{Expression, Formula, File, formula_of, file_of}
-use Rattle.prism_names.specs.Names.{formula_body}
-use Rattle.prism_names.specs.Sizes.{nodes_by, height_by, name_nodes, name_height, count_of}
-use Rattle.prism_names.specs.Order.{whole_nodes, whole_height, counts_body, measures_body}
-use Rattle.prism_names.specs.Places.{IsPlaceOrder, IsEarlier, IsListed, at_places, formula_names, stands, places_order}
+use Rattle.prism_flat.specs.Names.{formula_body}
+use Rattle.prism_flat.specs.Sizes.{nodes_by, height_by, name_nodes, name_height, count_of}
+use Rattle.prism_flat.specs.Order.{whole_nodes, whole_height, counts_body, measures_body}
+use Rattle.prism_flat.specs.Places.{IsPlaceOrder, IsEarlier, IsListed, at_places, formula_names, stands, places_order}
 use Rattle.prism_check.specs.declared.tree_size.Size.{Size}
 use Rattle.prism_check.specs.Counted.{AreSizes, leaf}
 use Rattle.prism_check.proofs.Capping.{nodes_capped_on, height_capped_on}

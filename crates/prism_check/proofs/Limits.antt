@@ -15,9 +15,9 @@ use Rattle.process_core.specs.Often.{sum_by-map}
 use Rattle.basics.specs.Options.{if_some}
 use Rattle.process_core.specs.Ready.{Name, firsts}
 use Rattle.prism_tree.specs.Syntax.{Command, Rewards, File}
-use Rattle.prism_names.specs.Names.{Part, parts}
-use Rattle.prism_names.specs.Flat.{flat, flat_name, flat_command, flat_rewards, flat_item, flat_module}
-use Rattle.prism_names.specs.Laws.{flat_part, parts-flat}
+use Rattle.prism_flat.specs.Names.{Part, parts}
+use Rattle.prism_flat.specs.Flat.{flat, flat_name, flat_command, flat_rewards, flat_item, flat_module}
+use Rattle.prism_flat.specs.Laws.{flat_part, parts-flat}
 use Rattle.prism_check.specs.SizeFaults.{command_count, part_actions, action_count, passes_limit, counted_nodes, counted_height, has_long_rewards, has_many_vectors, size_faults, LimitsCounted}
 use Rattle.prism_check.specs.declared.sizes.Sizes.TheVariants.{TooLarge, Within}
 use Rattle.name_rules.specs.Least.{fault, fault_if}

@@ -11,8 +11,8 @@ use Rattle.prism_tree.specs.declared.syntax.PrismFormula.{PrismFormula}
 use Rattle.prism_tree.specs.declared.syntax.CopiedModule.{CopiedModule}
 use Rattle.prism_tree.specs.declared.syntax.NamePair.{NamePair}
 use Rattle.prism_tree.specs.Syntax.{Expression, Module, plain, copied, File, file_of, formula_of}
-use Rattle.prism_names.specs.Names.{renaming, copy_of, module_called, part_of, formula_body}
-use Rattle.prism_names.specs.Order.{whole}
+use Rattle.prism_flat.specs.Names.{renaming, copy_of, module_called, part_of, formula_body}
+use Rattle.prism_flat.specs.Order.{whole}
 use Rattle.prism_check.specs.Demands.{Demand, var_demands, command_demands, part_demands}
 use Rattle.prism_check.specs.NameFaults.{some_used, is_lost, loses_name, unknown_by, unknown, values}
 use Rattle.name_rules.specs.Names.{is_among}

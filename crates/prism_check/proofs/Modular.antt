@@ -9,9 +9,9 @@ use Rattle.op_trees.specs.Tree.{capped}
 use Rattle.process_core.specs.Ready.{Name}
 use Rattle.prism_tree.specs.declared.syntax.PrismModule.{PrismModule}
 use Rattle.prism_tree.specs.Syntax.{Module, plain, copied, File, module_of}
-use Rattle.prism_names.specs.Names.{module_name, renaming, module_called, copy_of, part_of, parts, formula_body}
-use Rattle.prism_names.specs.Sizes.{name_nodes, name_height}
-use Rattle.prism_names.specs.Order.{whole_nodes, whole_height}
+use Rattle.prism_flat.specs.Names.{module_name, renaming, module_called, copy_of, part_of, parts, formula_body}
+use Rattle.prism_flat.specs.Sizes.{name_nodes, name_height}
+use Rattle.prism_flat.specs.Order.{whole_nodes, whole_height}
 use Rattle.prism_check.specs.declared.tree_size.Size.{Size}
 use Rattle.prism_check.specs.Demands.{Demand, expression_of, outer_demands, all_demands, var_demands, command_demands, part_demands}
 use Rattle.prism_check.specs.Tables.{named_module, vars_in, commands_in}

@@ -8,7 +8,7 @@ use Rattle.op_trees.specs.SeenLaws.{names_then}
 use Rattle.op_trees.specs.Names.{names_of, some_name}
 use Rattle.op_trees.specs.NameLaws.{names_with, none_named, named_none, names_renamed}
 use Rattle.process_core.specs.Ready.{Name}
-use Rattle.prism_names.specs.WrittenOut.{names-substituted}
+use Rattle.prism_flat.specs.WrittenOut.{names-substituted}
 use Rattle.std.specs.List.{AllByRecursion as Each}
 use Rattle.basics.specs.Options.{IfAny}
 

@@ -4,7 +4,7 @@ use Rattle.std.specs.List.{flat_map}
 use Rattle.std.proofs.Common.{subst, sym, ap, ◌∙◌}
 use Rattle.basics.specs.Lists.{append_left, append_right}
 use Rattle.prism_tree.specs.Syntax.{File}
-use Rattle.prism_names.specs.Places.{IsPlaceOrder}
+use Rattle.prism_flat.specs.Places.{IsPlaceOrder}
 use Rattle.name_rules.specs.Circles.{Declared, circles as circles_of, AreTurns, turns_from}
 use Rattle.prism_check.specs.NameFaults.{declarations, circles, doubled_names, unknown_names, copy_faults, no_module, name_faults}
 use Rattle.prism_check.proofs.PlaceOrder.{turns_order}

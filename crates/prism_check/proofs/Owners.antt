@@ -12,7 +12,7 @@ use Rattle.prism_tree.specs.declared.syntax.PrismFile.{PrismFile}
 use Rattle.prism_tree.specs.declared.syntax.PrismVar.{PrismVar}
 use Rattle.prism_tree.specs.declared.syntax.PrismModule.{PrismModule}
 use Rattle.prism_tree.specs.Syntax.{Var, Module, plain, copied, File, file_of, module_of, var_of}
-use Rattle.prism_names.specs.Names.{renaming, copy_of, module_called, part_of, parts}
+use Rattle.prism_flat.specs.Names.{renaming, copy_of, module_called, part_of, parts}
 use Rattle.prism_check.specs.declared.variables.Owned.{Owned}
 use Rattle.prism_check.specs.Demands.{var_type}
 use Rattle.prism_check.specs.Tables.{pair_for, vars_in}

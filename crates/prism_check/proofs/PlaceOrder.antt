@@ -20,8 +20,8 @@ use Rattle.op_trees.specs.Names.{names_of, is_called}
 use Rattle.basics.specs.Options.{if_some}
 use Rattle.process_core.specs.Ready.{Name}
 use Rattle.prism_tree.specs.Syntax.{Expression, Formula, File}
-use Rattle.prism_names.specs.Names.{formula_body}
-use Rattle.prism_names.specs.Places.{formula_names, at_places, stands, IsEarlier, IsListed, IsPlaceOrder}
+use Rattle.prism_flat.specs.Names.{formula_body}
+use Rattle.prism_flat.specs.Places.{formula_names, at_places, stands, IsEarlier, IsListed, IsPlaceOrder}
 use Rattle.name_rules.specs.Least.{fault_if}
 use Rattle.name_rules.specs.Doubled.{clash, doubled_after, doubled}
 use Rattle.name_rules.specs.Circles.{Declared, nothing_declared, declared_at, HasTurned, AreInTurn, turns_from, AreTurns}

@@ -19,9 +19,9 @@ use Rattle.process_core.specs.Product.{map-map}
 use Rattle.prism_tree.specs.declared.syntax.CopiedModule.{CopiedModule}
 use Rattle.prism_tree.specs.Operators.{prism_meaning}
 use Rattle.prism_tree.specs.Syntax.{Expression, Formula, Var, Branch, Command, Module, plain, copied, File}
-use Rattle.prism_names.specs.Names.{formula_body, renaming, written_name, module_called, Part, copy_of}
-use Rattle.prism_names.specs.Flat.{flat_expression, flat_write, flat_branch, flat_command}
-use Rattle.prism_names.specs.Laws.{flat_part}
+use Rattle.prism_flat.specs.Names.{formula_body, renaming, written_name, module_called, Part, copy_of}
+use Rattle.prism_flat.specs.Flat.{flat_expression, flat_write, flat_branch, flat_command}
+use Rattle.prism_flat.specs.Laws.{flat_part}
 use Rattle.op_trees.specs.declared.wanted.Wanted.{Wanted}
 use Rattle.prism_check.specs.declared.tables.Renaming.{Renaming}
 use Rattle.prism_check.specs.declared.typing.Names.{Names}

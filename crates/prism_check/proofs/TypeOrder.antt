@@ -11,8 +11,8 @@ use Rattle.op_trees.specs.TypeLaws.{type_agree_on}
 use Rattle.process_core.specs.Ready.{Name}
 use Rattle.prism_tree.specs.Operators.{prism_meaning}
 use Rattle.prism_tree.specs.Syntax.{File}
-use Rattle.prism_names.specs.Names.{formula_body}
-use Rattle.prism_names.specs.Order.{place_in, IsOrder}
+use Rattle.prism_flat.specs.Names.{formula_body}
+use Rattle.prism_flat.specs.Order.{place_in, IsOrder}
 use Rattle.prism_check.specs.TypeFaults.{types, declared_types}
 
 module _ {O : Type 0} (m : Meaning O) (bodies : Name → Option (Tree O)) (rank : Name → ℕ) (falling : IsFalling bodies rank) (given : Types) where

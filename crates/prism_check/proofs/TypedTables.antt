@@ -3,7 +3,7 @@ use Rattle.std.specs.Prelude.{◌≡◌, ℕ, List, None}
 use Rattle.name_rules.specs.declared.map.NameMap.{NameMap}
 use Rattle.name_rules.specs.Names.{Name, under}
 use Rattle.prism_tree.specs.Syntax.{File}
-use Rattle.prism_names.specs.Places.{at_places, IsPlaceOrder}
+use Rattle.prism_flat.specs.Places.{at_places, IsPlaceOrder}
 use Rattle.prism_check.specs.declared.variables.Declared.{Declared}
 use Rattle.prism_check.specs.declared.typing.Known.{Known}
 use Rattle.prism_check.specs.declared.typing.Names.{Names}

@@ -19,10 +19,10 @@ use Rattle.process_core.specs.Ready.{Name}
 use Rattle.prism_tree.specs.declared.syntax.PrismFormula.{PrismFormula}
 use Rattle.prism_tree.specs.Operators.{prism_meaning}
 use Rattle.prism_tree.specs.Syntax.{Expression, Formula, File, formula_of}
-use Rattle.prism_names.specs.Names.{formula_body}
-use Rattle.prism_names.specs.Order.{place_in, IsOrder}
-use Rattle.prism_names.specs.WrittenOut.{lower, lowest}
-use Rattle.prism_names.specs.Places.{at_places, formula_names, stands, IsEarlier, IsListed, IsPlaceOrder, places_order}
+use Rattle.prism_flat.specs.Names.{formula_body}
+use Rattle.prism_flat.specs.Order.{place_in, IsOrder}
+use Rattle.prism_flat.specs.WrittenOut.{lower, lowest}
+use Rattle.prism_flat.specs.Places.{at_places, formula_names, stands, IsEarlier, IsListed, IsPlaceOrder, places_order}
 use Rattle.prism_flat.proofs.Steps.{place_more}
 use Rattle.prism_check.specs.declared.typing.Known.{Known}
 use Rattle.prism_check.specs.Levels.{through, level}

@@ -13,9 +13,9 @@ use Rattle.prism_tree.specs.declared.syntax.PrismModule.{PrismModule}
 use Rattle.prism_tree.specs.declared.syntax.CopiedModule.{CopiedModule}
 use Rattle.op_trees.specs.Names.{offset_of, some_name}
 use Rattle.prism_tree.specs.Syntax.{Expression, Body, Module, plain, copied, File, file_of, module_of, formula_of}
-use Rattle.prism_names.specs.Names.{formula_body}
-use Rattle.prism_names.specs.Flat.{flat_module}
-use Rattle.prism_names.specs.Places.{at_places, IsPlaceOrder}
+use Rattle.prism_flat.specs.Names.{formula_body}
+use Rattle.prism_flat.specs.Flat.{flat_module}
+use Rattle.prism_flat.specs.Places.{at_places, IsPlaceOrder}
 use Rattle.prism_check.specs.declared.variables.Owned.{Owned}
 use Rattle.prism_check.specs.declared.variables.Declared.{Declared}
 use Rattle.prism_check.specs.declared.typing.Known.{Known}

@@ -16,3 +16,9 @@ pub mod Writings
 pub mod FileNames
 pub use Rattle.prism_flat.specs.Same
 pub use Rattle.prism_flat.specs.Printable
+pub use Rattle.prism_flat.specs.ConstantLaws
+pub use Rattle.prism_flat.specs.FlatLaws
+pub use Rattle.prism_flat.specs.Kept
+pub use Rattle.prism_flat.specs.Moment
+pub use Rattle.prism_flat.specs.Process
+pub use Rattle.prism_flat.specs.Scene

@@ -2,7 +2,7 @@
 
 ghost use Rattle.std.specs.Prelude.{◌≡◌, ℕ, IfOk, if◌then◌else◌};
 ghost use Rattle.prism_tree.specs.Syntax.{file_of};
-ghost use Rattle.prism_names.specs.Places.{IsPlaceOrder};
+ghost use Rattle.prism_flat.specs.Places.{IsPlaceOrder};
 ghost use Rattle.prism_check.specs.Counted.{AreSizes, size_in};
 
 use crate::tree_size::{Size, measure};

@@ -2,7 +2,7 @@
 
 ghost use Rattle.std.specs.Prelude.{◌≡◌, [], IfOk};
 ghost use Rattle.prism_tree.specs.Syntax.{file_of};
-ghost use Rattle.prism_names.specs.Places.{IsPlaceOrder};
+ghost use Rattle.prism_flat.specs.Places.{IsPlaceOrder};
 ghost use Rattle.prism_check.specs.Judged.{IsVerdict};
 ghost use Rattle.prism_check.specs.NameFaults.{name_faults};
 

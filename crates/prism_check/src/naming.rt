@@ -86,7 +86,7 @@ impl Naming for NamePair {
 impl Naming for PrismModule {
     ghost use Rattle.std.specs.Prelude.{[], ◌∷◌};
     ghost use Rattle.prism_tree.specs.Syntax.{module_of};
-    ghost use Rattle.prism_names.specs.Names.{module_name};
+    ghost use Rattle.prism_flat.specs.Names.{module_name};
 
     ghost names = { λ m. module_name (module_of m) ∷ [] };
 

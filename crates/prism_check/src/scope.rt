@@ -5,7 +5,7 @@ ghost use Rattle.std.specs.List.{flat_map, list_any};
 ghost use Rattle.std.specs.Option.{option_map};
 ghost use Rattle.op_trees.specs.Tree.{written_out};
 ghost use Rattle.prism_tree.specs.Syntax.{copied, file_of, formula_of, module_of};
-ghost use Rattle.prism_names.specs.Names.{part_of};
+ghost use Rattle.prism_flat.specs.Names.{part_of};
 ghost use Rattle.prism_check.specs.Demands.{command_demands, formula_demands, var_demands};
 ghost use Rattle.prism_check.specs.Levels.{lost_in};
 ghost use Rattle.prism_check.specs.Views.{demand_by};

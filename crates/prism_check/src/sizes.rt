@@ -4,7 +4,7 @@ ghost use Rattle.std.specs.Prelude.{◌≡◌, ◌+◌, ◌*◌, ◌||◌, List,
 ghost use Rattle.std.specs.List.{list_any};
 ghost use Rattle.op_trees.specs.Tree.{capped};
 ghost use Rattle.prism_tree.specs.Syntax.{file_of, rewards_of};
-ghost use Rattle.prism_names.specs.Places.{IsPlaceOrder};
+ghost use Rattle.prism_flat.specs.Places.{IsPlaceOrder};
 ghost use Rattle.prism_check.specs.Counted.{AreSizes, size_in, sizes_of};
 ghost use Rattle.prism_check.specs.Tables.{module_under, named_module};
 ghost use Rattle.prism_check.specs.SizeFaults.{counted_height, counted_nodes};

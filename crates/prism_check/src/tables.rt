@@ -2,7 +2,7 @@
 ghost use Rattle.std.specs.Prelude.{◌≡◌, is_some, List, ℕ, IfOk, if◌then◌else◌, Some, None};
 ghost use Rattle.std.specs.Option.{option_map};
 ghost use Rattle.prism_tree.specs.Syntax.{module_of};
-ghost use Rattle.prism_names.specs.Names.{module_name};
+ghost use Rattle.prism_flat.specs.Names.{module_name};
 ghost use Rattle.prism_check.specs.Tables.{body_in, body_under, module_under, new_name, pair_for, name_under, named_module};
 
 use name_rules::NameMap;

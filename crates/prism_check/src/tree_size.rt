@@ -2,7 +2,7 @@
 
 ghost use Rattle.std.specs.Prelude.{◌≡◌, ◌+◌, map, max, unwrap_or};
 ghost use Rattle.op_trees.specs.Tree.{capped, tree};
-ghost use Rattle.prism_names.specs.Sizes.{height_by, nodes_by};
+ghost use Rattle.prism_flat.specs.Sizes.{height_by, nodes_by};
 ghost use Rattle.prism_check.specs.Counted.{height_in, highest, leaf, nodes_in, nodes_of, nothing};
 ghost use Rattle.prism_check.specs.Demands.{expression_of};
 ghost use Rattle.name_rules.specs.Names.{under};

@@ -3,7 +3,7 @@
 ghost use Rattle.std.specs.Prelude.{◌≡◌, List, ℕ, length, map, IfOk, None, Some};
 ghost use Rattle.std.specs.List.{flat_map};
 ghost use Rattle.prism_tree.specs.Syntax.{command_of, copied, file_of, module_of, var_of};
-ghost use Rattle.prism_names.specs.Places.{IsPlaceOrder};
+ghost use Rattle.prism_flat.specs.Places.{IsPlaceOrder};
 ghost use Rattle.name_rules.specs.Least.{soonest};
 ghost use Rattle.prism_check.specs.TypeFaults.{module_faults, numbered_faults, type_faults};
 ghost use Rattle.prism_check.specs.Tables.{module_under, named_module};

@@ -7,7 +7,7 @@ ghost use Rattle.op_trees.specs.Types.{misfit_at, sort_one, sort_two, sort_three
 ghost use Rattle.op_trees.specs.Names.{offset_of, some_name};
 ghost use Rattle.prism_tree.specs.Operators.{prism_meaning};
 ghost use Rattle.prism_tree.specs.Syntax.{formula_of};
-ghost use Rattle.prism_names.specs.Places.{at_places};
+ghost use Rattle.prism_flat.specs.Places.{at_places};
 ghost use Rattle.name_rules.specs.Least.{fault_if};
 ghost use Rattle.name_rules.specs.Names.{under};
 ghost use Rattle.op_trees.specs.Wanted.{is_wanted, is_unwanted};

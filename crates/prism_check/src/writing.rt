@@ -2,8 +2,8 @@
 
 ghost use Rattle.std.specs.Prelude.{◌≡◌, IfOk};
 ghost use Rattle.prism_tree.specs.Syntax.{file_of, module_of};
-ghost use Rattle.prism_names.specs.Flat.{flat_module};
-ghost use Rattle.prism_names.specs.Places.{IsPlaceOrder};
+ghost use Rattle.prism_flat.specs.Flat.{flat_module};
+ghost use Rattle.prism_flat.specs.Places.{IsPlaceOrder};
 ghost use Rattle.prism_check.specs.Writings.{IsWriting};
 
 use prism_flat::Writer;

@@ -12,7 +12,7 @@ use Rattle.prism_tree.specs.Syntax.{Expression, Const, Var, Formula, Command, Bo
 use Rattle.prism_names.specs.Names.{formula_body, unchanged, renaming, module_called, copy_of}
 use Rattle.prism_names.specs.Flat.{flat_module, flat}
 use Rattle.prism_names.specs.Order.{whole}
-use Rattle.prism_flat.specs.Rewritten.{rewritten_const, rewritten_var, rewritten_body, rewritten_label, rewritten_rewards, rewriting_by, flat_rewriting, flat_rewriting_is, rewritten_file, written_as, written_as_flat}
+use Rattle.prism_rewriter.specs.Rewritten.{rewritten_const, rewritten_var, rewritten_body, rewritten_label, rewritten_rewards, rewriting_by, flat_rewriting, flat_rewriting_is, rewritten_file, written_as, written_as_flat}
 
 -- what follows of a value follows of a result
 pub if_ok : {A E : Type 0} (P Q : A → Type 0) → ((x : A) → P x → Q x) → (r : Result A E) → IfOk r P → IfOk r Q

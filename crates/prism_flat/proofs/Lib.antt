@@ -1,4 +1,4 @@
-pub mod Steps
 pub mod Contents
 mod Examples
+pub use Rattle.prism_rewriter.proofs.Steps
 pub use Rattle.prism_print.proofs.Stands

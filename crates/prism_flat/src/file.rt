@@ -6,15 +6,13 @@ ghost use Rattle.prism_names.specs.Flat.{flat};
 ghost use Rattle.prism_names.specs.Places.{IsPlaceOrder};
 ghost use Rattle.prism_print.specs.Same.{bare_file};
 ghost use Rattle.prism_flat.specs.Kept.{IsWrittenOut, SameMeaning, SameThings};
-ghost use Rattle.prism_flat.specs.Rewritten.{rewritten_file};
-ghost use Rattle.prism_flat.specs.Tables.{body_in, name_in};
+ghost use Rattle.prism_rewriter.specs.Rewritten.{rewritten_file};
+ghost use Rattle.prism_rewriter.specs.Tables.{body_in, name_in};
 
-use crate::bodies::written_bodies;
 use crate::modules::written_modules;
 use crate::parts::all_rewritten;
-use crate::renaming::Renaming;
-use crate::rewriter::Rewriter;
 use bridge_io::List;
+use prism_rewriter::{Renaming, Rewriter, written_bodies};
 use prism_tree::PrismFile;
 use std::alloc::{AllocError, Global};
 

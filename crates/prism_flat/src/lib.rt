@@ -2,13 +2,10 @@
 //! written out, with no formula and no copy of a module, and means the same.
 #![tactic(auto)]
 
-mod bodies;
 mod file;
 mod laws;
 mod modules;
 mod parts;
-mod renaming;
-mod rewriter;
 mod writer;
 
 pub use file::flatten;

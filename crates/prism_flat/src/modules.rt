@@ -6,14 +6,12 @@ ghost use Rattle.std.specs.Option.{option_map};
 ghost use Rattle.prism_tree.specs.Syntax.{command_of, copied, file_of, module_of, plain, var_of};
 ghost use Rattle.op_trees.specs.Names.{is_called};
 ghost use Rattle.prism_names.specs.Names.{module_name};
-ghost use Rattle.prism_flat.specs.Rewritten.{rewritten_body, written_as};
-ghost use Rattle.prism_flat.specs.Tables.{body_in, rewriting};
+ghost use Rattle.prism_rewriter.specs.Rewritten.{rewritten_body, written_as};
+ghost use Rattle.prism_rewriter.specs.Tables.{body_in, rewriting};
 
-use crate::bodies::Table;
 use crate::parts::all_rewritten;
-use crate::renaming::Renaming;
-use crate::rewriter::{Rewriter, named};
 use bridge_io::{List, Named, together};
+use prism_rewriter::{BodyTable, Renaming, Rewriter, named};
 use prism_tree::{CopiedModule, PlainModule, PrismFile, PrismModule};
 use std::alloc::{AllocError, Global};
 
@@ -22,7 +20,7 @@ pub(crate) fn written_modules<'t>(
     alloc: Global,
     file: &'t PrismFile,
     modules: &'t [PrismModule],
-    bodies: &Table<'t>,
+    bodies: &BodyTable<'t>,
 ) -> Result<List<PrismModule>, AllocError>
     ensures { IfOk result
         (λ list. map module_of list ≡ map (written_as (file_of file.now) (body_in bodies.now)) (map module_of modules.now)) }
@@ -39,7 +37,7 @@ pub(crate) fn written_module<'t>(
     alloc: Global,
     file: &'t PrismFile,
     source: &'t PrismModule,
-    bodies: &Table<'t>,
+    bodies: &BodyTable<'t>,
 ) -> Result<PrismModule, AllocError>
     ensures { IfOk result (λ m. module_of m ≡ written_as (file_of file.now) (body_in bodies.now) (module_of source.now)) }
 {
@@ -61,7 +59,7 @@ fn written_copy<'t>(
     alloc: Global,
     file: &'t PrismFile,
     m: &'t CopiedModule,
-    bodies: &Table<'t>,
+    bodies: &BodyTable<'t>,
 ) -> Result<PrismModule, AllocError>
     ensures { IfOk result (λ r. module_of r ≡ written_as (file_of file.now) (body_in bodies.now) (copied m.now)) }
 {

@@ -2,11 +2,11 @@
 
 ghost use Rattle.std.specs.Prelude.{◌≡◌, IfOk};
 ghost use Rattle.std.specs.List.{AllZip};
-ghost use Rattle.prism_flat.specs.Rewritten.{Rewriting};
-ghost use Rattle.prism_flat.specs.Tables.{rewriting};
+ghost use Rattle.prism_rewriter.specs.Rewritten.{Rewriting};
+ghost use Rattle.prism_rewriter.specs.Tables.{rewriting};
 
-use crate::rewriter::{Rewriter, named};
 use bridge_io::{List, Named, together};
+use prism_rewriter::{Rewriter, named};
 use prism_tree::{
     ItemOn, PrismBranch, PrismCommand, PrismConst, PrismItem, PrismLabel, PrismRewards, PrismVar,
     PrismWrite,
@@ -40,7 +40,7 @@ pub(crate) fn all_rewritten<T: Rewritten + Drop>(
 impl Rewritten for PrismVar {
     ghost use Rattle.std.specs.Prelude.{◌≡◌};
     ghost use Rattle.prism_tree.specs.Syntax.{var_of};
-    ghost use Rattle.prism_flat.specs.Rewritten.{rewritten_var};
+    ghost use Rattle.prism_rewriter.specs.Rewritten.{rewritten_var};
 
     ghost IsRewritten = { λ w old new. var_of new ≡ rewritten_var w (var_of old) };
 
@@ -55,7 +55,7 @@ impl Rewritten for PrismVar {
 impl Rewritten for PrismWrite {
     ghost use Rattle.std.specs.Prelude.{◌≡◌};
     ghost use Rattle.prism_tree.specs.Syntax.{write_of};
-    ghost use Rattle.prism_flat.specs.Rewritten.{rewritten_write};
+    ghost use Rattle.prism_rewriter.specs.Rewritten.{rewritten_write};
 
     ghost IsRewritten = { λ w old new. write_of new ≡ rewritten_write w (write_of old) };
 
@@ -69,7 +69,7 @@ impl Rewritten for PrismWrite {
 impl Rewritten for PrismBranch {
     ghost use Rattle.std.specs.Prelude.{◌≡◌};
     ghost use Rattle.prism_tree.specs.Syntax.{branch_of};
-    ghost use Rattle.prism_flat.specs.Rewritten.{rewritten_branch};
+    ghost use Rattle.prism_rewriter.specs.Rewritten.{rewritten_branch};
 
     ghost IsRewritten = { λ w old new. branch_of new ≡ rewritten_branch w (branch_of old) };
 
@@ -83,7 +83,7 @@ impl Rewritten for PrismBranch {
 impl Rewritten for PrismCommand {
     ghost use Rattle.std.specs.Prelude.{◌≡◌};
     ghost use Rattle.prism_tree.specs.Syntax.{command_of};
-    ghost use Rattle.prism_flat.specs.Rewritten.{rewritten_command};
+    ghost use Rattle.prism_rewriter.specs.Rewritten.{rewritten_command};
 
     ghost IsRewritten = { λ w old new. command_of new ≡ rewritten_command w (command_of old) };
 
@@ -103,7 +103,7 @@ impl Rewritten for PrismCommand {
 impl Rewritten for PrismConst {
     ghost use Rattle.std.specs.Prelude.{◌≡◌};
     ghost use Rattle.prism_tree.specs.Syntax.{const_of};
-    ghost use Rattle.prism_flat.specs.Rewritten.{rewritten_const};
+    ghost use Rattle.prism_rewriter.specs.Rewritten.{rewritten_const};
 
     ghost IsRewritten = { λ w old new. const_of new ≡ rewritten_const w (const_of old) };
 
@@ -121,7 +121,7 @@ impl Rewritten for PrismConst {
 impl Rewritten for PrismLabel {
     ghost use Rattle.std.specs.Prelude.{◌≡◌};
     ghost use Rattle.prism_tree.specs.Syntax.{label_of};
-    ghost use Rattle.prism_flat.specs.Rewritten.{rewritten_label};
+    ghost use Rattle.prism_rewriter.specs.Rewritten.{rewritten_label};
 
     ghost IsRewritten = { λ w old new. label_of new ≡ rewritten_label w (label_of old) };
 
@@ -135,7 +135,7 @@ impl Rewritten for PrismLabel {
 impl Rewritten for PrismItem {
     ghost use Rattle.std.specs.Prelude.{◌≡◌};
     ghost use Rattle.prism_tree.specs.Syntax.{item_of};
-    ghost use Rattle.prism_flat.specs.Rewritten.{rewritten_item};
+    ghost use Rattle.prism_rewriter.specs.Rewritten.{rewritten_item};
 
     ghost IsRewritten = { λ w old new. item_of new ≡ rewritten_item w (item_of old) };
 
@@ -150,7 +150,7 @@ impl Rewritten for PrismItem {
 impl Rewritten for PrismRewards {
     ghost use Rattle.std.specs.Prelude.{◌≡◌};
     ghost use Rattle.prism_tree.specs.Syntax.{rewards_of};
-    ghost use Rattle.prism_flat.specs.Rewritten.{rewritten_rewards};
+    ghost use Rattle.prism_rewriter.specs.Rewritten.{rewritten_rewards};
 
     ghost IsRewritten = { λ w old new. rewards_of new ≡ rewritten_rewards w (rewards_of old) };
 

@@ -13,10 +13,10 @@ use Rattle.prism_tree.specs.Syntax.{Const, Label, Rewards, File}
 use Rattle.prism_names.specs.Flat.{flat, flat_constant, flat_label, flat_rewards}
 use Rattle.op_trees.specs.Names.{bare_name}
 use Rattle.prism_print.specs.Same.{bare_file, bare_const, bare_label, bare_rewards}
-use Rattle.prism_flat.specs.Scene.{scene}
-use Rattle.prism_flat.specs.Moment.{Moment, moment}
-use Rattle.prism_flat.specs.Process.{choices, excess, marks, has_wide_mark}
-use Rattle.prism_flat.specs.FlatLaws.{scene-flat, moment-flat}
+use Rattle.prism_check.specs.Scene.{scene}
+use Rattle.prism_check.specs.Moment.{Moment, moment}
+use Rattle.prism_check.specs.Process.{choices, excess, marks, has_wide_mark}
+use Rattle.prism_check.specs.FlatLaws.{scene-flat, moment-flat}
 use Rattle.prism_places.specs.PlacesLaws.{PlacesKeepScenes, PlacesKeepMoments}
 use Rattle.instance_start.specs.Description.{Constant, Description}
 use Rattle.prism_meaning.specs.Described.{described, mark_names, opened, prism_description, structure_name}

@@ -11,8 +11,8 @@ use Rattle.process_core.specs.Bounds.{summed}
 use Rattle.process_core.specs.Instance.{Column}
 use Rattle.prism_tree.specs.Syntax.{Command, Rewards}
 use Rattle.prism_names.specs.Names.{unchanged}
-use Rattle.prism_flat.specs.Moment.{Adds, action_of, item_at}
-use Rattle.prism_flat.specs.Process.{is_for_choices, sum_for, choice_rewards}
+use Rattle.prism_check.specs.Moment.{Adds, action_of, item_at}
+use Rattle.prism_check.specs.Process.{is_for_choices, sum_for, choice_rewards}
 use Rattle.state_choices.specs.Groups.{module_groups, silent_group}
 use Rattle.state_choices.proofs.ComputedParts.{same_group}
 use Rattle.prism_meaning.specs.Shapes.{acts, items_for, earned, acting, sharing, silent_shape, action_shape, shapes, sum_under, command_under, group_under}

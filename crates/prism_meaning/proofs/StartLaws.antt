@@ -9,9 +9,9 @@ use Rattle.process_core.specs.Ready.{Name, Values}
 use Rattle.process_core.specs.Instance.{Valuation, Column}
 use Rattle.prism_tree.specs.Syntax.{Const, Module, plain, copied, File}
 use Rattle.prism_names.specs.Names.{unchanged, part_of}
-use Rattle.prism_flat.specs.Kept.{IsWrittenOut, is_plain}
-use Rattle.prism_flat.specs.Scene.{column, columns_of, constant_names, part_columns}
-use Rattle.prism_flat.specs.Moment.{value_in, place_of}
+use Rattle.prism_check.specs.Kept.{IsWrittenOut, is_plain}
+use Rattle.prism_check.specs.Scene.{column, columns_of, constant_names, part_columns}
+use Rattle.prism_check.specs.Moment.{value_in, place_of}
 use Rattle.instance_start.specs.Columns.{column_at, value_at}
 use Rattle.instance_start.specs.declared.data.Place.{Place}
 use Rattle.instance_start.specs.declared.data.Place.TheVariants.{Constant, Variable}

@@ -9,8 +9,8 @@ use Rattle.process_core.specs.Instance.{Valuation}
 use Rattle.process_core.specs.Product.{map-map}
 use Rattle.process_core.specs.declared.data.Mark.TheVariants.{Truth, Number}
 use Rattle.prism_tree.specs.Syntax.{File}
-use Rattle.prism_flat.specs.Moment.{Earned, moment}
-use Rattle.prism_flat.specs.Process.{state_reward}
+use Rattle.prism_check.specs.Moment.{Earned, moment}
+use Rattle.prism_check.specs.Process.{state_reward}
 use Rattle.expr_store.specs.declared.node.ExprId.{ExprId}
 use Rattle.prism_meaning.specs.Prepared.{sum_by}
 use Rattle.prism_meaning.specs.declared.data.PreparedItem.{PreparedItem}

@@ -25,8 +25,8 @@ use Rattle.prism_tree.specs.Syntax.{Expression, Const, File, const_of}
 use Rattle.prism_tree.specs.declared.syntax.PrismConst.{PrismConst}
 use Rattle.op_trees.specs.Names.{is_called}
 use Rattle.prism_names.specs.Names.{unchanged, see}
-use Rattle.prism_flat.specs.Scene.{constant, constant_seen, constant_value, constant_names, scene}
-use Rattle.prism_flat.specs.ConstantLaws.{ConstantsHaveValues, see_agree_on}
+use Rattle.prism_check.specs.Scene.{constant, constant_seen, constant_value, constant_names, scene}
+use Rattle.prism_check.specs.ConstantLaws.{ConstantsHaveValues, see_agree_on}
 use Rattle.state_choices.specs.Views.{seen_of}
 use Rattle.state_choices.specs.Trimmed.{computed}
 use Rattle.instance_start.specs.Columns.{value_at}

@@ -17,8 +17,8 @@ use Rattle.process_core.specs.Ready.{Name}
 use Rattle.prism_tree.specs.Syntax.{Expression, Const, File}
 use Rattle.prism_names.specs.Names.{formula_body}
 use Rattle.prism_names.specs.Order.{whole}
-use Rattle.prism_flat.specs.Scene.{constant_called}
-use Rattle.prism_flat.specs.ConstantLaws.{RanksBelow, ConstantsHaveValues, constants_have_values}
+use Rattle.prism_check.specs.Scene.{constant_called}
+use Rattle.prism_check.specs.ConstantLaws.{RanksBelow, ConstantsHaveValues, constants_have_values}
 use Rattle.prism_meaning.specs.Constants.{declared_const}
 
 -- ---- the number of a constant

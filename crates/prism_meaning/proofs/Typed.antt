@@ -36,9 +36,9 @@ use Rattle.prism_tree.specs.Operators.{prism_meaning}
 use Rattle.prism_tree.specs.OperatorLaws.{prism_lawful}
 use Rattle.prism_tree.specs.Syntax.{Expression, Const, Range, Var, Module, plain, copied, File}
 use Rattle.prism_names.specs.Names.{unchanged, part_of, parts, see, reading, formula_body}
-use Rattle.prism_flat.specs.Kept.{is_plain}
-use Rattle.prism_flat.specs.FlatLaws.{found_after}
-use Rattle.prism_flat.specs.Scene.{constant_called, constant_seen, constant_value, constant_within, constant, constant_names, column, columns_of}
+use Rattle.prism_check.specs.Kept.{is_plain}
+use Rattle.prism_check.specs.FlatLaws.{found_after}
+use Rattle.prism_check.specs.Scene.{constant_called, constant_seen, constant_value, constant_within, constant, constant_names, column, columns_of}
 use Rattle.prism_print.specs.Printable.{IsPrintableExpression, IsPrintableConst, IsPrintableVar, IsPrintableModule}
 use Rattle.prism_check.specs.Demands.{Demand, fixed, var_type, const_demands, range_demands, var_demands, command_demands, part_demands, outer_demands, formula_demands}
 use Rattle.prism_check.specs.NameFaults.{copy_faults, circles, doubled_names, module_vars, name_faults, no_module, unknown, unknown_in, unknown_names, values}

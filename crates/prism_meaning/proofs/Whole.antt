@@ -11,17 +11,17 @@ use Rattle.prism_tree.specs.Operators.{prism_meaning}
 use Rattle.prism_tree.specs.Syntax.{Branch, Command, Module, plain, copied, File}
 use Rattle.prism_tree.specs.Syntax as syntax
 use Rattle.prism_names.specs.Names.{formula_body, unchanged, part_of, reading, see}
-use Rattle.prism_flat.specs.Scene.{columns_of, constant}
-use Rattle.prism_flat.specs.Moment.{value_in, names_in, place_of, weight_seen, write_at, update_at, command_at, part_at, item_at, moment}
-use Rattle.prism_flat.specs.Process.{choice_rewards}
-use Rattle.prism_flat.specs.Kept.{is_plain, IsWrittenOut}
+use Rattle.prism_check.specs.Scene.{columns_of, constant}
+use Rattle.prism_check.specs.Moment.{value_in, names_in, place_of, weight_seen, write_at, update_at, command_at, part_at, item_at, moment}
+use Rattle.prism_check.specs.Process.{choice_rewards}
+use Rattle.prism_check.specs.Kept.{is_plain, IsWrittenOut}
 use Rattle.prism_check.proofs.CleanTypes.{same_written}
 use Rattle.state_choices.specs.Groups.{module_groups}
 use Rattle.prism_meaning.specs.Shapes.{bodies, shapes, write_under, update_under, command_under, group_under}
 use Rattle.std.proofs.Math.Path.{fun_ext}
 use Rattle.op_trees.specs.Seen.{known_names}
 use Rattle.op_trees.specs.declared.tree.Value.{Value}
-use Rattle.prism_flat.specs.Process.{is_for_states, state_reward}
+use Rattle.prism_check.specs.Process.{is_for_states, state_reward}
 use Rattle.prism_meaning.specs.Shapes.{sum_under, earned_in_states}
 use Rattle.instance_start.specs.Columns.{column_of}
 use Rattle.instance_start.specs.States.{state_length}

@@ -5,7 +5,7 @@ ghost use Rattle.op_trees.specs.Tree.{tree};
 ghost use Rattle.name_rules.specs.Circles.{AreTurns, circles, declared_by};
 ghost use Rattle.name_rules.specs.Names.{under};
 ghost use Rattle.prism_tree.specs.Syntax.{const_of, file_of};
-ghost use Rattle.prism_flat.specs.Scene.{constant, constant_seen};
+ghost use Rattle.prism_check.specs.Scene.{constant, constant_seen};
 ghost use Rattle.state_choices.specs.Trimmed.{computed};
 ghost use Rattle.state_choices.specs.Views.{seen_of};
 ghost use Rattle.instance_start.specs.Given.{given_by};

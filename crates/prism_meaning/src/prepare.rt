@@ -4,7 +4,7 @@ ghost use Rattle.std.specs.Option.{option_map};
 ghost use Rattle.op_trees.specs.Tree.{tree};
 ghost use Rattle.expr_store.specs.Alike.{IsMade};
 ghost use Rattle.expr_store.specs.Views.{nodes};
-ghost use Rattle.prism_flat.specs.Moment.{weight_seen};
+ghost use Rattle.prism_check.specs.Moment.{weight_seen};
 ghost use Rattle.prism_names.specs.Names.{see};
 ghost use Rattle.prism_tree.specs.Operators.{prism_meaning};
 ghost use Rattle.prism_tree.specs.Syntax as syntax;

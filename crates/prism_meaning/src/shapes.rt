@@ -2,8 +2,8 @@
 ghost use Rattle.std.specs.Prelude.{◌≡◌, ◌++◌, IfOk, List, None, Some, map, option_copied};
 ghost use Rattle.std.specs.List.{filter, flat_map};
 ghost use Rattle.basics.specs.Options.{if_some};
-ghost use Rattle.prism_flat.specs.Moment.{action_of, adds_of};
-ghost use Rattle.prism_flat.specs.Process.{is_for_choices, is_for_states};
+ghost use Rattle.prism_check.specs.Moment.{action_of, adds_of};
+ghost use Rattle.prism_check.specs.Process.{is_for_choices, is_for_states};
 ghost use Rattle.prism_names.specs.Names.{unchanged};
 ghost use Rattle.prism_tree.specs.Syntax as syntax;
 ghost use Rattle.prism_tree.specs.Syntax.{command_of, item_of, module_of, rewards_of};

@@ -2,7 +2,7 @@
 ghost use Rattle.std.specs.Prelude.{◌≡◌, ◌++◌, [], IfOk, MatchResult, None, map};
 ghost use Rattle.op_trees.specs.Seen.{Seen, known};
 ghost use Rattle.process_core.specs.Ready.{Name};
-ghost use Rattle.prism_flat.specs.Scene.{column, columns_of, scene};
+ghost use Rattle.prism_check.specs.Scene.{column, columns_of, scene};
 ghost use Rattle.prism_names.specs.Names.{unchanged};
 ghost use Rattle.state_choices.specs.Views.{seen_of};
 ghost use Rattle.prism_tree.specs.Syntax.{const_of, file_of, label_of, rewards_of};

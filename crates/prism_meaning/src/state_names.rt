@@ -3,7 +3,7 @@ ghost use Rattle.std.specs.Prelude.{◌≡◌, IfOk};
 ghost use Rattle.op_trees.specs.Tree.{tree};
 ghost use Rattle.expr_store.specs.Alike.{IsMade};
 ghost use Rattle.expr_store.specs.Views.{nodes};
-ghost use Rattle.prism_flat.specs.Moment.{place_of};
+ghost use Rattle.prism_check.specs.Moment.{place_of};
 ghost use Rattle.prism_names.specs.Names.{see};
 ghost use Rattle.prism_tree.specs.Operators.{prism_meaning};
 ghost use Rattle.prism_meaning.specs.Views.{columns_in, places_in, FindsColumns};

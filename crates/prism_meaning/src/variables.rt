@@ -2,7 +2,7 @@
 ghost use Rattle.std.specs.Prelude.{◌≡◌, ◌++◌, IfOk, None, map};
 ghost use Rattle.std.specs.Option.{option_map};
 ghost use Rattle.op_trees.specs.Tree.{tree};
-ghost use Rattle.prism_flat.specs.Scene.{column, domain_of, first_of};
+ghost use Rattle.prism_check.specs.Scene.{column, domain_of, first_of};
 ghost use Rattle.prism_names.specs.Names.{unchanged};
 ghost use Rattle.prism_tree.specs.Syntax as syntax;
 ghost use Rattle.prism_tree.specs.Syntax.{file_of, module_of, var_of};

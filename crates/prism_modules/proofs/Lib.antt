@@ -1,4 +1,3 @@
-pub mod ByPlaces
-pub mod Kept
-mod Singles
-mod WritersOf
+mod ByServing
+pub use Rattle.module_parts.proofs.ByPlaces
+pub use Rattle.module_parts.proofs.Kept

@@ -1,3 +1,6 @@
-pub mod Code
-pub mod Homes
-pub mod Writers
+pub mod Commands
+pub use Rattle.module_parts.specs.Code
+pub use Rattle.module_parts.specs.Homes
+pub use Rattle.module_parts.specs.declared.element.Element
+pub use Rattle.module_parts.specs.Places
+pub use Rattle.module_parts.specs.declared.entries.Names

@@ -22,10 +22,10 @@ use Rattle.prism_tree.specs.declared.syntax.NamePair.{NamePair}
 use Rattle.prism_tree.specs.declared.syntax.CopiedModule.{CopiedModule}
 use Rattle.prism_tree.specs.Syntax.{Expression, Const, Range, Var, Formula, Branch, Command, Module, plain, copied, Rewards, File}
 use Rattle.prism_tree.specs.Operators.{prism_meaning}
-use Rattle.prism_names.specs.Names.{renaming, module_name, module_called, Part, part_of, parts, formula_body}
-use Rattle.prism_names.specs.Order.{whole}
-use Rattle.prism_names.specs.Flat.{flat}
-use Rattle.prism_names.specs.Laws.{flat_part}
+use Rattle.prism_flat.specs.Names.{renaming, module_name, module_called, Part, part_of, parts, formula_body}
+use Rattle.prism_flat.specs.Order.{whole}
+use Rattle.prism_flat.specs.Flat.{flat}
+use Rattle.prism_flat.specs.Laws.{flat_part}
 use Rattle.prism_check.specs.Same.{bare_const, bare_range, bare_var, bare_formula, bare_label, bare_write, bare_branch, bare_command, bare_pair, bare_copy, bare_module, bare_item, bare_rewards, bare_file}
 use Rattle.prism_check.specs.Demands.{Demand, fixed, varying, written, const_demands, formula_demands, range_demands, type_by, var_type, var_demands, branch_demands, command_demands, part_demands, label_demands, item_demands, rewards_demands, outer_demands, all_demands, expression_of}
 use Rattle.name_rules.specs.Least.{fault_if, fault, moved_to, or_else}

@@ -8,10 +8,10 @@ use Rattle.process_core.specs.Ready.{Name}
 use Rattle.prism_tree.specs.Syntax.{Expression, Const, Range, Var, Label, Write, Branch, Command, Module, plain, Item, Rewards, File}
 use Rattle.op_trees.specs.Names.{bare_name}
 use Rattle.prism_check.specs.Same.{bare_const, bare_range, bare_var, bare_formula, bare_label, bare_write, bare_branch, bare_command, bare_module, bare_item, bare_rewards, bare_on, bare_file}
-use Rattle.prism_names.specs.Names.{formula_body, unchanged, module_name, Part, part_of}
-use Rattle.prism_names.specs.Flat.{flat_expression, flat_name, flat_range, flat_var, flat_write, flat_branch, flat_command, plain_from, flat_module, flat_constant, flat_label, flat_item, flat_rewards, flat}
-use Rattle.prism_names.specs.Laws.{flat_part}
-use Rattle.prism_names.specs.Order.{whole}
+use Rattle.prism_flat.specs.Names.{formula_body, unchanged, module_name, Part, part_of}
+use Rattle.prism_flat.specs.Flat.{flat_expression, flat_name, flat_range, flat_var, flat_write, flat_branch, flat_command, plain_from, flat_module, flat_constant, flat_label, flat_item, flat_rewards, flat}
+use Rattle.prism_flat.specs.Laws.{flat_part}
+use Rattle.prism_flat.specs.Order.{whole}
 use Rattle.basics.specs.Mapped.{turned, some_turned}
 use Rattle.prism_places.proofs.Trees.{renamed-bare, written_out-bare}
 use Rattle.prism_places.proofs.Names.{bare_part, bodies-bare, written_name-bare, module_name-bare, part-bare}

@@ -17,7 +17,7 @@ use Rattle.prism_tree.specs.Syntax.{Expression, Const, Range, Var, Branch, Comma
 use Rattle.prism_tree.specs.Syntax as syntax
 use Rattle.op_trees.specs.Names.{bare_name}
 use Rattle.prism_check.specs.Same.{bare_const, bare_range, bare_var, bare_label, bare_write, bare_branch, bare_command, bare_on, bare_item, bare_rewards, bare_file}
-use Rattle.prism_names.specs.Names.{unchanged, Part, parts, see, reading}
+use Rattle.prism_flat.specs.Names.{unchanged, Part, parts, see, reading}
 use Rattle.process_core.specs.Instance.{Valuation, Between, Column, write_to}
 use Rattle.prism_flat.specs.Scene.{constant_called, constant_seen, constant_value, constant_within, constant, constant_names, domain_of, first_of, column, part_columns, columns_of, scene}
 use Rattle.prism_flat.specs.Moment.{Moment, value_in, names_in, place_of, weight_seen, action_of, write_at, update_at, command_at, part_at, adds_of, item_at, moment}

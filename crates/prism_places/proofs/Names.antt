@@ -14,7 +14,7 @@ use Rattle.prism_tree.specs.Operators.{prism_meaning}
 use Rattle.prism_tree.specs.Syntax.{Module, plain, copied, File}
 use Rattle.op_trees.specs.Names.{bare_name, is_called}
 use Rattle.prism_check.specs.Same.{bare_formula, bare_var, bare_command, bare_pair, bare_module, bare_file}
-use Rattle.prism_names.specs.Names.{formula_body, is_formula, renaming, written_name, module_name, module_called, Part, copy_of, part_of, parts, reading, reading_in}
+use Rattle.prism_flat.specs.Names.{formula_body, is_formula, renaming, written_name, module_name, module_called, Part, copy_of, part_of, parts, reading, reading_in}
 use Rattle.prism_flat.specs.FlatLaws.{found_after}
 use Rattle.basics.specs.Mapped.{turned, some_turned}
 use Rattle.prism_places.proofs.Trees.{looked_up-bare}

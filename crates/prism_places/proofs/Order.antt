@@ -12,8 +12,8 @@ use Rattle.op_trees.specs.SeenLaws.{names_then}
 use Rattle.process_core.specs.Product.{map-flat_map, flat_map_agree}
 use Rattle.process_core.specs.Ready.{Name}
 use Rattle.prism_tree.specs.Syntax.{Expression, Formula, File}
-use Rattle.prism_names.specs.Names.{formula_body, is_formula}
-use Rattle.prism_names.specs.Places.{formula_names, at_places, stands, IsEarlier, IsListed, IsPlaceOrder}
+use Rattle.prism_flat.specs.Names.{formula_body, is_formula}
+use Rattle.prism_flat.specs.Places.{formula_names, at_places, stands, IsEarlier, IsListed, IsPlaceOrder}
 use Rattle.prism_check.specs.Same.{bare_formula, bare_file}
 use Rattle.prism_check.specs.NameFaults.{doubled_names}
 use Rattle.prism_check.proofs.PlaceOrder.{no_formula, first_of_name}

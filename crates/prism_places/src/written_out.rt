@@ -2,7 +2,7 @@
 
 ghost use Rattle.std.specs.Prelude.{◌≡◌, IfOk};
 ghost use Rattle.prism_tree.specs.Syntax.{file_of};
-ghost use Rattle.prism_names.specs.Flat.{flat};
+ghost use Rattle.prism_flat.specs.Flat.{flat};
 ghost use Rattle.prism_check.specs.Same.{bare_file};
 ghost use Rattle.prism_flat.specs.Kept.{SameMeaning, SameThings};
 ghost use Rattle.prism_places.specs.Flattened.{IsFlat};

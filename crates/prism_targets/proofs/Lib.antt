@@ -1,15 +1,5 @@
-pub mod Numbered
-pub mod EdgeTables
-pub mod Members
-pub mod Serves
-pub mod Whole
-pub mod Blocked
-pub mod TakingPart
-pub mod Positions
-pub mod RowNumbers
-pub mod Standing
-pub mod Counting
-pub mod Summing
-pub mod Splitting
-pub mod Crowded
-pub mod Soonest
+mod ElementsServe
+mod Standing
+mod Soonest
+pub use Rattle.edge_tables.proofs.Positions
+pub use Rattle.prism_translation.proofs.Apart

@@ -1,34 +1,28 @@
 -- Targets that tell their makers by numbers stand for the targets of the file.
-use Rattle.std.specs.Prelude.{◌≡◌, ℕ, ◌+◌, ◌-◌, ◌^◌, ◌≤◌, List, [], ◌∷◌, ◌++◌, map, length, Bool, true, false, not, ◌&&◌, Option, Some, None, is_none, is_some, slice_get}
+use Rattle.std.specs.Prelude.{◌≡◌, ℕ, ◌+◌, ◌-◌, ◌^◌, ◌≤◌, List, [], ◌∷◌, ◌++◌, map, length, Bool, true, false, not, ◌&&◌, Option, Some, None, is_none, slice_get}
 use Rattle.std.specs.List.{filter, flat_map, list_any, All}
-use Rattle.std.specs.Borrow.{Bor}
 use Rattle.std.specs.Option.{option_map}
-use Rattle.std.proofs.Common.{refl, sym, ap, ap₂, ◌∙◌, subst, arith}
-use Rattle.std.proofs.Math.Path.{fun_ext}
+use Rattle.std.proofs.Common.{refl, sym, ap, ap₂, ◌∙◌, arith}
 use Rattle.std.proofs.lemmas.List.{length-map, map-append}
 use Rattle.std.proofs.lemmas.List.Elements.{All-head, All-tail, All-weaker, All-filter}
 use Rattle.bridge_io.specs.declared.reason.Named.{Named}
 use Rattle.process_core.specs.Ready.{same_label}
-use Rattle.jani_tree.specs.declared.syntax.JaniAutomaton.{JaniAutomaton}
-use Rattle.jani_tree.specs.Syntax.{Write, Automaton, Vector, File, automaton_of}
+use Rattle.jani_tree.specs.Syntax.{Automaton, Vector, File}
 use Rattle.jani_meaning.specs.Elements as jani
-use Rattle.jani_meaning.specs.Elements.{Owned, structures}
-use Rattle.process_core.specs.Instance.{numbered, only_if}
+use Rattle.process_core.specs.Instance.{only_if}
 use Rattle.prism_translation.specs.Elements.{Element, elements, edges_of, Placed, placed_edges, some_write, is_reward, rewards}
 use Rattle.prism_translation.specs.Targets.{names, edges_named, reward_writer, targets_by, vector_targets, targets}
 use Rattle.prism_translation.proofs.Served.{made, plain}
 use Rattle.choice_laws.proofs.Walks.{found_has}
 use Rattle.prism_translation.proofs.Numbered.{numbered_from}
-use Rattle.prism_targets.specs.declared.places.Places.{Places}
-use Rattle.prism_targets.specs.Tables.{EdgeTable, has_action, table_of, table_in, Split, split_by, split_in, split_from, rows_from, served_from}
+use Rattle.edge_tables.specs.Tables.{has_action, table_in, split_by, split_in, rows_from, served_from}
 use Rattle.prism_targets.specs.Made.{made_by, made_of, plain_of, vector_made, made_alone, silent_from, edge_at, placed_at, stands_for}
 use Rattle.prism_targets.specs.Serving.{served_in}
-use Rattle.prism_targets.specs.Places.{ArePlaces}
-use Rattle.prism_targets.specs.Code.{pays_by, served_targets, served_elements}
-use Rattle.prism_targets.proofs.EdgeTables.{numbers_kept, split_is}
-use Rattle.prism_targets.proofs.Members.{IsElement, all_elements, edges_found}
-use Rattle.prism_targets.proofs.Whole.{earns_alone, silent_of}
-use Rattle.prism_targets.proofs.Blocked.{elements_serve}
+use Rattle.prism_targets.specs.Code.{served_targets, served_elements}
+use Rattle.edge_tables.proofs.EdgeTables.{numbers_kept}
+use Rattle.edge_tables.proofs.Members.{IsElement, all_elements, edges_found}
+use Rattle.edge_tables.proofs.Whole.{earns_alone, silent_of}
+use Rattle.prism_targets.proofs.ElementsServe.{elements_serve}
 
 -- ---- edges
 module _ (file : File) where
@@ -113,19 +107,3 @@ module _ (file : File) where
       ap (λ n. served_from (rows_from 0 (map (split_in file) file.vectors)) 0 n (map (table_in file) (elements file)))
       (sym (length-map (flat_map vector_made (map (split_in file) file.vectors)) (stands_for file)) ∙ ap length (vectors_stand file.vectors) ∙ omega arith)
       ∙ elements_serve file fits [] (jani.elements file) refl
-
-  -- ---- by the places of structures
-  tables_alike : (t : Places) → ArePlaces t (structures file) → (k : ℕ) (autos : List Automaton) →
-      numbered (λ k a. table_of (pays_by t k) a.edges ∷ []) k autos ≡ map (table_in file) (numbered_from k autos)
-  tables_alike t h k [] = refl
-  tables_alike t h k (a ∷ autos) =
-      ap₂ (λ (x : EdgeTable) m. x ∷ m) (ap (λ (f : Write → Bool). table_of (some_write f) a.edges) (fun_ext (λ w. ap is_some (h k w.target.name)))) (tables_alike t h (k + 1) autos)
-
-  pub tables_are : (t : Places) (vars : List Owned) (automata : List (Bor JaniAutomaton)) → vars ≡ structures file → ArePlaces t vars →
-      map (λ a. automaton_of a.now) automata ≡ jani.elements file → numbered (λ k a. table_of (pays_by t k) a.edges ∷ []) 0 (map (λ a. automaton_of a.now) automata) ≡ map (table_in file) (elements file)
-  tables_are t vars automata v h e =
-      tables_alike t (subst (ArePlaces t) v h) 0 (map (λ a. automaton_of a.now) automata) ∙ ap (λ (l : List Automaton). map (table_in file) (numbered_from 0 l)) e
-
-  pub splits_alike : (vs : List Vector) → map (λ v. split_from v 0 (map (table_in file) (elements file))) vs ≡ map (split_in file) vs
-  splits_alike [] = refl
-  splits_alike (v ∷ vs) = ap₂ (λ (s : Split) l. s ∷ l) (split_is file v 0 (jani.elements file)) (splits_alike vs)

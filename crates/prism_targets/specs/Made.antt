@@ -4,7 +4,7 @@ use Rattle.jani_tree.specs.Syntax.{Vector, File}
 use Rattle.process_core.specs.Instance.{only_if}
 use Rattle.prism_translation.specs.Elements.{Element, elements, Placed, placed_edges}
 use Rattle.prism_translation.specs.Targets.{Target}
-use Rattle.prism_targets.specs.Tables.{EdgeTable, Split}
+use Rattle.edge_tables.specs.Tables.{EdgeTable, Split}
 
 -- an edge by the number of its element and its own number there
 pub record Maker : Type 0 where

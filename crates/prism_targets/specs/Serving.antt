@@ -7,7 +7,7 @@ use Rattle.prism_translation.specs.Targets as spec
 use Rattle.prism_translation.specs.Targets.{targets, serves, serves_silently, is_blocked}
 use Rattle.prism_targets.specs.declared.targets.Target.{Target}
 use Rattle.prism_targets.specs.declared.served.Serving.{Serving}
-use Rattle.prism_targets.specs.Tables.{places_of, Served}
+use Rattle.edge_tables.specs.Tables.{places_of, Served}
 use Rattle.prism_targets.specs.Made.{stands_for}
 use Rattle.prism_targets.specs.Code.{target_view, element_served}
 

@@ -2,23 +2,15 @@
 //! serve them and which elements block them. The rule is this project's own.
 #![tactic(auto)]
 
-mod counts;
-mod edges;
 mod making;
 mod participants;
-mod parts;
-mod places;
 mod refused;
 mod rows;
 mod served;
-mod shared;
-mod splits;
-mod sums;
 mod targets;
-mod values;
 
+pub use edge_tables::Places;
 pub use making::serving;
-pub use places::Places;
 pub use refused::least_refused;
 pub use served::{EdgeServing, ElementServing, Serving};
 pub use targets::{Maker, Target};

@@ -4,17 +4,17 @@ ghost use Rattle.std.specs.Prelude.{◌≡◌, ◌≤◌, ◌+◌, ◌-◌, ◌^
 ghost use Rattle.jani_tree.specs.Syntax.{automaton_of, file_of};
 ghost use Rattle.jani_meaning.specs.Elements.{elements, structures as structures_of};
 ghost use Rattle.name_table.specs.JaniParts.{owned_of};
-ghost use Rattle.prism_targets.specs.Tables.{element_serves, served_from};
+ghost use Rattle.edge_tables.specs.Tables.{element_serves, served_from};
 ghost use Rattle.prism_targets.specs.Made.{made_alone, silent_from};
-ghost use Rattle.prism_targets.specs.Code.{table_view, element_served, row_view, split_view, target_view, served_targets, served_elements};
+ghost use Rattle.edge_tables.specs.Code.{table_view, split_view};
+ghost use Rattle.prism_targets.specs.Code.{element_served, row_view, target_view, served_targets, served_elements};
 ghost use Rattle.prism_targets.specs.Serving.{IsServing};
 
-use crate::edges::{ElementEdges, element_edges};
 use crate::participants::rows_by_element;
 use crate::rows::{VectorRow, add_all_targets};
 use crate::served::{ElementServing, Serving, element_serving};
-use crate::splits::{VectorSplit, all_splits};
 use crate::targets::{Target, add_silent};
+use edge_tables::{ElementEdges, VectorSplit, all_splits, element_edges};
 use jani_tree::{JaniAutomaton, JaniFile};
 use name_table::OwnedVar;
 use std::alloc::{AllocError, Global};

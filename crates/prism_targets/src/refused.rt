@@ -8,17 +8,14 @@ ghost use Rattle.jani_meaning.specs.Elements.{elements, lasting as lasting_of, l
 ghost use Rattle.name_table.specs.JaniParts.{owned_of};
 ghost use Rattle.prism_translation.specs.Elements as spec;
 ghost use Rattle.prism_translation.specs.Refused.{is_too_large, refused};
-ghost use Rattle.prism_targets.specs.Tables.{table_in};
-ghost use Rattle.prism_targets.specs.Counts.{crowded_from, has_many_commands, usable_among};
-ghost use Rattle.prism_targets.specs.Code.{table_view};
+ghost use Rattle.edge_tables.specs.Tables.{table_in};
+ghost use Rattle.edge_tables.specs.Counts.{crowded_from, has_many_commands, usable_among};
+ghost use Rattle.edge_tables.specs.Code.{table_view};
 
-use crate::counts::has_too_many;
-use crate::edges::{ElementEdges, element_edges};
-use crate::places::Places;
-use crate::shared::judge_shared;
-use crate::splits::all_splits;
-use crate::values::has_many_values;
 use bridge_io::{Fault, Reason};
+use edge_tables::{
+    ElementEdges, Places, all_splits, element_edges, has_many_values, has_too_many, judge_shared,
+};
 use jani_tree::{JaniAutomaton, JaniFile};
 use name_table::OwnedVar;
 use std::alloc::{AllocError, Global};

@@ -2,12 +2,13 @@
 
 ghost use Rattle.std.specs.Prelude.{◌≡◌, ◌++◌, map, vec_len, IfOk, OnOk};
 ghost use Rattle.std.specs.List.{flat_map};
-ghost use Rattle.prism_targets.specs.Tables.{row_at, rows_from};
+ghost use Rattle.edge_tables.specs.Tables.{row_at, rows_from};
 ghost use Rattle.prism_targets.specs.Made.{vector_made};
-ghost use Rattle.prism_targets.specs.Code.{row_view, split_view, target_view};
+ghost use Rattle.edge_tables.specs.Code.{split_view};
+ghost use Rattle.prism_targets.specs.Code.{row_view, target_view};
 
-use crate::splits::VectorSplit;
 use crate::targets::{Target, add_made, add_plain};
+use edge_tables::VectorSplit;
 use std::alloc::{AllocError, Global};
 
 /// A vector, with the number of its first target, the number of its plain one, which stands behind those that are made for

@@ -5,13 +5,13 @@ ghost use Rattle.std.specs.List.{filter, flat_map};
 ghost use Rattle.op_trees.specs.Tree.{capped};
 ghost use Rattle.process_core.specs.Instance.{only_if};
 ghost use Rattle.gathering.specs.Lists.{list_under};
-ghost use Rattle.prism_targets.specs.Tables.{Row, all_numbers, blocks, calls, edge_serves, element_serves, numbers_served};
-ghost use Rattle.prism_targets.specs.Code.{ranked_view, table_view, edge_served, element_served, row_view};
+ghost use Rattle.edge_tables.specs.Tables.{Row, all_numbers, blocks, calls, edge_serves, element_serves, numbers_served};
+ghost use Rattle.edge_tables.specs.Code.{ranked_view, table_view};
+ghost use Rattle.prism_targets.specs.Code.{edge_served, element_served, row_view};
 
-use crate::edges::{ElementEdges, RankedEdge};
-use crate::parts::{is_another, part_of};
 use crate::rows::VectorRow;
 use crate::targets::Target;
+use edge_tables::{ElementEdges, RankedEdge, is_another, part_of};
 use gathering::NameLists;
 use std::alloc::{AllocError, Global};
 

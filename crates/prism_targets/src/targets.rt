@@ -1,10 +1,11 @@
 // The targets of a file.
 
 ghost use Rattle.std.specs.Prelude.{◌≡◌, ◌+◌, ◌++◌, ◌∷◌, [], map, length, vec_len, OnOk};
-ghost use Rattle.prism_targets.specs.Code.{split_view, target_view};
+ghost use Rattle.edge_tables.specs.Code.{split_view};
+ghost use Rattle.prism_targets.specs.Code.{target_view};
 ghost use Rattle.prism_targets.specs.Made.{made_alone, made_by, made_of, plain_of};
 
-use crate::splits::VectorSplit;
+use edge_tables::VectorSplit;
 use jani_tree::JaniVector;
 use std::alloc::AllocError;
 

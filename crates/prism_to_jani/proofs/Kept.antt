@@ -11,7 +11,7 @@ use Rattle.name_rules.specs.Least.{or_else}
 use Rattle.jani_check.specs.Faults.{faults}
 use Rattle.jani_check.specs.Faults as judged
 use Rattle.jani_check.proofs.Profiled.{places_aside, checked_is_writable}
-use Rattle.jani_translation.specs.Translated.{translated}
+use Rattle.jani_translator.specs.Translated.{translated}
 use Rattle.jani_translation_names.proofs.Form.{translated_has_form}
 use Rattle.jani_translation_names.proofs.Composition.{no_name_faults}
 use Rattle.jani_translation_meaning.proofs.Whole.{no_type_fault, no_profile_fault}

@@ -5,7 +5,7 @@ ghost use Rattle.prism_names.specs.Flat.{flat};
 ghost use Rattle.prism_print.specs.Same.{bare_file};
 ghost use Rattle.jani_tree.specs.Places as jani;
 ghost use Rattle.jani_tree.specs.Syntax.{file_of};
-ghost use Rattle.jani_translation.specs.Translated.{translated};
+ghost use Rattle.jani_translator.specs.Translated.{translated};
 ghost use Rattle.prism_to_jani.specs.Promise.{IsTranslated};
 
 use jani_check::CheckedJani;

@@ -33,3 +33,7 @@ pub mod Scopes
 pub mod Clean
 pub mod Elements
 pub mod Expressions
+pub use Rattle.name_table.proofs.EntryLemmas
+pub use Rattle.name_table.proofs.Parts
+pub use Rattle.name_table.proofs.Valid
+pub use Rattle.jani_images.proofs.ImageSeen

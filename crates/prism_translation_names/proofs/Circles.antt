@@ -40,9 +40,9 @@ use Rattle.jani_check.specs.NameFaults.{global_names, var_names}
 use Rattle.jani_check.specs.Faults.{IsChecked}
 use Rattle.jani_meaning.specs.Elements as jani
 use Rattle.jani_meaning.specs.Elements.{owned_by, is_lasting, is_own, is_global, lasting, place_of}
-use Rattle.name_table.specs.declared.entry.Entry.{Entry}
-use Rattle.name_table.specs.PrismAsks.{NewNames, name_at, value_name, outside}
-use Rattle.jani_images.specs.Image.{unsigned, literal, image}
+use Rattle.prism_translation.specs.Entry.{Entry}
+use Rattle.prism_translation.specs.PrismAsks.{NewNames, name_at, value_name, outside}
+use Rattle.prism_translation.specs.Image.{unsigned, literal, image}
 use Rattle.prism_translation.specs.Names.{new_names}
 use Rattle.prism_translation.specs.Parts.{constant}
 use Rattle.prism_translation.specs.Translated.{translated}

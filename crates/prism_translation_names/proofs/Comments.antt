@@ -16,9 +16,9 @@ use Rattle.prism_print.specs.Comments.{IsComment}
 use Rattle.bridge_io.specs.declared.reason.Named.{Named}
 use Rattle.jani_tree.specs.Syntax.{Const, Location, File}
 use Rattle.jani_meaning.specs.Elements.{lasting, labels, structures}
-use Rattle.name_table.specs.declared.entry.Entry.{Entry}
-use Rattle.name_table.specs.Asks.{some_from}
-use Rattle.name_table.specs.PrismAsks.{NewNames, name_at, locations_at, modules_at, labels_at, rewards_at, actions_at}
+use Rattle.prism_translation.specs.Entry.{Entry}
+use Rattle.prism_translation.specs.Asks.{some_from}
+use Rattle.prism_translation.specs.PrismAsks.{NewNames, name_at, locations_at, modules_at, labels_at, rewards_at, actions_at}
 use Rattle.prism_translation.specs.Elements.{Element, elements, has_several}
 use Rattle.prism_translation.specs.Lines.{space, old_text, name_line, name_lines, joined, location_line, called}
 use Rattle.prism_translation.specs.Names.{all_asks, entries, new_names}

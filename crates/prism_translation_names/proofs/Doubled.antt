@@ -27,11 +27,11 @@ use Rattle.prism_check.specs.NameFaults.{doubled, values, given_labels, doubled_
 use Rattle.jani_tree.specs.Syntax.{Automaton, File}
 use Rattle.jani_meaning.specs.Elements as jani
 use Rattle.jani_meaning.specs.Elements.{Owned, labels, structures}
-use Rattle.name_table.specs.declared.class.NameClass.{NameClass}
-use Rattle.name_table.specs.declared.class.NameClass.TheVariants.{Label}
-use Rattle.name_table.specs.declared.entry.Entry.{Entry}
-use Rattle.name_table.specs.Rule.{is_given_label, may_be_called}
-use Rattle.name_table.specs.PrismAsks.{NewNames, name_at}
+use Rattle.prism_translation.specs.NameClass.{NameClass}
+use Rattle.prism_translation.specs.NameClass.TheVariants.{Label}
+use Rattle.prism_translation.specs.Entry.{Entry}
+use Rattle.prism_translation.specs.Rule.{is_given_label, may_be_called}
+use Rattle.prism_translation.specs.PrismAsks.{NewNames, name_at}
 use Rattle.prism_translation.specs.Elements.{Element, elements}
 use Rattle.prism_translation.specs.Names.{new_names}
 use Rattle.prism_translation.specs.Modules.{module_of}

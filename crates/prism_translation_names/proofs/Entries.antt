@@ -8,13 +8,13 @@ use Rattle.process_core.specs.Ready.{Name}
 use Rattle.prism_lex.specs.declared.token.TokenKind.TheVariants.{Ident}
 use Rattle.prism_lex.specs.Tokens.{IsKind, is_name}
 use Rattle.prism_lex.specs.Words.{lookup, words}
-use Rattle.name_table.specs.declared.class.NameClass.{NameClass}
-use Rattle.name_table.specs.declared.class.Target.TheVariants.{Prism}
-use Rattle.name_table.specs.declared.entry.Entry.{Entry}
-use Rattle.name_table.specs.Rule.{may_be_called, is_identifier}
-use Rattle.name_table.specs.Entries.{Ask, count_of, entries_of}
-use Rattle.name_table.proofs.EntryLemmas.{Comes, was_kept, was_made, placed}
-use Rattle.name_table.proofs.Valid.{made_named, made_free, made_may}
+use Rattle.prism_translation.specs.NameClass.{NameClass}
+use Rattle.prism_translation.specs.Target.TheVariants.{Prism}
+use Rattle.prism_translation.specs.Entry.{Entry}
+use Rattle.prism_translation.specs.Rule.{may_be_called, is_identifier}
+use Rattle.prism_translation.specs.Entries.{Ask, count_of, entries_of}
+use Rattle.prism_translation.proofs.EntryLemmas.{Comes, was_kept, was_made, placed}
+use Rattle.prism_translation.proofs.Valid.{made_named, made_free, made_may}
 use Rattle.std.specs.List.{AllByRecursion as Each}
 
 -- ---- entries

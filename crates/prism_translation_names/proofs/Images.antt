@@ -23,7 +23,7 @@ use Rattle.jani_tree.specs.Form.{ExprForm}
 use Rattle.jani_tree.specs.Syntax.{Expression}
 use Rattle.bridge_io.specs.declared.reason.Named.{Named}
 use Rattle.bridge_io.specs.declared.reason.Reason.TheVariants.{Unknown}
-use Rattle.jani_images.specs.Image.{prism_op, unsigned, literal, image}
+use Rattle.prism_translation.specs.Image.{prism_op, unsigned, literal, image}
 use Rattle.prism_translation.specs.Parts.{counted}
 use Rattle.std.proofs.lemmas.List.Concat.{flat_map-append}
 use Rattle.std.proofs.lemmas.Bool.{and_parts}

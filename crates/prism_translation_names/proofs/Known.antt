@@ -19,7 +19,7 @@ use Rattle.jani_check.specs.Faults.{IsChecked}
 use Rattle.jani_check.proofs.Profiled.{operands}
 use Rattle.jani_meaning.specs.Elements as jani
 use Rattle.jani_meaning.specs.Elements.{Owned, owned_by}
-use Rattle.name_table.specs.PrismAsks.{outside}
+use Rattle.prism_translation.specs.PrismAsks.{outside}
 use Rattle.prism_translation.specs.Elements.{Element, elements}
 use Rattle.prism_translation.specs.Sound.{IsKnown}
 use Rattle.prism_translation.proofs.Lists.{of_front, of_numbered}

@@ -10,3 +10,6 @@ pub mod Doubled
 pub mod Circles
 pub mod NoFault
 pub mod Comments
+pub use Rattle.prism_translation.proofs.Clean
+pub use Rattle.prism_translation.proofs.Elements
+pub use Rattle.prism_translation.proofs.Scopes

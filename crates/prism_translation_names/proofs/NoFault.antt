@@ -15,7 +15,7 @@ use Rattle.prism_check.specs.NameFaults.{doubled_names, unknown_names, circles, 
 use Rattle.jani_tree.specs.Syntax.{File}
 use Rattle.jani_meaning.specs.Elements as jani
 use Rattle.jani_meaning.specs.Elements.{structures}
-use Rattle.name_table.specs.PrismAsks.{name_at}
+use Rattle.prism_translation.specs.PrismAsks.{name_at}
 use Rattle.prism_translation.specs.Elements.{Element, elements}
 use Rattle.prism_translation.specs.Names.{new_names}
 use Rattle.prism_translation.specs.Parts.{instead}

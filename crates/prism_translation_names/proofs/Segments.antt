@@ -11,15 +11,15 @@ use Rattle.prism_lex.specs.Tokens.{IsKind}
 use Rattle.std.specs.List.{AllByRecursion as Each}
 use Rattle.jani_tree.specs.Syntax.{File}
 use Rattle.jani_meaning.specs.Elements.{lasting, labels, structures}
-use Rattle.name_table.specs.declared.class.NameClass.{NameClass}
-use Rattle.name_table.specs.declared.class.NameClass.TheVariants.{Constant, Variable, Location, Module, Label, Reward}
-use Rattle.name_table.specs.declared.class.Target.TheVariants.{Prism}
-use Rattle.name_table.specs.declared.entry.Entry.{Entry}
-use Rattle.name_table.specs.Rule.{space}
-use Rattle.name_table.specs.Entries.{Ask}
-use Rattle.name_table.specs.Asks.{some_from}
-use Rattle.name_table.specs.PrismAsks.{NewNames, name_at, ask_for, constant_ask, location_ask, module_ask, asks, locations_at, modules_at, labels_at, rewards_at, actions_at}
-use Rattle.name_table.proofs.Parts.{first_have, IsPart, part}
+use Rattle.prism_translation.specs.NameClass.{NameClass}
+use Rattle.prism_translation.specs.NameClass.TheVariants.{Constant, Variable, Location, Module, Label, Reward}
+use Rattle.prism_translation.specs.Target.TheVariants.{Prism}
+use Rattle.prism_translation.specs.Entry.{Entry}
+use Rattle.prism_translation.specs.Rule.{space}
+use Rattle.prism_translation.specs.Entries.{Ask}
+use Rattle.prism_translation.specs.Asks.{some_from}
+use Rattle.prism_translation.specs.PrismAsks.{NewNames, name_at, ask_for, constant_ask, location_ask, module_ask, asks, locations_at, modules_at, labels_at, rewards_at, actions_at}
+use Rattle.prism_translation.proofs.Parts.{first_have, IsPart, part}
 use Rattle.prism_translation.specs.Targets.{targets}
 use Rattle.prism_translation.specs.Names.{action_ask, all_asks, entries, new_names}
 use Rattle.prism_translation.proofs.Apart.{asks_length}

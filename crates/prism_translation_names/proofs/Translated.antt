@@ -29,9 +29,9 @@ use Rattle.name_rules.proofs.Plain.{no_fault}
 use Rattle.jani_check.specs.Faults.{IsChecked}
 use Rattle.jani_meaning.specs.Elements as jani
 use Rattle.jani_meaning.specs.Elements.{Owned, is_boolean, is_lasting, is_label, is_owner, lasting, labels, structures, structure_number, place_of, location_number, initial_number}
-use Rattle.name_table.specs.declared.entry.Entry.{Entry}
-use Rattle.name_table.specs.PrismAsks.{NewNames, name_at, value_name, outside}
-use Rattle.jani_images.specs.Image.{image}
+use Rattle.prism_translation.specs.Entry.{Entry}
+use Rattle.prism_translation.specs.PrismAsks.{NewNames, name_at, value_name, outside}
+use Rattle.prism_translation.specs.Image.{image}
 use Rattle.prism_translation.specs.Elements.{Element, elements, has_several, Placed, placed_edges, rewards, Lasting, lasting_variables, home, own, adopted, at_home, is_at, may_use}
 use Rattle.prism_translation.specs.Targets.{Target, targets, targets_by, vector_targets, silent_targets, reward_writer, edges_named, names as names_it, is_silent, serves, serves_silently, is_blocked}
 use Rattle.prism_translation.specs.Names.{new_names}

@@ -31,8 +31,8 @@ use Rattle.prism_check.specs.NameFaults.{module_vars, values}
 use Rattle.jani_tree.specs.Syntax.{boolean, Const, File}
 use Rattle.op_trees.specs.Names.{is_called}
 use Rattle.jani_meaning.specs.Elements.{is_own, is_global, lasting, place_of}
-use Rattle.name_table.specs.declared.entry.Entry.{Entry}
-use Rattle.name_table.specs.PrismAsks.{NewNames, name_at, value_name}
+use Rattle.prism_translation.specs.Entry.{Entry}
+use Rattle.prism_translation.specs.PrismAsks.{NewNames, name_at, value_name}
 use Rattle.prism_translation.specs.Elements.{Element, elements, has_several, Lasting, lasting_variables, shared, at_home}
 use Rattle.prism_translation.specs.Names.{new_names}
 use Rattle.prism_translation.specs.Parts.{constant, variable, location_name, location_variable}

@@ -27,7 +27,7 @@ use Rattle.jani_check.specs.Things.{kind_type}
 use Rattle.jani_check.specs.Faults.{IsChecked}
 use Rattle.jani_meaning.specs.Elements.{Owned, is_lasting, is_owner, lasting, place_of, location_number}
 use Rattle.prism_translation.specs.PrismAsks.{NewNames, name_at}
-use Rattle.jani_images.specs.Image.{image}
+use Rattle.prism_translation.specs.Image.{image}
 use Rattle.prism_translation.specs.Elements.{Element, elements, has_several, may_use, Placed, placed_edges, some_write, Lasting, lasting_variables, is_at, is_to, home, own, adopted, at_home}
 use Rattle.prism_translation.specs.Targets.{serves, serves_silently, is_blocked}
 use Rattle.prism_translation.specs.Names.{new_names}

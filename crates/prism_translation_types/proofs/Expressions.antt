@@ -33,7 +33,7 @@ use Rattle.jani_check.specs.Faults.{IsChecked}
 use Rattle.jani_meaning.specs.Elements as jani
 use Rattle.jani_meaning.specs.Elements.{Owned, lasting, is_lasting}
 use Rattle.prism_translation.specs.PrismAsks.{NewNames, name_at, value_name}
-use Rattle.jani_images.specs.Image.{image}
+use Rattle.prism_translation.specs.Image.{image}
 use Rattle.prism_translation.specs.Elements.{Element, elements, has_several}
 use Rattle.prism_translation.specs.Names.{new_names}
 use Rattle.prism_translation.specs.Parts.{counted, range_of, scope_of, variable, is_there}

@@ -32,8 +32,8 @@ use Rattle.jani_table.specs.Operators as JaniTable
 use Rattle.jani_tree.specs.Syntax.{Expression}
 use Rattle.name_rules.specs.Least.{fault, fault_if}
 use Rattle.jani_check.specs.TypeFaults as jani_types
-use Rattle.jani_images.proofs.ImageSeen.{same_op}
-use Rattle.jani_images.specs.Image.{prism_op, unsigned, literal, image}
+use Rattle.prism_translation.proofs.ImageSeen.{same_op}
+use Rattle.prism_translation.specs.Image.{prism_op, unsigned, literal, image}
 use Rattle.prism_translation_types.specs.TypeLaws.{ImageTypedAlike}
 
 -- ---- types of images

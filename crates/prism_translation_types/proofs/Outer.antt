@@ -29,7 +29,7 @@ use Rattle.op_trees.specs.Names.{is_called}
 use Rattle.op_trees.specs.Wanted.{wanted_by}
 use Rattle.jani_meaning.specs.Elements.{Owned, variables, is_boolean, is_lasting, lasting, is_label, labels, is_structure, structures, structure_number}
 use Rattle.prism_translation.specs.PrismAsks.{NewNames, name_at, value_name, outside}
-use Rattle.jani_images.specs.Image.{image}
+use Rattle.prism_translation.specs.Image.{image}
 use Rattle.prism_translation.specs.Elements.{Element, elements, has_several, Placed, Lasting, lasting_variables, may_use, is_at, shared, home}
 use Rattle.prism_translation.specs.Names.{new_names}
 use Rattle.prism_translation.specs.Parts.{range_of, scope_of, constant, variable, is_there}

@@ -13,12 +13,12 @@ use Rattle.jani_tree.specs.Syntax.{File, edge_of}
 use Rattle.jani_meaning.specs.Elements.{Owned}
 use Rattle.name_table.specs.declared.entry.Entry.{Entry}
 use Rattle.name_table.specs.PrismAsks.{NewNames}
-use Rattle.prism_translation.specs.Elements.{elements, Element, Placed, placed_edges}
-use Rattle.prism_translation.specs.Targets.{Target, targets}
-use Rattle.prism_translation.specs.Parts.{instead}
-use Rattle.prism_translation.specs.Modules.{actions}
-use Rattle.prism_translation.specs.Marks.{Given, assigned_to, given_to, state_item, or_nought, target_item, target_items, target_items_by, structure}
-use Rattle.prism_modules.specs.declared.element.Element.{Element as CodeElement}
+use Rattle.prism_targets.specs.Elements.{elements, Element, Placed, placed_edges}
+use Rattle.prism_targets.specs.Targets.{Target, targets}
+use Rattle.prism_targets.specs.Parts.{instead}
+use Rattle.prism_targets.specs.Modules.{actions}
+use Rattle.prism_targets.specs.Marks.{Given, assigned_to, given_to, state_item, or_nought, target_item, target_items, target_items_by, structure}
+use Rattle.prism_modules.specs.Element.{Element as CodeElement}
 use Rattle.prism_modules.specs.Code.{element_of}
 use Rattle.prism_translator.specs.Gains.{Gain, gain_by, gains_of, gain_item, structure_by}
 use Rattle.prism_modules.proofs.ByPlaces.{action_with, placed_with, later, named_at, whole_list}

@@ -7,8 +7,8 @@ use Rattle.jani_tree.specs.Syntax.{Automaton, File}
 use Rattle.jani_meaning.specs.Elements as jani
 use Rattle.jani_meaning.specs.Elements.{Owned}
 use Rattle.process_core.specs.Instance.{numbered}
-use Rattle.prism_translation.specs.Elements.{Element, elements, may_use}
-use Rattle.prism_translation.specs.Marks.{Given, given_by, given_to}
+use Rattle.prism_targets.specs.Elements.{Element, elements, may_use}
+use Rattle.prism_targets.specs.Marks.{Given, given_by, given_to}
 use Rattle.prism_translator.specs.declared.given.Given.{Given as CodeGiven}
 use Rattle.prism_translator.specs.declared.given.GivenTable.{GivenTable}
 use Rattle.gathering.specs.declared.name_lists.NameLists.{NameLists}

@@ -7,7 +7,7 @@ use Rattle.decimal_json.specs.Text.{quoted}
 use Rattle.jani_tree.specs.declared.syntax.JaniLocation.{JaniLocation}
 use Rattle.jani_tree.specs.Syntax.{Location, location_of}
 use Rattle.name_table.specs.declared.entry.Entry.{Entry}
-use Rattle.prism_translation.specs.Lines.{name_lines, joined}
+use Rattle.prism_targets.specs.Lines.{name_lines, joined}
 
 pub no_olds : (what : List ℕ) (es : List Entry) → name_lines what es [] ≡ []
 no_olds what [] = refl

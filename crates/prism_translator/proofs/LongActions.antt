@@ -6,15 +6,15 @@ use Rattle.std.specs.List.{flat_map}
 use Rattle.bridge_io.specs.declared.reason.Named.{Named}
 use Rattle.jani_tree.specs.Syntax.{Const, File}
 use Rattle.jani_meaning.specs.Elements.{lasting, labels, structures}
-use Rattle.prism_translation.specs.Elements.{elements}
-use Rattle.prism_translation.specs.Lines.{name_lines, location_line, called, lines_by}
+use Rattle.prism_targets.specs.Elements.{elements}
+use Rattle.prism_targets.specs.Lines.{name_lines, location_line, called, lines_by}
 use Rattle.prism_translator.specs.LineParts.{value_lines, moving_lines, mark_lines}
 use Rattle.name_table.specs.declared.class.Target.TheVariants.{Prism}
 use Rattle.name_table.specs.PrismAsks.{NewNames, asks, actions_at}
 use Rattle.name_table.proofs.EntryLemmas.{one_each}
-use Rattle.prism_translation.specs.Names.{action_ask, all_asks, entries}
-use Rattle.prism_translation.specs.Targets.{targets, old_name}
-use Rattle.prism_translation.proofs.Apart.{asks_length}
+use Rattle.prism_targets.specs.Names.{action_ask, all_asks, entries}
+use Rattle.prism_targets.specs.Targets.{targets, old_name}
+use Rattle.prism_targets.proofs.Apart.{asks_length}
 
 pub actions_long : (file : File) → length (drop (actions_at file) (entries file)) ≡ length (targets file)
 actions_long file =

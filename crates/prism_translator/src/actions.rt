@@ -2,7 +2,7 @@
 
 ghost use Rattle.std.specs.Prelude.{◌≡◌, map, option_copied, OnOk};
 ghost use Rattle.name_table.specs.Gathered.{told};
-ghost use Rattle.prism_translation.specs.Targets.{old_name_by};
+ghost use Rattle.prism_targets.specs.Targets.{old_name_by};
 ghost use Rattle.prism_translator.specs.Asks.{vector_in, vector_ask};
 
 use name_table::{NameClass, NameTable};

@@ -6,7 +6,7 @@ ghost use Rattle.jani_tree.specs.Syntax as jani;
 ghost use Rattle.process_core.specs.Instance.{only_if};
 ghost use Rattle.op_trees.specs.Names.{is_called};
 ghost use Rattle.name_table.specs.JaniParts.{owned_of};
-ghost use Rattle.prism_translation.specs.Marks.{given_by};
+ghost use Rattle.prism_targets.specs.Marks.{given_by};
 ghost use Rattle.gathering.specs.Lists.{list_under};
 ghost use Rattle.prism_modules.specs.Code.{element_of};
 ghost use Rattle.prism_translator.specs.Given.{given_of, given_with, given_in, list_at, lists_in, GivesOf, AreGiven};

@@ -5,8 +5,8 @@ ghost use Rattle.std.specs.List.{zip};
 ghost use Rattle.op_trees.specs.Tree.{tree};
 ghost use Rattle.prism_tree.specs.Syntax as prism;
 ghost use Rattle.name_table.specs.JaniParts.{owned_of};
-ghost use Rattle.prism_translation.specs.Elements.{elements};
-ghost use Rattle.prism_translation.specs.Marks.{given_image, label_body, first_value, label};
+ghost use Rattle.prism_targets.specs.Elements.{elements};
+ghost use Rattle.prism_targets.specs.Marks.{given_image, label_body, first_value, label};
 ghost use Rattle.prism_modules.specs.Code.{file_in, names_in, IsReady};
 ghost use Rattle.prism_translator.specs.Given.{given_of, label_step, AreGiven};
 

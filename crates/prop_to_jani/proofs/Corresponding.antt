@@ -23,8 +23,8 @@ use Rattle.prism_check.proofs.TypeOrder.{types_of_plain}
 use Rattle.name_table.specs.declared.entry.Entry.{Entry}
 use Rattle.name_table.specs.Asks.{variables, entries, new_name, new_names}
 use Rattle.prism_images.specs.Laws.{IsNoNumberOf, AgreeingIsNoNumber}
-use Rattle.jani_translation.proofs.Clean.{value_names_are}
-use Rattle.jani_translation.proofs.Each.{for_labels, n_entries}
+use Rattle.jani_automata.proofs.Clean.{value_names_are}
+use Rattle.jani_automata.proofs.Each.{for_labels, n_entries}
 use Rattle.prop_grammar.specs.Grammar.{has_quotes}
 use Rattle.prop_trees.specs.Trees.{Name}
 use Rattle.prop_trees.specs.Names.{marked, Meant, meant, initial_name, deadlock_name, is_given_label, filed_name}

@@ -29,8 +29,8 @@ use Rattle.name_table.specs.Asks.{entries, new_names, rewards_at}
 use Rattle.name_table.proofs.Parts.{get_part, values_apart}
 use Rattle.prism_images.specs.Image.{image, image_one}
 use Rattle.prism_images.specs.Laws.{ImageHasOperands}
-use Rattle.jani_translation.proofs.Each.{for_rewards}
-use Rattle.jani_translation.proofs.Fresh.{no_empty}
+use Rattle.jani_automata.proofs.Each.{for_rewards}
+use Rattle.jani_automata.proofs.Fresh.{no_empty}
 use Rattle.prop_grammar.specs.Property.{Ask, greatest, least, bounded, greatest_reward, least_reward, Path, finally, globally, until, weak_until, finally_within, until_within}
 use Rattle.prop_trees.specs.Trees.{Name, ask_with, path_with}
 use Rattle.prop_trees.specs.Names.{marked, Meant, of_model, is_initial, is_deadlock, nothing, IsMeant, meant, filed_name, initial_name, deadlock_name}

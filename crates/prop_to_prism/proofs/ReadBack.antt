@@ -29,9 +29,9 @@ use Rattle.name_table.specs.declared.entry.Entry.{Entry}
 use Rattle.name_table.specs.Asks.{called}
 use Rattle.name_table.specs.PrismAsks.{rewards_at}
 use Rattle.name_table.proofs.EntryLemmas.{first_alone}
-use Rattle.prism_translation.specs.Targets.{targets}
-use Rattle.prism_translation.specs.Names.{action_ask}
-use Rattle.prism_translation.specs.Translated.{translated}
+use Rattle.prism_translation_names.specs.Targets.{targets}
+use Rattle.prism_translation_names.specs.Names.{action_ask}
+use Rattle.prism_translation_names.specs.Translated.{translated}
 use Rattle.prism_translation_names.proofs.Entries.{IsValidName}
 use Rattle.prism_translation_names.proofs.Segments.{rewards_part, valid_from}
 use Rattle.prism_translation_types.proofs.Images.{image_names}

@@ -11,8 +11,8 @@ use Rattle.jani_meaning.specs.Elements.{lasting, labels, structures}
 use Rattle.name_table.specs.PrismAsks.{name_at}
 use Rattle.name_table.specs.Entries.{Ask}
 use Rattle.name_table.proofs.EntryLemmas.{first_alone}
-use Rattle.prism_translation.specs.Targets.{targets}
-use Rattle.prism_translation.specs.Names.{action_ask}
+use Rattle.prism_translation_names.specs.Targets.{targets}
+use Rattle.prism_translation_names.specs.Names.{action_ask}
 use Rattle.prism_translation_names.proofs.Entries.{IsValidName}
 use Rattle.prism_translation_names.proofs.Segments.{constants_part, variables_part, labels_part, rewards_part, constant_spelled, variable_spelled, labels_spelled}
 use Rattle.prop_grammar.specs.Grammar.{has_quotes}

@@ -16,11 +16,11 @@ use Rattle.name_table.specs.declared.entry.Entry.{Entry}
 use Rattle.name_table.specs.Asks.{called}
 use Rattle.name_table.specs.PrismAsks.{NewNames, name_at}
 use Rattle.name_table.proofs.EntryLemmas.{first_alone}
-use Rattle.prism_translation.specs.Targets.{targets}
-use Rattle.prism_translation.specs.Names as translation
-use Rattle.prism_translation.specs.Names.{action_ask}
-use Rattle.prism_translation.specs.Marks.{structure}
-use Rattle.prism_translation.proofs.Scopes.{reward_test}
+use Rattle.prism_translation_names.specs.Targets.{targets}
+use Rattle.prism_translation_names.specs.Names as translation
+use Rattle.prism_translation_names.specs.Names.{action_ask}
+use Rattle.prism_translation_names.specs.Marks.{structure}
+use Rattle.prism_translation_names.proofs.Scopes.{reward_test}
 use Rattle.prism_translation_names.proofs.Segments.{rewards_part}
 use Rattle.jani_check.specs.Things.{is_reward, var_thing}
 use Rattle.jani_props.specs.Faults.{structures, structures_among}

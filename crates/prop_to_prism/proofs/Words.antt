@@ -21,8 +21,8 @@ use Rattle.name_table.specs.declared.entry.Entry.{Entry}
 use Rattle.name_table.specs.Rule.{space, is_given_label, may_be_called}
 use Rattle.name_table.specs.PrismAsks.{NewNames, name_at, value_name, outside}
 use Rattle.name_table.proofs.EntryLemmas.{first_alone}
-use Rattle.prism_translation.specs.Targets.{targets}
-use Rattle.prism_translation.specs.Names.{action_ask}
+use Rattle.prism_translation_names.specs.Targets.{targets}
+use Rattle.prism_translation_names.specs.Names.{action_ask}
 use Rattle.prism_translation_names.proofs.Entries.{IsValidName}
 use Rattle.prism_translation_names.proofs.Lists.{at_each}
 use Rattle.prism_translation_names.proofs.Segments.{name_there, labels_part, is_of_label}

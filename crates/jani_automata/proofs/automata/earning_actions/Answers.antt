@@ -6,7 +6,7 @@ use Rattle.prism_tree.specs.Syntax.{Rewards, Item, file_of, rewards_of}
 use Rattle.process_core.specs.Ready.{Name}
 use Rattle.gathering.proofs.Loops.{kept_step}
 use Rattle.name_rules.specs.Names.{has_name}
-use Rattle.jani_translation.specs.Automata.{has_items, for_action}
+use Rattle.jani_edges.specs.Automata.{has_items, for_action}
 use Rattle.jani_automata.proofs.automata.earning_actions.Goals as goal
 
 pub loop-a-preserved : goal.loop-a-preserved

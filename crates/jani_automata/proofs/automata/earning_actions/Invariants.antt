@@ -1,7 +1,7 @@
 use Rattle.std.proofs.Common.{◌≡◌, map, take}
 use Rattle.std.specs.List.{filter}
 use Rattle.prism_tree.specs.Syntax.{file_of}
-use Rattle.jani_translation.specs.Automata.{has_items, for_action}
+use Rattle.jani_edges.specs.Automata.{has_items, for_action}
 use Rattle.jani_automata.proofs.automata.earning_actions.Given as goal
 
 abbrev pub invariant-loop-a : goal.invariant-loop-a

@@ -5,9 +5,9 @@ use Rattle.prism_tree.specs.Syntax.{file_of, module_of, Body}
 use Rattle.jani_tree.specs.Syntax as jani
 use Rattle.name_table.specs.Asks.{contents, bodies}
 use Rattle.name_table.specs.Gathered.{body_in}
-use Rattle.jani_translation.specs.Automata.{module_automata, location_values, earns_silently, has_monitor, automaton, zz_monitor, monitor_edges}
-use Rattle.jani_automata.specs.Code.{names_in}
-use Rattle.jani_automata.proofs.Monitored.{with_last, without_last}
+use Rattle.jani_edges.specs.Automata.{module_automata, location_values, earns_silently, has_monitor, automaton, zz_monitor, monitor_edges}
+use Rattle.jani_edges.specs.Code.{names_in}
+use Rattle.jani_edges.proofs.Monitored.{with_last, without_last}
 use Rattle.jani_automata.proofs.automata.file_automata.Goals as goal
 use Rattle.jani_automata.proofs.automata.file_automata.Goals.{then-branch+in_ok-monitor+in_ok-push, else-branch}
 

@@ -4,9 +4,9 @@ use Rattle.prism_tree.specs.declared.syntax.PrismModule.{PrismModule}
 use Rattle.jani_tree.specs.Syntax as jani
 use Rattle.name_table.specs.declared.entry.Entry.{Entry}
 use Rattle.name_table.specs.Gathered.{body_in}
-use Rattle.jani_translation.specs.Automata.{module_automata}
-use Rattle.jani_automata.specs.Code.{names_in}
-use Rattle.jani_automata.proofs.Monitored.{no_entries}
+use Rattle.jani_edges.specs.Automata.{module_automata}
+use Rattle.jani_edges.specs.Code.{names_in}
+use Rattle.jani_edges.proofs.Monitored.{no_entries}
 use Rattle.jani_automata.proofs.automata.module_automata.Goals as goal
 
 pub returns-then-count-eq0 : goal.returns-then-count-eq0

@@ -1,8 +1,8 @@
 use Rattle.std.proofs.Common.{◌≡◌, ◌++◌, [], map, drop}
 use Rattle.jani_tree.specs.Syntax as jani
 use Rattle.name_table.specs.Gathered.{body_in}
-use Rattle.jani_translation.specs.Automata.{module_automata}
-use Rattle.jani_automata.specs.Code.{names_in}
+use Rattle.jani_edges.specs.Automata.{module_automata}
+use Rattle.jani_edges.specs.Code.{names_in}
 use Rattle.jani_automata.proofs.automata.module_automata.Given as goal
 
 abbrev pub invariant-loop-i : goal.invariant-loop-i

@@ -2,9 +2,9 @@ use Rattle.std.proofs.Common.{◌∙◌, ap, ap₂, map, List}
 use Rattle.bridge_io.specs.declared.reason.Named.{Named}
 use Rattle.process_core.specs.Ready.{Name}
 use Rattle.jani_tree.specs.Syntax as jani
-use Rattle.jani_translation.specs.Parts.{instead}
-use Rattle.jani_translation.specs.Automata.{automaton, edge}
-use Rattle.jani_automata.specs.Code.{names_in}
+use Rattle.jani_edges.specs.Parts.{instead}
+use Rattle.jani_edges.specs.Automata.{automaton, edge}
+use Rattle.jani_edges.specs.Code.{names_in}
 use Rattle.jani_automata.proofs.automata.module_automaton.Goals as goal
 
 pub returns : goal.returns

@@ -2,8 +2,8 @@ use Rattle.std.proofs.Common.{◌∙◌, ap, ap₂, map, List}
 use Rattle.bridge_io.specs.declared.reason.Named.{Named}
 use Rattle.jani_tree.specs.Syntax as jani
 use Rattle.prism_tree.specs.Syntax.{file_of}
-use Rattle.jani_translation.specs.Automata.{automaton, monitor_edges, zz_monitor}
-use Rattle.jani_automata.specs.Code.{names_in}
+use Rattle.jani_edges.specs.Automata.{automaton, monitor_edges, zz_monitor}
+use Rattle.jani_edges.specs.Code.{names_in}
 use Rattle.jani_automata.proofs.automata.monitor.Goals as goal
 
 pub returns : goal.returns

@@ -5,9 +5,9 @@ use Rattle.process_core.specs.Ready.{Name}
 use Rattle.process_core.specs.Instance.{only_if}
 use Rattle.prism_tree.specs.Syntax.{file_of}
 use Rattle.jani_tree.specs.Syntax as jani
-use Rattle.jani_translation.specs.Parts.{made}
-use Rattle.jani_translation.specs.Automata.{monitor_edge, for_action, for_silent, zz_silent, earning_actions}
-use Rattle.jani_automata.specs.Code.{names_in}
+use Rattle.jani_edges.specs.Parts.{made}
+use Rattle.jani_edges.specs.Automata.{monitor_edge, for_action, for_silent, zz_silent, earning_actions}
+use Rattle.jani_edges.specs.Code.{names_in}
 use Rattle.jani_automata.proofs.automata.monitor_edges.Goals as goal
 
 pub returns : goal.returns

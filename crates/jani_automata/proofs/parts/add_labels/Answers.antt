@@ -6,7 +6,7 @@ use Rattle.prism_tree.specs.Syntax as prism
 use Rattle.prism_tree.specs.declared.syntax.PrismLabel.{PrismLabel}
 use Rattle.jani_tree.specs.Syntax as jani
 use Rattle.name_table.specs.declared.entry.Entry.{Entry}
-use Rattle.jani_translation.specs.Parts.{label}
+use Rattle.jani_edges.specs.Parts.{label}
 use Rattle.jani_automata.proofs.parts.add_labels.Goals as goal
 
 pub loop-i-preserved : goal.loop-i-preserved

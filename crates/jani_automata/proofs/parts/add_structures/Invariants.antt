@@ -2,7 +2,7 @@ use Rattle.std.proofs.Common.{◌≡◌, ◌++◌, map, drop}
 use Rattle.std.specs.List.{zip}
 use Rattle.prism_tree.specs.Syntax as prism
 use Rattle.jani_tree.specs.Syntax as jani
-use Rattle.jani_translation.specs.Parts.{structure}
+use Rattle.jani_edges.specs.Parts.{structure}
 use Rattle.jani_automata.proofs.parts.add_structures.Given as goal
 
 abbrev pub invariant-loop-i : goal.invariant-loop-i

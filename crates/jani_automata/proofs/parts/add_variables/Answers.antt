@@ -7,8 +7,8 @@ use Rattle.prism_tree.specs.Syntax as prism
 use Rattle.prism_tree.specs.declared.syntax.PrismVar.{PrismVar}
 use Rattle.jani_tree.specs.Syntax as jani
 use Rattle.name_table.specs.declared.entry.Entry.{Entry}
-use Rattle.jani_translation.specs.Parts.{variable}
-use Rattle.jani_automata.specs.Code.{name_in}
+use Rattle.jani_edges.specs.Parts.{variable}
+use Rattle.jani_edges.specs.Code.{name_in}
 use Rattle.jani_automata.proofs.parts.add_variables.Goals as goal
 
 pub loop-i-preserved : goal.loop-i-preserved

@@ -2,8 +2,8 @@ use Rattle.std.proofs.Common.{◌≡◌, ◌++◌, map, drop}
 use Rattle.std.specs.List.{zip}
 use Rattle.prism_tree.specs.Syntax as prism
 use Rattle.jani_tree.specs.Syntax as jani
-use Rattle.jani_translation.specs.Parts.{variable}
-use Rattle.jani_automata.specs.Code.{name_in}
+use Rattle.jani_edges.specs.Parts.{variable}
+use Rattle.jani_edges.specs.Code.{name_in}
 use Rattle.jani_automata.proofs.parts.add_variables.Given as goal
 
 abbrev pub invariant-loop-i : goal.invariant-loop-i

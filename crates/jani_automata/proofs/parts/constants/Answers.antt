@@ -6,8 +6,8 @@ use Rattle.prism_tree.specs.Syntax as prism
 use Rattle.prism_tree.specs.declared.syntax.PrismConst.{PrismConst}
 use Rattle.jani_tree.specs.Syntax as jani
 use Rattle.name_table.specs.declared.entry.Entry.{Entry}
-use Rattle.jani_translation.specs.Parts.{constant}
-use Rattle.jani_automata.specs.Code.{name_in}
+use Rattle.jani_edges.specs.Parts.{constant}
+use Rattle.jani_edges.specs.Code.{name_in}
 use Rattle.jani_automata.proofs.parts.constants.Goals as goal
 
 pub loop-i-preserved : goal.loop-i-preserved

@@ -5,8 +5,8 @@ use Rattle.prism_tree.specs.Syntax.{Body, file_of}
 use Rattle.name_table.specs.Asks.{bodies}
 use Rattle.name_rules.specs.Names.{has_name}
 use Rattle.name_rules.specs.declared.names.NameSet.{NameSet}
-use Rattle.jani_translation.specs.Parts.{made}
-use Rattle.jani_translation.specs.Translated.{part_if, has_command}
+use Rattle.jani_automata.specs.Parts.{made}
+use Rattle.jani_automata.specs.Translated.{part_if, has_command}
 use Rattle.jani_automata.specs.Code.{names_in}
 use Rattle.jani_translator.proofs.Listed.{parts_alike}
 use Rattle.jani_translator.proofs.syncs.action_parts.Goals as goal

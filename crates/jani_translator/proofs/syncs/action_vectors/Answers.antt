@@ -3,7 +3,7 @@ use Rattle.std.specs.Borrow.{Bor}
 use Rattle.gathering.proofs.Loops.{mapped_more}
 use Rattle.prism_tree.specs.Syntax.{file_of}
 use Rattle.jani_tree.specs.Syntax as jani
-use Rattle.jani_translation.specs.Translated.{action_vector}
+use Rattle.jani_automata.specs.Translated.{action_vector}
 use Rattle.jani_automata.specs.Code.{names_in}
 use Rattle.jani_translator.proofs.syncs.action_vectors.Goals as goal
 

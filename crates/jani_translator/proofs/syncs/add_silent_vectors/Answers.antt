@@ -5,8 +5,8 @@ use Rattle.prism_tree.specs.Syntax.{Body, file_of, module_of}
 use Rattle.jani_tree.specs.Syntax as jani
 use Rattle.name_table.specs.Asks.{contents}
 use Rattle.name_table.specs.Gathered.{body_in}
-use Rattle.jani_translation.specs.Automata.{has_silent}
-use Rattle.jani_translation.specs.Translated.{silent_vector}
+use Rattle.jani_automata.specs.Automata.{has_silent}
+use Rattle.jani_automata.specs.Translated.{silent_vector}
 use Rattle.jani_translator.proofs.syncs.add_silent_vectors.Goals as goal
 
 pub loop-i-init : goal.loop-i-init

@@ -3,8 +3,8 @@ use Rattle.process_core.specs.Instance.{numbered, only_if}
 use Rattle.prism_tree.specs.Syntax.{file_of}
 use Rattle.jani_tree.specs.Syntax as jani
 use Rattle.name_table.specs.Gathered.{body_in}
-use Rattle.jani_translation.specs.Automata.{has_silent}
-use Rattle.jani_translation.specs.Translated.{silent_vector, silent_vectors}
+use Rattle.jani_automata.specs.Automata.{has_silent}
+use Rattle.jani_automata.specs.Translated.{silent_vector, silent_vectors}
 use Rattle.jani_translator.proofs.syncs.add_silent_vectors.Given as goal
 
 abbrev pub invariant-loop-i : goal.invariant-loop-i

@@ -1,6 +1,6 @@
 use Rattle.std.proofs.Common.{◌≡◌, map, take}
 use Rattle.jani_automata.specs.Code.{names_in}
-use Rattle.jani_translation.specs.Parts.{made}
+use Rattle.jani_automata.specs.Parts.{made}
 use Rattle.jani_translator.proofs.syncs.new_actions.Given as goal
 
 abbrev pub invariant-loop-a : goal.invariant-loop-a

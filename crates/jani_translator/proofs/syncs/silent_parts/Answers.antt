@@ -3,8 +3,8 @@ use Rattle.std.specs.Prelude.{nat_eq}
 use Rattle.gathering.proofs.Loops.{numbered_all}
 use Rattle.prism_tree.specs.Syntax.{Body}
 use Rattle.name_table.specs.Gathered.{body_in}
-use Rattle.jani_translation.specs.Automata.{zz_silent}
-use Rattle.jani_translation.specs.Translated.{part_if}
+use Rattle.jani_automata.specs.Automata.{zz_silent}
+use Rattle.jani_automata.specs.Translated.{part_if}
 use Rattle.jani_translator.proofs.syncs.silent_parts.Goals as goal
 
 pub returns : goal.returns

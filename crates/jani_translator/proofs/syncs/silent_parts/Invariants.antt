@@ -2,8 +2,8 @@ use Rattle.std.proofs.Common.{◌≡◌, ◌++◌, ◌∷◌, [], map, drop}
 use Rattle.std.specs.Prelude.{nat_eq}
 use Rattle.process_core.specs.Instance.{numbered}
 use Rattle.name_table.specs.Gathered.{body_in}
-use Rattle.jani_translation.specs.Automata.{zz_silent}
-use Rattle.jani_translation.specs.Translated.{part_if}
+use Rattle.jani_automata.specs.Automata.{zz_silent}
+use Rattle.jani_automata.specs.Translated.{part_if}
 use Rattle.jani_translator.proofs.syncs.silent_parts.Given as goal
 
 abbrev pub invariant-loop-k : goal.invariant-loop-k

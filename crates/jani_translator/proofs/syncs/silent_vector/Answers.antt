@@ -6,8 +6,8 @@ use Rattle.process_core.specs.Instance.{numbered}
 use Rattle.prism_tree.specs.Syntax.{module_of}
 use Rattle.name_table.specs.Asks.{contents}
 use Rattle.name_table.specs.Gathered.{body_in}
-use Rattle.jani_translation.specs.Automata.{zz_silent}
-use Rattle.jani_translation.specs.Translated.{part_if}
+use Rattle.jani_automata.specs.Automata.{zz_silent}
+use Rattle.jani_automata.specs.Translated.{part_if}
 use Rattle.jani_translator.proofs.syncs.silent_vector.Goals as goal
 
 pub returns : goal.returns

@@ -5,7 +5,7 @@ use Rattle.std.proofs.lemmas.List.Folds.{flat_map-map}
 use Rattle.bridge_io.specs.declared.reason.Reason.TheVariants.{TwiceNamed}
 use Rattle.basics.specs.Options.{if_some}
 use Rattle.prism_tree.specs.Syntax.{file_of, label_of, module_of, rewards_of}
-use Rattle.prism_names.specs.Names.{module_name}
+use Rattle.prism_flat.specs.Names.{module_name}
 use Rattle.name_rules.specs.Least.{soonest}
 use Rattle.name_rules.specs.Doubled.{doubled}
 use Rattle.prism_check.specs.NameFaults.{doubled_pairs, given_labels, values}

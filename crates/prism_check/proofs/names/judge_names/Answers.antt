@@ -8,7 +8,7 @@ use Rattle.name_rules.specs.Circles.{Declared, circles as circles_of, declared_b
 use Rattle.name_rules.proofs.Append.{five_parts}
 use Rattle.name_rules.proofs.Soonest.{soonest_none}
 use Rattle.prism_tree.specs.Syntax.{const_of, file_of, File}
-use Rattle.prism_names.specs.Places.{IsPlaceOrder}
+use Rattle.prism_flat.specs.Places.{IsPlaceOrder}
 use Rattle.prism_check.specs.NameFaults.{declarations, circles, copy_faults, doubled_names, name_faults, no_module, unknown_names}
 use Rattle.prism_check.proofs.NamesJudged.{in_order}
 use Rattle.prism_check.proofs.names.judge_names.Goals as goal

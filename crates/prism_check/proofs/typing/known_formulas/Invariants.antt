@@ -1,6 +1,6 @@
 use Rattle.std.specs.Prelude.{◌≡◌, ℕ, List, map, take}
 use Rattle.prism_tree.specs.Syntax.{formula_of}
-use Rattle.prism_names.specs.Places.{at_places}
+use Rattle.prism_flat.specs.Places.{at_places}
 use Rattle.name_rules.specs.Names.{under}
 use Rattle.prism_check.specs.Typing.{declared_type, is_declared_variable, known_after}
 use Rattle.prism_check.proofs.typing.known_formulas.Given as goal

@@ -1,10 +1,10 @@
 use Rattle.std.specs.Prelude.{map}
 use Rattle.std.proofs.Common.{◌∙◌, ap}
 use Rattle.prism_tree.specs.Syntax.{const_of, file_of, formula_of, label_of, module_of, rewards_of, var_of}
-use Rattle.prism_flat.specs.Rewritten.{rewritten_const, rewritten_label, rewritten_rewards, rewritten_var, written_as}
-use Rattle.prism_flat.specs.Tables.{body_in, rewriting}
+use Rattle.prism_rewriter.specs.Rewritten.{rewritten_const, rewritten_label, rewritten_rewards, rewritten_var, written_as}
+use Rattle.prism_rewriter.specs.Tables.{body_in, rewriting}
 use Rattle.prism_flat.proofs.Contents.{same_file}
-use Rattle.prism_flat.proofs.Steps.{zipped}
+use Rattle.prism_rewriter.proofs.Steps.{zipped}
 use Rattle.prism_flat.proofs.file.write_parts.Goals as goal
 
 pub returns : goal.returns

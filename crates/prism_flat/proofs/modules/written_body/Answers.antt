@@ -1,10 +1,10 @@
 use Rattle.std.proofs.Common.{◌∙◌, ap}
 use Rattle.bridge_io.specs.declared.reason.Named.{Named}
 use Rattle.prism_tree.specs.Syntax.{command_of, var_of}
-use Rattle.prism_flat.specs.Rewritten.{rewritten_command, rewritten_var}
-use Rattle.prism_flat.specs.Tables.{rewriting}
+use Rattle.prism_rewriter.specs.Rewritten.{rewritten_command, rewritten_var}
+use Rattle.prism_rewriter.specs.Tables.{rewriting}
 use Rattle.prism_flat.proofs.Contents.{same_body}
-use Rattle.prism_flat.proofs.Steps.{zipped}
+use Rattle.prism_rewriter.proofs.Steps.{zipped}
 use Rattle.prism_flat.proofs.modules.written_body.Goals as goal
 
 pub returns : goal.returns

@@ -1,5 +1,5 @@
-use Rattle.prism_flat.specs.Tables.{rewriting}
-use Rattle.prism_flat.proofs.Steps.{zip_more}
+use Rattle.prism_rewriter.specs.Tables.{rewriting}
+use Rattle.prism_rewriter.proofs.Steps.{zip_more}
 use Rattle.prism_flat.proofs.parts.all_rewritten.Goals as goal
 
 pub loop-part-preserved : goal.loop-part-preserved

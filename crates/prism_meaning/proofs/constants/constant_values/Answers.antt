@@ -7,7 +7,7 @@ use Rattle.std.proofs.lemmas.Option.{slice_get-get_or}
 use Rattle.op_trees.specs.Tree.{tree}
 use Rattle.instance_start.specs.Given.{given_by}
 use Rattle.prism_tree.specs.Syntax.{const_of, file_of}
-use Rattle.prism_flat.specs.Scene.{constant_seen}
+use Rattle.prism_check.specs.Scene.{constant_seen}
 use Rattle.state_choices.specs.Trimmed.{computed}
 use Rattle.prism_meaning.specs.Constants.{AreTurned}
 use Rattle.prism_meaning.specs.Views.{names_by}

@@ -1,8 +1,8 @@
 use Rattle.std.proofs.Common.{◌≡◌, ◌∙◌, ◌++◌, ◌||◌, List, Vec, Global, sym, ap, ap₂, map, refl, append_assoc}
 use Rattle.std.specs.List.{list_any}
 use Rattle.process_core.specs.Answers.{only_wide}
-use Rattle.prism_flat.specs.Moment.{Earned, moment, names_in}
-use Rattle.prism_flat.specs.Process.{marks, has_wide_mark, state_reward}
+use Rattle.prism_check.specs.Moment.{Earned, moment, names_in}
+use Rattle.prism_check.specs.Process.{marks, has_wide_mark, state_reward}
 use Rattle.prism_names.specs.Names.{unchanged}
 use Rattle.state_choices.proofs.Answering.{handed_on, narrow_then}
 use Rattle.instance_start.specs.Given.{given_by}

@@ -1,7 +1,7 @@
 use Rattle.std.proofs.Common.{◌∙◌, refl, sym, ap, ap₂, map}
 use Rattle.process_core.specs.Product.{map-map}
-use Rattle.prism_flat.specs.Moment.{moment, names_in}
-use Rattle.prism_flat.specs.Process.{choice_rewards}
+use Rattle.prism_check.specs.Moment.{moment, names_in}
+use Rattle.prism_check.specs.Process.{choice_rewards}
 use Rattle.prism_names.specs.Names.{unchanged}
 use Rattle.state_choices.specs.Trimmed.{trimmed_group}
 use Rattle.state_choices.proofs.Whole.{of_module_groups}

@@ -5,7 +5,7 @@ use Rattle.std.specs.Option.{option_map}
 use Rattle.process_core.specs.Ready.{Update, Write}
 use Rattle.expr_store.specs.Alike.{IsMade, made_both}
 use Rattle.expr_store.specs.Views.{nodes}
-use Rattle.prism_flat.specs.Moment.{weight_seen}
+use Rattle.prism_check.specs.Moment.{weight_seen}
 use Rattle.prism_tree.specs.Operators.{prism_meaning}
 use Rattle.prism_tree.specs.Syntax as syntax
 use Rattle.prism_meaning.specs.Prepared.{weight_by, write_by}

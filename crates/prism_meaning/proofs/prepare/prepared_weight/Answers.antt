@@ -3,7 +3,7 @@ use Rattle.std.specs.Option.{option_map}
 use Rattle.op_trees.specs.Tree.{tree}
 use Rattle.expr_store.specs.Alike.{IsMade}
 use Rattle.expr_store.specs.Views.{nodes}
-use Rattle.prism_flat.specs.Moment.{weight_seen}
+use Rattle.prism_check.specs.Moment.{weight_seen}
 use Rattle.prism_tree.specs.Operators.{prism_meaning}
 use Rattle.prism_meaning.specs.Prepared.{weight_by}
 use Rattle.prism_meaning.specs.Views.{places_in}

@@ -3,7 +3,7 @@ use Rattle.op_trees.specs.Tree.{tree}
 use Rattle.process_core.specs.Instance.{write_to}
 use Rattle.expr_store.specs.Alike.{made_map}
 use Rattle.expr_store.specs.Views.{nodes}
-use Rattle.prism_flat.specs.Moment.{place_of}
+use Rattle.prism_check.specs.Moment.{place_of}
 use Rattle.prism_names.specs.Names.{see}
 use Rattle.prism_meaning.specs.Views.{columns_in, places_in}
 use Rattle.prism_meaning.proofs.Preparing.{made_agree}

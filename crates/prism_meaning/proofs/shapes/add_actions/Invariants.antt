@@ -1,7 +1,7 @@
 use Rattle.std.proofs.Common.{◌≡◌, ◌++◌, map, take}
 use Rattle.std.specs.List.{flat_map}
 use Rattle.basics.specs.Options.{if_some}
-use Rattle.prism_flat.specs.Moment.{action_of}
+use Rattle.prism_check.specs.Moment.{action_of}
 use Rattle.prism_names.specs.Names.{unchanged}
 use Rattle.prism_tree.specs.Syntax.{command_of}
 use Rattle.prism_meaning.proofs.shapes.add_actions.Given as goal

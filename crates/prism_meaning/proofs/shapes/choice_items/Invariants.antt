@@ -1,8 +1,8 @@
 use Rattle.std.proofs.Common.{◌≡◌, map, take}
 use Rattle.std.specs.Prelude.{option_copied}
 use Rattle.std.specs.List.{filter}
-use Rattle.prism_flat.specs.Moment.{adds_of}
-use Rattle.prism_flat.specs.Process.{is_for_choices}
+use Rattle.prism_check.specs.Moment.{adds_of}
+use Rattle.prism_check.specs.Process.{is_for_choices}
 use Rattle.prism_tree.specs.Syntax.{item_of}
 use Rattle.prism_meaning.specs.Views.{items_of}
 use Rattle.prism_meaning.proofs.shapes.choice_items.Given as goal

@@ -2,8 +2,8 @@ use Rattle.std.proofs.Common.{refl}
 use Rattle.std.specs.Borrow.{Bor}
 use Rattle.prism_tree.specs.declared.syntax.PrismItem.{PrismItem}
 use Rattle.prism_tree.specs.Syntax.{Item, item_of}
-use Rattle.prism_flat.specs.Moment.{adds_of}
-use Rattle.prism_flat.specs.Process.{is_for_states}
+use Rattle.prism_check.specs.Moment.{adds_of}
+use Rattle.prism_check.specs.Process.{is_for_states}
 use Rattle.gathering.proofs.Loops.{kept_step}
 use Rattle.prism_meaning.proofs.shapes.state_items.Goals as goal
 

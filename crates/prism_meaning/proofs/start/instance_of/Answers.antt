@@ -1,8 +1,8 @@
 use Rattle.std.proofs.Common.{◌≡◌, ◌∙◌, sym, ap, map, length}
 use Rattle.std.proofs.lemmas.List.{length-map}
 use Rattle.process_core.specs.Ready.{Name, Values}
-use Rattle.prism_flat.specs.Moment.{value_in}
-use Rattle.prism_flat.specs.Scene.{constant}
+use Rattle.prism_check.specs.Moment.{value_in}
+use Rattle.prism_check.specs.Scene.{constant}
 use Rattle.prism_names.specs.Names.{see}
 use Rattle.state_choices.specs.Trimmed.{trimmed_group}
 use Rattle.instance_start.specs.Columns.{column_of, value_at}

@@ -3,7 +3,7 @@ use Rattle.std.specs.Prelude.{MatchResult}
 use Rattle.op_trees.specs.Seen.{known}
 use Rattle.process_core.specs.Product.{map-map}
 use Rattle.prism_tree.specs.Syntax.{file_of}
-use Rattle.prism_flat.specs.Scene.{column, constant, constant_names, scene}
+use Rattle.prism_check.specs.Scene.{column, constant, constant_names, scene}
 use Rattle.prism_names.specs.Names.{unchanged}
 use Rattle.state_choices.specs.Trimmed.{trimmed_seen}
 use Rattle.state_choices.specs.Views.{seen_of}

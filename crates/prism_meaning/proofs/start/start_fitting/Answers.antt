@@ -1,7 +1,7 @@
 use Rattle.std.proofs.Common.{subst, map}
 use Rattle.instance_start.specs.Given.{given_by}
 use Rattle.instance_start.specs.Started.{FailsIn}
-use Rattle.prism_flat.specs.Scene.{scene}
+use Rattle.prism_check.specs.Scene.{scene}
 use Rattle.prism_meaning.specs.Described.{opened, prism_description}
 use Rattle.prism_meaning.specs.Knowing.{IsKnown}
 use Rattle.prism_meaning.proofs.StartLaws.{fails_start}

@@ -1,5 +1,5 @@
 use Rattle.std.proofs.Common.{◌≡◌, map, take}
-use Rattle.prism_flat.specs.Scene.{column}
+use Rattle.prism_check.specs.Scene.{column}
 use Rattle.prism_names.specs.Names.{unchanged}
 use Rattle.instance_start.specs.Columns.{trimmed_column}
 use Rattle.prism_meaning.specs.Found.{found_column}

@@ -3,9 +3,9 @@ use Rattle.std.specs.Prelude.{Bool}
 use Rattle.prism_tree.specs.Syntax as prism
 use Rattle.jani_tree.specs.Syntax as jani
 use Rattle.jani_tree.specs.declared.syntax.JaniDestination.{JaniDestination}
-use Rattle.prism_translation.specs.Modules.{branch}
-use Rattle.prism_modules.specs.Code.{file_in, names_in, element_of, is_one}
-use Rattle.prism_modules.proofs.Singles.{one_is_single}
+use Rattle.prism_targets.specs.Modules.{branch}
+use Rattle.module_parts.specs.Code.{file_in, names_in, element_of, is_one}
+use Rattle.module_parts.proofs.Singles.{one_is_single}
 use Rattle.prism_modules.proofs.commands.command.Goals as goal
 
 pub returns : goal.returns

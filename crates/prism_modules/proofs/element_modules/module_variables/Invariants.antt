@@ -1,9 +1,9 @@
 use Rattle.std.proofs.Common.{◌≡◌, ◌++◌, map, take}
 use Rattle.process_core.specs.Instance.{only_if}
 use Rattle.prism_tree.specs.Syntax as prism
-use Rattle.prism_translation.specs.Elements.{has_several}
-use Rattle.prism_translation.specs.Parts.{location_variable, variable}
-use Rattle.prism_modules.specs.Code.{file_in, names_in, element_of, lasting_of}
+use Rattle.prism_targets.specs.Elements.{has_several}
+use Rattle.prism_targets.specs.Parts.{location_variable, variable}
+use Rattle.module_parts.specs.Code.{file_in, names_in, element_of, lasting_of}
 use Rattle.prism_modules.proofs.element_modules.module_variables.Given as goal
 
 abbrev pub invariant-loop-x : goal.invariant-loop-x

@@ -3,11 +3,11 @@ use Rattle.prism_tree.specs.Syntax as prism
 use Rattle.prism_tree.specs.Syntax.{plain}
 use Rattle.std.proofs.lemmas.List.Elements.{All-get_or}
 use Rattle.gathering.proofs.Loops.{mapped_more}
-use Rattle.prism_translation.specs.Elements.{Element}
-use Rattle.prism_translation.specs.Modules.{module_of}
-use Rattle.prism_modules.specs.declared.element.Element.{Element as CodeElement}
-use Rattle.prism_modules.specs.Code.{file_in, names_in, element_of, IsElement}
-use Rattle.prism_modules.proofs.ByPlaces.{elements_many, element_at}
+use Rattle.prism_targets.specs.Elements.{Element}
+use Rattle.prism_targets.specs.Modules.{module_of}
+use Rattle.module_parts.specs.declared.element.Element.{Element as CodeElement}
+use Rattle.module_parts.specs.Code.{file_in, names_in, element_of, IsElement}
+use Rattle.prism_modules.proofs.ByServing.{elements_many, element_at}
 use Rattle.prism_modules.proofs.element_modules.modules.Goals as goal
 
 pub bounds-serving-i : goal.bounds-serving-i

@@ -1,8 +1,8 @@
 use Rattle.std.proofs.Common.{◌≡◌, map, take}
 use Rattle.prism_tree.specs.Syntax as prism
 use Rattle.prism_tree.specs.Syntax.{plain}
-use Rattle.prism_translation.specs.Modules.{module_of}
-use Rattle.prism_modules.specs.Code.{file_in, names_in, element_of}
+use Rattle.prism_targets.specs.Modules.{module_of}
+use Rattle.module_parts.specs.Code.{file_in, names_in, element_of}
 use Rattle.prism_modules.proofs.element_modules.modules.Given as goal
 
 abbrev pub invariant-loop-i : goal.invariant-loop-i

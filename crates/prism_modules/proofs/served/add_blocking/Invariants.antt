@@ -1,7 +1,7 @@
 use Rattle.std.proofs.Common.{◌≡◌, ◌++◌, map, take}
 use Rattle.prism_tree.specs.Syntax as prism
 use Rattle.name_table.specs.PrismAsks.{name_at}
-use Rattle.prism_modules.specs.Code.{never}
+use Rattle.prism_modules.specs.Commands.{never}
 use Rattle.prism_modules.proofs.served.add_blocking.Given as goal
 
 abbrev pub invariant-loop-t : goal.invariant-loop-t

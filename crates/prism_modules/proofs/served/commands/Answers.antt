@@ -2,8 +2,8 @@ use Rattle.std.proofs.Common.{◌++◌, ◌∙◌, ap, ap₂, map, List}
 use Rattle.prism_tree.specs.Syntax as prism
 use Rattle.prism_targets.specs.Tables.{Served}
 use Rattle.prism_targets.specs.Code.{edge_served}
-use Rattle.prism_modules.specs.Code.{element_of}
-use Rattle.prism_modules.proofs.ByPlaces.{blocking_served}
+use Rattle.module_parts.specs.Code.{element_of}
+use Rattle.prism_modules.proofs.ByServing.{blocking_served}
 use Rattle.prism_modules.proofs.served.commands.Goals as goal
 
 pub edge_commands-requires-clause-serving : goal.edge_commands-requires-clause-serving

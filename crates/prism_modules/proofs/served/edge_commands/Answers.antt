@@ -2,10 +2,11 @@ use Rattle.std.proofs.Common.{◌≡◌, ◌∙◌, ap, map, length, get_or, tak
 use Rattle.std.specs.List.{flat_map}
 use Rattle.prism_tree.specs.Syntax as prism
 use Rattle.jani_tree.specs.declared.syntax.JaniEdge.{JaniEdge}
-use Rattle.prism_translation.specs.Elements.{Placed, placed_edges}
-use Rattle.prism_translation.specs.Modules.{commands_of}
-use Rattle.prism_modules.specs.Code.{file_in, names_in, element_of}
-use Rattle.prism_modules.proofs.ByPlaces.{served_many, placed_many, edges_more}
+use Rattle.prism_targets.specs.Elements.{Placed, placed_edges}
+use Rattle.prism_targets.specs.Modules.{commands_of}
+use Rattle.module_parts.specs.Code.{file_in, names_in, element_of}
+use Rattle.module_parts.proofs.ByPlaces.{placed_many}
+use Rattle.prism_modules.proofs.ByServing.{served_many, edges_more}
 use Rattle.prism_modules.proofs.served.edge_commands.Goals as goal
 
 pub bounds-serving-i : goal.bounds-serving-i

@@ -1,9 +1,9 @@
 use Rattle.std.proofs.Common.{◌≡◌, map, take}
 use Rattle.std.specs.List.{flat_map}
 use Rattle.prism_tree.specs.Syntax as prism
-use Rattle.prism_translation.specs.Elements.{placed_edges}
-use Rattle.prism_translation.specs.Modules.{commands_of}
-use Rattle.prism_modules.specs.Code.{file_in, names_in, element_of}
+use Rattle.prism_targets.specs.Elements.{placed_edges}
+use Rattle.prism_targets.specs.Modules.{commands_of}
+use Rattle.module_parts.specs.Code.{file_in, names_in, element_of}
 use Rattle.prism_modules.proofs.served.edge_commands.Given as goal
 
 abbrev pub invariant-loop-i : goal.invariant-loop-i

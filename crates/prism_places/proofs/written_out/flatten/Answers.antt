@@ -1,7 +1,7 @@
 use Rattle.std.specs.Prelude.{[]}
 use Rattle.std.proofs.Common.{◌∙◌, ap, subst, sym}
 use Rattle.prism_tree.specs.Syntax.{File, file_of}
-use Rattle.prism_names.specs.Flat.{flat}
+use Rattle.prism_flat.specs.Flat.{flat}
 use Rattle.prism_check.specs.Same.{bare_file}
 use Rattle.prism_flat.specs.Kept.{SameThings}
 use Rattle.prism_check.proofs.CleanFile.{flat_is_checked}

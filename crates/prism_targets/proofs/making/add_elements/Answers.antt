@@ -2,12 +2,13 @@ use Rattle.std.specs.Prelude.{◌+◌, ◌++◌, ◌∷◌, [], List, None, map,
 use Rattle.std.specs.Borrow.{Bor}
 use Rattle.std.proofs.Common.{◌∙◌, ap, ap₂, sym, append_assoc}
 use Rattle.basics.specs.Lists.{drop_item}
-use Rattle.prism_targets.specs.declared.edges.ElementEdges.{ElementEdges}
+use Rattle.edge_tables.specs.declared.edges.ElementEdges.{ElementEdges}
 use Rattle.prism_targets.specs.declared.rows.VectorRow.{VectorRow}
-use Rattle.prism_targets.specs.Tables.{Row, Served, element_serves, served_from}
+use Rattle.edge_tables.specs.Tables.{Row, Served, element_serves, served_from}
 use Rattle.prism_targets.specs.Made.{Made, made_alone, silent_from}
-use Rattle.prism_targets.specs.Code.{table_view, element_served, row_view, target_view}
-use Rattle.prism_targets.proofs.TakingPart.{serves_own}
+use Rattle.edge_tables.specs.Code.{table_view}
+use Rattle.prism_targets.specs.Code.{element_served, row_view, target_view}
+use Rattle.edge_tables.proofs.TakingPart.{serves_own}
 use Rattle.prism_targets.proofs.making.add_elements.Goals as goal
 
 pub loop-k-preserved : goal.loop-k-preserved

@@ -1,7 +1,8 @@
 use Rattle.std.proofs.Common.{◌≡◌, ◌++◌, map, drop, vec_len}
-use Rattle.prism_targets.specs.Tables.{served_from}
+use Rattle.edge_tables.specs.Tables.{served_from}
 use Rattle.prism_targets.specs.Made.{silent_from}
-use Rattle.prism_targets.specs.Code.{table_view, element_served, row_view, target_view}
+use Rattle.edge_tables.specs.Code.{table_view}
+use Rattle.prism_targets.specs.Code.{element_served, row_view, target_view}
 use Rattle.prism_targets.proofs.making.add_elements.Given as goal
 
 abbrev pub invariant-loop-k : goal.invariant-loop-k

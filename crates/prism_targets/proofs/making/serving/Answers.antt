@@ -8,11 +8,13 @@ use Rattle.jani_tree.specs.declared.syntax.JaniVector.{JaniVector}
 use Rattle.prism_translation.specs.Elements.{elements}
 use Rattle.prism_translation.specs.Targets.{targets}
 use Rattle.prism_targets.specs.declared.served.Serving.{Serving}
-use Rattle.prism_targets.specs.Tables.{EdgeTable, Split, table_in, split_in, split_from}
+use Rattle.edge_tables.specs.Tables.{EdgeTable, Split, table_in, split_in, split_from}
 use Rattle.prism_targets.specs.Made.{stands_for}
 use Rattle.prism_targets.specs.Serving.{IsServing, target_in}
-use Rattle.prism_targets.specs.Code.{table_view, split_view, target_view, element_served, served_targets, served_elements}
-use Rattle.prism_targets.proofs.Standing.{targets_stand, elements_stand, splits_alike}
+use Rattle.edge_tables.specs.Code.{table_view, split_view}
+use Rattle.prism_targets.specs.Code.{target_view, element_served, served_targets, served_elements}
+use Rattle.prism_targets.proofs.Standing.{targets_stand, elements_stand}
+use Rattle.edge_tables.proofs.FileTables.{splits_alike}
 use Rattle.prism_targets.proofs.making.serving.Goals as goal
 
 module _ (file : File) (splits : List Split) (acts : List EdgeTable) (s : splits ≡ map (split_in file) file.vectors) (a : acts ≡ map (table_in file) (elements file)) where

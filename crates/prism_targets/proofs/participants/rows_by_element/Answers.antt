@@ -4,7 +4,7 @@ use Rattle.process_core.specs.Product.{map-map}
 use Rattle.gathering.specs.Lists.{list_for}
 use Rattle.gathering.proofs.Loops.{kept_step}
 use Rattle.prism_targets.specs.declared.rows.VectorRow.{VectorRow}
-use Rattle.prism_targets.specs.Tables.{Row, is_participant}
+use Rattle.edge_tables.specs.Tables.{Row, is_participant}
 use Rattle.prism_targets.specs.Code.{row_view}
 use Rattle.prism_targets.proofs.participants.rows_by_element.Goals as goal
 

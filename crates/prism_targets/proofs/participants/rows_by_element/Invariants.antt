@@ -1,7 +1,7 @@
 use Rattle.std.specs.Prelude.{◌≡◌, ℕ, map, take}
 use Rattle.std.specs.List.{filter}
 use Rattle.gathering.specs.Lists.{list_for}
-use Rattle.prism_targets.specs.Tables.{is_participant}
+use Rattle.edge_tables.specs.Tables.{is_participant}
 use Rattle.prism_targets.specs.Code.{row_view}
 use Rattle.prism_targets.proofs.participants.rows_by_element.Given as goal
 

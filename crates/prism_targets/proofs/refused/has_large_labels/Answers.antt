@@ -5,7 +5,7 @@ use Rattle.std.proofs.Math.Path.{fun_ext}
 use Rattle.process_core.specs.Ready.{Name}
 use Rattle.jani_tree.specs.declared.syntax.JaniAutomaton.{JaniAutomaton}
 use Rattle.jani_tree.specs.Syntax.{automaton_of}
-use Rattle.prism_targets.specs.Counts.{crowded_from}
+use Rattle.edge_tables.specs.Counts.{crowded_from}
 use Rattle.prism_targets.proofs.refused.has_large_labels.Goals as goal
 
 pub returns : goal.returns

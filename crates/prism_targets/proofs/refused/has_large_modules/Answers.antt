@@ -2,11 +2,11 @@ use Rattle.std.specs.Prelude.{◌≡◌, ◌||◌, List, Bool, map, nat_lt, IfOk
 use Rattle.std.proofs.Common.{◌∙◌, ap, ap₂, sym, subst}
 use Rattle.jani_tree.specs.declared.syntax.JaniVector.{JaniVector}
 use Rattle.jani_tree.specs.Syntax.{vector_of, file_of}
-use Rattle.prism_targets.specs.Tables.{EdgeTable, Split, split_from, split_in}
-use Rattle.prism_targets.specs.Counts.{commands_from, nodes_from}
-use Rattle.prism_targets.specs.Code.{split_view}
-use Rattle.prism_targets.proofs.Standing.{splits_alike}
-use Rattle.prism_targets.proofs.Counting.{result_commands_are, result_nodes_are}
+use Rattle.edge_tables.specs.Tables.{EdgeTable, Split, split_from, split_in}
+use Rattle.edge_tables.specs.Counts.{commands_from, nodes_from}
+use Rattle.edge_tables.specs.Code.{split_view}
+use Rattle.edge_tables.proofs.FileTables.{splits_alike}
+use Rattle.edge_tables.proofs.Counting.{result_commands_are, result_nodes_are}
 use Rattle.prism_targets.proofs.refused.has_large_modules.Goals as goal
 
 pub returns : goal.returns

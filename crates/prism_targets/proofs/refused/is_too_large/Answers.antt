@@ -3,8 +3,8 @@ use Rattle.std.proofs.Common.{◌∙◌, ap, ap₂, sym, subst}
 use Rattle.jani_tree.specs.Syntax.{Automaton, file_of}
 use Rattle.jani_meaning.specs.Elements as jani
 use Rattle.jani_meaning.specs.Elements.{Owned, labels}
-use Rattle.prism_targets.specs.Counts.{crowded_from, usable_among}
-use Rattle.prism_targets.proofs.Crowded.{too_large_is}
+use Rattle.edge_tables.specs.Counts.{crowded_from, usable_among}
+use Rattle.edge_tables.proofs.Crowded.{too_large_is}
 use Rattle.prism_targets.proofs.refused.is_too_large.Goals as goal
 
 pub returns-then-branch : goal.returns-then-branch

@@ -7,10 +7,10 @@ use Rattle.jani_tree.specs.Syntax.{File, file_of}
 use Rattle.jani_meaning.specs.Elements.{Owned, lasting}
 use Rattle.prism_translation.specs.Elements.{elements}
 use Rattle.prism_translation.specs.Refused.{shared_faults, size_faults}
-use Rattle.prism_targets.specs.Tables.{EdgeTable, table_in}
-use Rattle.prism_targets.specs.Counts.{split_faults, written_in}
-use Rattle.prism_targets.specs.Code.{table_view}
-use Rattle.prism_targets.proofs.Splitting.{shared_faults_are}
+use Rattle.edge_tables.specs.Tables.{EdgeTable, table_in}
+use Rattle.edge_tables.specs.Counts.{split_faults, written_in}
+use Rattle.edge_tables.specs.Code.{table_view}
+use Rattle.edge_tables.proofs.Splitting.{shared_faults_are}
 use Rattle.prism_targets.proofs.Soonest.{first_kind, second_kind}
 use Rattle.prism_targets.proofs.refused.least_refused.Goals as goal
 

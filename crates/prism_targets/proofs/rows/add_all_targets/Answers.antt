@@ -1,8 +1,9 @@
 use Rattle.std.specs.Prelude.{map, vec_len}
 use Rattle.prism_targets.specs.Made.{vector_made}
-use Rattle.prism_targets.specs.Code.{row_view, split_view, target_view}
+use Rattle.edge_tables.specs.Code.{split_view}
+use Rattle.prism_targets.specs.Code.{row_view, target_view}
 use Rattle.gathering.proofs.Loops.{flat_seen}
-use Rattle.prism_targets.proofs.RowNumbers.{rows_more}
+use Rattle.edge_tables.proofs.RowNumbers.{rows_more}
 use Rattle.prism_targets.proofs.rows.add_all_targets.Goals as goal
 
 pub loop-split-preserved : goal.loop-split-preserved

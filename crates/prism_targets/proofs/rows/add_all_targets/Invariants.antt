@@ -1,8 +1,9 @@
 use Rattle.std.proofs.Common.{◌≡◌, ◌++◌, map, take, drop, vec_len}
 use Rattle.std.specs.List.{flat_map}
-use Rattle.prism_targets.specs.Tables.{rows_from}
+use Rattle.edge_tables.specs.Tables.{rows_from}
 use Rattle.prism_targets.specs.Made.{vector_made}
-use Rattle.prism_targets.specs.Code.{row_view, split_view, target_view}
+use Rattle.edge_tables.specs.Code.{split_view}
+use Rattle.prism_targets.specs.Code.{row_view, target_view}
 use Rattle.prism_targets.proofs.rows.add_all_targets.Given as goal
 
 abbrev pub invariant-loop-split : goal.invariant-loop-split

@@ -5,8 +5,9 @@ use Rattle.std.proofs.lemmas.List.Concat.{flat_map-append}
 use Rattle.process_core.specs.Instance.{only_if}
 use Rattle.gathering.proofs.Loops.{kept_more}
 use Rattle.prism_targets.specs.declared.rows.VectorRow.{VectorRow}
-use Rattle.prism_targets.specs.Tables.{Row, all_numbers, blocks}
-use Rattle.prism_targets.specs.Code.{table_view, row_view}
+use Rattle.edge_tables.specs.Tables.{Row, all_numbers, blocks}
+use Rattle.edge_tables.specs.Code.{table_view}
+use Rattle.prism_targets.specs.Code.{row_view}
 use Rattle.prism_targets.proofs.served.blocked.Goals as goal
 use Rattle.prism_targets.proofs.served.blocked.Goals.{then-is_blocking+in_ok-add_range, else-is_blocking}
 

@@ -1,7 +1,8 @@
 use Rattle.std.proofs.Common.{◌≡◌, map, take}
 use Rattle.std.specs.List.{filter, flat_map}
-use Rattle.prism_targets.specs.Tables.{all_numbers, blocks}
-use Rattle.prism_targets.specs.Code.{table_view, row_view}
+use Rattle.edge_tables.specs.Tables.{all_numbers, blocks}
+use Rattle.edge_tables.specs.Code.{table_view}
+use Rattle.prism_targets.specs.Code.{row_view}
 use Rattle.prism_targets.proofs.served.blocked.Given as goal
 
 abbrev pub invariant-loop-row : goal.invariant-loop-row

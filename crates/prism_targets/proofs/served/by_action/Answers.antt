@@ -3,7 +3,7 @@ use Rattle.std.proofs.Common.{◌∙◌, ap, sym}
 use Rattle.std.specs.Borrow.{Bor}
 use Rattle.prism_targets.specs.declared.rows.VectorRow.{VectorRow}
 use Rattle.process_core.specs.Instance.{only_if}
-use Rattle.prism_targets.specs.Tables.{Row, calls}
+use Rattle.edge_tables.specs.Tables.{Row, calls}
 use Rattle.prism_targets.specs.Code.{row_view}
 use Rattle.gathering.proofs.Loops.{kept_more}
 use Rattle.prism_targets.proofs.served.by_action.Goals as goal

@@ -1,6 +1,6 @@
 use Rattle.std.proofs.Common.{◌≡◌, ℕ, List, map, take}
 use Rattle.std.specs.List.{filter}
-use Rattle.prism_targets.specs.Tables.{calls}
+use Rattle.edge_tables.specs.Tables.{calls}
 use Rattle.gathering.specs.Lists.{list_under}
 use Rattle.prism_targets.specs.Code.{row_view}
 use Rattle.prism_targets.proofs.served.by_action.Given as goal

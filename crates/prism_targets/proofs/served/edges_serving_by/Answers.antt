@@ -1,5 +1,6 @@
-use Rattle.prism_targets.specs.Tables.{edge_serves}
-use Rattle.prism_targets.specs.Code.{ranked_view, edge_served}
+use Rattle.edge_tables.specs.Tables.{edge_serves}
+use Rattle.edge_tables.specs.Code.{ranked_view}
+use Rattle.prism_targets.specs.Code.{edge_served}
 use Rattle.gathering.proofs.Loops.{mapped_more}
 use Rattle.prism_targets.proofs.served.edges_serving_by.Goals as goal
 

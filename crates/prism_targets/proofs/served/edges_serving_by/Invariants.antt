@@ -1,8 +1,9 @@
 use Rattle.std.proofs.Common.{◌≡◌, ℕ, List, map, take}
 use Rattle.std.specs.List.{filter}
-use Rattle.prism_targets.specs.Tables.{Row, calls, edge_serves}
+use Rattle.edge_tables.specs.Tables.{Row, calls, edge_serves}
 use Rattle.gathering.specs.Lists.{list_under}
-use Rattle.prism_targets.specs.Code.{ranked_view, edge_served, row_view}
+use Rattle.edge_tables.specs.Code.{ranked_view}
+use Rattle.prism_targets.specs.Code.{edge_served, row_view}
 use Rattle.prism_targets.proofs.served.edges_serving_by.Given as goal
 
 abbrev pub invariant-loop-e : goal.invariant-loop-e

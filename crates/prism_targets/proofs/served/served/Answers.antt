@@ -1,8 +1,9 @@
 use Rattle.std.proofs.Common.{[]}
 use Rattle.std.specs.Borrow.{Bor}
 use Rattle.prism_targets.specs.declared.rows.VectorRow.{VectorRow}
-use Rattle.prism_targets.specs.Tables.{numbers_served}
-use Rattle.prism_targets.specs.Code.{ranked_view, row_view}
+use Rattle.edge_tables.specs.Tables.{numbers_served}
+use Rattle.edge_tables.specs.Code.{ranked_view}
+use Rattle.prism_targets.specs.Code.{row_view}
 use Rattle.gathering.proofs.Loops.{flat_seen}
 use Rattle.prism_targets.proofs.served.served.Goals as goal
 

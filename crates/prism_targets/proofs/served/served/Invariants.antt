@@ -1,7 +1,8 @@
 use Rattle.std.proofs.Common.{◌≡◌, map, take}
 use Rattle.std.specs.List.{flat_map}
-use Rattle.prism_targets.specs.Tables.{numbers_served}
-use Rattle.prism_targets.specs.Code.{ranked_view, row_view}
+use Rattle.edge_tables.specs.Tables.{numbers_served}
+use Rattle.edge_tables.specs.Code.{ranked_view}
+use Rattle.prism_targets.specs.Code.{row_view}
 use Rattle.prism_targets.proofs.served.served.Given as goal
 
 abbrev pub invariant-loop-row : goal.invariant-loop-row

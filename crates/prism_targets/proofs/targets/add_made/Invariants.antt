@@ -1,6 +1,7 @@
 use Rattle.std.proofs.Common.{◌≡◌, ◌++◌, map, take}
 use Rattle.prism_targets.specs.Made.{made_by}
-use Rattle.prism_targets.specs.Code.{split_view, target_view}
+use Rattle.edge_tables.specs.Code.{split_view}
+use Rattle.prism_targets.specs.Code.{target_view}
 use Rattle.prism_targets.proofs.targets.add_made.Given as goal
 
 abbrev pub invariant-loop-edge : goal.invariant-loop-edge

@@ -1,7 +1,7 @@
 use Rattle.std.proofs.Common.{◌∙◌, ap, map, List}
 use Rattle.std.specs.List.{zip}
 use Rattle.jani_meaning.specs.Elements.{Owned}
-use Rattle.prism_translation.specs.Marks.{label}
+use Rattle.prism_targets.specs.Marks.{label}
 use Rattle.prism_modules.specs.Code.{file_in, names_in}
 use Rattle.prism_translator.proofs.file.marks_by.Goals as goal
 

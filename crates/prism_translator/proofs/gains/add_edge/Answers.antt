@@ -6,8 +6,8 @@ use Rattle.process_core.specs.Product.{map-map}
 use Rattle.jani_tree.specs.declared.syntax.JaniEdge.{JaniEdge}
 use Rattle.jani_tree.specs.Syntax.{Write, edge_of}
 use Rattle.jani_meaning.specs.Elements.{structure_number}
-use Rattle.prism_translation.specs.Elements.{Placed, is_at}
-use Rattle.prism_translation.specs.Marks.{first_writes}
+use Rattle.prism_targets.specs.Elements.{Placed, is_at}
+use Rattle.prism_targets.specs.Marks.{first_writes}
 use Rattle.gathering.specs.Lists.{list_for}
 use Rattle.prism_modules.specs.Code.{file_in, element_of}
 use Rattle.prism_translator.specs.Gains.{Gain, gain_of, gain_with, gain_by, gains_of}

@@ -2,7 +2,7 @@ use Rattle.std.proofs.Common.{◌≡◌, ◌++◌, ◌∙◌, ap, sym, map, appe
 use Rattle.std.specs.Prelude.{Option, Some, None, slice_get}
 use Rattle.std.specs.Option.{option_map}
 use Rattle.std.proofs.lemmas.Option.{slice_get_past}
-use Rattle.prism_translation.specs.Elements.{Element, elements}
+use Rattle.prism_targets.specs.Elements.{Element, elements}
 use Rattle.prism_targets.specs.Made.{edge_at}
 use Rattle.gathering.specs.Lists.{list_for}
 use Rattle.prism_modules.specs.Code.{file_in, element_of}

@@ -4,7 +4,7 @@ use Rattle.process_core.specs.Instance.{only_if}
 use Rattle.jani_tree.specs.declared.syntax.JaniWrite.{JaniWrite}
 use Rattle.jani_tree.specs.Syntax.{Write, write_of}
 use Rattle.jani_meaning.specs.Elements.{structure_number}
-use Rattle.prism_translation.specs.Elements.{is_at}
+use Rattle.prism_targets.specs.Elements.{is_at}
 use Rattle.choice_laws.proofs.Walks.{filter_walk}
 use Rattle.gathering.specs.Lists.{list_for}
 use Rattle.prism_modules.specs.Code.{file_in}

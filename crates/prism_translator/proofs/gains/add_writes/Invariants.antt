@@ -3,7 +3,7 @@ use Rattle.std.specs.List.{flat_map}
 use Rattle.process_core.specs.Instance.{only_if}
 use Rattle.jani_tree.specs.Syntax.{write_of}
 use Rattle.jani_meaning.specs.Elements.{structure_number}
-use Rattle.prism_translation.specs.Elements.{is_at}
+use Rattle.prism_targets.specs.Elements.{is_at}
 use Rattle.gathering.specs.Lists.{list_for}
 use Rattle.prism_modules.specs.Code.{file_in}
 use Rattle.prism_translator.specs.Gains.{gain_of, gain_with}

@@ -1,6 +1,6 @@
 use Rattle.std.proofs.Common.{◌++◌, ◌∙◌, ap, sym, map, refl, arith, ℕ, List}
 use Rattle.process_core.specs.Instance.{numbered}
-use Rattle.prism_translation.specs.Targets as spec
+use Rattle.prism_targets.specs.Targets as spec
 use Rattle.prism_targets.specs.declared.targets.Target.{Target}
 use Rattle.prism_targets.specs.Serving.{target_in}
 use Rattle.gathering.proofs.Loops.{numbered_step, numbered_all}

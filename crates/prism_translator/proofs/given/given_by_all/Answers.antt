@@ -1,5 +1,5 @@
 use Rattle.std.proofs.Common.{[]}
-use Rattle.prism_translation.specs.Marks.{given_by}
+use Rattle.prism_targets.specs.Marks.{given_by}
 use Rattle.prism_modules.specs.Code.{element_of}
 use Rattle.prism_modules.proofs.Kept.{walk_more}
 use Rattle.prism_translator.proofs.given.given_by_all.Goals as goal

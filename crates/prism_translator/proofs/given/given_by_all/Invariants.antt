@@ -1,6 +1,6 @@
 use Rattle.std.proofs.Common.{◌≡◌, ℕ, List, map, take}
 use Rattle.std.specs.List.{flat_map}
-use Rattle.prism_translation.specs.Marks.{given_by}
+use Rattle.prism_targets.specs.Marks.{given_by}
 use Rattle.gathering.specs.Lists.{list_under}
 use Rattle.prism_modules.specs.Code.{element_of}
 use Rattle.prism_translator.specs.Given.{given_of}

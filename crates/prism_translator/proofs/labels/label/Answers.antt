@@ -3,8 +3,8 @@ use Rattle.bridge_io.specs.declared.reason.Named.{Named}
 use Rattle.process_core.specs.Ready.{Name}
 use Rattle.prism_tree.specs.Syntax as prism
 use Rattle.name_table.specs.JaniParts.{owned_of}
-use Rattle.prism_translation.specs.Parts.{instead}
-use Rattle.prism_translation.specs.Marks.{Given, label_body}
+use Rattle.prism_targets.specs.Parts.{instead}
+use Rattle.prism_targets.specs.Marks.{Given, label_body}
 use Rattle.prism_modules.specs.Code.{file_in, names_in}
 use Rattle.prism_translator.specs.Given.{given_of}
 use Rattle.prism_translator.proofs.GivenTo.{given_is}

@@ -1,6 +1,6 @@
 use Rattle.std.proofs.Common.{◌≡◌, ◌≤◌, map, drop, length}
 use Rattle.op_trees.specs.Tree.{tree}
-use Rattle.prism_translation.specs.Marks.{label_body}
+use Rattle.prism_targets.specs.Marks.{label_body}
 use Rattle.prism_modules.specs.Code.{file_in, names_in}
 use Rattle.prism_translator.specs.Given.{given_of}
 use Rattle.prism_translator.proofs.labels.label_body.Given as goal

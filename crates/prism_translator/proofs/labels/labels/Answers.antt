@@ -5,7 +5,7 @@ use Rattle.prism_tree.specs.Syntax as prism
 use Rattle.name_table.specs.declared.entry.Entry.{Entry}
 use Rattle.name_table.specs.declared.jani_parts.OwnedVar.{OwnedVar}
 use Rattle.name_table.specs.JaniParts.{owned_of}
-use Rattle.prism_translation.specs.Marks.{label}
+use Rattle.prism_targets.specs.Marks.{label}
 use Rattle.gathering.proofs.Loops.{paired_more, paired_all}
 use Rattle.prism_modules.specs.Code.{file_in, names_in}
 use Rattle.prism_translator.proofs.labels.labels.Goals as goal

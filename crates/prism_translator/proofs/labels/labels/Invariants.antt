@@ -2,7 +2,7 @@ use Rattle.std.proofs.Common.{◌≡◌, ◌++◌, map, drop}
 use Rattle.std.specs.List.{zip}
 use Rattle.prism_tree.specs.Syntax as prism
 use Rattle.name_table.specs.JaniParts.{owned_of}
-use Rattle.prism_translation.specs.Marks.{label}
+use Rattle.prism_targets.specs.Marks.{label}
 use Rattle.prism_modules.specs.Code.{file_in, names_in}
 use Rattle.prism_translator.proofs.labels.labels.Given as goal
 

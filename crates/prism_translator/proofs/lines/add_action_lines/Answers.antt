@@ -3,7 +3,7 @@ use Rattle.std.specs.Prelude.{Option, codes}
 use Rattle.process_core.specs.Ready.{Name}
 use Rattle.name_table.specs.declared.entry.Entry.{Entry}
 use Rattle.prism_targets.specs.declared.targets.Target.{Target}
-use Rattle.prism_translation.specs.Lines.{name_line, name_lines}
+use Rattle.prism_targets.specs.Lines.{name_line, name_lines}
 use Rattle.prism_translator.specs.LineParts.{old_of}
 use Rattle.gathering.proofs.Loops.{paired_flat, paired_all}
 use Rattle.prism_translator.proofs.LineLists.{no_olds}

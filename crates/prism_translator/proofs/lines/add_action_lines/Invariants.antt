@@ -1,6 +1,6 @@
 use Rattle.std.proofs.Common.{◌≡◌, ◌++◌, map, drop}
 use Rattle.std.specs.Prelude.{codes}
-use Rattle.prism_translation.specs.Lines.{name_lines}
+use Rattle.prism_targets.specs.Lines.{name_lines}
 use Rattle.prism_translator.specs.LineParts.{old_of}
 use Rattle.prism_translator.proofs.lines.add_action_lines.Given as goal
 

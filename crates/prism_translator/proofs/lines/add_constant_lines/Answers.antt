@@ -4,7 +4,7 @@ use Rattle.process_core.specs.Ready.{Name}
 use Rattle.name_table.specs.declared.entry.Entry.{Entry}
 use Rattle.jani_tree.specs.declared.syntax.JaniConst.{JaniConst}
 use Rattle.jani_tree.specs.Syntax.{Const, const_of}
-use Rattle.prism_translation.specs.Lines.{name_line, name_lines}
+use Rattle.prism_targets.specs.Lines.{name_line, name_lines}
 use Rattle.gathering.proofs.Loops.{paired_flat, paired_all}
 use Rattle.prism_translator.proofs.LineLists.{no_olds}
 use Rattle.prism_translator.proofs.lines.add_constant_lines.Goals as goal

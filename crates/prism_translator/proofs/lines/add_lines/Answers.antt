@@ -4,8 +4,8 @@ use Rattle.process_core.specs.Ready.{Name}
 use Rattle.process_core.specs.Product.{map-map}
 use Rattle.jani_meaning.specs.Elements.{Owned}
 use Rattle.name_table.specs.JaniParts.{owned_of}
-use Rattle.prism_translation.specs.Elements.{Element}
-use Rattle.prism_translation.specs.Targets.{old_name}
+use Rattle.prism_targets.specs.Elements.{Element}
+use Rattle.prism_targets.specs.Targets.{old_name}
 use Rattle.prism_targets.specs.Serving.{target_in}
 use Rattle.prism_modules.specs.Code.{file_in, names_in}
 use Rattle.prism_translator.specs.LineParts.{value_lines, moving_lines, mark_lines}

@@ -1,4 +1,4 @@
-use Rattle.prism_translation.specs.Lines.{location_line}
+use Rattle.prism_targets.specs.Lines.{location_line}
 use Rattle.prism_modules.specs.Code.{names_in, element_of}
 use Rattle.prism_modules.proofs.Kept.{walk_more}
 use Rattle.prism_translator.proofs.lines.add_location_lines.Goals as goal

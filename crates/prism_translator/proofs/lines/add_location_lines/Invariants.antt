@@ -1,6 +1,6 @@
 use Rattle.std.proofs.Common.{◌≡◌, ◌++◌, map, take}
 use Rattle.std.specs.List.{flat_map}
-use Rattle.prism_translation.specs.Lines.{location_line}
+use Rattle.prism_targets.specs.Lines.{location_line}
 use Rattle.prism_modules.specs.Code.{names_in, element_of}
 use Rattle.prism_translator.proofs.lines.add_location_lines.Given as goal
 

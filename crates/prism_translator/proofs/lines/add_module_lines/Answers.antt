@@ -3,7 +3,7 @@ use Rattle.std.specs.Prelude.{Some, codes}
 use Rattle.process_core.specs.Ready.{Name}
 use Rattle.name_table.specs.declared.entry.Entry.{Entry}
 use Rattle.bridge_io.specs.declared.reason.Named.{Named}
-use Rattle.prism_translation.specs.Lines.{name_line, name_lines}
+use Rattle.prism_targets.specs.Lines.{name_line, name_lines}
 use Rattle.gathering.proofs.Loops.{paired_flat, paired_all}
 use Rattle.prism_translator.proofs.LineLists.{no_olds}
 use Rattle.prism_translator.proofs.lines.add_module_lines.Goals as goal

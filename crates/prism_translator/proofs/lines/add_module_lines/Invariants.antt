@@ -1,7 +1,7 @@
 use Rattle.std.proofs.Common.{◌≡◌, ◌++◌, map, drop}
 use Rattle.std.specs.Prelude.{Some, codes}
 use Rattle.bridge_io.specs.declared.reason.Named.{Named}
-use Rattle.prism_translation.specs.Lines.{name_lines}
+use Rattle.prism_targets.specs.Lines.{name_lines}
 use Rattle.prism_translator.proofs.lines.add_module_lines.Given as goal
 
 abbrev pub invariant-loop-i : goal.invariant-loop-i

@@ -1,7 +1,7 @@
 use Rattle.std.proofs.Common.{◌++◌, ◌∙◌, ap, map, List}
 use Rattle.std.specs.Prelude.{Some, codes}
 use Rattle.bridge_io.specs.declared.reason.Named.{Named}
-use Rattle.prism_translation.specs.Lines.{name_lines}
+use Rattle.prism_targets.specs.Lines.{name_lines}
 use Rattle.prism_modules.specs.Code.{names_in}
 use Rattle.prism_translator.proofs.LongActions.{behind}
 use Rattle.prism_translator.proofs.lines.add_moving_lines.Goals as goal

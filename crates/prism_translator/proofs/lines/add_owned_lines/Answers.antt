@@ -4,7 +4,7 @@ use Rattle.process_core.specs.Ready.{Name}
 use Rattle.name_table.specs.declared.entry.Entry.{Entry}
 use Rattle.name_table.specs.declared.jani_parts.OwnedVar.{OwnedVar}
 use Rattle.name_table.specs.JaniParts.{owned_of}
-use Rattle.prism_translation.specs.Lines.{name_line, name_lines, called}
+use Rattle.prism_targets.specs.Lines.{name_line, name_lines, called}
 use Rattle.gathering.proofs.Loops.{paired_flat, paired_all}
 use Rattle.prism_translator.proofs.LineLists.{no_olds}
 use Rattle.prism_translator.proofs.lines.add_owned_lines.Goals as goal

@@ -1,6 +1,6 @@
 use Rattle.std.proofs.Common.{◌≡◌, ◌++◌, map, drop}
 use Rattle.name_table.specs.JaniParts.{owned_of}
-use Rattle.prism_translation.specs.Lines.{name_lines, called}
+use Rattle.prism_targets.specs.Lines.{name_lines, called}
 use Rattle.prism_translator.proofs.lines.add_owned_lines.Given as goal
 
 abbrev pub invariant-loop-i : goal.invariant-loop-i

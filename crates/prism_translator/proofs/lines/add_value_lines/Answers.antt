@@ -2,7 +2,7 @@ use Rattle.std.proofs.Common.{◌++◌, ◌∙◌, ap, map, List}
 use Rattle.std.specs.Prelude.{Some, codes}
 use Rattle.jani_tree.specs.declared.syntax.JaniConst.{JaniConst}
 use Rattle.jani_tree.specs.Syntax.{Const, const_of}
-use Rattle.prism_translation.specs.Lines.{name_lines}
+use Rattle.prism_targets.specs.Lines.{name_lines}
 use Rattle.prism_modules.specs.Code.{names_in}
 use Rattle.prism_translator.proofs.LongActions.{behind}
 use Rattle.prism_translator.proofs.lines.add_value_lines.Goals as goal

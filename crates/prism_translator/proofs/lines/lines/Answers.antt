@@ -1,5 +1,5 @@
 use Rattle.std.proofs.Common.{◌++◌, ◌∙◌, ap, List, ℕ}
-use Rattle.prism_translation.specs.Lines.{lines_by}
+use Rattle.prism_targets.specs.Lines.{lines_by}
 use Rattle.prism_modules.specs.Code.{file_in, names_in}
 use Rattle.prism_translator.proofs.lines.lines.Goals as goal
 

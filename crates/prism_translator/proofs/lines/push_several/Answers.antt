@@ -2,7 +2,7 @@ use Rattle.std.proofs.Common.{◌++◌, ◌∙◌, ap, ap₂, map, List, ℕ}
 use Rattle.std.specs.Prelude.{codes}
 use Rattle.decimal_json.specs.Text.{quoted}
 use Rattle.jani_tree.specs.Syntax.{Location, location_of}
-use Rattle.prism_translation.specs.Lines.{joined}
+use Rattle.prism_targets.specs.Lines.{joined}
 use Rattle.prism_translator.proofs.LineLists.{five_behind}
 use Rattle.prism_translator.proofs.lines.push_several.Goals as goal
 

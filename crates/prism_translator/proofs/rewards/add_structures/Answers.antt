@@ -4,7 +4,7 @@ use Rattle.prism_tree.specs.Syntax as prism
 use Rattle.jani_meaning.specs.Elements.{Owned}
 use Rattle.name_table.specs.JaniParts.{owned_of}
 use Rattle.name_table.specs.PrismAsks.{name_at}
-use Rattle.prism_translation.specs.Marks.{structure}
+use Rattle.prism_targets.specs.Marks.{structure}
 use Rattle.gathering.proofs.Loops.{numbered_more}
 use Rattle.prism_modules.specs.Code.{file_in, names_in}
 use Rattle.prism_translator.specs.Given.{given_of}

@@ -3,7 +3,7 @@ use Rattle.process_core.specs.Instance.{numbered}
 use Rattle.prism_tree.specs.Syntax as prism
 use Rattle.name_table.specs.JaniParts.{owned_of}
 use Rattle.name_table.specs.PrismAsks.{name_at}
-use Rattle.prism_translation.specs.Marks.{structure}
+use Rattle.prism_targets.specs.Marks.{structure}
 use Rattle.prism_modules.specs.Code.{file_in, names_in}
 use Rattle.prism_translator.proofs.rewards.add_structures.Given as goal
 

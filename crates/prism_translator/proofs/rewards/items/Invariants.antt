@@ -1,6 +1,6 @@
 use Rattle.std.proofs.Common.{◌≡◌, ◌++◌, map, take}
 use Rattle.prism_tree.specs.Syntax as prism
-use Rattle.prism_translation.specs.Marks.{state_item}
+use Rattle.prism_targets.specs.Marks.{state_item}
 use Rattle.prism_modules.specs.Code.{file_in, names_in}
 use Rattle.prism_translator.specs.Given.{given_of}
 use Rattle.prism_translator.specs.Gains.{gain_of, gain_item}

@@ -7,8 +7,8 @@ use Rattle.name_table.specs.declared.class.Target.TheVariants.{Prism}
 use Rattle.name_table.specs.Entries.{Ask, Table, entries_after}
 use Rattle.name_table.specs.PrismAsks.{asks}
 use Rattle.name_table.proofs.EntryLemmas.{after_append}
-use Rattle.prism_translation.specs.Targets.{targets}
-use Rattle.prism_translation.specs.Names.{action_ask}
+use Rattle.prism_targets.specs.Targets.{targets}
+use Rattle.prism_targets.specs.Names.{action_ask}
 use Rattle.prism_targets.specs.Serving.{target_in}
 use Rattle.prism_translator.specs.Asks.{vector_in, vector_ask}
 use Rattle.prism_translator.proofs.translation.asked_text.Goals as goal

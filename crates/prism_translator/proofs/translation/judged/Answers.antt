@@ -1,7 +1,7 @@
 use Rattle.std.proofs.Common.{◌∙◌, sym}
 use Rattle.name_rules.proofs.Soonest.{soonest_none, soonest_some}
 use Rattle.jani_tree.specs.Syntax.{file_of}
-use Rattle.prism_translation.specs.Refused.{refused}
+use Rattle.prism_targets.specs.Refused.{refused}
 use Rattle.prism_translator.proofs.translation.judged.Goals as goal
 
 pub returns-in-Some-clause-least : goal.returns-in-Some-clause-least

@@ -4,10 +4,10 @@ use Rattle.prism_print.specs.Same.{bare_file}
 use Rattle.jani_tree.specs.Syntax.{File, file_of}
 use Rattle.name_table.specs.declared.entry.Entry.{Entry}
 use Rattle.name_table.specs.PrismAsks.{NewNames, names_by, actions_at}
-use Rattle.prism_translation.specs.Names.{new_names}
-use Rattle.prism_translation.specs.Targets.{targets}
-use Rattle.prism_translation.specs.Translated.{translated_by}
-use Rattle.prism_translation.specs.Lines.{lines_by}
+use Rattle.prism_targets.specs.Names.{new_names}
+use Rattle.prism_targets.specs.Targets.{targets}
+use Rattle.prism_targets.specs.Translated.{translated_by}
+use Rattle.prism_targets.specs.Lines.{lines_by}
 use Rattle.prism_modules.specs.Code.{names_in, file_in}
 use Rattle.prism_translator.specs.Translation.{IsTranslation, IsTextBy}
 use Rattle.prism_translator.proofs.LongActions.{actions_long}

@@ -3,7 +3,7 @@ use Rattle.std.specs.Prelude.{IfErr}
 use Rattle.jani_tree.specs.declared.syntax.JaniFile.{JaniFile}
 use Rattle.jani_tree.specs.Faults.{FailsFor}
 use Rattle.jani_tree.specs.Syntax.{file_of}
-use Rattle.prism_translation.specs.Refused.{refused}
+use Rattle.prism_targets.specs.Refused.{refused}
 use Rattle.prism_translator.proofs.translation.translate.Goals as goal
 
 pub returns-clause-least : goal.returns-clause-least

@@ -2,9 +2,9 @@ use Rattle.std.specs.Prelude.{◌≡◌, length}
 use Rattle.std.proofs.Common.{◌∙◌, ap}
 use Rattle.op_trees.specs.Tree.{capped, tree}
 use Rattle.op_trees.specs.SeenLaws.{names_all}
-use Rattle.prism_names.specs.Names.{formula_body}
-use Rattle.prism_names.specs.Order.{whole_height, whole_nodes}
-use Rattle.prism_names.specs.Sizes.{name_height, name_nodes}
+use Rattle.prism_flat.specs.Names.{formula_body}
+use Rattle.prism_flat.specs.Order.{whole_height, whole_nodes}
+use Rattle.prism_flat.specs.Sizes.{name_height, name_nodes}
 use Rattle.prism_check.specs.Checked.{Checked}
 use Rattle.prism_check.specs.Counted.{height_in, nodes_in}
 use Rattle.prism_check.proofs.Capping.{height_capped_on, nodes_capped_on}

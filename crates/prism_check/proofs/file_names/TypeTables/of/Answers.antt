@@ -1,7 +1,7 @@
 use Rattle.std.specs.Prelude.{map}
 use Rattle.std.proofs.Common.{◌∙◌, ap}
 use Rattle.prism_tree.specs.Syntax.{file_of, formula_of}
-use Rattle.prism_names.specs.Places.{at_places}
+use Rattle.prism_flat.specs.Places.{at_places}
 use Rattle.prism_check.specs.Typing.{declared_type, is_declared_variable, known_after}
 use Rattle.prism_check.proofs.TypedTables.{typed_tables}
 use Rattle.prism_check.proofs.file_names.TypeTables.of.Goals as goal

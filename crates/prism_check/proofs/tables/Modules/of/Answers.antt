@@ -1,7 +1,7 @@
 use Rattle.std.specs.Option.{option_map, option_or}
 use Rattle.std.proofs.Common.{refl, ap}
 use Rattle.prism_tree.specs.Syntax.{module_of}
-use Rattle.prism_names.specs.Names.{module_name}
+use Rattle.prism_flat.specs.Names.{module_name}
 use Rattle.name_rules.specs.Names.{under}
 use Rattle.name_rules.proofs.Maps.{at}
 use Rattle.prism_check.specs.Tables.{named_module}

@@ -1,8 +1,8 @@
 use Rattle.std.proofs.Common.{ap₂}
 use Rattle.prism_tree.specs.Syntax.{Branch, write_of}
-use Rattle.prism_flat.specs.Rewritten.{rewritten_write}
-use Rattle.prism_flat.specs.Tables.{rewriting}
-use Rattle.prism_flat.proofs.Steps.{zipped}
+use Rattle.prism_rewriter.specs.Rewritten.{rewritten_write}
+use Rattle.prism_rewriter.specs.Tables.{rewriting}
+use Rattle.prism_rewriter.proofs.Steps.{zipped}
 use Rattle.prism_flat.proofs.parts.PrismBranchRewritten.rewritten.Goals as goal
 
 pub returns : goal.returns

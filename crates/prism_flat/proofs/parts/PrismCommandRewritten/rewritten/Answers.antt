@@ -1,7 +1,7 @@
 use Rattle.prism_tree.specs.Syntax.{branch_of}
-use Rattle.prism_flat.specs.Rewritten.{rewritten_branch}
-use Rattle.prism_flat.specs.Tables.{rewriting}
-use Rattle.prism_flat.proofs.Steps.{same_command, zipped}
+use Rattle.prism_rewriter.specs.Rewritten.{rewritten_branch}
+use Rattle.prism_rewriter.specs.Tables.{rewriting}
+use Rattle.prism_rewriter.proofs.Steps.{same_command, zipped}
 use Rattle.prism_flat.proofs.parts.PrismCommandRewritten.rewritten.Goals as goal
 
 pub returns : goal.returns

@@ -1,7 +1,7 @@
 use Rattle.std.proofs.Common.{◌≡◌, ◌<◌, ◌∙◌, List, map, Some, slice_get, sym, ap, subst}
 use Rattle.std.proofs.lemmas.Result.{IfOk-weaker}
 use Rattle.process_core.specs.Instance as core
-use Rattle.prism_flat.specs.Scene.{columns_of}
+use Rattle.prism_check.specs.Scene.{columns_of}
 use Rattle.instance_start.specs.Given.{given_by}
 use Rattle.prism_meaning.proofs.Whole.{column_count, kept_name}
 use Rattle.prism_meaning.proofs.instance.PrismInstanceSteps.column_text.Goals as goal

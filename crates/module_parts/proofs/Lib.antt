@@ -1,0 +1,4 @@
+pub mod ByPlaces
+pub mod Kept
+pub mod Singles
+mod WritersOf

@@ -1,0 +1,5 @@
+pub mod Code
+pub mod Homes
+pub mod Writers
+pub use Rattle.edge_tables.specs.declared.places.Places
+pub use Rattle.jani_images.specs.Image

@@ -1,8 +1,0 @@
-use Rattle.prism_modules.specs.Code.{file_in}
-use Rattle.prism_modules.proofs.WritersOf.{through_more}
-use Rattle.prism_modules.proofs.writers.WriterTable.of.Goals as goal
-
-pub loop-el-preserved : goal.loop-el-preserved
-loop-el-preserved c = λ i.
-    through_more (file_in c.args.names.now) i c.args.elements.now c.loop-el.el-index c.el-item.result _ _
-    c.loop-el-test.true c.el-item.is (c.loop-el.invariant i) (c.in_ok-add_element.ensures i)

@@ -1,0 +1,4 @@
+pub mod Rewritten
+pub mod Filling
+pub mod Tables
+pub mod Renamings

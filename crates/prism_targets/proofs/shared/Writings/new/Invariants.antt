@@ -1,7 +1,0 @@
-use Rattle.std.specs.Prelude.{◌≡◌, ℕ, vec_len}
-use Rattle.prism_targets.specs.Counts.{unwritten}
-use Rattle.prism_targets.specs.Code.{writing_at}
-use Rattle.prism_targets.proofs.shared.Writings.new.Given as goal
-
-abbrev pub invariant-loop-i : goal.invariant-loop-i
-invariant-loop-i l = record { count : vec_len l.table ≡ l._i; unwritten : (j : ℕ) → writing_at (record { table = l.table }) j ≡ unwritten }

@@ -1,8 +1,0 @@
-use Rattle.std.proofs.Common.{◌≡◌, map, take}
-use Rattle.jani_tree.specs.Syntax.{vector_of}
-use Rattle.prism_targets.specs.Tables.{split_from}
-use Rattle.prism_targets.specs.Code.{table_view, split_view}
-use Rattle.prism_targets.proofs.splits.all_splits.Given as goal
-
-abbrev pub invariant-loop-v : goal.invariant-loop-v
-invariant-loop-v l = map split_view l.all.items ≡ map (λ v. split_from v 0 (map table_view l.elements)) (map vector_of (take l.v-index l.vectors))
