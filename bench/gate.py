@@ -1,18 +1,19 @@
 #!/usr/bin/env python3
 """Measures what one run of the gate takes from nothing: processor minutes of its parts, and processor seconds of each crate.
 
-    bench/gate.py [--commit HEAD] [--lanes 4] [--crates NAME ..] [--so-far FILE]
+    bench/gate.py [--commit HEAD] [--beside COMMIT] [--lanes 4] [--crates NAME ..] [--so-far FILE]
 
-A clean clone of the commit is made in a folder of its own, `rt ci --anew` is run there with so many lanes, and twice a second the processes below it
+A clean clone of the commit is made in a folder of its own, `rt ci` is run there from nothing with so many lanes, and twice a second the processes below it
 are looked at in /proc, each with the crate that it works on. With names only these crates and those below them are proved. What was seen so far is
-written into a file each minute, if one is named, since a run may be cut off. Two states can be compared only by runs on one machine, one after
-another, with nothing beside them: what runs beside makes the same proof take up to half as much processor time again. Crates that are the same
-in both show how far the two runs agree.
+written into a file each minute, if one is named, since a run may be cut off.
+
+How much a proof takes depends on what runs beside it: up to half as much again. So two states are compared either by runs on one machine, one after
+another, with nothing beside them, or by --beside, which runs both at once, each with half of the lanes. Crates that are the same in both show how far the
+two runs agree.
 """
 import argparse
 import collections
 import os
-import resource
 import subprocess
 import sys
 import tempfile
@@ -63,19 +64,63 @@ def work_of(number):
     return ("libraries" if "src/lib.rt" in words else "programs"), crate
 
 
-def measure(run, so_far):
-    """Looks at the processes below a run until it ends, and returns the seconds of each part and crate."""
-    works, seconds, written = {}, {}, time.time()
-    while run.poll() is None:
-        for number, taken in below(run.pid).items():
-            works[number] = works.get(number) or work_of(number)
-            seconds[number] = max(taken, seconds.get(number, 0))
+def from_nothing(crates):
+    """Returns the command that runs the gate from nothing. Kits that keep nothing take no further words."""
+    page = subprocess.run(["rt", "doc"], check=True, capture_output=True, text=True).stdout.strip()
+    with open(page) as file:
+        keeps = "--anew" in file.read()
+    if crates and not keeps:
+        sys.exit("this kit's rt ci takes no names of crates")
+    return ["rt", "ci", "--anew", *crates] if keeps else ["rt", "ci"]
+
+
+class State:
+    """One run of the gate over a clone of a commit, and what its processes have taken."""
+
+    def __init__(self, commit, room, lanes, crates):
+        here = os.path.dirname(os.path.dirname(os.path.abspath(__file__)))
+        self.commit, self.log, self.took = commit, os.path.join(room, "log-" + commit), None
+        copy = os.path.join(room, "bridge-" + commit)
+        subprocess.run(["git", "clone", "-q", here, copy], check=True)
+        subprocess.run(["git", "checkout", "-q", commit], cwd=copy, check=True)
+        self.works, self.seconds, self.own, self.began = {}, {}, 0, time.time()
+        with open(self.log, "w") as out:
+            told = {**os.environ, "RT_JOBS": str(lanes)}
+            self.run = subprocess.Popen(from_nothing(crates), cwd=copy, env=told, stdout=out, stderr=out)
+
+    def look(self):
+        """Notes what the processes below the run have taken until now, and returns whether it goes on."""
+        if self.took is not None:
+            return False
+        for number, taken in below(self.run.pid).items():
+            self.works[number] = self.works.get(number) or work_of(number)
+            self.seconds[number] = max(taken, self.seconds.get(number, 0))
+        ended, status, used = os.wait4(self.run.pid, os.WNOHANG)
+        if ended:
+            self.run.returncode = os.waitstatus_to_exitcode(status)
+            self.own, self.took = used.ru_utime + used.ru_stime, time.time() - self.began
+        return not ended
+
+    def show(self, file):
+        """Writes the last line of the run, the minutes of each part, and the seconds of each crate."""
+        print(f"== {self.commit}", file=file)
+        if self.took is not None:
+            with open(self.log) as log:
+                print(log.read().rstrip().rpartition("\n")[2], file=file)
+            print(f"{self.took:.0f} seconds by the clock", file=file)
+        show(summed(self.works, self.seconds), file, self.own if self.took is not None else None)
+
+
+def measure(states, so_far):
+    """Looks at the runs until all have ended."""
+    written = time.time()
+    while any([state.look() for state in states]):
         if so_far and time.time() - written > 60:
             written = time.time()
             with open(so_far, "w") as file:
-                show(summed(works, seconds), file)
+                for state in states:
+                    state.show(file)
         time.sleep(0.5)
-    return summed(works, seconds)
 
 
 def summed(works, seconds):
@@ -104,31 +149,18 @@ def show(total, file, used=None):
 def main():
     words = argparse.ArgumentParser(description=__doc__.split("\n")[0])
     words.add_argument("--commit", default="HEAD")
+    words.add_argument("--beside")
     words.add_argument("--lanes", type=int, default=4)
     words.add_argument("--crates", nargs="*", default=[])
     words.add_argument("--so-far")
     given = words.parse_args()
-    here = os.path.dirname(os.path.dirname(os.path.abspath(__file__)))
+    commits = [given.commit, given.beside] if given.beside else [given.commit]
     with tempfile.TemporaryDirectory() as room:
-        copy, log = os.path.join(room, "bridge"), os.path.join(room, "log")
-        subprocess.run(["git", "clone", "-q", here, copy], check=True)
-        subprocess.run(["git", "checkout", "-q", given.commit], cwd=copy, check=True)
-        earlier, began = spent(), time.time()
-        with open(log, "w") as out:
-            told = {**os.environ, "RT_JOBS": str(given.lanes)}
-            run = subprocess.Popen(["rt", "ci", "--anew", *given.crates], cwd=copy, env=told, stdout=out, stderr=out)
-            total = measure(run, given.so_far)
-        with open(log) as file:
-            print(file.read().rstrip().rpartition("\n")[2])
-        print(f"{time.time() - began:.0f} seconds by the clock, {given.lanes} lanes")
-        show(total, sys.stdout, spent() - earlier)
-    sys.exit(run.returncode)
-
-
-def spent():
-    """Returns the processor seconds of all that this program has waited for."""
-    used = resource.getrusage(resource.RUSAGE_CHILDREN)
-    return used.ru_utime + used.ru_stime
+        states = [State(it, room, max(1, given.lanes // len(commits)), given.crates) for it in commits]
+        measure(states, given.so_far)
+        for state in states:
+            state.show(sys.stdout)
+    sys.exit(max(state.run.returncode for state in states))
 
 
 if __name__ == "__main__":
