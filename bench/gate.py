@@ -1,11 +1,11 @@
 #!/usr/bin/env python3
 """Measures what one run of the gate takes from nothing: processor minutes of its parts, and processor seconds of each crate.
 
-    bench/gate.py [--commit HEAD] [--beside COMMIT] [--lanes 4] [--crates NAME ..] [--so-far FILE]
+    bench/gate.py [--commit HEAD] [--beside COMMIT] [--lanes 4] [--crates NAME ..] [--without-wrong-bodies] [--so-far FILE]
 
 A clean clone of the commit is made in a folder of its own, `rt ci` is run there from nothing with so many lanes, and twice a second the processes below it
-are looked at in /proc, each with the crate that it works on. With names only these crates and those below them are proved. What was seen so far is
-written into a file each minute, if one is named, since a run may be cut off.
+are looked at in /proc, each with the crate that it works on. With names only these crates and those below them are proved, where the kit's `rt ci` takes
+names; with --without-wrong-bodies the folders must-fail/ are left out. What was seen so far is written into a file each minute, if one is named, since a run may be cut off.
 
 How much a proof takes depends on what runs beside it: up to half as much again. So two states are compared either by runs on one machine, one after
 another, with nothing beside them, or by --beside, which runs both at once, each with half of the lanes. Crates that are the same in both show how far the
@@ -13,7 +13,9 @@ two runs agree.
 """
 import argparse
 import collections
+import glob
 import os
+import shutil
 import subprocess
 import sys
 import tempfile
@@ -77,12 +79,15 @@ def from_nothing(crates):
 class State:
     """One run of the gate over a clone of a commit, and what its processes have taken."""
 
-    def __init__(self, commit, room, lanes, crates):
+    def __init__(self, commit, room, lanes, crates, without_wrong_bodies):
         here = os.path.dirname(os.path.dirname(os.path.abspath(__file__)))
         self.commit, self.log, self.took = commit, os.path.join(room, "log-" + commit), None
         copy = os.path.join(room, "bridge-" + commit)
         subprocess.run(["git", "clone", "-q", here, copy], check=True)
         subprocess.run(["git", "checkout", "-q", commit], cwd=copy, check=True)
+        if without_wrong_bodies:
+            for folder in glob.glob(f"{copy}/crates/*/must-fail"):
+                shutil.rmtree(folder)
         self.works, self.seconds, self.own, self.began = {}, {}, 0, time.time()
         with open(self.log, "w") as out:
             told = {**os.environ, "RT_JOBS": str(lanes)}
@@ -152,11 +157,13 @@ def main():
     words.add_argument("--beside")
     words.add_argument("--lanes", type=int, default=4)
     words.add_argument("--crates", nargs="*", default=[])
+    words.add_argument("--without-wrong-bodies", action="store_true")
     words.add_argument("--so-far")
     given = words.parse_args()
     commits = [given.commit, given.beside] if given.beside else [given.commit]
     with tempfile.TemporaryDirectory() as room:
-        states = [State(it, room, max(1, given.lanes // len(commits)), given.crates) for it in commits]
+        lanes = max(1, given.lanes // len(commits))
+        states = [State(it, room, lanes, given.crates, given.without_wrong_bodies) for it in commits]
         measure(states, given.so_far)
         for state in states:
             state.show(sys.stdout)

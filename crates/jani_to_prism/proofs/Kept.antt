@@ -7,12 +7,12 @@ use Rattle.jani_tree.specs.Syntax.{File}
 use Rattle.jani_check.specs.Faults.{IsChecked}
 use Rattle.jani_check.proofs.Profiled.{first_none}
 use Rattle.prism_places.specs.PlacesLaws.{PlacesMeanNothing, CleanAlike}
-use Rattle.prism_translation_names.specs.Lines.{lines}
-use Rattle.prism_translation_names.specs.Refused.{refused, shared_faults, size_faults}
-use Rattle.prism_translation_names.specs.Translated.{translated}
-use Rattle.prism_translation_names.specs.NameLaws.{TranslatedIsPrintable, NoNameFault}
-use Rattle.prism_translation_types.specs.TypeLaws.{NoTypeFault}
-use Rattle.prism_translation_meaning.specs.SameMeaning.{TranslationMeansTheSame, MeaningStays}
+use Rattle.prism_translation_laws.specs.Lines.{lines}
+use Rattle.prism_translation_laws.specs.Refused.{refused, shared_faults, size_faults}
+use Rattle.prism_translation_laws.specs.Translated.{translated}
+use Rattle.prism_translation_laws.specs.NameLaws.{TranslatedIsPrintable, NoNameFault}
+use Rattle.prism_translation_laws.specs.TypeLaws.{NoTypeFault}
+use Rattle.prism_translation_laws.specs.SameMeaning.{TranslationMeansTheSame, MeaningStays}
 use Rattle.prism_translator.specs.declared.translation.CheckedPrismText.{CheckedPrismText}
 use Rattle.prism_translator.specs.Translation.{IsTranslation}
 use Rattle.jani_to_prism.specs.Promise.{IsTranslated, PlacesAside}

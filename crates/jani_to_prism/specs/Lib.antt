@@ -1,4 +1,4 @@
 pub mod Promise
-pub use Rattle.prism_translation_names.specs.NameLaws
-pub use Rattle.prism_translation_names.specs.Lines
-pub use Rattle.prism_translation_names.specs.Refused
+pub use Rattle.prism_translation_laws.specs.NameLaws
+pub use Rattle.prism_translation_laws.specs.Lines
+pub use Rattle.prism_translation_laws.specs.Refused

@@ -3,7 +3,7 @@
 ghost use Rattle.jani_to_prism.specs.Promise.{PlacesAside};
 
 use prism_places::{meaning_law, places_law};
-use prism_translation_meaning::same_meaning_law;
+use prism_translation_laws::same_meaning_law;
 
 /// What is promised of a translation holds of each tree that is the same but for its places.
 pub fn translated_law()

@@ -6,6 +6,6 @@ mod laws;
 mod translating;
 
 pub use laws::translated_law;
-pub use prism_translation_names::lines_law;
+pub use prism_translation_laws::lines_law;
 pub use prism_translator::CheckedPrismText;
 pub use translating::to_prism;

@@ -4,17 +4,15 @@ ghost use Rattle.std.specs.Prelude.{◌≡◌, [], IfErr, IfOk};
 ghost use Rattle.prism_tree.specs.Syntax as prism;
 ghost use Rattle.jani_tree.specs.Syntax.{file_of};
 ghost use Rattle.jani_tree.specs.Faults.{FailsFor};
-ghost use Rattle.prism_translation_names.specs.Lines.{lines};
-ghost use Rattle.prism_translation_names.specs.Refused.{refused};
-ghost use Rattle.prism_translation_names.specs.Translated.{translated};
+ghost use Rattle.prism_translation_laws.specs.Lines.{lines};
+ghost use Rattle.prism_translation_laws.specs.Refused.{refused};
+ghost use Rattle.prism_translation_laws.specs.Translated.{translated};
 ghost use Rattle.jani_to_prism.specs.Promise.{IsTranslated};
 
 use crate::laws::translated_law;
 use bridge_io::Refused;
 use jani_check::CheckedJani;
-use prism_translation_meaning::same_meaning_law;
-use prism_translation_names::{form_law, names_law};
-use prism_translation_types::sound_types_law;
+use prism_translation_laws::{form_law, names_law, same_meaning_law, sound_types_law};
 use prism_translator::{CheckedPrismText, translate};
 use std::alloc::Global;
 

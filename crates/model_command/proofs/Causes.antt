@@ -3,10 +3,10 @@ use Rattle.std.proofs.Common.{arith, ◌≡◌, ◌⊎◌, ◌∙◌, refl, ap, 
 use Rattle.std.specs.Io.KnownBytes.{Appends}
 use Rattle.bridge_io.specs.Outside.{HasFailed, Lefts}
 use Rattle.command_words.specs.Words.{Request, Walking, Checking, WordsCount, on_file, with_properties, walk, check, files_of, IsRequest, IsWrongAt}
-use Rattle.model_walks.specs.Walks.{EndsOnBytes}
-use Rattle.model_walks.specs.declared.ending.Ending.TheVariants as Ends
+use Rattle.model_process.specs.Walks.{EndsOnBytes}
+use Rattle.model_process.specs.declared.ending.Ending.TheVariants as Ends
 use Rattle.model_command.specs.Outcome.{status_of, line_of, text_of, word_line}
-use Rattle.model_claims.specs.Claims.{EndsOnFiles}
+use Rattle.model_process.specs.Claims.{EndsOnFiles}
 use Rattle.model_command.specs.Run.{IsCause, IsNext, IsEnd, IsTaskEnd, IsPair, IsPairEnd, IsWhole, AreWhole, ComesTo, IsReadEnd, IsCarriedOut, EndsWith, IsTold}
 use Rattle.model_command.specs.declared.outcome.Outcome.{Outcome}
 use Rattle.model_command.specs.declared.outcome.Outcome.TheVariants.{Done, Ended, Refused, Words, ReadFault, NoMemory}

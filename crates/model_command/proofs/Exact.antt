@@ -13,7 +13,7 @@ use Rattle.prism_check.specs.Faults.{faults}
 use Rattle.command_words.specs.declared.request.Task.{Task}
 use Rattle.command_words.specs.declared.request.Task.TheVariants.{ToJani, ToPrism, ToPrismProps, CheckPrism, CheckJani}
 use Rattle.command_words.specs.Words.{Request, IsRequest, HasForm, IsWrongAt}
-use Rattle.model_walks.specs.declared.ending.Ending.{Ending}
+use Rattle.model_process.specs.declared.ending.Ending.{Ending}
 use Rattle.jani_table.specs.declared.table.Form.TheVariants as F
 use Rattle.jani_table.specs.Node.{node}
 use Rattle.jani_table.specs.Faults.{faults as shape_faults}

@@ -8,7 +8,7 @@ use Rattle.bridge_io.specs.declared.reason.Reason.TheVariants.{TooLong}
 use Rattle.bridge_io.specs.declared.place.Place.{Place}
 use Rattle.command_words.specs.declared.request.Task.{Task}
 use Rattle.command_words.specs.Words.{Request, on_file, IsRequest, OneRequest}
-use Rattle.model_walks.specs.declared.ending.Ending.{Ending}
+use Rattle.model_process.specs.declared.ending.Ending.{Ending}
 use Rattle.model_command.specs.Tasks.{IsFit}
 use Rattle.model_command.specs.Outcome.{status_of}
 use Rattle.model_command.specs.Run.{IsCause, IsEnd, IsLongEnd, IsReadEnd}

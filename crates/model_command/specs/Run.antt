@@ -17,9 +17,9 @@ use Rattle.model_files.specs.PrismFile.{IsPrismFault}
 use Rattle.model_translation.specs.WithProperties.{TranslatesWith, IsPropertiesFault}
 use Rattle.model_translation.specs.declared.properties.FilesRefused.{FilesRefused}
 use Rattle.model_translation.specs.declared.properties.FilesRefused.TheVariants as files
-use Rattle.model_walks.specs.Models.{IsModelFault}
-use Rattle.model_walks.specs.Walks.{EndsOnBytes}
-use Rattle.model_claims.specs.Claims.{EndsOnFiles, IsFileFault}
+use Rattle.model_process.specs.Models.{IsModelFault}
+use Rattle.model_process.specs.Walks.{EndsOnBytes}
+use Rattle.model_process.specs.Claims.{EndsOnFiles, IsFileFault}
 use Rattle.model_command.specs.Outcome.{status_of, line_of, text_of, place_in}
 use Rattle.model_command.specs.declared.outcome.Outcome.{Outcome}
 use Rattle.model_command.specs.declared.outcome.Outcome.TheVariants.{Done, Ended, Refused, Words, ReadFault, NoMemory}

@@ -4,9 +4,9 @@ ghost use Rattle.std.specs.Io.KnownBytes.{Appends};
 ghost use Rattle.bridge_io.specs.Outside.{HasFailed, Lefts};
 ghost use Rattle.command_words.specs.Words.{Walking, texts, on_file, with_properties, walk, check, checking_of, files_of, request_of, IsRequest, IsWrongAt};
 ghost use Rattle.model_command.specs.Outcome.{halted, status_of, word_line};
-ghost use Rattle.model_walks.specs.Walks.{EndsOnBytes, WalksOn};
-ghost use Rattle.model_walks.specs.declared.ending.Ending.TheVariants as Ending;
-ghost use Rattle.model_claims.specs.Claims.{EndsOnFiles, JudgesOn};
+ghost use Rattle.model_process.specs.Walks.{EndsOnBytes, WalksOn};
+ghost use Rattle.model_process.specs.declared.ending.Ending.TheVariants as Ending;
+ghost use Rattle.model_process.specs.Claims.{EndsOnFiles, JudgesOn};
 ghost use Rattle.model_command.specs.Run.{AreWhole, ComesTo, IsCause, IsClaimEnd, IsEnd, IsEndOn, IsNext, IsDelivered, IsTaskEnd, IsTold, IsWalkEnd, IsWhole, EndsWith, IsCarriedOut, names_of, pair_name, pair_outcome};
 ghost use Rattle.model_command.specs.Tasks.{Makes, IsFit, Judged};
 ghost use Rattle.model_command.specs.Headline.{AreHeld, IsHeadline, IsEndedAsTold, IsShownAsTold, IsTranslatedAsTold};
@@ -17,11 +17,10 @@ use crate::reading::read_files;
 use crate::to_prism::translate_back;
 use bridge_io::{List, ReadFail, Reason, Refused, Shelf, Sink, write_whole};
 use command_words::{Checking, Request, Task, WordsFail, request_in, words_law};
-use model_claims::{ClaimRefused, judge_claim};
+use model_process::{ClaimRefused, Ending, judge_claim, show_or_walk};
 use model_translation::{
     FilesRefused, one_list_of_faults, translate, translate_properties, translate_with_properties,
 };
-use model_walks::{Ending, show_or_walk};
 use std::alloc::Global;
 
 // The status where a write failed.

@@ -3,7 +3,7 @@ ghost use Rattle.std.specs.Prelude.{◌≡◌, IfOk, string_bytes, ℕ, List};
 ghost use Rattle.model_command.specs.Outcome.{ending_line, ending_status, ending_text, line_of, place_in, refusal_line, refused_at, status_of, text_of, word_line};
 
 use bridge_io::{List, Place, Reason, Refused, place_of};
-use model_walks::Ending;
+use model_process::Ending;
 use std::alloc::{AllocError, Global};
 
 /// How a run ends, unless a write fails.

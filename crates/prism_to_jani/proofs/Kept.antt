@@ -12,10 +12,10 @@ use Rattle.jani_check.specs.Faults.{faults}
 use Rattle.jani_check.specs.Faults as judged
 use Rattle.jani_check.proofs.Profiled.{places_aside, checked_is_writable}
 use Rattle.jani_translator.specs.Translated.{translated}
-use Rattle.jani_translation_names.proofs.Form.{translated_has_form}
-use Rattle.jani_translation_names.proofs.Composition.{no_name_faults}
-use Rattle.jani_translation_meaning.proofs.Whole.{no_type_fault, no_profile_fault}
-use Rattle.jani_translation_meaning.proofs.SameMeaning.{moved, translation_means_the_same}
+use Rattle.jani_translation_laws.proofs.Form.{translated_has_form}
+use Rattle.jani_translation_laws.proofs.Composition.{no_name_faults}
+use Rattle.jani_translation_laws.proofs.Whole.{no_type_fault, no_profile_fault}
+use Rattle.jani_translation_laws.proofs.SameMeaning.{moved, translation_means_the_same}
 use Rattle.prism_to_jani.specs.Promise.{IsTranslated, PlacesAside}
 
 -- a file that is written out, its translation

@@ -1,2 +1,2 @@
 pub mod Promise
-pub use Rattle.jani_translation_meaning.specs.SameMeaning
+pub use Rattle.jani_translation_laws.specs.SameMeaning

@@ -7,7 +7,7 @@ use Rattle.jani_tree.specs.Back.{IsWritable}
 use Rattle.jani_tree.specs.Places.{bare_file}
 use Rattle.jani_check.specs.Faults.{IsChecked}
 use Rattle.jani_translator.specs.Translated.{translated}
-use Rattle.jani_translation_meaning.specs.SameMeaning.{MeansTheSame}
+use Rattle.jani_translation_laws.specs.SameMeaning.{MeansTheSame}
 
 -- It has no fault of names, types or the profile, and the form that is asked of a file that is written. Its shape is fixed, place
 -- by place: that of the file with formulas and copies of modules written out. And it means the same process.

@@ -25,7 +25,7 @@ use Rattle.name_table.specs.declared.entry.Entry.{Entry}
 use Rattle.name_table.specs.Entries.{Ask as Wanted, entries_of}
 use Rattle.name_table.specs.PrismAsks.{asks}
 use Rattle.name_table.proofs.EntryLemmas.{one_each}
-use Rattle.prism_translation_names.specs.Translated.{translated}
+use Rattle.prism_translation_laws.specs.Translated.{translated}
 use Rattle.prop_grammar.specs.Property.{Ask, greatest, least, bounded, greatest_reward, least_reward, Path, finally, globally, until, weak_until, finally_within, until_within}
 use Rattle.prop_trees.specs.Trees.{JaniProperty, Role, parts, structure_of, ask_parts, path_parts, ask_with, path_with, SameAsk, SamePath}
 use Rattle.prop_trees.specs.Form.{HasForm, JaniForm}

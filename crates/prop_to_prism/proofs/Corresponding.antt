@@ -17,8 +17,8 @@ use Rattle.jani_meaning.specs.Elements.{Owned, lasting, labels}
 use Rattle.name_table.specs.declared.entry.Entry.{Entry}
 use Rattle.name_table.specs.PrismAsks.{NewNames, name_at, value_name, outside}
 use Rattle.jani_images.proofs.ImageSeen.{image_seen}
-use Rattle.prism_translation_names.specs.Translated.{translated}
-use Rattle.prism_translation_types.proofs.Scopes.{no_constant, nobody}
+use Rattle.prism_translation_laws.specs.Translated.{translated}
+use Rattle.prism_translation_laws.proofs.TypedScopes.{no_constant, nobody}
 use Rattle.prop_grammar.specs.Grammar.{has_quotes}
 use Rattle.prop_trees.specs.Trees.{Name}
 use Rattle.prop_trees.specs.Names.{Meant, of_model, is_initial, is_deadlock, nothing, meant}

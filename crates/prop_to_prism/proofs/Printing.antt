@@ -27,9 +27,9 @@ use Rattle.jani_meaning.specs.Elements as all
 use Rattle.name_table.specs.declared.entry.Entry.{Entry}
 use Rattle.name_table.specs.PrismAsks.{asks}
 use Rattle.jani_images.specs.Image.{unsigned, literal, image}
-use Rattle.prism_translation_names.proofs.Entries.{IsValidName, all_valid}
-use Rattle.prism_translation_names.proofs.Images.{arity_kept, unsigned_normal}
-use Rattle.prism_translation_types.proofs.Images.{image_names}
+use Rattle.prism_translation_laws.proofs.Entries.{IsValidName, all_valid}
+use Rattle.prism_translation_laws.proofs.Images.{arity_kept, unsigned_normal}
+use Rattle.prism_translation_laws.proofs.TypedImages.{image_names}
 use Rattle.prop_grammar.specs.Property.{Ask, greatest, least, bounded, greatest_reward, least_reward, Path, finally, globally, until, weak_until, finally_within, until_within}
 use Rattle.prop_trees.specs.Trees.{Name, JaniProperty, Role, parts, ask_parts, path_parts, ask_with, path_with}
 use Rattle.prop_trees.specs.Names.{meant, IsMeant}

@@ -29,12 +29,12 @@ use Rattle.name_table.specs.declared.entry.Entry.{Entry}
 use Rattle.name_table.specs.Asks.{called}
 use Rattle.name_table.specs.PrismAsks.{rewards_at}
 use Rattle.name_table.proofs.EntryLemmas.{first_alone}
-use Rattle.prism_translation_names.specs.Targets.{targets}
-use Rattle.prism_translation_names.specs.Names.{action_ask}
-use Rattle.prism_translation_names.specs.Translated.{translated}
-use Rattle.prism_translation_names.proofs.Entries.{IsValidName}
-use Rattle.prism_translation_names.proofs.Segments.{rewards_part, valid_from}
-use Rattle.prism_translation_types.proofs.Images.{image_names}
+use Rattle.prism_translation_laws.specs.Targets.{targets}
+use Rattle.prism_translation_laws.specs.Names.{action_ask}
+use Rattle.prism_translation_laws.specs.Translated.{translated}
+use Rattle.prism_translation_laws.proofs.Entries.{IsValidName}
+use Rattle.prism_translation_laws.proofs.Segments.{rewards_part, valid_from}
+use Rattle.prism_translation_laws.proofs.TypedImages.{image_names}
 use Rattle.prop_grammar.specs.declared.syntax.Structure.{Structure}
 use Rattle.prop_grammar.specs.Property.{Ask, greatest, least, bounded, greatest_reward, least_reward, Path, finally, globally, until, weak_until, finally_within, until_within}
 use Rattle.prop_grammar.specs.Syntax.{WrittenProperty}

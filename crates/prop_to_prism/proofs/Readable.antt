@@ -26,12 +26,12 @@ use Rattle.jani_check.specs.Faults.{IsChecked}
 use Rattle.op_trees.specs.Names.{is_called}
 use Rattle.jani_meaning.specs.Elements.{elements, Owned, owned_by, is_boolean, is_label, lasting, labels, variables}
 use Rattle.name_table.specs.PrismAsks.{NewNames, name_at, name_at_some, value_name, outside}
-use Rattle.prism_translation_names.specs.Elements.{may_use}
-use Rattle.prism_translation_names.proofs.Clean.{names_apart_outside}
-use Rattle.prism_translation_names.proofs.Elements.{judged_at}
-use Rattle.prism_translation_names.proofs.Scopes.{known_stands, thing_held}
-use Rattle.prism_translation_types.specs.TypeLaws.{own_variables}
-use Rattle.prism_translation_types.proofs.Scopes.{no_constant, nobody, variables_all, Stands, stands_all, placed_at, constant_known, variable_known}
+use Rattle.prism_translation_laws.specs.Elements.{may_use}
+use Rattle.prism_translation_laws.proofs.Clean.{names_apart_outside}
+use Rattle.prism_translation_laws.proofs.Elements.{judged_at}
+use Rattle.prism_translation_laws.proofs.Scopes.{known_stands, thing_held}
+use Rattle.prism_translation_laws.specs.TypeLaws.{own_variables}
+use Rattle.prism_translation_laws.proofs.TypedScopes.{no_constant, nobody, variables_all, Stands, stands_all, placed_at, constant_known, variable_known}
 use Rattle.jani_props.specs.declared.model.Meaning.TheVariants.{OfModel}
 use Rattle.jani_props.specs.Faults.{is_read}
 use Rattle.prop_to_prism.specs.ToPrism.{label_name, label_or, model_name, new_names}

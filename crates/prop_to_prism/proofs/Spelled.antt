@@ -11,10 +11,10 @@ use Rattle.jani_meaning.specs.Elements.{lasting, labels, structures}
 use Rattle.name_table.specs.PrismAsks.{name_at}
 use Rattle.name_table.specs.Entries.{Ask}
 use Rattle.name_table.proofs.EntryLemmas.{first_alone}
-use Rattle.prism_translation_names.specs.Targets.{targets}
-use Rattle.prism_translation_names.specs.Names.{action_ask}
-use Rattle.prism_translation_names.proofs.Entries.{IsValidName}
-use Rattle.prism_translation_names.proofs.Segments.{constants_part, variables_part, labels_part, rewards_part, constant_spelled, variable_spelled, labels_spelled}
+use Rattle.prism_translation_laws.specs.Targets.{targets}
+use Rattle.prism_translation_laws.specs.Names.{action_ask}
+use Rattle.prism_translation_laws.proofs.Entries.{IsValidName}
+use Rattle.prism_translation_laws.proofs.Segments.{constants_part, variables_part, labels_part, rewards_part, constant_spelled, variable_spelled, labels_spelled}
 use Rattle.prop_grammar.specs.Grammar.{has_quotes}
 use Rattle.prop_to_prism.specs.ToPrism.{new_names}
 use Rattle.prop_to_prism.proofs.Entries.{constants_same, variables_same, labels_same, rewards_same}

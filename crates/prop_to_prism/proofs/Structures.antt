@@ -16,12 +16,12 @@ use Rattle.name_table.specs.declared.entry.Entry.{Entry}
 use Rattle.name_table.specs.Asks.{called}
 use Rattle.name_table.specs.PrismAsks.{NewNames, name_at}
 use Rattle.name_table.proofs.EntryLemmas.{first_alone}
-use Rattle.prism_translation_names.specs.Targets.{targets}
-use Rattle.prism_translation_names.specs.Names as translation
-use Rattle.prism_translation_names.specs.Names.{action_ask}
-use Rattle.prism_translation_names.specs.Marks.{structure}
-use Rattle.prism_translation_names.proofs.Scopes.{reward_test}
-use Rattle.prism_translation_names.proofs.Segments.{rewards_part}
+use Rattle.prism_translation_laws.specs.Targets.{targets}
+use Rattle.prism_translation_laws.specs.Names as translation
+use Rattle.prism_translation_laws.specs.Names.{action_ask}
+use Rattle.prism_translation_laws.specs.Marks.{structure}
+use Rattle.prism_translation_laws.proofs.Scopes.{reward_test}
+use Rattle.prism_translation_laws.proofs.Segments.{rewards_part}
 use Rattle.jani_check.specs.Things.{is_reward, var_thing}
 use Rattle.jani_props.specs.Faults.{structures, structures_among}
 use Rattle.prop_to_prism.specs.ToPrism.{new_names}

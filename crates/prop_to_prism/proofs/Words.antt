@@ -21,11 +21,11 @@ use Rattle.name_table.specs.declared.entry.Entry.{Entry}
 use Rattle.name_table.specs.Rule.{space, is_given_label, may_be_called}
 use Rattle.name_table.specs.PrismAsks.{NewNames, name_at, value_name, outside}
 use Rattle.name_table.proofs.EntryLemmas.{first_alone}
-use Rattle.prism_translation_names.specs.Targets.{targets}
-use Rattle.prism_translation_names.specs.Names.{action_ask}
-use Rattle.prism_translation_names.proofs.Entries.{IsValidName}
-use Rattle.prism_translation_names.proofs.Lists.{at_each}
-use Rattle.prism_translation_names.proofs.Segments.{name_there, labels_part, is_of_label}
+use Rattle.prism_translation_laws.specs.Targets.{targets}
+use Rattle.prism_translation_laws.specs.Names.{action_ask}
+use Rattle.prism_translation_laws.proofs.Entries.{IsValidName}
+use Rattle.prism_translation_laws.proofs.Lists.{at_each}
+use Rattle.prism_translation_laws.proofs.Segments.{name_there, labels_part, is_of_label}
 use Rattle.prop_trees.specs.Names.{quoted, marked, filed_label, filed_name, initial_name, deadlock_name, Meant, of_model, is_initial, is_deadlock, nothing, meant, IsMeant}
 use Rattle.jani_props.specs.Faults.{is_known, is_read, meaning_by, name_types, type_of}
 use Rattle.prop_print.specs.Text.{plain_name}

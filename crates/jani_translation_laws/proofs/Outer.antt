@@ -1,0 +1,94 @@
+-- What stands outside of automata has no fault of types.
+use Rattle.std.specs.Prelude.{◌≡◌, List, [], ◌∷◌, ◌++◌, map, Option, Some, None}
+use Rattle.std.specs.List.{flat_map, zip, AllByRecursion as Each}
+use Rattle.std.specs.Option.{option_map}
+use Rattle.std.proofs.Common.{refl, ◌∙◌}
+use Rattle.basics.specs.Lists.{append_both, flat_map_both}
+use Rattle.op_trees.specs.declared.tree.Ty.{Ty}
+use Rattle.op_trees.specs.declared.tree.Ty.TheVariants as T
+use Rattle.process_core.specs.Product.{flat_map-flat_map}
+use Rattle.process_core.specs.Ready.{Name}
+use Rattle.prism_tree.specs.Syntax as prism
+use Rattle.prism_check.specs.Demands.{type_by}
+use Rattle.prism_places.specs.Flattened.{IsFlat}
+use Rattle.jani_check.specs.Things.{kind_type, global_thing}
+use Rattle.basics.specs.Options.{if_some, IfAny}
+use Rattle.op_trees.specs.Wanted.{wanted_by}
+use Rattle.jani_check.specs.Demands.{fixed, const_demands, bound_demands, var_demands, outer_demands}
+use Rattle.jani_check.specs.TypeFaults.{var_faults, demand_faults}
+use Rattle.jani_translation.specs.Entry.{Entry}
+use Rattle.prism_images.specs.Image.{image}
+use Rattle.jani_translation.specs.Asks.{variables, new_names}
+use Rattle.jani_translation.specs.Parts.{constant, variable, kind_of, start_of, label, structure}
+use Rattle.jani_translation.specs.Translated.{translated}
+use Rattle.jani_translation_laws.specs.TypeLaws.{KindsFit, OuterTypesFit}
+use Rattle.jani_translation_laws.proofs.Expressions.{IsFixed, fixed_clean}
+use Rattle.jani_translation_laws.proofs.Sources.{IsFineRange, IsFineVar, IsFineConst, consts_fine, variables_fine}
+
+-- nothing comes of a list of pairs, where nothing comes of each
+pub nothing_zipped : {X B C : Type 0} (F : B → List C) (g : X → Entry → B) (P : X → Type 0) → ((x : X) (e : Entry) → P x → F (g x e) ≡ []) →
+    (xs : List X) (es : List Entry) → Each P xs → flat_map F (map (λ p. g p.0 p.1) (zip xs es)) ≡ []
+nothing_zipped F g P h [] es p = refl
+nothing_zipped F g P h (x ∷ xs) [] p = refl
+nothing_zipped F g P h (x ∷ xs) (e ∷ es) p = append_both (F (g x e)) _ (h x e p.0) (nothing_zipped F g P h xs es p.1)
+
+pub nothing_each : {X B C : Type 0} (F : B → List C) (g : X → Entry → B) → ((x : X) (e : Entry) → F (g x e) ≡ []) →
+    (xs : List X) (es : List Entry) → flat_map F (map (λ p. g p.0 p.1) (zip xs es)) ≡ []
+nothing_each F g h [] es = refl
+nothing_each F g h (x ∷ xs) [] = refl
+nothing_each F g h (x ∷ xs) (e ∷ es) = append_both (F (g x e)) _ (h x e) (nothing_each F g h xs es)
+
+-- ---- kinds
+kind_fits : (new : Name → Name) (v : prism.Var) (e : Entry) → var_faults (variable new v e) ≡ []
+kind_fits new v e = by_range v.range
+  where
+    by_range : (r : Option prism.Range) → var_faults (record (variable new v e) { kind = kind_of new r }) ≡ []
+    by_range None = refl
+    by_range (Some r) = refl
+
+pub kinds_fit : (file : prism.File) → KindsFit file
+kinds_fit file =
+    let names = new_names file in
+    flat_map_both var_faults (map (λ p. variable names.value p.0 p.1) (zip (variables file) names.variables)) _
+    (nothing_each var_faults (variable names.value) (kind_fits names.value) (variables file) names.variables)
+    (flat_map_both var_faults (map (λ p. label p.0 p.1) (zip file.labels names.labels)) (map (λ p. structure p.0 p.1) (zip file.rewards names.rewards))
+    (nothing_each var_faults label (λ l e. refl) file.labels names.labels)
+    (nothing_each var_faults structure (λ r e. refl) file.rewards names.rewards))
+
+-- ---- constants and variables
+module _ (file : prism.File) (flat : IsFlat file) where
+  value_clean : (t : Ty) (o : Option prism.Expression) → IfAny (IsFixed file flat t) o →
+      flat_map (demand_faults (global_thing (translated file))) (map (fixed (wanted_by t)) (if_some (option_map (image (new_names file).value) o))) ≡ []
+  value_clean t None h = refl
+  value_clean t (Some e) h = append_both (demand_faults (global_thing (translated file)) (fixed (wanted_by t) (image (new_names file).value e))) [] (fixed_clean file flat t e h) refl
+
+  start_clean : (r : Option prism.Range) (o : Option prism.Expression) → IsFineRange file flat r → IfAny (IsFixed file flat (type_by r)) o →
+      flat_map (demand_faults (global_thing (translated file)))
+      (bound_demands (kind_of (new_names file).value r) ++ (fixed (wanted_by (kind_type (kind_of (new_names file).value r))) (start_of (new_names file).value o r) ∷ [])) ≡ []
+  start_clean None None h k = refl
+  start_clean None (Some e) h k = append_both (demand_faults (global_thing (translated file)) (fixed (wanted_by T.Bool) (image (new_names file).value e))) [] (fixed_clean file flat T.Bool e k) refl
+  start_clean (Some r) None h k =
+      let low = fixed_clean file flat T.Int r.low h.0 in
+      let D : prism.Expression → _ = λ e. demand_faults (global_thing (translated file)) (fixed (wanted_by T.Int) (image (new_names file).value e)) in
+      append_both (D r.low) _ low (append_both (D r.high) _ (fixed_clean file flat T.Int r.high h.1) (append_both (D r.low) [] low refl))
+  start_clean (Some r) (Some e) h k =
+      let D : prism.Expression → _ = λ e. demand_faults (global_thing (translated file)) (fixed (wanted_by T.Int) (image (new_names file).value e)) in
+      append_both (D r.low) _ (fixed_clean file flat T.Int r.low h.0)
+      (append_both (D r.high) _ (fixed_clean file flat T.Int r.high h.1) (append_both (D e) [] (fixed_clean file flat T.Int e k) refl))
+
+  pub outer_types_fit : flat_map (demand_faults (global_thing (translated file))) (outer_demands (translated file)) ≡ []
+  outer_types_fit =
+      let names = new_names file in
+      let F = demand_faults (global_thing (translated file)) in
+      flat_map_both F (flat_map const_demands (translated file).constants) (flat_map var_demands (translated file).variables)
+      (flat_map-flat_map F const_demands (translated file).constants
+      ∙ nothing_zipped (λ c. flat_map F (const_demands c)) (constant names.value) (IsFineConst file flat) (λ c e h. value_clean c.ty c.value h) file.constants names.constants (consts_fine file flat))
+      (flat_map-flat_map F var_demands (translated file).variables
+      ∙ flat_map_both (λ v. flat_map F (var_demands v)) (map (λ p. variable names.value p.0 p.1) (zip (variables file) names.variables)) _
+      (nothing_zipped (λ v. flat_map F (var_demands v)) (variable names.value) (IsFineVar file flat) (λ v e h. start_clean v.range v.start h.0 h.1) (variables file) names.variables (variables_fine file flat))
+      (flat_map_both (λ v. flat_map F (var_demands v)) (map (λ p. label p.0 p.1) (zip file.labels names.labels)) (map (λ p. structure p.0 p.1) (zip file.rewards names.rewards))
+      (nothing_each (λ v. flat_map F (var_demands v)) label (λ l e. refl) file.labels names.labels)
+      (nothing_each (λ v. flat_map F (var_demands v)) structure (λ r e. refl) file.rewards names.rewards)))
+
+pub outer_fit : (file : prism.File) → OuterTypesFit file
+outer_fit file flat = outer_types_fit file flat

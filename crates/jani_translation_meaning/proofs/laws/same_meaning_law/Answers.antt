@@ -1,5 +1,0 @@
-use Rattle.jani_translation_meaning.proofs.SameMeaning.{translation_means_the_same}
-use Rattle.jani_translation_meaning.proofs.laws.same_meaning_law.Goals as goal
-
-pub returns : goal.returns
-returns c = translation_means_the_same

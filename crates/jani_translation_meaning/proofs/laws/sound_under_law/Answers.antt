@@ -1,5 +1,0 @@
-use Rattle.jani_translation_meaning.proofs.Constants.{flat_is_sound}
-use Rattle.jani_translation_meaning.proofs.laws.sound_under_law.Goals as goal
-
-pub returns : goal.returns
-returns c = record { sound = flat_is_sound }

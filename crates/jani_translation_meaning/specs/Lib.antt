@@ -1,2 +1,0 @@
-pub mod MeaningLaws
-pub mod SameMeaning

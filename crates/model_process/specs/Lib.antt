@@ -1,0 +1,6 @@
+pub mod Constants
+pub mod Models
+pub mod Starts
+pub mod Walks
+pub mod Claims
+pub mod Verdicts

@@ -1,0 +1,14 @@
+//! What the words `show`, `simulate`, `check-path` and `check-rows` ask for, from the bytes of the files: one state of a model, walks
+//! through it, and claims about its process.
+#![tactic(auto)]
+
+mod ending;
+mod judging;
+mod lines;
+mod starting;
+mod walking;
+
+pub use ending::Ending;
+pub use judging::{ClaimRefused, judge_claim};
+pub use starting::{Unstarted, begun, good_front, read_flat};
+pub use walking::show_or_walk;

@@ -1,3 +1,0 @@
-pub mod Constants
-pub mod Starts
-pub mod Walks

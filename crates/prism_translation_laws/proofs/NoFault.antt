@@ -1,0 +1,80 @@
+-- A translated file is written out, and has no fault of names.
+use Rattle.std.specs.List.{flat_map, list_all}
+use Rattle.std.specs.Prelude.{◌≡◌, ◌+◌, List, [], ◌∷◌, map, length, true, nat_eq, ◌<◌}
+use Rattle.std.proofs.Common.{refl, arith}
+use Rattle.std.proofs.lemmas.Bool.{ne_eqb}
+use Rattle.std.proofs.lemmas.List.{length-map}
+use Rattle.std.proofs.lemmas.List.Elements.{All-nil}
+use Rattle.basics.specs.Each.{each_empty, each_any}
+use Rattle.basics.specs.Lists.{append_both}
+use Rattle.bridge_io.specs.declared.reason.Reason.TheVariants.{Nothing}
+use Rattle.name_rules.proofs.Plain.{fault_none}
+use Rattle.prism_tree.specs.Syntax.{plain}
+use Rattle.prism_flat.specs.Kept.{is_plain}
+use Rattle.prism_check.specs.NameFaults.{doubled_names, unknown_names, circles, copy_faults, no_module}
+use Rattle.jani_tree.specs.Syntax.{File}
+use Rattle.jani_meaning.specs.Elements as jani
+use Rattle.jani_meaning.specs.Elements.{structures}
+use Rattle.prism_translation.specs.PrismAsks.{name_at}
+use Rattle.prism_translation.specs.Elements.{Element, elements}
+use Rattle.prism_translation.specs.Names.{new_names}
+use Rattle.prism_translation.specs.Parts.{instead}
+use Rattle.prism_translation.specs.Modules.{module_of}
+use Rattle.prism_translation.specs.Marks.{structure}
+use Rattle.prism_translation.specs.Translated.{translated}
+use Rattle.prism_translation.proofs.Numbered.{element_length}
+use Rattle.prism_translation.proofs.Clean.{has_element}
+use Rattle.prism_translation_laws.specs.NameLaws.{TranslatedIsWrittenOut, TranslatedIsInOrder, HasName, RewardsAreNamed, TranslatedIsPrintable, NoDoubledNames, NoUnknownNames, NoCircles, SomeModule, NoNameFault}
+use Rattle.prism_translation_laws.proofs.Lists.{each_numbered}
+use Rattle.prism_translation_laws.proofs.Good.{good_printable, good_known}
+use Rattle.prism_translation_laws.proofs.Translated.{translated_good}
+use Rattle.prism_translation_laws.proofs.Doubled.{none_doubled}
+use Rattle.prism_translation_laws.proofs.Circles.{none_circular_there}
+
+-- ---- form
+all_plain : (file : File) (els : List Element) → list_all is_plain (map (λ el. plain (module_of file (new_names file) el)) els) ≡ true
+all_plain file [] = refl
+all_plain file (el ∷ els) = all_plain file els
+
+pub written_out : (file : File) → TranslatedIsWrittenOut file
+written_out file = record { formulas = refl; modules = all_plain file (elements file) }
+
+pub in_order : (file : File) → TranslatedIsInOrder file
+in_order file = record { within = All-nil (λ i. i < 0); count = omega arith; listed = tt; covers = λ x b e. absurd cc }
+
+pub rewards_named : (file : File) → RewardsAreNamed file
+rewards_named file =
+    let names = new_names file in
+    each_numbered HasName (λ j o. structure file names j o (name_at names.rewards j) ∷ []) 0 (structures file)
+    (λ j o e. ((instead o.var.name (name_at names.rewards (0 + j)), refl), tt))
+
+pub printable : (file : File) → TranslatedIsPrintable file
+printable file checked = good_printable (translated file) (translated_good file checked)
+
+-- ---- names
+pub doubled : (file : File) → NoDoubledNames file
+doubled = none_doubled
+
+pub unknown : (file : File) → NoUnknownNames file
+unknown file checked = good_known (translated file) (translated_good file checked)
+
+pub circular : (file : File) → NoCircles file
+circular file checked = none_circular_there file checked
+
+pub some_module : (file : File) → SomeModule file
+some_module file checked =
+    let m = length-map (elements file) (λ el. plain (module_of file (new_names file) el)) in
+    let e = element_length 0 (jani.elements file) in
+    let a = length-map file.elements (jani.automaton_called file) in
+    let some = has_element file checked in
+    fault_none (nat_eq (length (translated file).modules) 0) (translated file).end Nothing (ne_eqb (length (translated file).modules) 0 (λ h. let no : ⊥ = omega arith in no))
+
+pub no_name_fault : (file : File) → NoNameFault file
+no_name_fault file checked =
+    let t = translated file in
+    append_both (doubled_names t) _ (doubled file)
+    (append_both (unknown_names t) _ (unknown file checked)
+    (append_both (circles t) _ (circular file checked)
+    (append_both (flat_map (copy_faults t) t.modules) (no_module t)
+    (each_empty (copy_faults t) t.modules (each_any (λ m. copy_faults t m ≡ []) (λ el. plain (module_of file (new_names file) el)) (λ el. refl) (elements file)))
+    (some_module file checked))))

@@ -1,0 +1,5 @@
+use Rattle.prism_translation_laws.proofs.Outer.{outer_types_fit}
+use Rattle.prism_translation_laws.proofs.types.outer_law.Goals as goal
+
+pub returns : goal.returns
+returns c = record { types = outer_types_fit }

@@ -1,0 +1,10 @@
+pub mod NameLaws
+pub mod TypeLaws
+pub mod SameMeaning
+pub use Rattle.prism_translation.specs.Elements
+pub use Rattle.prism_translation.specs.Lines
+pub use Rattle.prism_translation.specs.Marks
+pub use Rattle.prism_translation.specs.Names
+pub use Rattle.prism_translation.specs.Refused
+pub use Rattle.prism_translation.specs.Targets
+pub use Rattle.prism_translation.specs.Translated

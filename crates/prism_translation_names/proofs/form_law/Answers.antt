@@ -1,5 +1,0 @@
-use Rattle.prism_translation_names.proofs.NoFault.{written_out, in_order, rewards_named, printable}
-use Rattle.prism_translation_names.proofs.form_law.Goals as goal
-
-pub returns : goal.returns
-returns c = record { written_out = written_out; ordered = in_order; named = rewards_named; printable = printable }

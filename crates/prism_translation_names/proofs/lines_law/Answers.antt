@@ -1,5 +1,0 @@
-use Rattle.prism_translation_names.proofs.Comments.{lines_are_comments}
-use Rattle.prism_translation_names.proofs.lines_law.Goals as goal
-
-pub returns : goal.returns
-returns c = lines_are_comments

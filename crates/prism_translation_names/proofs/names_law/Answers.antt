@@ -1,5 +1,0 @@
-use Rattle.prism_translation_names.proofs.NoFault.{some_module, no_name_fault}
-use Rattle.prism_translation_names.proofs.names_law.Goals as goal
-
-pub returns : goal.returns
-returns c = record { some = some_module; names = no_name_fault }

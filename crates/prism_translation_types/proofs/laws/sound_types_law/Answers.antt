@@ -1,5 +1,0 @@
-use Rattle.prism_translation_types.proofs.Whole.{no_type_fault}
-use Rattle.prism_translation_types.proofs.laws.sound_types_law.Goals as goal
-
-pub returns : goal.returns
-returns c = record { sound = no_type_fault }
