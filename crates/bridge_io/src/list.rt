@@ -99,7 +99,6 @@ impl List<u8> {
 }
 
 /// A text in UTF-8. It takes no memory of its own where it has at most 22 bytes. Contracts see the list of its bytes.
-#[derive(Drop)]
 pub struct Text {
     kept: Kept,
 }
@@ -121,6 +120,14 @@ impl Model for Text {
     ghost use Rattle.bridge_io.specs.Kept.{bytes_kept};
 
     ghost view = { λ t. bytes_kept t.kept };
+}
+
+// Written out, so that how a text is let go is proved here, and not in each crate that holds one.
+impl Drop for Text {
+    fn drop(self) {
+        let Text { kept } = self;
+        drop(kept);
+    }
 }
 
 impl Text {

@@ -10,7 +10,6 @@ use op_trees::{Expr, Ty};
 pub type JaniExpr = Expr<JaniOp>;
 
 /// A file: a model of type "mdp". The lists are in the order of the file. The properties are kept as they are.
-#[derive(Drop)]
 pub struct JaniFile {
     pub actions: List<Named>,
     pub constants: List<JaniConst>,
@@ -22,6 +21,25 @@ pub struct JaniFile {
     pub elements_at: usize,
     pub vectors: List<JaniVector>,
     pub properties: Json,
+}
+
+// Written out, so that how a file is let go, with all that it holds, is proved here, and not in each crate that holds one.
+impl Drop for JaniFile {
+    fn drop(self) {
+        let JaniFile {
+            actions,
+            constants,
+            variables,
+            automata,
+            elements,
+            elements_at: _,
+            vectors,
+            properties,
+        } = self;
+        drop((actions, constants, variables));
+        drop((automata, elements, vectors));
+        drop(properties);
+    }
 }
 
 /// A constant, with its value if the file gives one, and a comment.

@@ -9,7 +9,6 @@ use op_trees::{Expr, Ty};
 pub type PrismExpr = Expr<PrismOp>;
 
 /// A file. The lists are in the order of the text, and `end` is the length of the text.
-#[derive(Drop)]
 pub struct PrismFile {
     pub constants: List<PrismConst>,
     pub globals: List<PrismVar>,
@@ -18,6 +17,23 @@ pub struct PrismFile {
     pub labels: List<PrismLabel>,
     pub rewards: List<PrismRewards>,
     pub end: usize,
+}
+
+// Written out, so that how a file is let go, with all that it holds, is proved here, and not in each crate that holds one.
+impl Drop for PrismFile {
+    fn drop(self) {
+        let PrismFile {
+            constants,
+            globals,
+            formulas,
+            modules,
+            labels,
+            rewards,
+            end: _,
+        } = self;
+        drop((constants, globals, formulas));
+        drop((modules, labels, rewards));
+    }
 }
 
 /// A constant, with its value if the file gives one.
