@@ -1,5 +1,5 @@
 //! The constants, variables, automata and monitor of the JANI file that a PRISM file is translated to, under new names, of
-//! what `jani_edges` has. What they are stands in `jani_translation`; `jani_translator` makes the file of them.
+//! what `jani_edges` has. What they are stands in `jani_translation`; `prism_to_jani` makes the file of them.
 #![tactic(auto)]
 
 mod automata;

@@ -6,15 +6,15 @@ use Rattle.prism_tree.specs.Syntax.{file_of}
 use Rattle.jani_tree.specs.Syntax.{File}
 use Rattle.jani_check.specs.Faults.{IsChecked}
 use Rattle.jani_check.proofs.Profiled.{first_none}
-use Rattle.prism_places.specs.PlacesLaws.{PlacesMeanNothing, CleanAlike}
+use Rattle.prism_check.specs.PlacesLaws.{PlacesMeanNothing, CleanAlike}
 use Rattle.prism_translation_laws.specs.Lines.{lines}
 use Rattle.prism_translation_laws.specs.Refused.{refused, shared_faults, size_faults}
 use Rattle.prism_translation_laws.specs.Translated.{translated}
 use Rattle.prism_translation_laws.specs.NameLaws.{TranslatedIsPrintable, NoNameFault}
 use Rattle.prism_translation_laws.specs.TypeLaws.{NoTypeFault}
 use Rattle.prism_translation_laws.specs.SameMeaning.{TranslationMeansTheSame, MeaningStays}
-use Rattle.prism_translator.specs.declared.translation.CheckedPrismText.{CheckedPrismText}
-use Rattle.prism_translator.specs.Translation.{IsTranslation}
+use Rattle.jani_to_prism.specs.declared.translation.CheckedPrismText.{CheckedPrismText}
+use Rattle.jani_to_prism.specs.Translation.{IsTranslation}
 use Rattle.jani_to_prism.specs.Promise.{IsTranslated, PlacesAside}
 
 pub is_translated : (file : File) → IsChecked file → refused file ≡ [] → TranslatedIsPrintable file → NoNameFault file → NoTypeFault file → TranslationMeansTheSame →

@@ -2,3 +2,11 @@ pub mod Promise
 pub use Rattle.prism_translation_laws.specs.NameLaws
 pub use Rattle.prism_translation_laws.specs.Lines
 pub use Rattle.prism_translation_laws.specs.Refused
+pub mod Asks
+pub mod Gains
+pub mod Gathered
+pub mod Given
+pub mod LineParts
+pub mod Parts
+pub mod Translation
+pub use Rattle.prism_targets.specs.Places

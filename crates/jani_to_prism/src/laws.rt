@@ -2,7 +2,7 @@
 
 ghost use Rattle.jani_to_prism.specs.Promise.{PlacesAside};
 
-use prism_places::{meaning_law, places_law};
+use prism_check::{meaning_law, places_law};
 use prism_translation_laws::same_meaning_law;
 
 /// What is promised of a translation holds of each tree that is the same but for its places.

@@ -1,11 +1,24 @@
-//! JANI files translated to PRISM files that mean the same: the call, and what it promises. What a file is translated to is
-//! defined in prism_translation; that it has no fault and means the same are the laws of the crates beside it.
+//! JANI files translated to PRISM files that mean the same: the call, what it promises, and the code that makes the file and its
+//! comment lines (`translate`). What a file is translated to is defined in prism_translation; that it has no fault and means the
+//! same are the laws of prism_translation_laws.
 #![tactic(auto)]
 
+mod actions;
+mod file;
+mod gains;
+mod gathered;
+mod given;
+mod labels;
 mod laws;
+mod lines;
+mod naming;
+mod rewards;
 mod translating;
+mod translation;
 
+pub use gathered::{FileParts, file_parts};
 pub use laws::translated_law;
+pub use naming::new_names;
 pub use prism_translation_laws::lines_law;
-pub use prism_translator::CheckedPrismText;
 pub use translating::to_prism;
+pub use translation::{CheckedPrismText, translate};

@@ -10,10 +10,10 @@ ghost use Rattle.prism_translation_laws.specs.Translated.{translated};
 ghost use Rattle.jani_to_prism.specs.Promise.{IsTranslated};
 
 use crate::laws::translated_law;
+use crate::{CheckedPrismText, translate};
 use bridge_io::Refused;
 use jani_check::CheckedJani;
 use prism_translation_laws::{form_law, names_law, same_meaning_law, sound_types_law};
-use prism_translator::{CheckedPrismText, translate};
 use std::alloc::Global;
 
 /// The PRISM file that a JANI file without fault is translated to, and the comment lines that stand before it. The file has no

@@ -21,7 +21,7 @@ use Rattle.basics.specs.Options.{IfAny}
 use Rattle.prism_print.specs.Printable.{IsPrintableExpression}
 use Rattle.op_trees.specs.Wanted.{wanted_by, is_wanted, wider as wider_value}
 use Rattle.prism_check.specs.TypeFaults.{types}
-use Rattle.prism_places.specs.Flattened.{IsFlat}
+use Rattle.prism_check.specs.Flattened.{IsFlat}
 use Rattle.prism_images.specs.Laws.{IsNoNumberOf}
 use Rattle.prism_images.proofs.Typed.{compares_truths, agreeing}
 use Rattle.jani_translation.specs.SeenLaws.{IsSound}

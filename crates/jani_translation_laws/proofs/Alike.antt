@@ -11,7 +11,7 @@ use Rattle.prism_tree.specs.Syntax as prism
 use Rattle.prism_check.specs.Demands.{type_by, var_type}
 use Rattle.prism_check.specs.TypeFaults as source
 use Rattle.prism_check.specs.TypeFaults.{types}
-use Rattle.prism_places.specs.Flattened.{IsFlat}
+use Rattle.prism_check.specs.Flattened.{IsFlat}
 use Rattle.jani_tree.specs.Syntax.{Expression, Const, VarKind, boolean, integer, Var}
 use Rattle.jani_check.specs.Things.{is_called, kind_type, const_thing, var_thing, thing_type, global_thing, types_by, is_transient}
 use Rattle.jani_check.specs.TypeFaults.{is_variable}

@@ -12,7 +12,7 @@ use Rattle.process_core.specs.Ready.{Name}
 use Rattle.prism_tree.specs.declared.syntax.ItemOn.{ItemOn}
 use Rattle.prism_tree.specs.Syntax as prism
 use Rattle.process_core.specs.Instance.{only_if}
-use Rattle.prism_places.specs.Flattened.{IsFlat}
+use Rattle.prism_check.specs.Flattened.{IsFlat}
 use Rattle.jani_tree.specs.Syntax.{Write, Edge, Automaton}
 use Rattle.std.specs.Option.{option_or as or_else}
 use Rattle.jani_check.specs.Things.{global_thing, beside}

@@ -26,7 +26,7 @@ use Rattle.jani_check.specs.NameFaults.{uses, uses_of, leads_to, is_circular, ci
 use Rattle.jani_translation.specs.Entry.{Entry}
 use Rattle.prism_images.specs.Image.{image}
 use Rattle.jani_translation_laws.proofs.Unknown.{one_names}
-use Rattle.prism_places.specs.Flattened.{IsFlat}
+use Rattle.prism_check.specs.Flattened.{IsFlat}
 use Rattle.jani_translation.specs.Asks.{variables, value_names, entries, new_names}
 use Rattle.jani_translation.specs.Parts.{constant}
 use Rattle.jani_translation.proofs.Clean.{no_faults, values_distinct}

@@ -22,7 +22,7 @@ use Rattle.prism_print.specs.Printable.{IsPrintableConst, IsPrintableExpression}
 use Rattle.prism_check.specs.Demands.{var_type}
 use Rattle.prism_check.specs.TypeFaults as source
 use Rattle.prism_check.specs.TypeFaults.{types}
-use Rattle.prism_places.specs.Flattened.{IsFlat}
+use Rattle.prism_check.specs.Flattened.{IsFlat}
 use Rattle.jani_translation.specs.Asks.{variables}
 use Rattle.jani_translation.specs.SeenLaws.{SoundRange, SoundVariable, SoundConstant, IsSoundUnder}
 use Rattle.jani_translation.proofs.Written.{given_reading}

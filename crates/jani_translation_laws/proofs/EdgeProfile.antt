@@ -16,7 +16,7 @@ use Rattle.process_core.specs.Ready.{Name}
 use Rattle.prism_tree.specs.declared.syntax.ItemOn.{ItemOn}
 use Rattle.prism_tree.specs.Syntax as prism
 use Rattle.process_core.specs.Instance.{only_if}
-use Rattle.prism_places.specs.Flattened.{IsFlat}
+use Rattle.prism_check.specs.Flattened.{IsFlat}
 use Rattle.jani_table.specs.declared.operator.JaniOp.TheVariants.{Add}
 use Rattle.jani_tree.specs.Syntax.{Expression, Write, Edge, Automaton}
 use Rattle.name_rules.specs.Least.{fault_if}

@@ -11,7 +11,7 @@ use Rattle.process_core.specs.Product.{flat_map-flat_map}
 use Rattle.basics.specs.Options.{if_some, IfAny}
 use Rattle.prism_tree.specs.Syntax as prism
 use Rattle.prism_check.specs.Demands as source_demands
-use Rattle.prism_places.specs.Flattened.{IsFlat}
+use Rattle.prism_check.specs.Flattened.{IsFlat}
 use Rattle.jani_check.specs.Things.{global_thing}
 use Rattle.op_trees.specs.Wanted.{wanted_by}
 use Rattle.jani_check.specs.Demands.{varying, assigned, destination_demands, edge_demands}

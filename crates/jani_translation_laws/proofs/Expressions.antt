@@ -27,7 +27,7 @@ use Rattle.prism_check.specs.TypeFaults as source
 use Rattle.prism_check.specs.TypeFaults.{types}
 use Rattle.prism_check.proofs.NamesIn.{listed_names}
 use Rattle.prism_check.proofs.CleanTypes.{IsFree, free_whole}
-use Rattle.prism_places.specs.Flattened.{IsFlat}
+use Rattle.prism_check.specs.Flattened.{IsFlat}
 use Rattle.jani_table.specs.declared.operator.JaniOp.{JaniOp}
 use Rattle.jani_table.specs.Operators.{jani_meaning}
 use Rattle.name_rules.specs.Least.{fault, fault_if}

@@ -22,7 +22,7 @@ use Rattle.op_trees.specs.Wanted.{wanted_by}
 use Rattle.prism_check.specs.Demands.{Demand, fixed, written, var_type, const_demands, range_demands, var_demands, branch_demands, command_demands, part_demands, label_demands, item_demands, rewards_demands, formula_demands, outer_demands}
 use Rattle.prism_check.specs.NameFaults.{is_among, values, unless_known, unknown, unknown_in}
 use Rattle.prism_check.proofs.NamesIn.{listed_names}
-use Rattle.prism_places.specs.Flattened.{IsFlat}
+use Rattle.prism_check.specs.Flattened.{IsFlat}
 use Rattle.jani_translation.specs.Asks.{contents, bodies, variables, value_names}
 use Rattle.jani_translation.proofs.Clean.{value_names_are, no_faults}
 

@@ -19,7 +19,7 @@ use Rattle.process_core.specs.Instance.{only_if}
 use Rattle.prism_check.specs.Demands.{var_type}
 use Rattle.prism_check.specs.NameFaults as source
 use Rattle.prism_check.specs.TypeFaults as source_types
-use Rattle.prism_places.specs.Flattened.{IsFlat}
+use Rattle.prism_check.specs.Flattened.{IsFlat}
 use Rattle.jani_tree.specs.Syntax.{Write}
 use Rattle.name_rules.specs.Least.{fault_if}
 use Rattle.jani_check.specs.NameFaults.{clash, doubled_after}

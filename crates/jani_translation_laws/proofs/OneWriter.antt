@@ -11,7 +11,7 @@ use Rattle.bridge_io.specs.declared.reason.Reason.TheVariants.{TwoRewardWriters}
 use Rattle.process_core.specs.Ready.{Name}
 use Rattle.prism_tree.specs.Syntax as prism
 use Rattle.process_core.specs.Instance.{only_if}
-use Rattle.prism_places.specs.Flattened.{IsFlat}
+use Rattle.prism_check.specs.Flattened.{IsFlat}
 use Rattle.jani_tree.specs.Syntax.{Write, Automaton, Vector}
 use Rattle.name_rules.specs.Least.{fault_if}
 use Rattle.jani_check.specs.Things.{is_called, global_thing, is_reward}

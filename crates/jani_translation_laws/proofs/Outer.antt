@@ -10,7 +10,7 @@ use Rattle.process_core.specs.Product.{flat_map-flat_map}
 use Rattle.process_core.specs.Ready.{Name}
 use Rattle.prism_tree.specs.Syntax as prism
 use Rattle.prism_check.specs.Demands.{type_by}
-use Rattle.prism_places.specs.Flattened.{IsFlat}
+use Rattle.prism_check.specs.Flattened.{IsFlat}
 use Rattle.jani_check.specs.Things.{kind_type, global_thing}
 use Rattle.basics.specs.Options.{if_some, IfAny}
 use Rattle.op_trees.specs.Wanted.{wanted_by}

@@ -22,7 +22,7 @@ use Rattle.prism_names.specs.Names.{unchanged}
 use Rattle.prism_names.specs.Flat.{flat, flat_constant, flat_expression}
 use Rattle.prism_flat.specs.FlatLaws.{model-flat, is_written_out}
 use Rattle.prism_check.proofs.CleanFile.{flat_is_checked}
-use Rattle.prism_places.specs.Flattened.{IsFlat}
+use Rattle.prism_check.specs.Flattened.{IsFlat}
 use Rattle.jani_tree.specs.Syntax as jani
 use Rattle.op_trees.specs.Names.{bare_name}
 use Rattle.jani_tree.specs.Places.{bare_const, bare_file}

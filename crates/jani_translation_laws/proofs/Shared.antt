@@ -19,7 +19,7 @@ use Rattle.op_trees.specs.Wanted.{wanted_by}
 use Rattle.prism_check.specs.Demands.{varying, written, branch_demands, command_demands}
 use Rattle.prism_check.specs.TypeFaults.{Variable, variable_called, types, type_faults_of, target_of, target_by, target, wanted_at, write_faults}
 use Rattle.prism_check.specs.TypeFaults as source
-use Rattle.prism_places.specs.Flattened.{IsFlat}
+use Rattle.prism_check.specs.Flattened.{IsFlat}
 use Rattle.jani_tree.specs.Syntax.{Write, Automaton, Vector}
 use Rattle.name_rules.specs.Least.{fault_if}
 use Rattle.jani_check.specs.Things.{is_called, automaton_called, global_thing, is_lasting}

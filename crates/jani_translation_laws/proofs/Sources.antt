@@ -17,7 +17,7 @@ use Rattle.prism_check.specs.NameFaults.{unknown, unknown_in}
 use Rattle.prism_check.specs.TypeFaults.{types, type_faults_of, has_variable, demand_faults, repeated_writes, part_faults, numbered_faults}
 use Rattle.name_rules.specs.Least.{fault_if}
 use Rattle.name_rules.proofs.Plain.{no_fault}
-use Rattle.prism_places.specs.Flattened.{IsFlat}
+use Rattle.prism_check.specs.Flattened.{IsFlat}
 use Rattle.jani_translation.specs.Asks.{contents, bodies, variables}
 use Rattle.jani_translation.proofs.Clean.{no_faults, no_type_fault}
 use Rattle.jani_translation_laws.proofs.Expressions.{HasType, has_type, known_names, IsFixed}

@@ -29,7 +29,7 @@ use Rattle.basics.specs.Options.{IfAny}
 use Rattle.prism_print.specs.Printable.{IsPrintableExpression, IsPrintableItem, IsPrintableRewards}
 use Rattle.prism_check.specs.Demands.{type_by, var_type}
 use Rattle.prism_check.specs.TypeFaults.{types}
-use Rattle.prism_places.specs.Flattened.{IsFlat}
+use Rattle.prism_check.specs.Flattened.{IsFlat}
 use Rattle.prism_images.specs.Laws.{IsNoNumber}
 use Rattle.prism_images.proofs.Typed.{agreeing}
 use Rattle.jani_translation.specs.Asks.{bodies, variables}

@@ -14,7 +14,7 @@ use Rattle.prism_tree.specs.Syntax.{Expression, plain, File}
 use Rattle.prism_names.specs.Places.{IsPlaceOrder}
 use Rattle.prism_print.specs.Printable.{IsPrintable}
 use Rattle.prism_check.specs.Faults.{faults}
-use Rattle.prism_places.specs.Flattened.{IsFlat}
+use Rattle.prism_check.specs.Flattened.{IsFlat}
 use Rattle.jani_tree.specs.Form.{FileRead}
 use Rattle.jani_check.specs.NameFaults.{name_faults}
 use Rattle.jani_translation.specs.Translated.{translated}

@@ -16,7 +16,7 @@ use Rattle.prism_check.specs.Demands.{written, type_by, var_type}
 use Rattle.prism_check.specs.NameFaults.{is_among, values, unless_known}
 use Rattle.prism_check.specs.TypeFaults.{Variable, variable_called, types, type_faults_of, target_of, target_by, wanted_at, write_faults}
 use Rattle.prism_check.specs.TypeFaults as source
-use Rattle.prism_places.specs.Flattened.{IsFlat}
+use Rattle.prism_check.specs.Flattened.{IsFlat}
 use Rattle.name_rules.specs.Least.{fault_if}
 use Rattle.jani_check.specs.Things.{var_thing, const_thing, global_thing, types_by, is_constant}
 use Rattle.jani_check.specs.Demands.{assigned}

@@ -7,7 +7,7 @@ use Rattle.process_core.specs.Ready.{Values}
 use Rattle.prism_tree.specs.Syntax as prism
 use Rattle.process_core.specs.Instance.{Valuation}
 use Rattle.prism_flat.specs.Process.{model}
-use Rattle.prism_places.specs.Flattened.{IsFlat}
+use Rattle.prism_check.specs.Flattened.{IsFlat}
 use Rattle.jani_translation.specs.SeenLaws.{IsSoundUnder}
 use Rattle.jani_translation.specs.StateLaws.{CommandsAreSound, MarksAreSound, ItemsAreSound}
 

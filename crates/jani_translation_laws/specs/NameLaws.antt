@@ -2,7 +2,7 @@
 -- statements, which are proved of the functions of this crate.
 use Rattle.std.specs.Prelude.{◌≡◌, []}
 use Rattle.prism_tree.specs.Syntax as prism
-use Rattle.prism_places.specs.Flattened.{IsFlat}
+use Rattle.prism_check.specs.Flattened.{IsFlat}
 use Rattle.jani_tree.specs.Form.{FileRead}
 use Rattle.jani_check.specs.NameFaults.{circles, composition_faults, doubled_names, name_faults, unknown_names}
 use Rattle.jani_translation.specs.Translated.{translated}

@@ -3,7 +3,7 @@
 use Rattle.std.specs.Prelude.{◌≡◌, [], false}
 use Rattle.std.specs.List.{flat_map}
 use Rattle.prism_tree.specs.Syntax as prism
-use Rattle.prism_places.specs.Flattened.{IsFlat}
+use Rattle.prism_check.specs.Flattened.{IsFlat}
 use Rattle.jani_check.specs.Things.{global_thing, beside}
 use Rattle.jani_check.specs.Demands.{automaton_demands, outer_demands}
 use Rattle.jani_check.specs.ProfileFaults.{demand_profile, start_faults, given_after, branch_rewards, two_writers, profile_faults}

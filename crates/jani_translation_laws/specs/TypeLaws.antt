@@ -5,7 +5,7 @@ use Rattle.std.specs.List.{flat_map}
 use Rattle.process_core.specs.Ready.{Name}
 use Rattle.prism_tree.specs.Syntax as prism
 use Rattle.prism_check.specs.TypeFaults as source
-use Rattle.prism_places.specs.Flattened.{IsFlat}
+use Rattle.prism_check.specs.Flattened.{IsFlat}
 use Rattle.jani_check.specs.Things.{global_thing, beside, types_by, is_transient}
 use Rattle.jani_check.specs.Demands.{automaton_demands, outer_demands}
 use Rattle.jani_check.specs.TypeFaults.{is_variable, var_faults, demand_faults, repeated_writes, clashing_writes, type_faults}

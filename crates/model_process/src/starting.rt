@@ -16,7 +16,7 @@ use bridge_io::{List, Refused, Text};
 use command_words::Assignment;
 use model_files::read_prism;
 use op_trees::Value;
-use prism_places::{FlatPrism, flatten};
+use prism_check::{FlatPrism, flatten};
 use process_core::{Given, StartFail, Steps};
 use process_texts::GivenText;
 use std::alloc::{AllocError, Global};

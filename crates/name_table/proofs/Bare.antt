@@ -9,7 +9,7 @@ use Rattle.basics.specs.Options.{if_some}
 use Rattle.process_core.specs.Ready.{Name, firsts}
 use Rattle.prism_tree.specs.Syntax.{Command, Module, plain, copied, File}
 use Rattle.op_trees.specs.Names.{bare_name}
-use Rattle.prism_places.specs.Same.{bare_const, bare_var, bare_command, bare_body, bare_module, bare_label, bare_rewards, bare_file}
+use Rattle.prism_check.specs.Same.{bare_const, bare_var, bare_command, bare_body, bare_module, bare_label, bare_rewards, bare_file}
 use Rattle.basics.specs.Mapped.{some_mapped, joined, turned, gathered, mapped, walked}
 use Rattle.name_table.specs.declared.class.NameClass.TheVariants.{Reward}
 use Rattle.name_table.specs.declared.class.Target.TheVariants.{Jani}

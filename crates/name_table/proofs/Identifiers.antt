@@ -26,7 +26,7 @@ use Rattle.prism_lex.proofs.Shapes.{name_state}
 use Rattle.prism_lex.proofs.FrontLemmas.{begins_scanned}
 use Rattle.prism_lex.proofs.NextLemmas.{lexeme, next_is}
 use Rattle.prism_lex.proofs.Once.{next_one, end_next, reads_one}
-use Rattle.prism_places.proofs.Stands.{last_one, one_more}
+use Rattle.prism_check.proofs.Stands.{last_one, one_more}
 use Rattle.name_table.specs.Rule.{is_identifier}
 use Rattle.name_table.specs.State.{is_ident, is_whole}
 

@@ -9,5 +9,5 @@ pub mod Gathering
 pub mod Joined
 pub mod JaniGathering
 pub mod Bare
-pub use Rattle.prism_places.proofs.NamesIn
-pub use Rattle.prism_places.proofs.Trees
+pub use Rattle.prism_check.proofs.NamesIn
+pub use Rattle.prism_check.proofs.Trees

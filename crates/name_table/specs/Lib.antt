@@ -8,4 +8,4 @@ pub mod Correspond
 pub mod Gathered
 pub mod JaniParts
 pub mod Made
-pub use Rattle.prism_places.specs.Flattened
+pub use Rattle.prism_check.specs.Flattened

@@ -1,7 +1,7 @@
 // The table of a translation to JANI: the names of a file, asked for one after another.
 
 ghost use Rattle.std.specs.Prelude.{◌≡◌, map, IfOk, OnOk};
-ghost use Rattle.prism_places.specs.Flat.{flat};
+ghost use Rattle.prism_check.specs.Flat.{flat};
 ghost use Rattle.prism_tree.specs.Syntax.{file_of, var_of};
 ghost use Rattle.name_table.specs.declared.class.Target.TheVariants.{Jani};
 ghost use Rattle.name_table.specs.Asks.{asks, entries, variables, actions};
@@ -12,7 +12,7 @@ use crate::class::{NameClass, Target};
 use crate::gather::{actions, name_of, variables};
 use crate::table::NameTable;
 use bridge_io::Text;
-use prism_places::{CheckedPrism, flatten};
+use prism_check::{CheckedPrism, flatten};
 use prism_tree::{PrismConst, PrismFile, PrismLabel, PrismModule, PrismRewards, PrismVar};
 use std::alloc::{AllocError, Global};
 

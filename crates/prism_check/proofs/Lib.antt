@@ -33,3 +33,12 @@ pub mod CleanCircles
 pub mod CleanTypes
 pub mod CleanFile
 pub mod Lists
+pub mod Trees
+pub mod SameNames
+pub mod Flat
+pub mod Meaning
+pub mod Form
+pub mod Order
+pub mod Faults
+pub use Rattle.prism_flat.proofs.Contents
+pub use Rattle.prism_flat.proofs.Stands

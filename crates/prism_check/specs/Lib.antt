@@ -22,3 +22,6 @@ pub use Rattle.prism_flat.specs.Kept
 pub use Rattle.prism_flat.specs.Moment
 pub use Rattle.prism_flat.specs.Process
 pub use Rattle.prism_flat.specs.Scene
+pub mod Flattened
+pub mod PlacesLaws
+pub use Rattle.prism_flat.specs.Flat

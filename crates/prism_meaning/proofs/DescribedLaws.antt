@@ -17,7 +17,7 @@ use Rattle.prism_check.specs.Scene.{scene}
 use Rattle.prism_check.specs.Moment.{Moment, moment}
 use Rattle.prism_check.specs.Process.{choices, excess, marks, has_wide_mark}
 use Rattle.prism_check.specs.FlatLaws.{scene-flat, moment-flat}
-use Rattle.prism_places.specs.PlacesLaws.{PlacesKeepScenes, PlacesKeepMoments}
+use Rattle.prism_check.specs.PlacesLaws.{PlacesKeepScenes, PlacesKeepMoments}
 use Rattle.instance_start.specs.Description.{Constant, Description}
 use Rattle.prism_meaning.specs.Described.{described, mark_names, opened, prism_description, structure_name}
 

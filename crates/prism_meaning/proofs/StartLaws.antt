@@ -22,7 +22,7 @@ use Rattle.prism_check.specs.SizeFaults.{size_faults}
 use Rattle.prism_check.specs.TypeFaults.{type_faults}
 use Rattle.name_rules.specs.Least.{or_else}
 use Rattle.prism_check.proofs.CleanFile.{no_either}
-use Rattle.prism_places.specs.Flattened.{IsFlat}
+use Rattle.prism_check.specs.Flattened.{IsFlat}
 use Rattle.process_core.specs.declared.data.Given.{Given}
 use Rattle.process_core.specs.declared.data.StartFail.{StartFail}
 use Rattle.process_core.specs.declared.data.StartFail.TheVariants.{Memory, Wide, Faults, Word}

@@ -46,7 +46,7 @@ use Rattle.prism_check.specs.SizeFaults.{size_faults}
 use Rattle.prism_check.specs.TypeFaults.{Variable, declared_types, demand_faults, has_variable, misfits, numbered_faults, numbered_variables, part_faults, repeated_writes, type_faults, type_faults_of, types, variable_called, variables}
 use Rattle.prism_check.proofs.CleanFile.{no_either}
 use Rattle.prism_check.proofs.NamesIn.{listed_names}
-use Rattle.prism_places.specs.Flattened.{IsFlat}
+use Rattle.prism_check.specs.Flattened.{IsFlat}
 use Rattle.instance_start.specs.Firsts.{BeginRight, begins_right}
 use Rattle.instance_start.proofs.Givens as givens
 use Rattle.instance_start.proofs.Givens.{none_misfits, bool_right}

@@ -22,7 +22,7 @@ use bridge_io::{List, Text};
 use expr_store::Evaluation;
 use instance_start::{Column, first_values, is_initial, is_state};
 use op_trees::Value;
-use prism_places::FlatPrism;
+use prism_check::FlatPrism;
 use prism_tree::PrismOp;
 use process_core::{Choice, Given, InitialWide, Mark, State, StepFail, Steps};
 use state_choices::choices_of;

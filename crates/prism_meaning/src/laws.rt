@@ -1,7 +1,7 @@
 //! Laws of what files describe: functions that do nothing, whose contracts are the laws.
 ghost use Rattle.prism_meaning.specs.Described.{DescribedAlike};
 
-use prism_places::meaning_law;
+use prism_check::meaning_law;
 
 /// A file that is another one written out, whatever the places, has the same constants, comes out as the same, and describes
 /// the same process.

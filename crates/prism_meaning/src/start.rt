@@ -17,7 +17,7 @@ ghost use Rattle.prism_meaning.specs.Knowing.{IsFixed, IsKnown, IsPrepared};
 ghost use Rattle.prism_meaning.specs.Places.{constant_place};
 ghost use Rattle.prism_meaning.specs.Variables.{all_variables, vars_of};
 ghost use Rattle.prism_meaning.specs.Views.{names_by, FindsIn};
-ghost use Rattle.prism_places.specs.Flattened.{IsFlat};
+ghost use Rattle.prism_check.specs.Flattened.{IsFlat};
 
 use crate::constants::{constant_order, constant_values, constants_alone};
 use crate::data::Prepared;
@@ -30,7 +30,7 @@ use crate::variables::{all_variables, variables_under};
 use instance_start::{Column, Constant, Place, Variable, columns, misfit};
 use name_rules::NameMap;
 use op_trees::{EvalFail, Value};
-use prism_places::FlatPrism;
+use prism_check::FlatPrism;
 use prism_tree::{PrismConst, PrismFile, PrismLabel, PrismRewards, PrismVar};
 use process_core::{Given, StartFail};
 use std::alloc::{AllocError, Global};

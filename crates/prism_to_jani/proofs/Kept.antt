@@ -6,12 +6,12 @@ use Rattle.prism_names.specs.Flat.{flat}
 use Rattle.prism_flat.specs.FlatLaws.{is_written_out}
 use Rattle.prism_check.specs.Checked.{Checked, IsChecked}
 use Rattle.prism_check.proofs.CleanFile.{flat_is_checked}
-use Rattle.prism_places.specs.Flattened.{IsFlat}
+use Rattle.prism_check.specs.Flattened.{IsFlat}
 use Rattle.name_rules.specs.Least.{or_else}
 use Rattle.jani_check.specs.Faults.{faults}
 use Rattle.jani_check.specs.Faults as judged
 use Rattle.jani_check.proofs.Profiled.{places_aside, checked_is_writable}
-use Rattle.jani_translator.specs.Translated.{translated}
+use Rattle.jani_automata.specs.Translated.{translated}
 use Rattle.jani_translation_laws.proofs.Form.{translated_has_form}
 use Rattle.jani_translation_laws.proofs.Composition.{no_name_faults}
 use Rattle.jani_translation_laws.proofs.Whole.{no_type_fault, no_profile_fault}

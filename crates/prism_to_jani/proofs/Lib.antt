@@ -1,1 +1,5 @@
 pub mod Kept
+mod Filed
+mod Listed
+mod Places
+mod Statements

@@ -5,14 +5,13 @@ ghost use Rattle.prism_names.specs.Flat.{flat};
 ghost use Rattle.prism_print.specs.Same.{bare_file};
 ghost use Rattle.jani_tree.specs.Places as jani;
 ghost use Rattle.jani_tree.specs.Syntax.{file_of};
-ghost use Rattle.jani_translator.specs.Translated.{translated};
+ghost use Rattle.jani_automata.specs.Translated.{translated};
 ghost use Rattle.prism_to_jani.specs.Promise.{IsTranslated};
 
+use crate::translate;
 use jani_check::CheckedJani;
-use jani_translator::translate;
 use jani_tree::JaniFile;
-use prism_check::CheckedPrism;
-use prism_places::{FlatPrism, flatten};
+use prism_check::{CheckedPrism, FlatPrism, flatten};
 use std::alloc::{AllocError, Global};
 
 /// The JANI file that a PRISM file without fault is translated to. It has no fault, it has the shape that

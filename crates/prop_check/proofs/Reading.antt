@@ -9,8 +9,8 @@ use Rattle.name_rules.specs.Least.{IsAmong, AtMost}
 use Rattle.prism_tree.specs.Syntax.{File}
 use Rattle.prism_parse.specs.Parsed.{UpToAll}
 use Rattle.prop_grammar.specs.Syntax.{WrittenProperty}
-use Rattle.prop_parse.specs.Parsed.{IsSpelled, IsLeastFault, Refuses}
-use Rattle.prop_parse.specs.Laws.{OneSyntax, OneFile}
+use Rattle.prop_reader.specs.Parsed.{IsSpelled, IsLeastFault, Refuses}
+use Rattle.prop_reader.specs.Laws.{OneSyntax, OneFile}
 use Rattle.prop_trees.specs.declared.prism.Property.{Property}
 use Rattle.prop_trees.specs.Form.{AreOfPrism}
 use Rattle.prop_trees.specs.PrismFaults.{faults}

@@ -8,7 +8,7 @@ use Rattle.name_rules.specs.Least.{IsLeast}
 use Rattle.prism_tree.specs.Syntax.{File}
 use Rattle.prop_grammar.specs.Syntax.{WrittenProperty}
 use Rattle.prop_grammar.specs.Faults.{SyntaxFaults}
-use Rattle.prop_parse.specs.Parsed.{IsSpelled}
+use Rattle.prop_reader.specs.Parsed.{IsSpelled}
 use Rattle.prop_trees.specs.declared.prism.Property.{Property}
 use Rattle.prop_trees.specs.PrismFaults.{faults, filed}
 use Rattle.prop_trees.specs.Syntax.{property_of}

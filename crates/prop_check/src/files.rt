@@ -13,7 +13,7 @@ use crate::scope::Scope;
 use bridge_io::{List, Refused};
 use prism_check::CheckedPrism;
 use prop_grammar::Written;
-use prop_parse::parse_file;
+use prop_reader::parse_file;
 use prop_trees::Property;
 use std::alloc::Global;
 

@@ -2,7 +2,7 @@
 
 ghost use Rattle.prop_check.specs.Laws.{OneListOfFaults, SpelledHaveForm};
 
-use prop_parse::{one_file, one_syntax};
+use prop_reader::{one_file, one_syntax};
 
 /// Bytes have one list of faults against a model at most: so they are properties of it only where they have none. Nothing is done.
 pub fn one_list_of_faults()

@@ -10,3 +10,6 @@ pub mod Whole
 pub mod Reasoning
 pub mod Places
 pub mod Marking
+mod Growing
+mod OneSyntax
+mod Spelling

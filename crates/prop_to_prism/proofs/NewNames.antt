@@ -15,7 +15,7 @@ use Rattle.prism_modules.specs.Code.{file_in, names_in, value_in, IsReady}
 use Rattle.prop_trees.specs.Trees.{Name}
 use Rattle.prop_trees.specs.Names.{quoted, meant, built_in, Meant, of_model, is_initial, is_deadlock, nothing, initial_name, deadlock_name}
 use Rattle.prop_to_prism.specs.declared.names.PropertyNames.{PropertyNames}
-use Rattle.prop_print.specs.Text.{plain_meant}
+use Rattle.prop_trees.specs.Text.{plain_meant}
 use Rattle.prop_to_prism.specs.ToPrism.{label_name, label_or, model_name, new_meant}
 use Rattle.prop_to_prism.specs.Code.{text_at, label_text, plain_given, plain_new, model_name_in, name_in, IsReadyFor}
 

@@ -37,8 +37,8 @@ use Rattle.prop_trees.specs.Form.{HasForm, IsFinally, AsksWell, JaniForm}
 use Rattle.jani_props.specs.Syntax.{Written}
 use Rattle.jani_props.specs.Faults.{is_known, name_types, wrong_in, wrong_types, constant_faults, structures, filed}
 use Rattle.jani_props.specs.Reading.{AreSound, AreOfJani}
-use Rattle.prop_print.specs.Text.{plain}
-use Rattle.prop_print.specs.Printable.{IsWord, IsPrintableTree, IsPrintableProperty}
+use Rattle.prop_trees.specs.Text.{plain}
+use Rattle.prop_trees.specs.Printable.{IsWord, IsPrintableTree, IsPrintableProperty}
 use Rattle.prop_to_prism.specs.ToPrism.{new_property_name, new_names, reward_names, property_asks, all_entries, property_entries, translated_expression, translated_property, with_entries, to_prism}
 use Rattle.prop_to_prism.specs.Code.{plain_new}
 use Rattle.prop_to_prism.proofs.Texts.{renamed_image}

@@ -42,9 +42,9 @@ use Rattle.prop_trees.specs.Trees.{Name, JaniProperty, PrismProperty, Role, part
 use Rattle.prop_trees.specs.Names.{filed_name}
 use Rattle.prop_trees.specs.Form.{AsksWell}
 use Rattle.prop_trees.specs.PrismFaults.{is_titled, number_by, number_of, filed}
-use Rattle.prop_print.specs.Text.{plain_name, plain, structure_name}
-use Rattle.prop_print.specs.Printable.{IsTitle, IsPrintableProperty}
-use Rattle.prop_print.specs.Back.{SameExpression, with_names, names_written, SameWritten, TextSpells}
+use Rattle.prop_trees.specs.Text.{plain_name, plain, structure_name}
+use Rattle.prop_trees.specs.Printable.{IsTitle, IsPrintableProperty}
+use Rattle.prop_trees.specs.Back.{SameExpression, with_names, names_written, SameWritten, TextSpells}
 use Rattle.prop_to_prism.specs.ToPrism.{new_property_name, new_names, reward_names, property_entries, translated_expression, with_entries, to_prism}
 use Rattle.prop_to_prism.specs.Laws.{bare_property, TextSpelledBack}
 use Rattle.prop_to_prism.proofs.Entries.{rewards_same}

@@ -11,7 +11,7 @@ use Rattle.name_table.specs.declared.entry.Entry.{Entry}
 use Rattle.name_table.specs.PrismAsks.{name_at}
 use Rattle.prop_grammar.specs.Property.{Ask, greatest, least, bounded, greatest_reward, least_reward, Path, finally, globally, until, weak_until, finally_within, until_within}
 use Rattle.prop_trees.specs.Trees.{Name, JaniProperty, ask_with, path_with}
-use Rattle.prop_print.specs.Text.{plain_name, plain, structure_name, line, ask_text, path_text, properties_text}
+use Rattle.prop_trees.specs.Text.{plain_name, plain, structure_name, line, ask_text, path_text, properties_text}
 use Rattle.prop_to_prism.specs.ToPrism.{new_names, new_property_name, translated_expression, with_entries}
 use Rattle.prop_to_prism.specs.Code.{names_of, all_written, written_property, plain_new}
 

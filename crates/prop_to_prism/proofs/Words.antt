@@ -28,8 +28,8 @@ use Rattle.prism_translation_laws.proofs.Lists.{at_each}
 use Rattle.prism_translation_laws.proofs.Segments.{name_there, labels_part, is_of_label}
 use Rattle.prop_trees.specs.Names.{quoted, marked, filed_label, filed_name, initial_name, deadlock_name, Meant, of_model, is_initial, is_deadlock, nothing, meant, IsMeant}
 use Rattle.jani_props.specs.Faults.{is_known, is_read, meaning_by, name_types, type_of}
-use Rattle.prop_print.specs.Text.{plain_name}
-use Rattle.prop_print.specs.Printable.{IsWord}
+use Rattle.prop_trees.specs.Text.{plain_name}
+use Rattle.prop_trees.specs.Printable.{IsWord}
 use Rattle.prop_to_prism.specs.ToPrism.{label_or, model_name, new_meant, new_property_name, new_names}
 use Rattle.prop_to_prism.proofs.Entries.{labels_same}
 use Rattle.prop_to_prism.proofs.Readable.{ReadAt, a_constant, a_variable, a_label, read_at}

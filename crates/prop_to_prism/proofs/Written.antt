@@ -9,7 +9,7 @@ use Rattle.name_table.specs.PrismAsks.{NewNames, names_by}
 use Rattle.name_table.proofs.EntryLemmas.{first_alone}
 use Rattle.prop_trees.specs.Trees.{JaniProperty}
 use Rattle.jani_props.specs.Reading.{AreOfJani}
-use Rattle.prop_print.specs.Text.{properties_text}
+use Rattle.prop_trees.specs.Text.{properties_text}
 use Rattle.prop_to_prism.specs.ToPrism.{new_names, reward_names, property_asks, all_entries, property_entries, to_prism}
 use Rattle.prop_to_prism.specs.Code.{names_of, plain_new, all_written, text_by}
 use Rattle.prop_to_prism.specs.Laws.{IsWritten}

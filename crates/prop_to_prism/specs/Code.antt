@@ -13,7 +13,7 @@ use Rattle.prism_modules.specs.Code.{file_in, value_in}
 use Rattle.prop_trees.specs.Trees.{Name, JaniProperty, ask_with, path_with}
 use Rattle.prop_trees.specs.Names.{quoted, initial_name, deadlock_name}
 use Rattle.prop_to_prism.specs.declared.names.PropertyNames.{PropertyNames}
-use Rattle.prop_print.specs.Text.{plain_name, line, ask_text, path_text}
+use Rattle.prop_trees.specs.Text.{plain_name, line, ask_text, path_text}
 use Rattle.prop_to_prism.specs.ToPrism.{new_property_name}
 
 -- the names of entries

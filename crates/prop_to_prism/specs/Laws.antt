@@ -14,7 +14,7 @@ use Rattle.prop_grammar.specs.Faults.{Spells}
 use Rattle.prop_trees.specs.Trees.{JaniProperty, PrismProperty, ask_with, path_with}
 use Rattle.prop_trees.specs.PrismFaults.{filed}
 use Rattle.prop_trees.specs.Agree.{AllAgree}
-use Rattle.prop_print.specs.Text.{properties_text}
+use Rattle.prop_trees.specs.Text.{properties_text}
 use Rattle.prop_to_prism.specs.ToPrism.{naming, reward_names, to_prism}
 
 -- The properties that these are translated to agree with them, one by one, in order.

@@ -2,7 +2,7 @@
 
 ghost use Rattle.prop_to_prism.specs.Laws.{NumberedFirst, StructuresNamed, TextSpelledBack, TranslatedAgree};
 
-use prop_print::text_law;
+use prop_trees::text_law;
 
 /// The properties that those of a judged JANI model are translated to agree with them, one by one. The reward structures of the
 /// translated model have the names that queries are written under, in order, and those that properties number come first. The

@@ -7,7 +7,7 @@ ghost use Rattle.prism_print.specs.Text.{enclosed, expression_text};
 ghost use Rattle.prop_grammar.specs.Property.{finally_within, until_within};
 ghost use Rattle.prop_trees.specs.Trees.{ask_with, path_with};
 ghost use Rattle.prop_trees.specs.Syntax.{jani_ask_of, jani_path_of, jani_property_of};
-ghost use Rattle.prop_print.specs.Text.{ask_text, compare_text, is_choice, is_function_name, operand_text, path_text, probability_text, reward_text, steps_text, structure_name};
+ghost use Rattle.prop_trees.specs.Text.{ask_text, compare_text, is_choice, is_function_name, operand_text, path_text, probability_text, reward_text, steps_text, structure_name};
 ghost use Rattle.prop_trees.specs.Names.{quoted};
 ghost use Rattle.prop_to_prism.specs.Code.{name_in, names_of, written_property};
 

@@ -1,2 +1,9 @@
 pub mod Single
 pub mod Spelled
+pub mod Lexing
+pub mod Readable
+pub mod Parts
+pub mod Lines
+pub mod Operands
+pub mod Written
+pub mod Printed

@@ -5,3 +5,6 @@ pub mod Syntax
 pub mod Form
 pub mod Agree
 pub mod JaniText
+pub mod Text
+pub mod Printable
+pub mod Back

@@ -1,6 +1,6 @@
 use Rattle.std.proofs.Common.{◌∙◌, ap}
-use Rattle.prism_places.specs.Flat.{flat}
-use Rattle.prism_places.proofs.Contents.{if_ok}
+use Rattle.prism_check.specs.Flat.{flat}
+use Rattle.prism_check.proofs.Contents.{if_ok}
 use Rattle.name_table.specs.Asks.{entries}
 use Rattle.name_table.proofs.Bare.{entries_alike}
 use Rattle.name_table.proofs.asking.jani_names.Goals as goal

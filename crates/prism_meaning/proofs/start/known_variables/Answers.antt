@@ -3,7 +3,7 @@ use Rattle.std.proofs.Math.Path.{fun_ext}
 use Rattle.op_trees.specs.Seen.{known}
 use Rattle.prism_tree.specs.Syntax.{const_of, file_of, Var}
 use Rattle.prism_check.specs.Scene.{column}
-use Rattle.prism_places.proofs.Contents.{if_ok}
+use Rattle.prism_check.proofs.Contents.{if_ok}
 use Rattle.prism_names.specs.Names.{unchanged}
 use Rattle.process_core.specs.Instance.{Column}
 use Rattle.instance_start.specs.Columns.{trimmed_column, value_at}

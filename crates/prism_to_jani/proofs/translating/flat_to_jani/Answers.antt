@@ -3,7 +3,7 @@ use Rattle.prism_names.specs.Flat.{flat}
 use Rattle.jani_tree.specs.Places.{bare_file}
 use Rattle.jani_tree.specs.Syntax.{file_of}
 use Rattle.jani_check.proofs.Profiled.{places_aside}
-use Rattle.jani_translator.specs.Translated.{translated}
+use Rattle.jani_automata.specs.Translated.{translated}
 use Rattle.jani_translation_laws.proofs.Bare.{translated_alike}
 use Rattle.prism_to_jani.proofs.Kept.{aside}
 use Rattle.prism_to_jani.proofs.translating.flat_to_jani.Goals as goal

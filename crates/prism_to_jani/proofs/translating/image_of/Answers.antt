@@ -3,8 +3,8 @@ use Rattle.std.proofs.Common.{◌≡◌, ap, subst}
 use Rattle.prism_tree.specs.Syntax as prism
 use Rattle.jani_tree.specs.Places.{bare_file}
 use Rattle.jani_tree.specs.Syntax.{file_of}
-use Rattle.jani_translator.specs.Translated.{translated}
-use Rattle.jani_translator.specs.Statements.{IsTranslation}
+use Rattle.jani_automata.specs.Translated.{translated}
+use Rattle.prism_to_jani.specs.Statements.{IsTranslation}
 use Rattle.prism_to_jani.proofs.translating.image_of.Goals as goal
 
 pub returns : goal.returns

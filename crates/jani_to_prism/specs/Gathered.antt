@@ -1,0 +1,12 @@
+-- The parts of a file that the code gathers.
+use Rattle.std.specs.Prelude.{◌≡◌, map}
+use Rattle.jani_tree.specs.Syntax.{File, automaton_of}
+use Rattle.jani_meaning.specs.Elements.{elements, lasting, labels, structures}
+use Rattle.name_table.specs.JaniParts.{owned_of}
+use Rattle.jani_to_prism.specs.declared.gathered.FileParts.{FileParts}
+
+pub record AreGathered (g : FileParts) (file : File) : Type 0 where
+  pub automata_are : map (λ a. automaton_of a.now) g.automata.items ≡ elements file
+  pub lasting_are : map owned_of g.lasting.items ≡ lasting file
+  pub labels_are : map owned_of g.labels.items ≡ labels file
+  pub structures_are : map owned_of g.structures.items ≡ structures file

@@ -1,0 +1,208 @@
+// A file translated.
+
+ghost use Rattle.std.specs.Prelude.{◌≡◌, [], None, map, IfOk, IfErr, OnOk};
+ghost use Rattle.std.specs.List.{All};
+ghost use Rattle.jani_tree.specs.Syntax.{file_of};
+ghost use Rattle.name_rules.specs.Least.{soonest};
+ghost use Rattle.jani_tree.specs.Faults.{FailsFor};
+ghost use Rattle.name_table.specs.declared.class.Target.TheVariants.{Prism};
+ghost use Rattle.name_table.specs.PrismAsks as asked;
+ghost use Rattle.prism_targets.specs.Names.{entries};
+ghost use Rattle.prism_targets.specs.Elements.{elements};
+ghost use Rattle.prism_targets.specs.Refused.{refused};
+ghost use Rattle.prism_targets.specs.Serving.{IsServing};
+ghost use Rattle.prism_modules.specs.Code.{file_in, names_in, IsReady, HasActions, element_of, IsElement};
+ghost use Rattle.jani_to_prism.specs.Gathered.{AreGathered};
+ghost use Rattle.jani_to_prism.specs.Translation.{IsTranslation, IsTextBy};
+
+use crate::actions::ask_actions;
+use crate::file::file_by;
+use crate::gathered::{FileParts, file_parts};
+use crate::lines::lines;
+use crate::naming::new_names;
+use bridge_io::{Fault, List, Refused, Text, together};
+use jani_check::CheckedJani;
+use jani_tree::JaniFile;
+use name_table::{Entry, NameTable, parts_names};
+use prism_modules::{Element, Names, elements};
+use prism_targets::{Serving, least_refused, serving};
+use prism_tree::PrismFile;
+use std::alloc::{AllocError, Global};
+
+/// A PRISM file with the comment lines that stand before it.
+#[derive(Drop)]
+pub struct CheckedPrismText {
+    pub file: PrismFile,
+    pub lines: List<Text>,
+}
+
+/// The translation of a file of the profile, with its comment lines, by this project's own rule. Without one are the files in
+/// which edges of several elements assign a global variable, one of them with an action or with rewards (`SharedWrite`, at the
+/// variable), and else those whose translation would be too large (`TooLarge`); the least of these faults is told. The only other
+/// error is want of memory.
+pub fn translate(alloc: Global, checked: &CheckedJani) -> Result<CheckedPrismText, Refused>
+    ensures accepted { OnOk result (refused (file_of checked.now) ≡ []) }
+    ensures translation { IfOk result (λ t. IsTranslation t (file_of checked.now)) }
+    ensures least { IfErr result (FailsFor (refused (file_of checked.now))) }
+{
+    let file = checked.file();
+    let parts = file_parts(alloc, file)?;
+    judged(alloc, file, &parts)
+}
+
+/// The translation of a file, where these are its parts, or the least fault for which it has none.
+fn judged(alloc: Global, file: &JaniFile, parts: &FileParts) -> Result<CheckedPrismText, Refused>
+    requires { AreGathered parts.now (file_of file.now) }
+    ensures accepted { OnOk result (refused (file_of file.now) ≡ []) }
+    ensures translation { IfOk result (λ t. IsTranslation t (file_of file.now)) }
+    ensures least { IfErr result (FailsFor (refused (file_of file.now))) }
+{
+    match first_refused(alloc, file, parts)? {
+        Some(fault) => Err(Refused::At(fault)),
+        None => {
+            let text = translated(alloc, file, parts)?;
+            Ok(text)
+        }
+    }
+}
+
+/// The least fault of a file that has no translation.
+fn first_refused(
+    alloc: Global,
+    file: &JaniFile,
+    parts: &FileParts,
+) -> Result<Option<Fault>, AllocError>
+    requires { AreGathered parts.now (file_of file.now) }
+    ensures { IfOk result (λ best. best ≡ soonest None (refused (file_of file.now))) }
+{
+    least_refused(
+        alloc,
+        file,
+        parts.automata.as_slice(),
+        parts.lasting.as_slice(),
+        parts.labels.as_slice(),
+        parts.structures.as_slice(),
+    )
+}
+
+/// The translation of a file, where these are its parts.
+fn translated(
+    alloc: Global,
+    file: &JaniFile,
+    parts: &FileParts,
+) -> Result<CheckedPrismText, AllocError>
+    requires { AreGathered parts.now (file_of file.now) }
+    ensures { IfOk result (λ t. IsTranslation t (file_of file.now)) }
+{
+    let serving = serving(
+        alloc,
+        file,
+        parts.automata.as_slice(),
+        parts.structures.as_slice(),
+    )?;
+    served_text(alloc, file, parts, &serving)
+}
+
+/// The same by what the edges of the file serve.
+fn served_text(
+    alloc: Global,
+    file: &JaniFile,
+    parts: &FileParts,
+    serving: &Serving,
+) -> Result<CheckedPrismText, AllocError>
+    requires parts { AreGathered parts.now (file_of file.now) }
+    requires serving { IsServing (file_of file.now) serving.now }
+    ensures { IfOk result (λ t. IsTranslation t (file_of file.now)) }
+{
+    let mut table = parts_names(
+        alloc,
+        file,
+        parts.lasting.as_slice(),
+        parts.labels.as_slice(),
+        parts.structures.as_slice(),
+    )?;
+    asked_text(alloc, file, parts, serving, &mut table)
+}
+
+/// The same by the table of the new names of the file's parts, to which those of the actions are added.
+fn asked_text(
+    alloc: Global,
+    file: &JaniFile,
+    parts: &FileParts,
+    serving: &Serving,
+    table: &mut NameTable,
+) -> Result<CheckedPrismText, AllocError>
+    requires parts { AreGathered parts.now (file_of file.now) }
+    requires serving { IsServing (file_of file.now) serving.now }
+    requires target { table.old.target ≡ Prism }
+    requires entries { table.old.entries ≡ asked.entries (file_of file.now) }
+    ensures { IfOk result (λ t. IsTranslation t (file_of file.now)) }
+{
+    ask_actions(table, serving.targets.as_slice())?;
+    text(alloc, file, parts, serving, table.as_slice())
+}
+
+/// The translation of a file, where these are its parts, what its edges serve, and its entries.
+fn text(
+    alloc: Global,
+    file: &JaniFile,
+    parts: &FileParts,
+    serving: &Serving,
+    all: &[Entry],
+) -> Result<CheckedPrismText, AllocError>
+    requires parts { AreGathered parts.now (file_of file.now) }
+    requires serving { IsServing (file_of file.now) serving.now }
+    requires entries { all.now ≡ entries (file_of file.now) }
+    ensures { IfOk result (λ t. IsTranslation t (file_of file.now)) }
+{
+    let els = elements(alloc, parts.automata.as_slice())?;
+    text_of(alloc, file, parts, serving, all, els.as_slice())
+}
+
+/// The same where these are the elements of the file.
+fn text_of(
+    alloc: Global,
+    file: &JaniFile,
+    parts: &FileParts,
+    serving: &Serving,
+    all: &[Entry],
+    els: &[Element],
+) -> Result<CheckedPrismText, AllocError>
+    requires parts { AreGathered parts.now (file_of file.now) }
+    requires serving { IsServing (file_of file.now) serving.now }
+    requires entries { all.now ≡ entries (file_of file.now) }
+    requires elements { map element_of els.now ≡ elements (file_of file.now) }
+    requires located { All IsElement els.now }
+    ensures { IfOk result (λ t. IsTranslation t (file_of file.now)) }
+{
+    let names = new_names(
+        alloc,
+        file,
+        parts.lasting.as_slice(),
+        parts.labels.len(),
+        parts.structures.len(),
+        all,
+    )?;
+    text_by(alloc, &names, els, parts, serving)
+}
+
+/// The same under new names.
+fn text_by(
+    alloc: Global,
+    names: &Names,
+    els: &[Element],
+    parts: &FileParts,
+    serving: &Serving,
+) -> Result<CheckedPrismText, AllocError>
+    requires names { IsReady names.now }
+    requires actions { HasActions names.now }
+    requires elements { map element_of els.now ≡ elements (file_in names.now) }
+    requires located { All IsElement els.now }
+    requires parts { AreGathered parts.now (file_in names.now) }
+    requires serving { IsServing (file_in names.now) serving.now }
+    ensures { IfOk result (λ t. IsTextBy t (names_in names.now) (file_in names.now)) }
+{
+    let lines = lines(alloc, names, els, parts, serving.targets.as_slice());
+    let (file, lines) = together(file_by(alloc, names, els, parts, serving), lines)?;
+    Ok(CheckedPrismText { file, lines })
+}

@@ -1,4 +1,0 @@
-mod Filed
-mod Listed
-mod Places
-mod Statements

@@ -1,6 +1,0 @@
-use Rattle.std.proofs.Common.{◌≡◌, map, take}
-use Rattle.jani_tree.specs.Syntax as jani
-use Rattle.jani_translator.proofs.composition.elements.Given as goal
-
-abbrev pub invariant-loop-a : goal.invariant-loop-a
-invariant-loop-a l = l.all ≡ map (λ a. a.name) (map (jani.automaton_of) (take l.a-index l.automata))

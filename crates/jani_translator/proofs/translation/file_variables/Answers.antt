@@ -1,5 +1,0 @@
-use Rattle.jani_translator.proofs.Statements.{are_variables}
-use Rattle.jani_translator.proofs.translation.file_variables.Goals as goal
-
-pub returns : goal.returns
-returns c = are_variables c.in_ok-vars.vars.items c.args.file.now c.in_ok-vars.ensures

@@ -1,3 +1,0 @@
-pub mod Filed
-pub mod Statements
-pub use Rattle.jani_automata.specs.Translated

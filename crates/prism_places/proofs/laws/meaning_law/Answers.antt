@@ -1,5 +1,0 @@
-use Rattle.prism_places.proofs.Meaning.{bound_nothing, meaning_nothing, moments_kept, scenes_kept}
-use Rattle.prism_places.proofs.laws.meaning_law.Goals as goal
-
-pub returns : goal.returns
-returns c = record { process = meaning_nothing; meaning = bound_nothing; scenes = scenes_kept; moments = moments_kept }

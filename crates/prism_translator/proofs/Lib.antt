@@ -1,6 +1,0 @@
-mod EntryClasses
-mod GainItems
-mod GivenTo
-mod LineLists
-mod LongActions
-pub use Rattle.prism_targets.proofs.Positions

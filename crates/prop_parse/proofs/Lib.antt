@@ -1,3 +1,0 @@
-mod Growing
-mod Single
-mod Whole

@@ -1,7 +1,0 @@
-// What holds of the text of properties.
-ghost use Rattle.prop_print.specs.Back.{TextSpells};
-
-/// The canonical text of printable properties spells them, offsets aside. Nothing is done.
-pub fn text_law()
-    ensures { TextSpells }
-{}
