@@ -1,11 +1,11 @@
 //! Times parts of the bridge, and prints worked answers of them, which its stored run compares with what was worked out by hand.
 //!
 //! With the word `time`: nanoseconds of exact fractions and of the evaluation of trees, beside the same loops over plain integers. With
-//! the word `worked`: what these come to on small sizes, and answers of the calls of the lowest crates. The trees are of the operators that
-//! languages have in common, strict and lazy ones with one, two and three operands.
+//! the word `worked`: what these come to on small sizes, and answers of the calls of fractions.
 //!
-//! The files that its other words name are read and written back in canonical form: those whose names end in `.json` as JSON texts,
-//! in `.jani` as JANI files, all others as PRISM files. With the word `read` before JSON texts it reads them and says only how many
+//! What is done with the files that its other words name is told by their endings. `.tokens`: the tokens of each line are printed.
+//! `.formulas`: what the formulas of a PRISM file come to. All others are read and written back in canonical form: `.json` as JSON texts,
+//! `.jani` as JANI files, the rest as PRISM files. With the word `read` before JSON texts it reads them and says only how many
 //! bytes each has. Refusals are printed as a reason and an offset.
 #![tactic(auto)]
 
@@ -13,17 +13,19 @@ mod plain;
 mod point;
 mod tables;
 mod texts;
+mod tokens;
 mod trees;
 
 use frac_core::Frac;
-use op_trees::{Expr, StandardOp, count, eval};
+use op_trees::{count, eval};
 use plain::{Ratio, plain_eval, plain_tree};
 use point::Point;
+use prism_tree::PrismExpr;
 use std::alloc::{AllocError, Global};
 use std::time::Instant;
 use std::{env, io};
 use texts::put_back;
-use trees::{Tree, call_laws, name, number, show_sameness, show_trees, two};
+use trees::{balanced, call_laws, show_deep};
 
 const SMALL: u32 = 1_000;
 
@@ -71,8 +73,7 @@ fn show_all(rt: &HostRuntime) -> io::Result<()> {
     show_loops(rt)?;
     show_tree(rt)?;
     show_tables(rt)?;
-    show_trees(rt)?;
-    show_sameness(rt)
+    show_deep(rt)
 }
 
 // What the loops come to on small sizes.
@@ -91,7 +92,7 @@ fn show_tree(rt: &HostRuntime) -> io::Result<()> {
 }
 
 fn size_and_value(alloc: Global) -> Result<(u64, bool), AllocError> {
-    let tree = tree(alloc, 8)?;
+    let tree = balanced(alloc, 8)?;
     Ok((count(&*tree), holds(&tree)))
 }
 
@@ -104,7 +105,6 @@ fn show_tables(rt: &HostRuntime) -> io::Result<()> {
         ("rounded", tables::rounded()),
         ("rests", tables::rests()),
         ("literals", tables::literals()),
-        ("tokens", tables::tokens()),
     ];
     for (name, right) in rows {
         println!(rt; "{name}: {right} right")?;
@@ -197,36 +197,20 @@ fn time_plain_loop(rt: &HostRuntime, product: bool) -> io::Result<(u128, u64)> {
     Ok((start.elapsed(rt)?.as_nanos(), check))
 }
 
-// A balanced tree of conjunctions of this height over comparisons.
-fn tree(alloc: Global, height: u32) -> Tree {
-    if height == 0 {
-        return two(
-            alloc,
-            0,
-            StandardOp::Equal,
-            name(alloc, 0, "x"),
-            number(alloc, 0, 3),
-        );
-    }
-    let left = tree(alloc, height - 1);
-    let right = tree(alloc, height - 1);
-    two(alloc, 0, StandardOp::And, left, right)
-}
-
-fn holds(tree: &Expr<StandardOp>) -> bool {
+fn holds(tree: &PrismExpr) -> bool {
     eval(tree, &Point { x: 3 }).is_ok()
 }
 
 // Nanoseconds of one evaluation of a balanced tree of a million nodes.
 fn time_trees(rt: &HostRuntime) -> io::Result<()> {
-    let exact = tree(rt.alloc(), 18)?;
+    let exact = balanced(rt.alloc(), 18)?;
     let nodes = count(&*exact);
     let (exact, value) = time_eval(rt, &exact)?;
     let (plain, plain_value) = time_plain_eval(rt)?;
     println!(rt; "nodes {nodes}: eval {exact} ns, integers {plain} ns ({value} {plain_value})")
 }
 
-fn time_eval(rt: &HostRuntime, tree: &Expr<StandardOp>) -> io::Result<(u128, bool)> {
+fn time_eval(rt: &HostRuntime, tree: &PrismExpr) -> io::Result<(u128, bool)> {
     let start = Instant::now(rt)?;
     let value = holds(tree);
     Ok((start.elapsed(rt)?.as_nanos(), value))

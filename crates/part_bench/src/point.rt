@@ -1,11 +1,12 @@
-// Names, bodies and a change of operators for the tests.
+// Names, bodies and a change of operators for the worked answers of trees.
 
 ghost use Rattle.std.specs.Prelude.{◌≡◌};
 ghost use Rattle.part_bench.specs.Point.{number_at, turned};
 
 use bridge_io::Text;
 use frac_core::Frac;
-use op_trees::{Bodies, Expr, Names, OpMap, Shape, StandardOp, Ty, Value};
+use op_trees::{Bodies, Expr, Names, OpMap, Shape, Ty, Value};
+use prism_tree::{PrismExpr, PrismOp};
 use std::alloc::{AllocError, Global};
 
 /// All names are ints, and `x` alone has a value.
@@ -43,19 +44,19 @@ fn number(x: i64) -> Option<Value>
 }
 
 /// The name `y` has a body.
-#[derive(Drop)]
-pub struct Bodied {
-    pub body: Expr<StandardOp>,
+#[derive(Clone, Copy)]
+pub struct Bodied<'a> {
+    pub body: &'a PrismExpr,
 }
 
-impl Bodies<StandardOp> for Bodied {
+impl<'a> Bodies<PrismOp> for Bodied<'a> {
     ghost use Rattle.part_bench.specs.Point.{body_of};
     ghost use Rattle.op_trees.specs.Tree.{tree};
 
-    ghost bodies = { λ b. body_of (tree b.body) };
+    ghost bodies = { λ b. body_of (tree b.body.now) };
 
-    fn body(&self, name: &str) -> Option<&Expr<StandardOp>> {
-        if name == "y" { Some(&self.body) } else { None }
+    fn body(&self, name: &str) -> Option<&PrismExpr> {
+        if name == "y" { Some(self.body) } else { None }
     }
 }
 
@@ -63,7 +64,7 @@ impl Bodies<StandardOp> for Bodied {
 #[derive(Clone, Copy)]
 pub struct Turned;
 
-impl OpMap<StandardOp, StandardOp> for Turned {
+impl OpMap<PrismOp, PrismOp> for Turned {
     ghost use Rattle.std.specs.Prelude.{◌≡◌, IfOk};
     ghost use Rattle.part_bench.specs.Point.{turned_node};
     ghost use Rattle.op_trees.specs.Rebuilt.{shape};
@@ -71,11 +72,7 @@ impl OpMap<StandardOp, StandardOp> for Turned {
 
     ghost rebuilt = { λ m. turned_node };
 
-    fn rebuild(
-        &self,
-        alloc: Global,
-        node: Shape<StandardOp, StandardOp>,
-    ) -> Result<Expr<StandardOp>, AllocError>
+    fn rebuild(&self, alloc: Global, node: Shape<PrismOp, PrismOp>) -> Result<PrismExpr, AllocError>
         ensures { IfOk result (λ r. tree r ≡ turned_node (shape node)) }
     {
         match node {
@@ -89,11 +86,11 @@ impl OpMap<StandardOp, StandardOp> for Turned {
     }
 }
 
-fn turn(o: StandardOp) -> StandardOp
+fn turn(o: PrismOp) -> PrismOp
     ensures { result ≡ turned o }
 {
     match o {
-        StandardOp::Greater => StandardOp::Equal,
+        PrismOp::Greater => PrismOp::Equal,
         o => o,
     }
 }

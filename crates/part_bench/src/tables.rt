@@ -1,7 +1,5 @@
-//! Worked answers of fractions, literals and tokens. Each function counts the rows of its table that are answered as they say.
-use bridge_io::{Fault, Reason};
+//! Worked answers of fractions and literals. Each function counts the rows of its table that are answered as they say.
 use frac_core::{Decimal, Frac, FracFail};
-use prism_lex::{Reserved, Symbol, Token, TokenKind, next_token};
 use std::cmp::Ordering;
 
 // The greatest numerator and denominator.
@@ -167,83 +165,5 @@ pub fn literals() -> usize {
                 exponent: *exponent,
             })) == *want
         })
-        .count()
-}
-
-fn token(kind: TokenKind, at: usize, end: usize) -> Result<Token, Fault> {
-    Ok(Token { kind, at, end })
-}
-
-fn bad_byte(at: usize) -> Result<Token, Fault> {
-    Err(Fault {
-        reason: Reason::BadByte,
-        at,
-    })
-}
-
-fn number(real: bool, digits: u128, exponent: i32) -> TokenKind {
-    TokenKind::Number(Decimal {
-        real,
-        negative: false,
-        digits,
-        exponent,
-    })
-}
-
-// Whether what was found is what is wanted.
-fn is_found(found: Result<Token, Fault>, want: Result<Token, Fault>) -> bool {
-    match (found, want) {
-        (Ok(a), Ok(b)) => is_kind(a.kind, b.kind) && a.at == b.at && a.end == b.end,
-        (Err(a), Err(b)) => a == b,
-        _ => false,
-    }
-}
-
-fn is_kind(a: TokenKind, b: TokenKind) -> bool {
-    match (a, b) {
-        (TokenKind::Word(x), TokenKind::Word(y)) => x == y,
-        (TokenKind::Number(x), TokenKind::Number(y)) => x == y,
-        (TokenKind::Symbol(x), TokenKind::Symbol(y)) => x == y,
-        (TokenKind::Ident, TokenKind::Ident) => true,
-        (TokenKind::Quoted, TokenKind::Quoted) => true,
-        (TokenKind::End, TokenKind::End) => true,
-        _ => false,
-    }
-}
-
-// The longest token at an offset of a text.
-pub fn tokens() -> usize {
-    let rows: [(&[u8], usize, Result<Token, Fault>); 24] = [
-        (b"=>", 0, token(TokenKind::Symbol(Symbol::Implies), 0, 2)),
-        (b"=>", 2, token(TokenKind::End, 2, 2)),
-        (b"<=>=", 0, token(TokenKind::Symbol(Symbol::Iff), 0, 3)),
-        (b"<=>=", 3, token(TokenKind::Symbol(Symbol::Equal), 3, 4)),
-        (b"0..1", 0, token(number(false, 0, 0), 0, 1)),
-        (b"0..1", 1, token(TokenKind::Symbol(Symbol::Dots), 1, 3)),
-        (b"0...5", 1, token(TokenKind::Symbol(Symbol::Dots), 1, 3)),
-        (b"0...5", 3, token(number(true, 5, -1), 3, 5)),
-        (b"1ex", 0, token(number(false, 1, 0), 0, 1)),
-        (b"1ex", 1, token(TokenKind::Ident, 1, 3)),
-        (b"1e5x", 0, token(number(true, 1, 5), 0, 3)),
-        (b".5", 0, token(number(true, 5, -1), 0, 2)),
-        (b"5.", 0, token(number(false, 5, 0), 0, 1)),
-        (b"5.", 1, bad_byte(1)),
-        (b" maxx", 0, token(TokenKind::Ident, 1, 5)),
-        (b"max", 0, token(TokenKind::Word(Reserved::Max), 0, 3)),
-        (b"\"max\"", 0, token(TokenKind::Quoted, 0, 5)),
-        (b"\"1a\"", 0, bad_byte(0)),
-        (b"\"a", 0, bad_byte(0)),
-        (b"\"a b\"", 0, bad_byte(0)),
-        (b"\"\"", 0, bad_byte(0)),
-        (b"// \xff and so on", 0, token(TokenKind::End, 14, 14)),
-        (b"5000.0", 0, token(number(true, 5, 3), 0, 6)),
-        (
-            b"0e999999999999999999999",
-            0,
-            token(number(true, 0, 0), 0, 23),
-        ),
-    ];
-    rows.iter()
-        .filter(|(text, from, want)| is_found(next_token(*text, (*from).min(text.len())), *want))
         .count()
 }

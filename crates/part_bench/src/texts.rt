@@ -1,5 +1,7 @@
-// Files read and written back in canonical form.
+// What is done with files: they are read and written back in canonical form, or their tokens or formulas are shown.
 
+use crate::tokens::show_tokens;
+use crate::trees::show_formulas;
 use bridge_io::{FileShelf, List, Refused, StdSink, read_all, write_whole};
 use decimal_json::{read_json, write_json};
 use jani_tree::{JaniFile, from_json, to_json};
@@ -11,7 +13,7 @@ use std::io;
 // The most bytes that are read.
 const LIMIT: usize = 1 << 30;
 
-/// Writes back the file of this name, which is one of the words, or says only how many bytes of JSON it has.
+/// Does with the file of this name, which is one of the words, what its ending tells, or says only how many bytes of JSON it has.
 pub(crate) fn put_back(
     rt: &HostRuntime,
     words: &[String],
@@ -21,8 +23,27 @@ pub(crate) fn put_back(
     let mut shelf = FileShelf::new(rt, words);
     match read_all(rt.alloc(), &mut shelf, name, LIMIT) {
         Ok(bytes) if reads_only => put_length(rt, bytes.as_slice()),
-        Ok(bytes) => put(rt, written_back(rt.alloc(), name, bytes.as_slice())),
+        Ok(bytes) => show_file(rt, name, bytes.as_slice()),
         Err(_) => Err(io::ErrorKind::NotFound.into()),
+    }
+}
+
+// Does with a file of this name what its ending tells.
+fn show_file(rt: &HostRuntime, name: &str, bytes: &[u8]) -> io::Result<()> {
+    if name.ends_with(".tokens") {
+        return show_tokens(rt, bytes);
+    }
+    if name.ends_with(".formulas") {
+        return put_formulas(rt, bytes);
+    }
+    put(rt, written_back(rt.alloc(), name, bytes))
+}
+
+// Prints what the formulas of a PRISM file come to, or why it is refused.
+fn put_formulas(rt: &HostRuntime, bytes: &[u8]) -> io::Result<()> {
+    match parse(rt.alloc(), bytes) {
+        Ok(file) => show_formulas(rt, &file),
+        Err(refused) => put_refusal(rt, refused),
     }
 }
 

@@ -1,0 +1,4 @@
+use Rattle.part_bench.proofs.trees.+grown.Given as goal
+
+abbrev pub decreases-grown : goal.decreases-grown
+decreases-grown l = l.height
