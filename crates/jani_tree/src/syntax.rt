@@ -1,5 +1,7 @@
 // The abstract syntax of a JANI file (jani-model specification, version 1). Each name and each node of an expression has the
 // byte offset of its JSON value.
+//
+// How a value of each type is let go is written out, so that it is proved here, and not in each crate that holds one.
 
 use bridge_io::{List, Named, Text};
 use decimal_json::Json;
@@ -23,7 +25,6 @@ pub struct JaniFile {
     pub properties: Json,
 }
 
-// Written out, so that how a file is let go, with all that it holds, is proved here, and not in each crate that holds one.
 impl Drop for JaniFile {
     fn drop(self) {
         let JaniFile {
@@ -43,7 +44,6 @@ impl Drop for JaniFile {
 }
 
 /// A constant, with its value if the file gives one, and a comment.
-#[derive(Drop)]
 pub struct JaniConst {
     pub name: Named,
     pub ty: Ty,
@@ -51,8 +51,19 @@ pub struct JaniConst {
     pub note: Option<Text>,
 }
 
+impl Drop for JaniConst {
+    fn drop(self) {
+        let JaniConst {
+            name,
+            ty: _,
+            value,
+            note,
+        } = self;
+        drop((name, value, note));
+    }
+}
+
 /// A variable, with its initial value if the file gives one, and a comment.
-#[derive(Drop)]
 pub struct JaniVar {
     pub name: Named,
     pub kind: JaniKind,
@@ -63,8 +74,22 @@ pub struct JaniVar {
     pub note: Option<Text>,
 }
 
+impl Drop for JaniVar {
+    fn drop(self) {
+        let JaniVar {
+            name,
+            kind,
+            kind_at: _,
+            transient: _,
+            start,
+            note,
+        } = self;
+        drop((name, kind, start));
+        drop(note);
+    }
+}
+
 /// The type of a variable. Bounds are kept where it is an int with both.
-#[derive(Drop)]
 pub enum JaniKind {
     Bool,
     Int,
@@ -77,8 +102,20 @@ pub enum JaniKind {
     Bounded(JaniExpr, JaniExpr),
 }
 
+impl Drop for JaniKind {
+    fn drop(self) {
+        match self {
+            JaniKind::Bounded(low, high) => drop((low, high)),
+            JaniKind::Bool => (),
+            JaniKind::Int => (),
+            JaniKind::Real => (),
+            JaniKind::RealBounded => (),
+            JaniKind::OneSided => (),
+        }
+    }
+}
+
 /// An automaton. Which location it begins in is the one of the list `initial`.
-#[derive(Drop)]
 pub struct JaniAutomaton {
     pub name: Named,
     pub variables: List<JaniVar>,
@@ -87,22 +124,47 @@ pub struct JaniAutomaton {
     pub edges: List<JaniEdge>,
 }
 
+impl Drop for JaniAutomaton {
+    fn drop(self) {
+        let JaniAutomaton {
+            name,
+            variables,
+            locations,
+            initial,
+            edges,
+        } = self;
+        drop((name, variables, locations));
+        drop((initial, edges));
+    }
+}
+
 /// A location, with the values of transient variables in it.
-#[derive(Drop)]
 pub struct JaniLocation {
     pub name: Named,
     pub values: List<JaniWrite>,
 }
 
+impl Drop for JaniLocation {
+    fn drop(self) {
+        let JaniLocation { name, values } = self;
+        drop((name, values));
+    }
+}
+
 /// A value for a variable.
-#[derive(Drop)]
 pub struct JaniWrite {
     pub target: Named,
     pub value: JaniExpr,
 }
 
+impl Drop for JaniWrite {
+    fn drop(self) {
+        let JaniWrite { target, value } = self;
+        drop((target, value));
+    }
+}
+
 /// An edge from a location; without an action it is silent.
-#[derive(Drop)]
 pub struct JaniEdge {
     pub location: Named,
     pub action: Option<Named>,
@@ -112,19 +174,53 @@ pub struct JaniEdge {
     pub at: usize,
 }
 
+impl Drop for JaniEdge {
+    fn drop(self) {
+        let JaniEdge {
+            location,
+            action,
+            guard,
+            destinations,
+            at: _,
+        } = self;
+        drop((location, action, guard));
+        drop(destinations);
+    }
+}
+
 /// A destination of an edge, with its probability if the file gives one.
-#[derive(Drop)]
 pub struct JaniDestination {
     pub location: Named,
     pub weight: Option<JaniExpr>,
     pub writes: List<JaniWrite>,
 }
 
+impl Drop for JaniDestination {
+    fn drop(self) {
+        let JaniDestination {
+            location,
+            weight,
+            writes,
+        } = self;
+        drop((location, weight, writes));
+    }
+}
+
 /// A synchronisation vector: for each element the action it takes part with, if it does; and the action that results, if any.
-#[derive(Drop)]
 pub struct JaniVector {
     pub parts: List<Option<Named>>,
     pub result: Option<Named>,
     /// The offset of the list of parts.
     pub at: usize,
+}
+
+impl Drop for JaniVector {
+    fn drop(self) {
+        let JaniVector {
+            parts,
+            result,
+            at: _,
+        } = self;
+        drop((parts, result));
+    }
 }

@@ -7,7 +7,6 @@ ghost use Rattle.name_rules.specs.Rounds.{some_use};
 use crate::telling::Telling;
 
 /// Something that is declared: its name, where that stands, and the names that it uses.
-#[derive(Drop)]
 pub struct Declaration<'a> {
     /// The name.
     pub name: &'a str,
@@ -15,6 +14,18 @@ pub struct Declaration<'a> {
     pub at: usize,
     /// The names that it uses, as often as it does.
     pub uses: Vec<&'a str>,
+}
+
+// Written out, so that it is proved here, and not in each crate that holds one.
+impl<'a> Drop for Declaration<'a> {
+    fn drop(self) {
+        let Declaration {
+            name: _,
+            at: _,
+            uses,
+        } = self;
+        drop(uses);
+    }
 }
 
 /// Whether something that a declaration uses is such a one.

@@ -7,9 +7,16 @@ use indexmap::IndexMap;
 use std::alloc::{AllocError, Global};
 
 /// At most one value under each name.
-#[derive(Drop)]
 pub struct NameMap<'a, T: Copy> {
     entries: IndexMap<&'a str, T>,
+}
+
+// Written out, so that it is proved here, and not in each crate that holds one.
+impl<'a, T: Copy> Drop for NameMap<'a, T> {
+    fn drop(self) {
+        let NameMap { entries } = self;
+        drop(entries);
+    }
 }
 
 impl<'a, T: Copy> NameMap<'a, T> {

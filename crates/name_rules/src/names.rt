@@ -29,9 +29,16 @@ pub fn add_name<'a>(name: &'a Named, list: &mut Vec<Entry<'a>>) -> Result<(), Al
 }
 
 /// A set of names.
-#[derive(Drop)]
 pub struct NameSet<'a> {
     names: NameMap<'a, ()>,
+}
+
+// Written out, so that it is proved here, and not in each crate that holds one.
+impl<'a> Drop for NameSet<'a> {
+    fn drop(self) {
+        let NameSet { names } = self;
+        drop(names);
+    }
 }
 
 impl<'a> NameSet<'a> {

@@ -1,4 +1,5 @@
-// What is seen of a process at a state: states, branches, choices and marks.
+// What is seen of a process at a state: states, branches, choices and marks. How each is let go is written out, so that it is
+// proved here, and not in each crate that holds one.
 
 ghost use Rattle.std.specs.Prelude.{◌≡◌, IfOk, option_copied};
 
@@ -8,9 +9,15 @@ use op_trees::Value;
 use std::alloc::{AllocError, Global};
 
 /// A state: a value for each column.
-#[derive(Drop)]
 pub struct State {
     pub values: List<Value>,
+}
+
+impl Drop for State {
+    fn drop(self) {
+        let State { values } = self;
+        drop(values);
+    }
 }
 
 /// The same state once more.
@@ -42,25 +49,49 @@ pub struct Bad {
 }
 
 /// One way that a choice may go: its probability, the state that it leads to, and a reward for each structure.
-#[derive(Drop)]
 pub struct Branch {
     pub weight: Frac,
     pub target: State,
     pub rewards: List<Frac>,
 }
 
+impl Drop for Branch {
+    fn drop(self) {
+        let Branch {
+            weight: _,
+            target,
+            rewards,
+        } = self;
+        drop((target, rewards));
+    }
+}
+
 /// What a choice leads to: a distribution, given by its branches in order, or nothing that has a meaning.
-#[derive(Drop)]
 pub enum Outcome {
     Good(List<Branch>),
     Faulty(Bad),
 }
 
+impl Drop for Outcome {
+    fn drop(self) {
+        match self {
+            Outcome::Good(value) => drop(value),
+            Outcome::Faulty(_) => (),
+        }
+    }
+}
+
 /// A choice with its label, if it has one.
-#[derive(Drop)]
 pub struct Choice {
     pub label: Option<Text>,
     pub outcome: Outcome,
+}
+
+impl Drop for Choice {
+    fn drop(self) {
+        let Choice { label, outcome } = self;
+        drop((label, outcome));
+    }
 }
 
 /// A label or a reward at a state; `None` is undefined.
