@@ -9,8 +9,8 @@ ghost use Rattle.prism_exprs.specs.Levels.{more, goes_on, lists_on, others, more
 
 use crate::leaf::{leaf_next, parse_leaf};
 use crate::parts::{
-    chain_next, choice, closed, enclosed, function_of, level_next, moved, next_is, one, read_signs,
-    read_symbol, sign_next, two, with_signs,
+    chain_next, choice, closed, enclosed, function_of, level_next, moved, one, read_signs,
+    read_symbol, sign_next, symbol_next, two, with_signs,
 };
 use crate::tokens::{Cause, Kept, Stop, Tokens};
 use bridge_io::Text;
@@ -42,7 +42,7 @@ fn parse_conditional<'a>(
     ensures { Parses tree expr goes_on (seen tokens.entry) result }
 {
     let (test, rest) = parse_level(alloc, 10, tokens)?;
-    if !next_is(rest, Symbol::Question) {
+    if !symbol_next(rest, Symbol::Question) {
         return Ok((test, rest));
     }
     parse_choice(alloc, test, rest)
@@ -228,7 +228,7 @@ fn parse_name<'a>(
 ) -> Result<(PrismExpr, Tokens<'a>), Stop<'a>>
     ensures { Parses tree (gives (Name at name.now) or arguments expr (function_of name.now) at) (more 0) (seen tokens.entry) result }
 {
-    if !next_is(tokens, Symbol::LeftParenthesis) {
+    if !symbol_next(tokens, Symbol::LeftParenthesis) {
         return Ok((Expr::Name(at, Text::copy_of(alloc, name)?), tokens));
     }
     let Some(op) = function_of(name) else {
@@ -317,7 +317,7 @@ fn parse_others<'a>(
 {
     let mut whole = first;
     let mut rest = tokens;
-    'arguments: while next_is(rest, Symbol::Comma) {
+    'arguments: while symbol_next(rest, Symbol::Comma) {
         let (another, behind) = parse_argument(alloc, rest)?;
         whole = two(alloc, at, op, whole, another)?;
         rest = behind;

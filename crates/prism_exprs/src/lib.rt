@@ -8,5 +8,5 @@ mod parts;
 mod tokens;
 
 pub use limit::{parse_outer, parse_outer_prim};
-pub use parts::{function_of, next_is, read_symbol};
+pub use parts::{function_of, read_symbol, symbol_next};
 pub use tokens::{Cause, Found, Kept, Literal, Source, Stop, Tokens};

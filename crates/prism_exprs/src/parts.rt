@@ -73,7 +73,7 @@ impl Kept {
 }
 
 /// Whether this symbol stands next.
-pub fn next_is(tokens: Tokens, wanted: Symbol) -> bool
+pub fn symbol_next(tokens: Tokens, wanted: Symbol) -> bool
     ensures { result ≡ starts (is_kind (K.Symbol wanted)) (seen tokens.entry) }
 {
     match tokens.found.first() {
@@ -139,7 +139,7 @@ pub(crate) fn closed<'a>(
 ) -> Result<(PrismExpr, Tokens<'a>), Stop<'a>>
     ensures { Parses tree (gives (tree e)) (more 0) (seen tokens.entry) result }
 {
-    if next_is(tokens, Symbol::LeftParenthesis) {
+    if symbol_next(tokens, Symbol::LeftParenthesis) {
         return Err(Stop::At(tokens, Cause::Form));
     }
     Ok((e, tokens))
@@ -161,11 +161,14 @@ pub(crate) fn enclosed<'a>(
 pub fn function_of(name: &str) -> Option<PrismOp>
     ensures { result ≡ function_of name.now }
 {
-    match name.as_bytes() {
-        b"floor" => Some(PrismOp::Floor),
-        b"ceil" => Some(PrismOp::Ceil),
-        b"mod" => Some(PrismOp::Mod),
-        _ => None,
+    if "floor" == name {
+        Some(PrismOp::Floor)
+    } else if "ceil" == name {
+        Some(PrismOp::Ceil)
+    } else if "mod" == name {
+        Some(PrismOp::Mod)
+    } else {
+        None
     }
 }
 

@@ -11,4 +11,4 @@ mod sections;
 mod updates;
 
 pub use files::parse_sections;
-pub use readers::{between, read_symbol, read_word, symbol_next, word_next};
+pub use readers::{between, read_symbol, read_word, word_next};

@@ -1,5 +1,6 @@
 // One token, and what stands next.
-ghost use Rattle.std.specs.Prelude.{◌≡◌, IfSome, IfNone, Some, None, drop};
+ghost use Rattle.std.specs.Prelude.{◌≡◌, ◌⊎◌, ◌++◌, ◌∷◌, [], Err, IfErr, IfNone, IfOk, IfSome, None, Ok, Some, drop};
+ghost use Rattle.prism_exprs.specs.declared.tokens.Stop.TheVariants.{Memory};
 ghost use Rattle.prism_lex.specs.declared.token.TokenKind.TheVariants as K;
 ghost use Rattle.prism_tree.specs.Grammar.{symbol, word, name, quoted, unquoted};
 ghost use Rattle.prism_exprs.specs.Kept.{seen, lexeme_at};
@@ -7,34 +8,18 @@ ghost use Rattle.prism_exprs.specs.Reading.{none, starts, is_kind};
 ghost use Rattle.prism_exprs.specs.Scope.{ParsesIn};
 ghost use Rattle.prism_items.specs.Parts.{text_if, all_but, followed_by};
 
-use bridge_io::{Named, Text};
-use prism_exprs::{Cause, Found, Kept, Stop, Tokens};
+use bridge_io::{List, Named, Text};
+use prism_exprs::{Cause, Found, Kept, Stop, Tokens, symbol_next};
 use prism_lex::{Reserved, Symbol};
 use std::alloc::Global;
 use std::str::from_utf8;
-
-/// Whether this symbol stands next.
-pub fn symbol_next(tokens: Tokens, wanted: Symbol) -> bool
-    ensures { result ≡ starts (is_kind (K.Symbol wanted)) (seen tokens.entry) }
-{
-    match tokens.found.first() {
-        Some(first) => match first.kind {
-            Kept::Symbol(symbol) => symbol == wanted,
-            _ => false,
-        },
-        None => false,
-    }
-}
 
 /// Whether this word stands next.
 pub fn word_next(tokens: Tokens, wanted: Reserved) -> bool
     ensures { result ≡ starts (is_kind (K.Word wanted)) (seen tokens.entry) }
 {
     match tokens.found.first() {
-        Some(first) => match first.kind {
-            Kept::Word(word) => word == wanted,
-            _ => false,
-        },
+        Some(first) => first.kind.is_word(wanted),
         None => false,
     }
 }
@@ -142,6 +127,23 @@ pub(crate) fn followed_by<'a, T: Drop>(
 {
     match read {
         Ok((_token, rest)) => Ok((value, rest)),
+        Err(stop) => Err(stop),
+    }
+}
+
+/// Puts what was read at the end of a list; the tokens behind it.
+pub(crate) fn taken_up<'a, T: Drop>(
+    items: &mut List<T>,
+    read: Result<(T, Tokens<'a>), Stop<'a>>,
+) -> Result<Tokens<'a>, Stop<'a>>
+    ensures ok { IfOk result (λ rest. (x : T) × (read.entry ≡ Ok (x, rest)) × (items.new ≡ items.old ++ x ∷ [])) }
+    ensures err { IfErr result (λ stop. (stop ≡ Memory) ⊎ (read.entry ≡ Err stop)) }
+{
+    match read {
+        Ok((item, behind)) => {
+            items.push(item)?;
+            Ok(behind)
+        }
         Err(stop) => Err(stop),
     }
 }

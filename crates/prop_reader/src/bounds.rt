@@ -12,8 +12,10 @@ ghost use Rattle.prop_reader.specs.Parts.{in_scope, operands, opens, function_al
 
 use bridge_io::Text;
 use op_trees::Expr;
-use prism_exprs::{Cause, Found, Kept, Stop, Tokens, function_of, parse_outer, parse_outer_prim};
-use prism_items::{read_symbol, symbol_next};
+use prism_exprs::{
+    Cause, Found, Kept, Stop, Tokens, function_of, parse_outer, parse_outer_prim, symbol_next,
+};
+use prism_items::read_symbol;
 use prism_lex::Symbol;
 use prism_tree::PrismExpr;
 use std::alloc::{AllocError, Global};

@@ -180,8 +180,8 @@ parse_expr-returns-then-leaf_next t c = leaf_expr tree _ c.parse_leaf.result (c.
 pub parse_conditional-returns-in_err-test : goal.parse_conditional-returns-in_err-test
 parse_conditional-returns-in_err-test t c = leaves _ _ _ _ _ _ c.from_residual.ensures (test_stops _ _ c.in_err-test.ensures)
 
-pub parse_conditional-returns-then-not-next_is : goal.parse_conditional-returns-then-not-next_is
-parse_conditional-returns-then-not-next_is t c = test_alone _ _ _ c.in_ok-test.ensures (search rules)
+pub parse_conditional-returns-then-not-symbol_next : goal.parse_conditional-returns-then-not-symbol_next
+parse_conditional-returns-then-not-symbol_next t c = test_alone _ _ _ c.in_ok-test.ensures (search rules)
 
 pub parse_conditional-parse_choice-requires : goal.parse_conditional-parse_choice-requires
 parse_conditional-parse_choice-requires t c = let a = reads_length (more 10) _ _ (tree c.in_ok-test.test) c.in_ok-test.ensures in (omega arith, tt)
@@ -288,8 +288,8 @@ parse_prim-returns-in-Quoted t c = quoted_name _ _ _ _ c.in-Some.first.now c.in-
 
 -- ---- names
 
-pub parse_name-returns-then-not-next_is : goal.parse_name-returns-then-not-next_is
-parse_name-returns-then-not-next_is t c = rw (c.in_ok-copy_of.ensures) (name_alone _ _ _ (search rules))
+pub parse_name-returns-then-not-symbol_next : goal.parse_name-returns-then-not-symbol_next
+parse_name-returns-then-not-symbol_next t c = rw (c.in_ok-copy_of.ensures) (name_alone _ _ _ (search rules))
 
 pub parse_name-returns-in_default : goal.parse_name-returns-in_default
 parse_name-returns-in_default t c = not_called _ _ c.args.at _ (search rules) (search rules)
