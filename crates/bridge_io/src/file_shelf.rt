@@ -66,15 +66,13 @@ fn read_word<R: Files>(
     ensures bound { IfOk result (λ n. n ≤ length piece.old) }
     ensures opened { OnOk result (IsSomeAnd opened.new (λ now. now.word ≡ word)) }
 {
-    let mut now = match opened.take() {
-        Some(now) if now.word == word => now,
-        _ => Open {
-            file: fs::open(rt, name)?,
-            word,
-        },
+    let found = match opened.take() {
+        Some(now) if now.word == word => Ok(now.file),
+        _ => fs::open(rt, name),
     };
-    let got = now.file.read(piece);
-    *opened = Some(now);
+    let mut file = found?;
+    let got = file.read(piece);
+    *opened = Some(Open { file, word });
     got
 }
 

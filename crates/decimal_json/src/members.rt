@@ -18,10 +18,18 @@ const FEW: usize = 8;
 type Late = Option<Box<IndexMap<String, ()>>>;
 
 /// The members that are whole. Contracts see the list of them.
-#[derive(Drop)]
 pub struct Members {
     list: List<Member>,
     late: Late,
+}
+
+// Written out, so that it is proved here, and not wherever one is held.
+impl Drop for Members {
+    fn drop(self) {
+        let Members { list, late } = self;
+        drop(list);
+        drop(late);
+    }
 }
 
 impl Model for Members {
@@ -130,8 +138,8 @@ impl Members {
         requires { is_among (names self) member.key.name ≡ false }
         ensures { IfOk result (λ all. all ≡ self ++ member ∷ []) }
     {
-        let mut list = self.list;
-        match with_name(alloc, self.late, list.len(), member.key.name.as_str()) {
+        let Members { mut list, late } = self;
+        match with_name(alloc, late, list.len(), member.key.name.as_str()) {
             Ok(late) => {
                 list.push(member)?;
                 Ok(Members { list, late })
@@ -147,16 +155,26 @@ impl Members {
     pub(crate) fn into_list(self) -> List<Member>
         ensures { result ≡ self }
     {
-        self.list
+        let Members { list, late } = self;
+        drop(late);
+        list
     }
 }
 
 /// The members before a key whose value is read now, and that key, which is none of theirs. Contracts see the pair.
-#[derive(Drop)]
 pub struct Pending {
     before: Members,
     key: Letters,
     at: usize,
+}
+
+// Written out, so that it is proved here, and not wherever one is held.
+impl Drop for Pending {
+    fn drop(self) {
+        let Pending { before, key, at: _ } = self;
+        drop(before);
+        drop(key);
+    }
 }
 
 impl Model for Pending {
@@ -192,13 +210,14 @@ impl Pending {
     pub(crate) fn with(self, alloc: Global, value: Json) -> Result<Members, AllocError>
         ensures { IfOk result (λ all. all ≡ self.0 ++ record { key = self.1; value = value } ∷ []) }
     {
-        match self.key.into_text() {
+        let Pending { before, key, at } = self;
+        match key.into_text() {
             Ok(name) => {
-                let key = Named { name, at: self.at };
-                self.before.with(alloc, Member { key, value })
+                let key = Named { name, at };
+                before.with(alloc, Member { key, value })
             }
             Err(e) => {
-                drop(self.before);
+                drop(before);
                 drop(value);
                 Err(e)
             }

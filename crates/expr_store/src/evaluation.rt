@@ -14,13 +14,25 @@ use op_trees::{EvalFail, Operator, Value, apply_both, held, literal};
 use std::alloc::Global;
 
 /// The expressions of a store in one state: what the variables and the constants are, and what was found of shared nodes so far.
-#[derive(Drop)]
 pub struct Evaluation<'a, O: Operator> {
     store: &'a ExprStore<O>,
     values: &'a [Value],
     constants: &'a [Option<Value>],
     kept: IndexMap<usize, Result<Value, EvalFail>>,
     ghost right: { IsRight O.meaning store.now.nodes.items values.now constants.now (get nat_eq kept) } by { IsRight-prop O.meaning store.now.nodes.items values.now constants.now (get nat_eq kept) },
+}
+
+// Written out, so that it is proved here, and not wherever one is held.
+impl<'a, O: Operator> Drop for Evaluation<'a, O> {
+    fn drop(self) {
+        let Evaluation {
+            store: _,
+            values: _,
+            constants: _,
+            kept,
+        } = self;
+        drop(kept);
+    }
 }
 
 impl<'a, O: Operator> Evaluation<'a, O> {

@@ -12,11 +12,24 @@ use std::alloc::{AllocError, Global};
 
 /// Expressions, each different subexpression once: its nodes in an order in which each stands behind its operands. Names are
 /// resolved to places.
-#[derive(Drop)]
 pub struct ExprStore<O: Operator> {
     nodes: Vec<Node<O>>,
     notes: Vec<Note>,
     newest: IndexMap<Bucket, usize>,
+}
+
+// Written out, so that it is proved here, and not wherever one is held.
+impl<O: Operator> Drop for ExprStore<O> {
+    fn drop(self) {
+        let ExprStore {
+            nodes,
+            notes,
+            newest,
+        } = self;
+        drop(nodes);
+        drop(notes);
+        drop(newest);
+    }
 }
 
 /// What is noted of a node: the one of its bucket that was put before it, whether an equal one was put again, and how many nodes

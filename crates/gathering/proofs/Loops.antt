@@ -20,6 +20,16 @@ taken xs i x h e = take_more xs i x h ∙ ap (λ z. take i xs ++ z ∷ []) (sym 
 pub none_left : {A Z : Type 0} (F : List A → List Z) (total got : List Z) (xs : List A) (i : ℕ) → F [] ≡ [] → length xs ≤ i → got ++ F (drop i xs) ≡ total → got ≡ total
 none_left F total got xs i none h so_far = sym (append-nil got) ∙ ap (λ l. got ++ l) (sym (at_drop_all F xs i h ∙ none)) ∙ so_far
 
+-- a list for each member, told of those that are left
+pub each_left : {B X : Type 0} (f : B → List X) (total old new : List X) (xs : List B) (i : ℕ) (x : B) → i < length xs → x ≡ get_or xs i x →
+    old ++ flat_map f (drop i xs) ≡ total → new ≡ old ++ f x → new ++ flat_map f (drop (i + 1) xs) ≡ total
+each_left f total old new xs i x h e so_far added =
+    let rest = flat_map f (drop (i + 1) xs) in
+    ap (λ l. l ++ rest) added
+    ∙ append_assoc old (f x) rest
+    ∙ ap (λ l. old ++ flat_map f l) (sym (drop_item xs i x h e))
+    ∙ so_far
+
 -- ---- a list for each member, behind what was there before
 pub flat_next : {X Y : Type 0} (f : X → List Y) (xs : List X) (i : ℕ) (x : X) (first old new : List Y) → i < length xs → x ≡ get_or xs i x → old ≡ first ++ flat_map f (take i xs) →
     new ≡ old ++ f x → new ≡ first ++ flat_map f (take (i + 1) xs)

@@ -9,9 +9,16 @@ use indexmap::IndexMap;
 use std::alloc::{AllocError, Global};
 
 /// A list for each name; all but some are empty.
-#[derive(Drop)]
-pub struct NameLists<'a, T> {
+pub struct NameLists<'a, T: Drop> {
     lists: IndexMap<&'a str, List<T>>,
+}
+
+// Written out, so that it is proved here, and not wherever one is held.
+impl<'a, T: Drop> Drop for NameLists<'a, T> {
+    fn drop(self) {
+        let NameLists { lists } = self;
+        drop(lists);
+    }
 }
 
 impl<'a, T: Drop> NameLists<'a, T> {

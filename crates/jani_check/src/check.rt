@@ -21,10 +21,17 @@ use std::alloc::{AllocError, Global};
 use std::marker::Model;
 
 /// A JANI file of the profile. Contracts see its tree, which has no fault and the form of trees.
-#[derive(Drop)]
 pub struct CheckedJani {
     file: JaniFile,
     edges: u128,
+}
+
+// Written out, so that it is proved here, and not wherever one is held.
+impl Drop for CheckedJani {
+    fn drop(self) {
+        let CheckedJani { file, edges: _ } = self;
+        drop(file);
+    }
 }
 
 impl Model for CheckedJani {
@@ -73,7 +80,8 @@ impl CheckedJani {
         ensures same { result ≡ self }
         ensures checked { IsChecked (file_of self) }
     {
-        self.file
+        let CheckedJani { file, edges: _ } = self;
+        file
     }
 
     /// How many automata take part.

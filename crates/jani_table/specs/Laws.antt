@@ -4,7 +4,7 @@ use Rattle.std.proofs.Common.{◌≡◌, ℕ, ◌+◌, ◌<◌, refl, sym, ap, s
 use Rattle.std.specs.Prelude.{bytes_eq}
 use Rattle.std.specs.List.{list_any}
 use Rattle.std.proofs.lemmas.Slice.Eq.{bytes_eq-Decides}
-use Rattle.std.proofs.lemmas.Bool.{or_cases, and_parts}
+use Rattle.std.proofs.lemmas.Bool.{false≢true, or_cases, and_parts}
 use Rattle.basics.specs.Options.{if_then_some}
 use Rattle.basics.specs.Lists.{append_right, append_left}
 use Rattle.bridge_io.specs.declared.reason.Reason.{Reason}
@@ -164,7 +164,7 @@ object_clean F.Vector v p c = object_only F.Vector O.Vector v (record { null = r
 object_clean F.Boxed v p c = object_only F.Boxed O.Boxed v (record { null = refl; truth = refl; number = λ d. refl; other = refl }) refl (λ s. refl) (λ ms. refl) c
 object_clean F.ModelInitial v p c = object_only F.ModelInitial O.ModelInitial v (record { null = refl; truth = refl; number = λ d. refl; other = refl }) refl (λ s. refl) (λ ms. refl) c
 object_clean F.AutomatonInitial v p c = object_only F.AutomatonInitial O.AutomatonInitial v (record { null = refl; truth = refl; number = λ d. refl; other = refl }) refl (λ s. refl) (λ ms. refl) c
-object_clean f v p c = absurd cc
+object_clean f v p c = absurd (false≢true p)
 
 pub list_clean : (form : Form) (v : Node) → is_list_form form ≡ true → faults form v ≡ [] → list_items_faults (item_of form) v ≡ []
 list_clean F.Features v p c = list_only F.Features F.Feature v (record { null = refl; truth = refl; number = λ d. refl; other = refl }) refl (λ s. refl) (λ ms. refl) c
@@ -182,7 +182,7 @@ list_clean F.Elements v p c = list_only F.Elements F.Element v (record { null = 
 list_clean F.Vectors v p c = list_only F.Vectors F.Vector v (record { null = refl; truth = refl; number = λ d. refl; other = refl }) refl (λ s. refl) (λ ms. refl) c
 list_clean F.Synchronise v p c = list_only F.Synchronise F.NameOrNull v (record { null = refl; truth = refl; number = λ d. refl; other = refl }) refl (λ s. refl) (λ ms. refl) c
 list_clean F.InputEnable v p c = list_only F.InputEnable F.Name v (record { null = refl; truth = refl; number = λ d. refl; other = refl }) refl (λ s. refl) (λ ms. refl) c
-list_clean f v p c = absurd cc
+list_clean f v p c = absurd (false≢true p)
 
 pub text_clean : (form : Form) (v : Node) → is_text_form form ≡ true → faults form v ≡ [] → is_text v ≡ true
 text_clean F.Text v p c = text_only F.Text v (record { null = refl; truth = refl; number = λ d. refl; other = refl }) refl (λ ms. refl) c
@@ -192,7 +192,7 @@ text_clean F.Feature v p c = text_only F.Feature v (record { null = refl; truth 
 text_clean F.BoundedWord v p c = text_only F.BoundedWord v (record { null = refl; truth = refl; number = λ d. refl; other = refl }) refl (λ ms. refl) c
 text_clean F.BaseWord v p c = text_only F.BaseWord v (record { null = refl; truth = refl; number = λ d. refl; other = refl }) refl (λ ms. refl) c
 text_clean F.Operator v p c = text_only F.Operator v (record { null = refl; truth = refl; number = λ d. refl; other = refl }) refl (λ ms. refl) c
-text_clean f v p c = absurd cc
+text_clean f v p c = absurd (false≢true p)
 
 pub plain_part_clean : (form : Form) (key : Key) (v w : Node) → is_plain form ≡ true → is_known (kind_of form) key ≡ true → faults form v ≡ [] → part key v ≡ Some w → faults (part_form (kind_of form) key) w ≡ []
 plain_part_clean form key v w p k c m = part_clean (kind_of form) key v w k (object_clean form v p c) m

@@ -103,11 +103,15 @@ impl JaniOp {
     }
 
     /// The operator that is written so.
-    #[tactic(auto, unfolding(crate::specs::Operators::op_of))]
     pub fn of(text: &str) -> Option<JaniOp>
         ensures { result ≡ op_of text.now }
     {
-        OPERATORS.iter().copied().find(|op| op.text() == text)
+        for op in &OPERATORS {
+            if op.text() == text {
+                return Some(*op);
+            }
+        }
+        None
     }
 }
 

@@ -372,7 +372,12 @@ pub fn rows(kind: Kind) -> &'static [Row]
 fn row(kind: Kind, key: &str) -> Option<Row>
     ensures { result ≡ row_of kind key.now }
 {
-    rows(kind).iter().copied().find(|row| row.0.text() == key)
+    for row in rows(kind) {
+        if row.0.text() == key {
+            return Some(*row);
+        }
+    }
+    None
 }
 
 /// What the value of a member with this key has to be; none where an object of this kind has no such member.

@@ -23,11 +23,15 @@ pub fn ty_text(ty: Ty) -> &'static str
 }
 
 /// The type that is written so.
-#[tactic(auto, unfolding(crate::specs::Words::ty_of))]
 pub fn ty_of(text: &str) -> Option<Ty>
     ensures { result ≡ ty_of text.now }
 {
-    TYPES.iter().copied().find(|ty| ty_text(*ty) == text)
+    for ty in &TYPES {
+        if ty_text(*ty) == text {
+            return Some(*ty);
+        }
+    }
+    None
 }
 
 fn is_base(text: &str) -> bool
@@ -63,14 +67,15 @@ impl Feature {
     }
 
     /// The feature that is written so.
-    #[tactic(auto, unfolding(crate::specs::Words::feature_of))]
     pub fn of(text: &str) -> Option<Feature>
         ensures { result ≡ feature_of text.now }
     {
-        FEATURES
-            .iter()
-            .copied()
-            .find(|feature| feature.text() == text)
+        for feature in &FEATURES {
+            if feature.text() == text {
+                return Some(*feature);
+            }
+        }
+        None
     }
 }
 
@@ -116,11 +121,15 @@ impl RefusedOp {
     }
 
     /// The operator that is written so.
-    #[tactic(auto, unfolding(crate::specs::Words::refused_of))]
     pub fn of(text: &str) -> Option<RefusedOp>
         ensures { result ≡ refused_of text.now }
     {
-        REFUSED.iter().copied().find(|op| op.text() == text)
+        for op in &REFUSED {
+            if op.text() == text {
+                return Some(*op);
+            }
+        }
+        None
     }
 }
 
@@ -216,13 +225,12 @@ pub fn word_fault(form: Form, text: &str) -> Option<Reason>
 {
     match form {
         Form::Text => None,
-        Form::Name => name_fault(text),
-        Form::NameOrNull => name_fault(text),
-        Form::Expression => name_fault(text),
+        Form::Name | Form::NameOrNull | Form::Expression => name_fault(text),
         Form::ModelType => unless(text == "mdp", Reason::OtherKind),
         Form::Feature => unless(Feature::of(text).is_some(), Reason::OtherFeature),
-        Form::ConstantType => unless(ty_of(text).is_some(), Reason::WrongShape),
-        Form::VariableType => unless(ty_of(text).is_some(), Reason::WrongShape),
+        Form::ConstantType | Form::VariableType => {
+            unless(ty_of(text).is_some(), Reason::WrongShape)
+        }
         Form::BoundedWord => unless(text == "bounded", Reason::WrongShape),
         Form::BaseWord => unless(is_base(text), Reason::WrongShape),
         Form::Operator => operator_fault(text),

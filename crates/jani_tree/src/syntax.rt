@@ -37,8 +37,12 @@ impl Drop for JaniFile {
             vectors,
             properties,
         } = self;
-        drop((actions, constants, variables));
-        drop((automata, elements, vectors));
+        drop(actions);
+        drop(constants);
+        drop(variables);
+        drop(automata);
+        drop(elements);
+        drop(vectors);
         drop(properties);
     }
 }
@@ -59,7 +63,9 @@ impl Drop for JaniConst {
             value,
             note,
         } = self;
-        drop((name, value, note));
+        drop(name);
+        drop(value);
+        drop(note);
     }
 }
 
@@ -84,7 +90,9 @@ impl Drop for JaniVar {
             start,
             note,
         } = self;
-        drop((name, kind, start));
+        drop(name);
+        drop(kind);
+        drop(start);
         drop(note);
     }
 }
@@ -133,8 +141,11 @@ impl Drop for JaniAutomaton {
             initial,
             edges,
         } = self;
-        drop((name, variables, locations));
-        drop((initial, edges));
+        drop(name);
+        drop(variables);
+        drop(locations);
+        drop(initial);
+        drop(edges);
     }
 }
 
@@ -147,7 +158,8 @@ pub struct JaniLocation {
 impl Drop for JaniLocation {
     fn drop(self) {
         let JaniLocation { name, values } = self;
-        drop((name, values));
+        drop(name);
+        drop(values);
     }
 }
 
@@ -160,7 +172,8 @@ pub struct JaniWrite {
 impl Drop for JaniWrite {
     fn drop(self) {
         let JaniWrite { target, value } = self;
-        drop((target, value));
+        drop(target);
+        drop(value);
     }
 }
 
@@ -183,7 +196,9 @@ impl Drop for JaniEdge {
             destinations,
             at: _,
         } = self;
-        drop((location, action, guard));
+        drop(location);
+        drop(action);
+        drop(guard);
         drop(destinations);
     }
 }
@@ -202,7 +217,9 @@ impl Drop for JaniDestination {
             weight,
             writes,
         } = self;
-        drop((location, weight, writes));
+        drop(location);
+        drop(weight);
+        drop(writes);
     }
 }
 
@@ -221,6 +238,7 @@ impl Drop for JaniVector {
             result,
             at: _,
         } = self;
-        drop((parts, result));
+        drop(parts);
+        drop(result);
     }
 }

@@ -16,13 +16,28 @@ use std::alloc::{AllocError, Global};
 use std::marker::Model;
 
 /// The entries that were made for a target, with their new names. Contracts see the target and the list of the entries.
-#[derive(Drop)]
 pub struct NameTable {
     alloc: Global,
     target: Target,
     entries: Vec<Entry>,
     taken: Taken,
     counts: Counts,
+}
+
+// Written out, so that it is proved here, and not wherever one is held.
+impl Drop for NameTable {
+    fn drop(self) {
+        let NameTable {
+            alloc: _,
+            target: _,
+            entries,
+            taken,
+            counts,
+        } = self;
+        drop(entries);
+        drop(taken);
+        drop(counts);
+    }
 }
 
 impl Model for NameTable {

@@ -10,7 +10,6 @@ use indexmap::IndexSet;
 use std::alloc::{AllocError, Global};
 
 /// The names of each space.
-#[derive(Drop)]
 pub(crate) struct Taken {
     values: IndexSet<String>,
     modules: IndexSet<String>,
@@ -18,6 +17,26 @@ pub(crate) struct Taken {
     labels: IndexSet<String>,
     rewards: IndexSet<String>,
     properties: IndexSet<String>,
+}
+
+// Written out, so that it is proved here, and not wherever one is held.
+impl Drop for Taken {
+    fn drop(self) {
+        let Taken {
+            values,
+            modules,
+            actions,
+            labels,
+            rewards,
+            properties,
+        } = self;
+        drop(values);
+        drop(modules);
+        drop(actions);
+        drop(labels);
+        drop(rewards);
+        drop(properties);
+    }
 }
 
 /// Adds a name to a set.

@@ -1,15 +1,18 @@
 -- A node's answer follows from its operands' answers.
 use Rattle.std.proofs.Common.{◌≡◌, ℕ, List, [], ◌++◌, Bool, true, false, ◌||◌, Option, Some, None, Result, Ok, Err, if◌then◌else◌, refl, sym, ap, ap₂, ◌∙◌}
+use Rattle.std.specs.Prelude.{MatchResult}
 use Rattle.std.specs.List.{list_any}
 use Rattle.std.proofs.lemmas.List.Folds.{list_any-append}
 use Rattle.std.proofs.Math.Bool.{or-false, or-true}
+use Rattle.frac_core.specs.declared.decimal.Decimal.{Decimal}
 use Rattle.op_trees.specs.declared.tree.Value.{Value}
+use Rattle.op_trees.specs.declared.tree.Value.TheVariants as V
 use Rattle.op_trees.specs.declared.tree.Next.{Next}
 use Rattle.op_trees.specs.declared.tree.Next.TheVariants.{Done, Second, Third, All}
 use Rattle.op_trees.specs.declared.tree.EvalFail.{EvalFail}
 use Rattle.op_trees.specs.declared.tree.EvalFail.TheVariants.{Undef}
 use Rattle.op_trees.specs.Tree.{Tree, Truth, Number, Name, One, Two, Three}
-use Rattle.op_trees.specs.Meaning.{Meaning, Environment, value_of, needed, needs_wide, is_wide_value, answered, answer, narrowed, one_answer, both_answer, of_one, of_both, of_lazy, chosen, asked, asked_by}
+use Rattle.op_trees.specs.Meaning.{Meaning, Environment, number, value_of, needed, needs_wide, is_wide_value, answered, answer, narrowed, one_answer, both_answer, of_one, of_both, of_lazy, chosen, asked, asked_by}
 
 pub or_absorbs : (a b : Bool) → (a ≡ true → b ≡ true) → (a || b) ≡ b
 or_absorbs true b h = sym (h refl)
@@ -27,6 +30,27 @@ abbrev pub lazy_answer : {O : Type 0} → Meaning O → O → Result Value EvalF
 lazy_answer m o (Ok x) b c = next_answer (m.first o x) b c
 lazy_answer m o (Err f) b c = Err f
 
+-- where none of two further operands is asked for
+pub others_aside : (n : Next) (b c : Result Value EvalFail) → (n ≡ Second → ⊥) → (n ≡ Third → ⊥) →
+    narrowed (chosen n None None) ≡ next_answer n b c
+others_aside (Done v) b c p q = refl
+others_aside Second b c p q = absurd (p refl)
+others_aside Third b c p q = absurd (q refl)
+others_aside All b c p q = refl
+
+pub other_aside : (n : Next) (b : Result Value EvalFail) → (n ≡ Second → ⊥) →
+    narrowed (chosen n None None) ≡ next_answer n b (Err Undef)
+other_aside (Done v) b p = refl
+other_aside Second b p = absurd (p refl)
+other_aside Third b p = refl
+other_aside All b p = refl
+
+none_asked : (n : Next) → narrowed (chosen n None None) ≡ next_answer n (Err Undef) (Err Undef)
+none_asked (Done v) = refl
+none_asked Second = refl
+none_asked Third = refl
+none_asked All = refl
+
 module _ {O : Type 0} (m : Meaning O) (o : O) where
   both_answered : (p q : Bool) (v w : Option Value) →
       answered (is_wide_value (of_both m o v w) || (p || q)) (of_both m o v w)
@@ -40,6 +64,12 @@ module _ {O : Type 0} (m : Meaning O) (o : O) where
   both_answered false false (Some x) None = refl
   both_answered false false (Some x) (Some y) =
       ap (λ b. answered b (m.value o x (Some y))) (or-false (is_wide_value (m.value o x (Some y))))
+
+  lone_lazy : (f r : Result Value EvalFail) →
+      MatchResult f (λ x. r ≡ narrowed (chosen (m.first o x) None None)) (λ g. r ≡ Err g) →
+      r ≡ lazy_answer m o f (Err Undef) (Err Undef)
+  lone_lazy (Ok x) r h = h ∙ none_asked (m.first o x)
+  lone_lazy (Err g) r h = h
 
   -- a node with one operand asks for no other
   single_answered : (p : Bool) (a : Option Value) →
@@ -123,19 +153,39 @@ module _ {O : Type 0} (m : Meaning O) (env : Environment) where
       ≡ lazy_answer m o (answer m a env) (Err Undef) (Err Undef)
   lazy_one at o a s = rw s (lone_answered m o (needs_wide m a env) (value_of m a env))
 
-  -- ---- the arms of an evaluation
-  pub arm_one_strict : (e : Tree O) (at : ℕ) (o : O) (a : Tree O) (f r : Result Value EvalFail) → e
-      ≡ One at o a → m.strict o ≡ true → f ≡ answer m a env → r ≡ one_answer m o f → r ≡ answer m e env
-  arm_one_strict e at o a f r is st h j =
-      j ∙ ap (one_answer m o) h ∙ sym (strict_one at o a st) ∙ ap (λ t. answer m t env) (sym is)
+  one_is : (at : ℕ) (o : O) (a : Tree O) (s : Bool) → m.strict o ≡ s → answer m (One at o a) env
+      ≡ (if s then one_answer m o (answer m a env) else lazy_answer m o (answer m a env) (Err Undef) (Err Undef))
+  one_is at o a true st = strict_one at o a st
+  one_is at o a false st = lazy_one at o a st
 
-  pub arm_one : (e : Tree O) (at : ℕ) (o : O) (a : Tree O) (x : Value) (r : Result Value EvalFail) (n : Next) → e
-      ≡ One at o a → m.strict o ≡ false → answer m a env ≡ Ok x → m.first o x ≡ n → r
-      ≡ next_answer n (Err Undef) (Err Undef) → r ≡ answer m e env
-  arm_one e at o a x r n is st h k j =
-      j ∙ ap (λ t. next_answer t (Err Undef) (Err Undef)) (sym k)
-      ∙ ap (λ t. lazy_answer m o t (Err Undef) (Err Undef)) (sym h)
-      ∙ sym (lazy_one at o a st) ∙ ap (λ t. answer m t env) (sym is)
+  any_one : (o : O) (f r : Result Value EvalFail) (s : Bool) → m.strict o ≡ s → (m.strict o ≡ true → r
+      ≡ one_answer m o f) → (m.strict o ≡ false →
+      MatchResult f (λ x. r ≡ narrowed (chosen (m.first o x) None None)) (λ g. r ≡ Err g)) → r
+      ≡ (if s then one_answer m o f else lazy_answer m o f (Err Undef) (Err Undef))
+  any_one o f r true st j k = j st
+  any_one o f r false st j k = lone_lazy m o f r (k st)
+
+  -- ---- the arms of an evaluation
+  pub arm_truth : (e : Tree O) (at : ℕ) (b : Bool) → e ≡ Truth at b → Ok (V.Truth b) ≡ answer m e env
+  arm_truth e at b is = ap (λ t. answer m t env) (sym is)
+
+  pub arm_number : (e : Tree O) (at : ℕ) (d : Decimal) (r : Result Value EvalFail) → e ≡ Number at d → r
+      ≡ narrowed (Some (number d)) → r ≡ answer m e env
+  arm_number e at d r is j =
+      j ∙ ap (λ t. answered t (Some (number d))) (sym (or-false (is_wide_value (Some (number d)))))
+      ∙ ap (λ t. answer m t env) (sym is)
+
+  pub arm_name : (e : Tree O) (at : ℕ) (x : List ℕ) (r : Result Value EvalFail) → e ≡ Name at x → r
+      ≡ narrowed (env x) → r ≡ answer m e env
+  arm_name e at x r is j =
+      j ∙ ap (λ t. answered t (env x)) (sym (or-false (is_wide_value (env x)))) ∙ ap (λ t. answer m t env) (sym is)
+
+  pub arm_one : (e : Tree O) (at : ℕ) (o : O) (a : Tree O) (f r : Result Value EvalFail) → e ≡ One at o a → f
+      ≡ answer m a env → (m.strict o ≡ true → r ≡ one_answer m o f) → (m.strict o ≡ false →
+      MatchResult f (λ x. r ≡ narrowed (chosen (m.first o x) None None)) (λ g. r ≡ Err g)) → r ≡ answer m e env
+  arm_one e at o a f r is h j k =
+      any_one o f r (m.strict o) refl j k ∙ ap (λ t. if m.strict o then one_answer m o t else lazy_answer m o t (Err Undef) (Err Undef)) h
+      ∙ sym (one_is at o a (m.strict o) refl) ∙ ap (λ t. answer m t env) (sym is)
 
   pub arm_two_strict : (e : Tree O) (at : ℕ) (o : O) (a b : Tree O) (f s r : Result Value EvalFail) → e
       ≡ Two at o a b → m.strict o ≡ true → f ≡ answer m a env → s ≡ answer m b env → r
@@ -157,4 +207,17 @@ module _ {O : Type 0} (m : Meaning O) (env : Environment) where
   arm_three e at o a b c x r n is h k j =
       j ∙ ap (λ t. next_answer t (answer m b env) (answer m c env)) (sym k)
       ∙ ap (λ t. lazy_answer m o t (answer m b env) (answer m c env)) (sym h)
+      ∙ sym (lazy_three at o a b c) ∙ ap (λ t. answer m t env) (sym is)
+
+  -- a first operand without a value ends a lazy node
+  pub arm_two_err : (e : Tree O) (at : ℕ) (o : O) (a b : Tree O) (f : EvalFail) → e ≡ Two at o a b → m.strict o
+      ≡ false → answer m a env ≡ Err f → Err f ≡ answer m e env
+  arm_two_err e at o a b f is st h =
+      ap (λ t. lazy_answer m o t (answer m b env) (Err Undef)) (sym h)
+      ∙ sym (lazy_two at o a b st) ∙ ap (λ t. answer m t env) (sym is)
+
+  pub arm_three_err : (e : Tree O) (at : ℕ) (o : O) (a b c : Tree O) (f : EvalFail) → e ≡ Three at o a b c →
+      answer m a env ≡ Err f → Err f ≡ answer m e env
+  arm_three_err e at o a b c f is h =
+      ap (λ t. lazy_answer m o t (answer m b env) (answer m c env)) (sym h)
       ∙ sym (lazy_three at o a b c) ∙ ap (λ t. answer m t env) (sym is)

@@ -1,8 +1,8 @@
 // Values of expressions.
 
-ghost use Rattle.std.specs.Prelude.{◌≡◌, Some};
+ghost use Rattle.std.specs.Prelude.{◌≡◌, Err, MatchResult, None, Some, false, true};
 ghost use Rattle.op_trees.specs.Tree.{tree};
-ghost use Rattle.op_trees.specs.Meaning.{answer, both_answer, narrowed, number, one_answer};
+ghost use Rattle.op_trees.specs.Meaning.{answer, both_answer, chosen, narrowed, number, one_answer};
 
 use crate::operator::{Names, Operator};
 use crate::tree::{EvalFail, Expr, Next, Value};
@@ -20,36 +20,50 @@ pub fn eval<O: Operator, N: Names>(e: &Expr<O>, names: &N) -> Result<Value, Eval
         Expr::Truth(_, b) => Ok(Value::Truth(*b)),
         Expr::Number(_, d) => literal(*d),
         Expr::Name(_, x) => held(names.value(x.as_str())),
-        Expr::One(_, o, a) => {
-            let first = eval(a, names);
-            if o.is_strict() {
-                return apply_one(*o, first);
-            }
-            match o.after_first(first?) {
-                Next::Done(v) => held(Some(v)),
-                _ => Err(EvalFail::Undef),
-            }
-        }
+        Expr::One(_, o, a) => answer_of_one(*o, eval(a, names)),
         Expr::Two(_, o, a, b) => {
             let first = eval(a, names);
             if o.is_strict() {
                 return apply_both(*o, first, eval(b, names));
             }
-            match o.after_first(first?) {
-                Next::Done(v) => held(Some(v)),
-                Next::Second => eval(b, names),
-                _ => Err(EvalFail::Undef),
+            match first {
+                Ok(x) => match o.after_first(x) {
+                    Next::Second => eval(b, names),
+                    next => settled(next),
+                },
+                Err(f) => Err(f),
             }
         }
-        Expr::Three(_, o, a, b, c) => {
-            let first = eval(a, names);
-            match o.after_first(first?) {
-                Next::Done(v) => held(Some(v)),
+        Expr::Three(_, o, a, b, c) => match eval(a, names) {
+            Ok(x) => match o.after_first(x) {
                 Next::Second => eval(b, names),
                 Next::Third => eval(c, names),
-                Next::All => Err(EvalFail::Undef),
-            }
-        }
+                next => settled(next),
+            },
+            Err(f) => Err(f),
+        },
+    }
+}
+
+/// What a node over one operand comes out as, by what its operand came out as.
+fn answer_of_one<O: Operator>(o: O, a: Result<Value, EvalFail>) -> Result<Value, EvalFail>
+    ensures strict { O.meaning.strict o ≡ true → result ≡ one_answer O.meaning o a }
+    ensures lazy { O.meaning.strict o ≡ false →
+        MatchResult a (λ x. result ≡ narrowed (chosen (O.meaning.first o x) None None)) (λ f. result ≡ Err f) }
+{
+    if o.is_strict() {
+        return apply_one(o, a);
+    }
+    settled(o.after_first(a?))
+}
+
+/// What a node comes out as that reads no operand after its first one.
+fn settled(next: Next) -> Result<Value, EvalFail>
+    ensures { result ≡ narrowed (chosen next None None) }
+{
+    match next {
+        Next::Done(v) => held(Some(v)),
+        _ => Err(EvalFail::Undef),
     }
 }
 

@@ -42,17 +42,31 @@ pub fn count<O>(e: &Expr<O>) -> u64
 pub fn same<O: Operator>(a: &Expr<O>, b: &Expr<O>) -> bool
     ensures { IsTrue result ↔ (bare (tree a.now) ≡ bare (tree b.now)) }
 {
-    match (a, b) {
-        (Expr::Truth(_, x), Expr::Truth(_, y)) => *x == *y,
-        (Expr::Number(_, x), Expr::Number(_, y)) => *x == *y,
-        (Expr::Name(_, x), Expr::Name(_, y)) => x.as_str() == y.as_str(),
-        (Expr::One(_, o, x), Expr::One(_, q, y)) => *o == *q && same(x, y),
-        (Expr::Two(_, o, x, z), Expr::Two(_, q, y, w)) => *o == *q && same(x, y) && same(z, w),
-        (Expr::Three(_, o, x, z, u), Expr::Three(_, q, y, w, v)) => *o == *q
-            && same(x, y)
-            && same(z, w)
-            && same(u, v),
-        _ => false,
+    match a {
+        Expr::Truth(_, x) => match b {
+            Expr::Truth(_, y) => *x == *y,
+            _ => false,
+        },
+        Expr::Number(_, x) => match b {
+            Expr::Number(_, y) => *x == *y,
+            _ => false,
+        },
+        Expr::Name(_, x) => match b {
+            Expr::Name(_, y) => x.as_str() == y.as_str(),
+            _ => false,
+        },
+        Expr::One(_, o, x) => match b {
+            Expr::One(_, q, y) => *o == *q && same(x, y),
+            _ => false,
+        },
+        Expr::Two(_, o, x, z) => match b {
+            Expr::Two(_, q, y, w) => *o == *q && same(x, y) && same(z, w),
+            _ => false,
+        },
+        Expr::Three(_, o, x, z, u) => match b {
+            Expr::Three(_, q, y, w, v) => *o == *q && same(x, y) && same(z, w) && same(u, v),
+            _ => false,
+        },
     }
 }
 

@@ -8,7 +8,7 @@ ghost use Rattle.op_trees.specs.Rebuilt.{KeepsAnswers, Node, NameNode, OneNode, 
 
 use crate::operator::Operator;
 use crate::tree::Expr;
-use bridge_io::Text;
+use bridge_io::{Text, together};
 use frac_core::Decimal;
 use std::alloc::{AllocError, Global};
 
@@ -118,8 +118,8 @@ fn body_or_name<O: Operator, B: Bodies<O>>(
     ensures { IfOk result (λ r. tree r ≡ replaced (Name at x.now) (B.bodies bodies.now x.now)) }
 {
     match bodies.body(x) {
-        Some(b) => Ok(copy_expr(alloc, b)?),
-        None => Ok(name(alloc, at, x)?),
+        Some(b) => copy_expr(alloc, b),
+        None => name(alloc, at, x),
     }
 }
 
@@ -153,9 +153,8 @@ pub fn two<O: Operator>(
     ensures { IfOk result
         (λ r. IsOkAnd a (λ x. IsOkAnd b (λ y. tree r ≡ Two at o (tree x) (tree y)))) }
 {
-    let first = boxed(alloc, a);
-    let second = boxed(alloc, b);
-    Ok(Expr::Two(at, o, first?, second?))
+    let (first, second) = together(boxed(alloc, a), boxed(alloc, b))?;
+    Ok(Expr::Two(at, o, first, second))
 }
 
 /// A node over three operands that were made.
@@ -170,10 +169,9 @@ pub fn three<O: Operator>(
     ensures { IfOk result (λ r. IsOkAnd a (λ x. IsOkAnd b
         (λ y. IsOkAnd c (λ z. tree r ≡ Three at o (tree x) (tree y) (tree z))))) }
 {
-    let first = boxed(alloc, a);
-    let second = boxed(alloc, b);
-    let third = boxed(alloc, c);
-    Ok(Expr::Three(at, o, first?, second?, third?))
+    let pair = together(boxed(alloc, a), boxed(alloc, b));
+    let ((first, second), third) = together(pair, boxed(alloc, c))?;
+    Ok(Expr::Three(at, o, first, second, third))
 }
 
 /// A tree that was made, in a place of its own.
@@ -243,7 +241,7 @@ fn rebuilt_name<O: Operator, Q: Operator, M: OpMap<O, Q>>(
     ensures { IfOk result (λ r. tree r ≡ M.rebuilt map.now (NameNode at x.now)) }
 {
     let name = Text::copy_of(alloc, x)?;
-    Ok(map.rebuild(alloc, Shape::Name(at, name))?)
+    map.rebuild(alloc, Shape::Name(at, name))
 }
 
 /// A node rebuilt over its rebuilt operand.
@@ -258,7 +256,7 @@ fn rebuilt_one<O: Operator, Q: Operator, M: OpMap<O, Q>>(
         (λ r. IsOkAnd a (λ x. tree r ≡ M.rebuilt map.now (OneNode at o (tree x)))) }
 {
     let first = boxed(alloc, a)?;
-    Ok(map.rebuild(alloc, Shape::One(at, o, first))?)
+    map.rebuild(alloc, Shape::One(at, o, first))
 }
 
 /// A node rebuilt over its two rebuilt operands.
@@ -273,9 +271,8 @@ fn rebuilt_two<O: Operator, Q: Operator, M: OpMap<O, Q>>(
     ensures { IfOk result (λ r. IsOkAnd a (λ x. IsOkAnd b
         (λ y. tree r ≡ M.rebuilt map.now (TwoNode at o (tree x) (tree y))))) }
 {
-    let first = boxed(alloc, a);
-    let second = boxed(alloc, b);
-    Ok(map.rebuild(alloc, Shape::Two(at, o, first?, second?))?)
+    let (first, second) = together(boxed(alloc, a), boxed(alloc, b))?;
+    map.rebuild(alloc, Shape::Two(at, o, first, second))
 }
 
 /// A node rebuilt over its three rebuilt operands.
@@ -291,8 +288,7 @@ fn rebuilt_three<O: Operator, Q: Operator, M: OpMap<O, Q>>(
     ensures { IfOk result (λ r. IsOkAnd a (λ x. IsOkAnd b (λ y. IsOkAnd c
         (λ z. tree r ≡ M.rebuilt map.now (ThreeNode at o (tree x) (tree y) (tree z)))))) }
 {
-    let first = boxed(alloc, a);
-    let second = boxed(alloc, b);
-    let third = boxed(alloc, c);
-    Ok(map.rebuild(alloc, Shape::Three(at, o, first?, second?, third?))?)
+    let pair = together(boxed(alloc, a), boxed(alloc, b));
+    let ((first, second), third) = together(pair, boxed(alloc, c))?;
+    map.rebuild(alloc, Shape::Three(at, o, first, second, third))
 }

@@ -28,3 +28,12 @@ pair_more old new q name value ps i p h is same gives e so_far =
     ∙ sym (at_drop_more (λ ys. option_or (option_map (λ s. s.now) (old q)) (pair_for ys q)) ps i p h
     ∙ ap (λ y. option_or (option_map (λ s. s.now) (old q)) (pair_for (y ∷ drop (i + 1) ps) q)) (sym is))
     ∙ so_far
+
+-- the first pair of this name, told of those that are left
+pub pair_step : (ps : List NamePair) (i : ℕ) (p : NamePair) (x : Name) (b : Bool) → i < length ps → p ≡ get_or ps i p → bytes_eq p.old.name x ≡ b → pair_for ps x ≡ pair_for (drop i ps) x →
+    pair_for ps x ≡ (if b then Some p.new.name else pair_for (drop (i + 1) ps) x)
+pair_step ps i p x b h is t so_far =
+    so_far
+    ∙ at_drop_more (λ ys. pair_for ys x) ps i p h
+    ∙ ap (λ y. pair_for (y ∷ drop (i + 1) ps) x) (sym is)
+    ∙ ap (λ c. if c then Some p.new.name else pair_for (drop (i + 1) ps) x) t

@@ -14,11 +14,23 @@ use std::alloc::Global;
 use std::marker::Model;
 
 /// A PRISM file that has no fault of names, size or types. Contracts see its tree and an order of its formulas.
-#[derive(Drop)]
 pub struct CheckedPrism {
     file: PrismFile,
     order: Vec<usize>,
     commands: usize,
+}
+
+// Written out, so that it is proved here, and not wherever one is held.
+impl Drop for CheckedPrism {
+    fn drop(self) {
+        let CheckedPrism {
+            file,
+            order,
+            commands: _,
+        } = self;
+        drop(file);
+        drop(order);
+    }
 }
 
 impl Model for CheckedPrism {

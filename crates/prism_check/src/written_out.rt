@@ -13,9 +13,16 @@ use std::alloc::{AllocError, Global};
 use std::marker::Model;
 
 /// A PRISM file without formulas and copies of modules that has no fault. Contracts see its tree.
-#[derive(Drop)]
 pub struct FlatPrism {
     file: PrismFile,
+}
+
+// Written out, so that it is proved here, and not wherever one is held.
+impl Drop for FlatPrism {
+    fn drop(self) {
+        let FlatPrism { file } = self;
+        drop(file);
+    }
 }
 
 impl Model for FlatPrism {

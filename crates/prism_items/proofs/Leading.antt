@@ -1,6 +1,6 @@
 -- How far reading has come: what is left to be read, and from where, so that what this gives the whole gives too.
 use Rattle.std.proofs.Common.{map, ◌≡◌, Bool, true, false, List, [], ◌∷◌, ◌++◌, Some, refl, sym, ap, subst, ◌∙◌, append_assoc, inl, inr}
-use Rattle.std.specs.Prelude.{Result, Ok, Err}
+use Rattle.std.specs.Prelude.{◌⊎◌, Result, Ok, Err}
 use Rattle.std.proofs.lemmas.List.{map_push, append_cancel_left}
 use Rattle.prism_lex.specs.declared.token.TokenKind.{TokenKind}
 use Rattle.prism_lex.specs.Tokens.{Lexeme}
@@ -187,6 +187,17 @@ loop_done f L {first} {us = us} s i e = i.reads s us (folding_reads f L s us (st
 
 pub many_begin : {A : Type 0} (L : Lang A) (more : TokenKind → Bool) (ts : List Lexeme) → Leads more (many L) ts (front L []) ts
 many_begin L more ts = same_leads more ts (many-folding L)
+
+-- ---- what was taken up into a list
+
+pub taken_reads : {X A : Type 0} (view : X → A) (L : Scope → Lang A) (more : TokenKind → Bool) (ts : List Lexeme) (r : Result (X × Tokens) Stop) (x : X) (rest : Tokens) → r ≡ Ok (x, rest) → ParsesIn view L more ts r →
+    (s : Scope) → Reads (L s) more ts (view x) (seen rest)
+taken_reads {X} view L more ts r x rest e p = let F : Result (X × Tokens) Stop → Type 0 = λ u. ParsesIn view L more ts u in subst F e p
+
+pub taken_stops : {X A : Type 0} (view : X → A) (L : Scope → Lang A) (more : TokenKind → Bool) (ts : List Lexeme) (r : Result (X × Tokens) Stop) (e : Stop) → (e ≡ Memory) ⊎ (r ≡ Err e) → ParsesIn view L more ts r →
+    (s : Scope) → StopsIn s (L s) more ts e
+taken_stops view L more ts r e (inl m) p s = let F : Stop → Type 0 = λ u. StopsIn s (L s) more ts u in subst F (sym m) tt
+taken_stops {X} view L more ts r e (inr q) p s = let F : Result (X × Tokens) Stop → Type 0 = λ u. ParsesIn view L more ts u in subst F q p s
 
 -- ---- first tokens
 

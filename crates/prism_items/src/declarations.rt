@@ -14,11 +14,9 @@ ghost use Rattle.prism_exprs.specs.Scope.{ParsesIn};
 ghost use Rattle.prism_items.specs.Parts.{in_scope, domain, value_part, domain_part, start_part, kept_type, type_front};
 
 use crate::closed::{parse_closed, parse_definition};
-use crate::readers::{
-    followed_by, read_name, read_quoted, read_symbol, read_word, symbol_next, word_next,
-};
+use crate::readers::{followed_by, read_name, read_quoted, read_symbol, read_word, word_next};
 use op_trees::Ty;
-use prism_exprs::{Cause, Kept, Stop, Tokens};
+use prism_exprs::{Cause, Kept, Stop, Tokens, symbol_next};
 use prism_lex::{Reserved, Symbol};
 use prism_tree::{PrismConst, PrismExpr, PrismFormula, PrismLabel, PrismRange, PrismVar};
 use std::alloc::Global;

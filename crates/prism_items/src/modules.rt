@@ -13,10 +13,10 @@ ghost use Rattle.prism_items.specs.Parts.{in_scope, action_part, bracketed_actio
 
 use crate::closed::parse_closed;
 use crate::declarations::parse_var;
-use crate::readers::{followed_by, other_next, read_name, read_symbol, read_word, symbol_next};
+use crate::readers::{followed_by, other_next, read_name, read_symbol, read_word, taken_up};
 use crate::updates::parse_updates;
 use bridge_io::{List, Named};
-use prism_exprs::{Stop, Tokens};
+use prism_exprs::{Stop, Tokens, symbol_next};
 use prism_lex::{Reserved, Symbol};
 use prism_tree::{CopiedModule, NamePair, PlainModule, PrismCommand, PrismModule, PrismVar};
 use std::alloc::Global;
@@ -84,9 +84,7 @@ fn parse_vars<'a>(
     let mut vars = List::new(alloc);
     let mut rest = tokens;
     'each: while var_next(rest) {
-        let (var, behind) = parse_var(alloc, rest)?;
-        vars.push(var)?;
-        rest = behind;
+        rest = taken_up(&mut vars, parse_var(alloc, rest))?;
     }
     Ok((vars, rest))
 }
@@ -101,9 +99,7 @@ fn parse_commands<'a>(
     let mut commands = List::new(alloc);
     let mut rest = tokens;
     'each: while other_next(rest, Reserved::Endmodule) {
-        let (command, behind) = parse_command(alloc, rest)?;
-        commands.push(command)?;
-        rest = behind;
+        rest = taken_up(&mut commands, parse_command(alloc, rest))?;
     }
     Ok((commands, rest))
 }
@@ -161,14 +157,10 @@ fn parse_pairs<'a>(
 ) -> Result<(List<NamePair>, Tokens<'a>), Stop<'a>>
     ensures { ParsesIn (λ x. x) (in_scope several_pairs) (is_kind (K.Symbol S.Comma)) (seen tokens.entry) result }
 {
-    let (first, behind) = parse_pair(alloc, tokens)?;
     let mut pairs = List::new(alloc);
-    pairs.push(first)?;
-    let mut rest = behind;
+    let mut rest = taken_up(&mut pairs, parse_pair(alloc, tokens))?;
     'each: while symbol_next(rest, Symbol::Comma) {
-        let (pair, behind) = parse_further_pair(alloc, rest)?;
-        pairs.push(pair)?;
-        rest = behind;
+        rest = taken_up(&mut pairs, parse_further_pair(alloc, rest))?;
     }
     Ok((pairs, rest))
 }

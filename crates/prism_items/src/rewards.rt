@@ -12,9 +12,9 @@ ghost use Rattle.prism_items.specs.Parts.{in_scope, gain, gains, all_but};
 
 use crate::closed::parse_closed;
 use crate::modules::parse_brackets;
-use crate::readers::{followed_by, other_next, quoted_next, read_quoted, read_word, symbol_next};
+use crate::readers::{followed_by, other_next, quoted_next, read_quoted, read_word, taken_up};
 use bridge_io::{List, Named};
-use prism_exprs::{Stop, Tokens};
+use prism_exprs::{Stop, Tokens, symbol_next};
 use prism_lex::{Reserved, Symbol};
 use prism_tree::{ItemOn, PrismItem, PrismRewards};
 use std::alloc::Global;
@@ -63,9 +63,7 @@ fn parse_items<'a>(
     let mut items = List::new(alloc);
     let mut rest = tokens;
     'each: while other_next(rest, Reserved::Endrewards) {
-        let (item, behind) = parse_reward(alloc, rest)?;
-        items.push(item)?;
-        rest = behind;
+        rest = taken_up(&mut items, parse_reward(alloc, rest))?;
     }
     Ok((items, rest))
 }

@@ -9,10 +9,10 @@ ghost use Rattle.prism_items.specs.Parts.{in_scope, target, further_write, sever
 
 use crate::closed::parse_closed;
 use crate::readers::{
-    behind, followed_by, name_next, read_name, read_symbol, read_word, symbol_next, word_next,
+    behind, followed_by, name_next, read_name, read_symbol, read_word, taken_up, word_next,
 };
 use bridge_io::{List, Named};
-use prism_exprs::{Cause, Stop, Tokens};
+use prism_exprs::{Cause, Stop, Tokens, symbol_next};
 use prism_lex::{Reserved, Symbol};
 use prism_tree::{PrismBranch, PrismWrite};
 use std::alloc::{AllocError, Global};
@@ -54,14 +54,10 @@ fn parse_writes<'a>(
 ) -> Result<(List<PrismWrite>, Tokens<'a>), Stop<'a>>
     ensures { ParsesIn (map write_of) (in_scope several_writes) writes_on (seen tokens.entry) result }
 {
-    let (first, behind) = parse_write(alloc, tokens)?;
     let mut writes = List::new(alloc);
-    writes.push(first)?;
-    let mut rest = behind;
+    let mut rest = taken_up(&mut writes, parse_write(alloc, tokens))?;
     'each: while symbol_next(rest, Symbol::And) {
-        let (write, behind) = parse_further_write(alloc, rest)?;
-        writes.push(write)?;
-        rest = behind;
+        rest = taken_up(&mut writes, parse_further_write(alloc, rest))?;
     }
     Ok((writes, rest))
 }
@@ -114,14 +110,10 @@ fn parse_branches<'a>(
 ) -> Result<(List<PrismBranch>, Tokens<'a>), Stop<'a>>
     ensures { ParsesIn (map branch_of) (in_scope several_branches) branches_on (seen tokens.entry) result }
 {
-    let (first, behind) = parse_weighted(alloc, tokens)?;
     let mut branches = List::new(alloc);
-    branches.push(first)?;
-    let mut rest = behind;
+    let mut rest = taken_up(&mut branches, parse_weighted(alloc, tokens))?;
     'each: while symbol_next(rest, Symbol::Plus) {
-        let (branch, behind) = parse_further_branch(alloc, rest)?;
-        branches.push(branch)?;
-        rest = behind;
+        rest = taken_up(&mut branches, parse_further_branch(alloc, rest))?;
     }
     Ok((branches, rest))
 }

@@ -1,8 +1,9 @@
 -- Look-ups in tables of texts.
-use Rattle.std.proofs.Common.{◌≡◌, ℕ, Bool, true, false, cond, List, [], ◌∷◌, length, Option, Some, None, refl, sym, ap, ◌≢◌, ◌∙◌, arith, eq-eqb}
+use Rattle.std.proofs.Common.{◌≡◌, ℕ, ◌+◌, ◌<◌, Bool, true, false, cond, List, [], ◌∷◌, length, map, drop, get_or, Option, Some, None, refl, sym, ap, ◌≢◌, ◌∙◌, arith, eq-eqb}
 use Rattle.std.specs.Prelude.{◌==◌, ◌||◌, is_some}
 use Rattle.std.specs.List.{list_any}
 use Rattle.std.specs.Str.{bytes_eq}
+use Rattle.std.proofs.lemmas.List.{at_drop_more}
 use Rattle.std.proofs.lemmas.Slice.Eq.{bytes_eq-Decides}
 use Rattle.std.proofs.lemmas.Bool.Decides.{nat_tests}
 use Rattle.std.proofs.lemmas.Bool.{or_left, or_right}
@@ -59,3 +60,12 @@ lookup_none p table text none h = go (p text) refl
     go : (t : Bool) → p text ≡ t → p text ≡ false
     go true e = let a = lookup_any p table text e h in absurd cc
     go false e = e
+
+-- what a text is in a table, told of the entries that are left
+pub entry_step : {A B : Type 0} (view : B → List ℕ × A) (text : List ℕ) (table : List B) (i : ℕ) (e : B) (same : Bool) → i < length table → e ≡ get_or table i e → bytes_eq (view e).0 text ≡ same →
+    lookup text (map view (drop i table)) ≡ lookup text (map view table) → lookup text (map view table) ≡ cond same (Some (view e).1) (lookup text (map view (drop (i + 1) table)))
+entry_step view text table i e same h is test so_far =
+    sym so_far
+    ∙ at_drop_more (λ es. lookup text (map view es)) table i e h
+    ∙ ap (λ z. lookup text (map view (z ∷ drop (i + 1) table))) (sym is)
+    ∙ ap (λ b. cond b (Some (view e).1) (lookup text (map view (drop (i + 1) table)))) test

@@ -80,18 +80,15 @@ impl Canonical for PrismCommand {
     ghost text = { λ c. command_text (command_of c) };
 
     fn write(&self, out: &mut Vec<u8>) -> Result<(), AllocError> {
-        out.extend_from_slice(b"[")?;
-        write_action(out, &self.action)?;
-        write_parts(
-            out,
-            &[
-                Part::Plain(b"] "),
-                Part::Expression(&self.guard),
-                Part::Plain(b" -> "),
-            ],
-        )?;
-        write_list(out, b"", b" + ", self.branches.as_slice())?;
-        out.extend_from_slice(b";\n")?;
-        Ok(())
+        let guard = [
+            Part::Plain(b"] "),
+            Part::Expression(&self.guard),
+            Part::Plain(b" -> "),
+        ];
+        out.extend_from_slice(b"[")
+            .and(write_action(out, &self.action))
+            .and(write_parts(out, &guard))
+            .and(write_list(out, b"", b" + ", self.branches.as_slice()))
+            .and(out.extend_from_slice(b";\n"))
     }
 }

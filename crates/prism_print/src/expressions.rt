@@ -1,8 +1,8 @@
 // The texts of expressions.
 
-ghost use Rattle.std.specs.Prelude.{◌≡◌, ◌++◌, true, OnOk};
+ghost use Rattle.std.specs.Prelude.{◌≡◌, ◌++◌, OnOk};
 ghost use Rattle.op_trees.specs.Tree.{tree};
-ghost use Rattle.prism_print.specs.Text.{operator_text, is_function, is_node, enclosed, expression_text, operand_text};
+ghost use Rattle.prism_print.specs.Text.{operator_text, is_function, is_node, expression_text, operand_text};
 
 use frac_core::write_number;
 use op_trees::Expr;
@@ -60,14 +60,19 @@ pub fn is_node(e: &PrismExpr) -> bool
     }
 }
 
-/// Writes an expression in parentheses.
+/// Writes an expression between two texts.
 #[cycle(expression)]
-fn write_enclosed(out: &mut Vec<u8>, e: &PrismExpr) -> Result<(), AllocError>
-    ensures { OnOk result (out.new.items ≡ out.old.items ++ enclosed true (expression_text (tree e.now))) }
+fn write_between(
+    out: &mut Vec<u8>,
+    before: &[u8],
+    e: &PrismExpr,
+    after: &[u8],
+) -> Result<(), AllocError>
+    ensures { OnOk result (out.new.items ≡ out.old.items ++ (before.now ++ (expression_text (tree e.now) ++ after.now))) }
 {
-    out.extend_from_slice(b"(")?;
-    write_expression(out, e)?;
-    out.extend_from_slice(b")")
+    out.extend_from_slice(before)
+        .and(write_expression(out, e))
+        .and(out.extend_from_slice(after))
 }
 
 /// Writes an operand, in parentheses where it is an operator node.
@@ -76,10 +81,18 @@ fn write_operand(out: &mut Vec<u8>, e: &PrismExpr) -> Result<(), AllocError>
     ensures { OnOk result (out.new.items ≡ out.old.items ++ operand_text (tree e.now)) }
 {
     if is_node(e) {
-        write_enclosed(out, e)
+        write_between(out, b"(", e, b")")
     } else {
         write_expression(out, e)
     }
+}
+
+/// Writes an operand behind a text.
+#[cycle(expression)]
+fn write_after(out: &mut Vec<u8>, before: &[u8], e: &PrismExpr) -> Result<(), AllocError>
+    ensures { OnOk result (out.new.items ≡ out.old.items ++ (before.now ++ operand_text (tree e.now))) }
+{
+    out.extend_from_slice(before).and(write_operand(out, e))
 }
 
 /// Writes the canonical text of an expression at the end of `out` (PRISM manual, "Expressions"). An `Err` is want of memory; what
@@ -93,35 +106,30 @@ pub fn write_expression(out: &mut Vec<u8>, e: &PrismExpr) -> Result<(), AllocErr
         Expr::Truth(_, false) => out.extend_from_slice(b"false"),
         Expr::Number(_, number) => write_number(out, *number),
         Expr::Name(_, name) => out.extend_from_slice(name.as_str().as_bytes()),
-        Expr::One(_, op, a) if is_function(*op) => {
-            out.extend_from_slice(operator_text(*op))?;
-            write_enclosed(out, a)
-        }
         Expr::One(_, op, a) => {
-            out.extend_from_slice(operator_text(*op))?;
-            write_operand(out, a)
-        }
-        Expr::Two(_, op, a, b) if is_function(*op) => {
-            out.extend_from_slice(operator_text(*op))?;
-            out.extend_from_slice(b"(")?;
-            write_expression(out, a)?;
-            out.extend_from_slice(b", ")?;
-            write_expression(out, b)?;
-            out.extend_from_slice(b")")
+            let sign = operator_text(*op);
+            if is_function(*op) {
+                out.extend_from_slice(sign)
+                    .and(write_between(out, b"(", a, b")"))
+            } else {
+                write_after(out, sign, a)
+            }
         }
         Expr::Two(_, op, a, b) => {
-            write_operand(out, a)?;
-            out.extend_from_slice(b" ")?;
-            out.extend_from_slice(operator_text(*op))?;
-            out.extend_from_slice(b" ")?;
-            write_operand(out, b)
+            let sign = operator_text(*op);
+            if is_function(*op) {
+                out.extend_from_slice(sign)
+                    .and(write_between(out, b"(", a, b", "))
+                    .and(write_between(out, b"", b, b")"))
+            } else {
+                write_operand(out, a)
+                    .and(out.extend_from_slice(b" "))
+                    .and(out.extend_from_slice(sign))
+                    .and(write_after(out, b" ", b))
+            }
         }
-        Expr::Three(_, _, a, b, c) => {
-            write_operand(out, a)?;
-            out.extend_from_slice(b" ? ")?;
-            write_operand(out, b)?;
-            out.extend_from_slice(b" : ")?;
-            write_operand(out, c)
-        }
+        Expr::Three(_, _, a, b, c) => write_operand(out, a)
+            .and(write_after(out, b" ? ", b))
+            .and(write_after(out, b" : ", c)),
     }
 }

@@ -22,12 +22,12 @@ pub fn print(alloc: Global, file: &PrismFile) -> Result<List<u8>, AllocError>
     ensures back { IsPrintable (file_of file.now) → IfOk result (λ text. SpellsFile text (file_of file.now)) }
 {
     let mut out = Vec::new(alloc);
-    out.extend_from_slice(b"mdp\n")?;
-    write_list(&mut out, b"\n", b"", file.constants.as_slice())?;
-    write_list(&mut out, b"\nglobal ", b"global ", file.globals.as_slice())?;
-    write_list(&mut out, b"\n", b"", file.formulas.as_slice())?;
-    write_list(&mut out, b"\n", b"\n", file.modules.as_slice())?;
-    write_list(&mut out, b"\n", b"", file.labels.as_slice())?;
-    write_list(&mut out, b"\n", b"\n", file.rewards.as_slice())?;
+    out.extend_from_slice(b"mdp\n")
+        .and(write_list(&mut out, b"\n", b"", file.constants.as_slice()))
+        .and(write_list(&mut out, b"\nglobal ", b"global ", file.globals.as_slice()))
+        .and(write_list(&mut out, b"\n", b"", file.formulas.as_slice()))
+        .and(write_list(&mut out, b"\n", b"\n", file.modules.as_slice()))
+        .and(write_list(&mut out, b"\n", b"", file.labels.as_slice()))
+        .and(write_list(&mut out, b"\n", b"\n", file.rewards.as_slice()))?;
     Ok(List::from_vec(out))
 }

@@ -25,6 +25,7 @@ fn before_commands(vars: &[PrismVar]) -> &'static [u8]
 fn write_body(out: &mut Vec<u8>, body: &PlainModule) -> Result<(), AllocError>
     ensures { OnOk result (out.new.items ≡ out.old.items ++ body_text (body_of body.now)) }
 {
+    let vars = body.vars.as_slice();
     write_parts(
         out,
         &[
@@ -32,12 +33,10 @@ fn write_body(out: &mut Vec<u8>, body: &PlainModule) -> Result<(), AllocError>
             Part::Name(&body.name.name),
             Part::Plain(b"\n"),
         ],
-    )?;
-    let vars = body.vars.as_slice();
-    write_list(out, b"  ", b"  ", vars)?;
-    write_list(out, before_commands(vars), b"  ", body.commands.as_slice())?;
-    out.extend_from_slice(b"endmodule\n")?;
-    Ok(())
+    )
+    .and(write_list(out, b"  ", b"  ", vars))
+    .and(write_list(out, before_commands(vars), b"  ", body.commands.as_slice()))
+    .and(out.extend_from_slice(b"endmodule\n"))
 }
 
 impl Canonical for NamePair {
@@ -70,10 +69,9 @@ fn write_copy(out: &mut Vec<u8>, copy: &CopiedModule) -> Result<(), AllocError>
             Part::Name(&copy.from.name),
             Part::Plain(b" ["),
         ],
-    )?;
-    write_list(out, b"", b", ", copy.pairs.as_slice())?;
-    out.extend_from_slice(b"] endmodule\n")?;
-    Ok(())
+    )
+    .and(write_list(out, b"", b", ", copy.pairs.as_slice()))
+    .and(out.extend_from_slice(b"] endmodule\n"))
 }
 
 impl Canonical for PrismModule {
@@ -152,11 +150,10 @@ impl Canonical for PrismRewards {
     ghost text = { λ r. rewards_text (rewards_of r) };
 
     fn write(&self, out: &mut Vec<u8>) -> Result<(), AllocError> {
-        out.extend_from_slice(b"rewards")?;
-        write_title(out, &self.name)?;
-        out.extend_from_slice(b"\n")?;
-        write_list(out, b"  ", b"  ", self.items.as_slice())?;
-        out.extend_from_slice(b"endrewards\n")?;
-        Ok(())
+        out.extend_from_slice(b"rewards")
+            .and(write_title(out, &self.name))
+            .and(out.extend_from_slice(b"\n"))
+            .and(write_list(out, b"  ", b"  ", self.items.as_slice()))
+            .and(out.extend_from_slice(b"endrewards\n"))
     }
 }

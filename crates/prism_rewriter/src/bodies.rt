@@ -13,9 +13,16 @@ use prism_tree::{PrismExpr, PrismFormula, PrismOp};
 use std::alloc::{AllocError, Global};
 
 /// Expressions by the names that they stand for, as the bodies of formulas.
-#[derive(Drop)]
 pub struct BodyTable<'a> {
     bodies: IndexMap<&'a str, PrismExpr>,
+}
+
+// Written out, so that it is proved here, and not wherever one is held.
+impl<'a> Drop for BodyTable<'a> {
+    fn drop(self) {
+        let BodyTable { bodies } = self;
+        drop(bodies);
+    }
 }
 
 impl<'a> Bodies<PrismOp> for BodyTable<'a> {

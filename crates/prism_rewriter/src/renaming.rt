@@ -9,9 +9,16 @@ use prism_tree::NamePair;
 use std::alloc::{AllocError, Global};
 
 /// New names for old ones.
-#[derive(Drop)]
 pub struct Renaming<'a> {
     new_names: IndexMap<&'a str, &'a str>,
+}
+
+// Written out, so that it is proved here, and not wherever one is held.
+impl<'a> Drop for Renaming<'a> {
+    fn drop(self) {
+        let Renaming { new_names } = self;
+        drop(new_names);
+    }
 }
 
 impl<'a> Renaming<'a> {

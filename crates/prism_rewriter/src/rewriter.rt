@@ -186,7 +186,7 @@ fn written_name(
         (λ r. tree r ≡ renamed (name_in renaming.now) (replaced (Name at x.now) (body_in bodies.now x.now))) }
 {
     match bodies.body(x) {
-        Some(body) => Ok(renamed(alloc, body, renaming)?),
-        None => Ok(renamed_name(alloc, at, x, renaming)?),
+        Some(body) => renamed(alloc, body, renaming),
+        None => renamed_name(alloc, at, x, renaming),
     }
 }

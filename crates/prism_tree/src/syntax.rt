@@ -32,8 +32,12 @@ impl Drop for PrismFile {
             rewards,
             end: _,
         } = self;
-        drop((constants, globals, formulas));
-        drop((modules, labels, rewards));
+        drop(constants);
+        drop(globals);
+        drop(formulas);
+        drop(modules);
+        drop(labels);
+        drop(rewards);
     }
 }
 
@@ -47,7 +51,8 @@ pub struct PrismConst {
 impl Drop for PrismConst {
     fn drop(self) {
         let PrismConst { name, ty: _, value } = self;
-        drop((name, value));
+        drop(name);
+        drop(value);
     }
 }
 
@@ -61,7 +66,9 @@ pub struct PrismVar {
 impl Drop for PrismVar {
     fn drop(self) {
         let PrismVar { name, range, start } = self;
-        drop((name, range, start));
+        drop(name);
+        drop(range);
+        drop(start);
     }
 }
 
@@ -74,7 +81,8 @@ pub struct PrismRange {
 impl Drop for PrismRange {
     fn drop(self) {
         let PrismRange { low, high } = self;
-        drop((low, high));
+        drop(low);
+        drop(high);
     }
 }
 
@@ -87,7 +95,8 @@ pub struct PrismFormula {
 impl Drop for PrismFormula {
     fn drop(self) {
         let PrismFormula { name, body } = self;
-        drop((name, body));
+        drop(name);
+        drop(body);
     }
 }
 
@@ -100,7 +109,8 @@ pub struct PrismLabel {
 impl Drop for PrismLabel {
     fn drop(self) {
         let PrismLabel { name, body } = self;
-        drop((name, body));
+        drop(name);
+        drop(body);
     }
 }
 
@@ -133,7 +143,9 @@ impl Drop for PlainModule {
             vars,
             commands,
         } = self;
-        drop((name, vars, commands));
+        drop(name);
+        drop(vars);
+        drop(commands);
     }
 }
 
@@ -147,7 +159,9 @@ pub struct CopiedModule {
 impl Drop for CopiedModule {
     fn drop(self) {
         let CopiedModule { name, from, pairs } = self;
-        drop((name, from, pairs));
+        drop(name);
+        drop(from);
+        drop(pairs);
     }
 }
 
@@ -160,7 +174,8 @@ pub struct NamePair {
 impl Drop for NamePair {
     fn drop(self) {
         let NamePair { old, new } = self;
-        drop((old, new));
+        drop(old);
+        drop(new);
     }
 }
 
@@ -178,7 +193,9 @@ impl Drop for PrismCommand {
             guard,
             branches,
         } = self;
-        drop((action, guard, branches));
+        drop(action);
+        drop(guard);
+        drop(branches);
     }
 }
 
@@ -191,7 +208,8 @@ pub struct PrismBranch {
 impl Drop for PrismBranch {
     fn drop(self) {
         let PrismBranch { weight, writes } = self;
-        drop((weight, writes));
+        drop(weight);
+        drop(writes);
     }
 }
 
@@ -204,7 +222,8 @@ pub struct PrismWrite {
 impl Drop for PrismWrite {
     fn drop(self) {
         let PrismWrite { name, value } = self;
-        drop((name, value));
+        drop(name);
+        drop(value);
     }
 }
 
@@ -217,7 +236,8 @@ pub struct PrismRewards {
 impl Drop for PrismRewards {
     fn drop(self) {
         let PrismRewards { name, items } = self;
-        drop((name, items));
+        drop(name);
+        drop(items);
     }
 }
 
@@ -231,7 +251,9 @@ pub struct PrismItem {
 impl Drop for PrismItem {
     fn drop(self) {
         let PrismItem { on, guard, value } = self;
-        drop((on, guard, value));
+        drop(on);
+        drop(guard);
+        drop(value);
     }
 }
 

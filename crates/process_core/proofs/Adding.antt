@@ -10,7 +10,6 @@ use Rattle.frac_core.specs.Fraction.{Fraction, nought, plus, is_wide, same_numbe
 use Rattle.frac_core.specs.Sums.{total}
 use Rattle.frac_core.specs.Results.{narrow, from_narrow, wide_where}
 use Rattle.frac_core.specs.declared.fraction.FracFail.{FracFail}
-use Rattle.frac_core.specs.declared.fraction.FracFail.TheVariants as F
 use Rattle.process_core.specs.Process.{Branch}
 use Rattle.process_core.specs.Ready.{Values}
 use Rattle.process_core.specs.Equal.{equal_states, equal_states_is}

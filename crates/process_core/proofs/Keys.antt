@@ -1,5 +1,6 @@
 -- Two states have the same key only where they are the same.
-use Rattle.std.proofs.Common.{◌≡◌, ℤ, pos, List, [], ◌∷◌, ◌++◌, map, Bool, true, false, not, if◌then◌else◌, Vec, Global, refl, sym, ap, ap₂, ◌∙◌, arith, append-nil, append_assoc}
+use Rattle.std.proofs.Common.{◌≡◌, ℤ, pos, List, [], ◌∷◌, ◌++◌, map, Bool, true, false, not, if◌then◌else◌, Vec, Global, refl, sym, ap, ap₂, ◌∙◌, arith, append-nil, append_assoc, length}
+use Rattle.std.proofs.lemmas.Grind.{common_steps}
 use Rattle.std.specs.List.{list_any, position_or_len}
 use Rattle.std.proofs.lemmas.List.{map-append}
 use Rattle.indexmap.specs.IndexSet.{insert_key}
@@ -66,7 +67,7 @@ pub key_next : (k0 k1 ps : List ℤ) (v : Value) (s0 s1 : Values) → k1 ≡ k0 
 key_next k0 k1 ps v s0 s1 p q h e = p ∙ ap₂ (λ a b. a ++ b) h q ∙ sym (ap key_of e ∙ key_more s0 v)
 
 -- ---- keys that code holds
-abbrev equal_keys : Vec ℤ Global → Vec ℤ Global → Bool
+abbrev pub equal_keys : Vec ℤ Global → Vec ℤ Global → Bool
 equal_keys a b = pointwise int_eq a.items b.items
 
 module _ (ks : List (Vec ℤ Global)) (k : Vec ℤ Global) (s : Values) (e : k.items ≡ key_of s) where
@@ -94,6 +95,14 @@ told_new r false c h e f = sym f
 pub told_old : (r b c : Bool) → r ≡ false → r ≡ not b → b ≡ c → c ≡ true
 told_old r true c h e f = sym f
 told_old r false c h e f = absurd cc
+
+-- ---- how many keys there are after one is looked up
+module _ {K B : Type 0} (eq : K → K → Bool) (ks next : List K) (k : K) (old new : List B) (is_new : Bool) (added : is_new ≡ not (list_any (eq k) ks)) (same : length ks ≡ length old) where
+  pub new_length : (b : B) → is_new ≡ true → next ≡ insert_key eq ks k → new ≡ old ++ b ∷ [] → length next ≡ length new
+  new_length b told inserted pushed = grind (arith, common_steps)
+
+  pub old_length : is_new ≡ false → next ≡ insert_key eq ks k → length next ≡ length old
+  old_length told inserted = grind (arith, common_steps)
 
 -- ---- the sums after a target is looked up
 pub put_new : (old new : List code_branch.Branch) (x : Fraction) (s : State) (rs : List Fraction) (t : Values) (b : Bool) →

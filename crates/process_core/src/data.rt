@@ -62,7 +62,8 @@ impl Drop for Branch {
             target,
             rewards,
         } = self;
-        drop((target, rewards));
+        drop(target);
+        drop(rewards);
     }
 }
 
@@ -90,7 +91,8 @@ pub struct Choice {
 impl Drop for Choice {
     fn drop(self) {
         let Choice { label, outcome } = self;
-        drop((label, outcome));
+        drop(label);
+        drop(outcome);
     }
 }
 
@@ -135,10 +137,18 @@ pub struct InstanceFault {
 }
 
 /// A value for a constant that the model leaves open.
-#[derive(Drop)]
 pub struct Given {
     pub name: Text,
     pub value: Value,
+}
+
+// Written out, so that it is proved here, and not wherever one is held.
+impl Drop for Given {
+    fn drop(self) {
+        let Given { name, value } = self;
+        drop(name);
+        drop(value);
+    }
 }
 
 /// Why a model under given constants can't be stepped.

@@ -13,9 +13,16 @@ use prism_tree::PrismLabel;
 use std::alloc::{AllocError, Global};
 
 /// The labels of a model, those that every model has too.
-#[derive(Drop)]
 pub(crate) struct Labels<'a> {
     names: IndexMap<&'a [u8], ()>,
+}
+
+// Written out, so that it is proved here, and not wherever one is held.
+impl<'a> Drop for Labels<'a> {
+    fn drop(self) {
+        let Labels { names } = self;
+        drop(names);
+    }
 }
 
 impl<'a> Labels<'a> {

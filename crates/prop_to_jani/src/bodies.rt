@@ -17,9 +17,16 @@ use prop_trees::marked;
 use std::alloc::{AllocError, Global};
 
 /// The bodies of formulas by their names. In an expression of a property a formula's name has a point before it.
-#[derive(Drop)]
 pub(crate) struct FormulaBodies<'a> {
     bodies: IndexMap<&'a str, PrismExpr>,
+}
+
+// Written out, so that it is proved here, and not wherever one is held.
+impl<'a> Drop for FormulaBodies<'a> {
+    fn drop(self) {
+        let FormulaBodies { bodies } = self;
+        drop(bodies);
+    }
 }
 
 impl<'a> Bodies<PrismOp> for FormulaBodies<'a> {

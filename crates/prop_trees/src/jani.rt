@@ -20,7 +20,6 @@ pub enum JaniAsk {
 }
 
 /// The form of the paths, a bound of steps first.
-#[derive(Drop)]
 pub enum JaniPath {
     /// `F e`
     Finally(JaniExpr),
@@ -36,11 +35,47 @@ pub enum JaniPath {
     UntilWithin(JaniExpr, JaniExpr, JaniExpr),
 }
 
+// Written out, so that it is proved here, and not wherever one is held.
+impl Drop for JaniPath {
+    fn drop(self) {
+        match self {
+            JaniPath::Finally(value) => drop(value),
+            JaniPath::Globally(value) => drop(value),
+            JaniPath::Until(value0, value1) => {
+                drop(value0);
+                drop(value1);
+            },
+            JaniPath::WeakUntil(value0, value1) => {
+                drop(value0);
+                drop(value1);
+            },
+            JaniPath::FinallyWithin(value0, value1) => {
+                drop(value0);
+                drop(value1);
+            },
+            JaniPath::UntilWithin(value0, value1, value2) => {
+                drop(value0);
+                drop(value1);
+                drop(value2);
+            },
+        }
+    }
+}
+
 /// A property with its name, if it has one. In its expressions a name of the model, labels included, stands with a `.` before it; `init`
 /// and `deadlock` without it are the labels that every model has.
-#[derive(Drop)]
 pub struct JaniProperty {
     pub name: Option<Text>,
     pub ask: JaniAsk,
     pub path: JaniPath,
+}
+
+// Written out, so that it is proved here, and not wherever one is held.
+impl Drop for JaniProperty {
+    fn drop(self) {
+        let JaniProperty { name, ask, path } = self;
+        drop(name);
+        drop(ask);
+        drop(path);
+    }
 }

@@ -20,7 +20,6 @@ pub enum Ask {
 }
 
 /// The form of the paths, a bound of steps first.
-#[derive(Drop)]
 pub enum Path {
     /// `F e`
     Finally(PrismExpr),
@@ -36,11 +35,47 @@ pub enum Path {
     UntilWithin(PrismExpr, PrismExpr, PrismExpr),
 }
 
+// Written out, so that it is proved here, and not wherever one is held.
+impl Drop for Path {
+    fn drop(self) {
+        match self {
+            Path::Finally(value) => drop(value),
+            Path::Globally(value) => drop(value),
+            Path::Until(value0, value1) => {
+                drop(value0);
+                drop(value1);
+            },
+            Path::WeakUntil(value0, value1) => {
+                drop(value0);
+                drop(value1);
+            },
+            Path::FinallyWithin(value0, value1) => {
+                drop(value0);
+                drop(value1);
+            },
+            Path::UntilWithin(value0, value1, value2) => {
+                drop(value0);
+                drop(value1);
+                drop(value2);
+            },
+        }
+    }
+}
+
 /// A property with its name, if it has one. In its expressions a name of the model, labels included, stands with a `.` before it; `init`
 /// and `deadlock` without it are the labels that every model has. A label of the file stands between quotes.
-#[derive(Drop)]
 pub struct Property {
     pub name: Option<Text>,
     pub ask: Ask,
     pub path: Path,
+}
+
+// Written out, so that it is proved here, and not wherever one is held.
+impl Drop for Property {
+    fn drop(self) {
+        let Property { name, ask, path } = self;
+        drop(name);
+        drop(ask);
+        drop(path);
+    }
 }

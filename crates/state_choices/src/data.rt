@@ -20,27 +20,59 @@ pub struct Reward {
 }
 
 /// An update of a command, or a destination of an edge.
-#[derive(Drop)]
 pub struct Update {
     pub weight: Result<Value, EvalFail>,
     pub writes: List<Write>,
     pub rewards: List<Reward>,
 }
 
+// Written out, so that it is proved here, and not wherever one is held.
+impl Drop for Update {
+    fn drop(self) {
+        let Update {
+            weight,
+            writes,
+            rewards,
+        } = self;
+        drop(weight);
+        drop(writes);
+        drop(rewards);
+    }
+}
+
 /// A command, or an edge.
-#[derive(Drop)]
 pub struct Command {
     pub guard: Result<Value, EvalFail>,
     pub updates: List<Update>,
 }
 
+// Written out, so that it is proved here, and not wherever one is held.
+impl Drop for Command {
+    fn drop(self) {
+        let Command { guard, updates } = self;
+        drop(guard);
+        drop(updates);
+    }
+}
+
 /// The combinations of one action or vector: one command of each list, in every way. They have one label, and each earns
 /// this reward in each structure.
-#[derive(Drop)]
 pub struct Group<'a> {
     pub label: Option<&'a Text>,
     pub rewards: &'a [Result<Frac, EvalFail>],
     pub lists: Vec<&'a [Command]>,
+}
+
+// Written out, so that it is proved here, and not wherever one is held.
+impl<'a> Drop for Group<'a> {
+    fn drop(self) {
+        let Group {
+            label: _,
+            rewards: _,
+            lists,
+        } = self;
+        drop(lists);
+    }
 }
 
 /// An item of a reward structure: its guard and its value.
@@ -52,29 +84,60 @@ pub struct Item {
 
 /// The commands of a module, or the edges of an element at its current location: those without action, and those of each
 /// action that it has.
-#[derive(Drop)]
 pub struct Member {
     pub silent: List<Command>,
     pub parts: List<Part>,
 }
 
+// Written out, so that it is proved here, and not wherever one is held.
+impl Drop for Member {
+    fn drop(self) {
+        let Member { silent, parts } = self;
+        drop(silent);
+        drop(parts);
+    }
+}
+
 /// The commands or edges of one action.
-#[derive(Drop)]
 pub struct Part {
     pub action: Text,
     pub commands: List<Command>,
 }
 
+// Written out, so that it is proved here, and not wherever one is held.
+impl Drop for Part {
+    fn drop(self) {
+        let Part { action, commands } = self;
+        drop(action);
+        drop(commands);
+    }
+}
+
 /// A synchronisation vector: for each element an action or none, and the result.
-#[derive(Drop)]
 pub struct Vector {
     pub parts: List<Option<Text>>,
     pub result: Option<Text>,
 }
 
+// Written out, so that it is proved here, and not wherever one is held.
+impl Drop for Vector {
+    fn drop(self) {
+        let Vector { parts, result } = self;
+        drop(parts);
+        drop(result);
+    }
+}
+
 /// An action of modules, and the reward that its choices earn in each structure.
-#[derive(Drop)]
 pub struct Action<'a> {
     pub name: &'a Text,
     pub rewards: List<Result<Frac, EvalFail>>,
+}
+
+// Written out, so that it is proved here, and not wherever one is held.
+impl<'a> Drop for Action<'a> {
+    fn drop(self) {
+        let Action { name: _, rewards } = self;
+        drop(rewards);
+    }
 }

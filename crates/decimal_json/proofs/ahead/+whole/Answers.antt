@@ -220,3 +220,21 @@ whole_object-returns-then-bytes-end-ne44-clause-none t c = tt
 
 pub whole_object-returns-clause-whole : goal.whole_object-returns-clause-whole
 whole_object-returns-clause-whole t c = tt
+
+-- ---- what stays within the bytes
+
+pub whole_array-bounds-bytes-end : goal.whole_array-bounds-bytes-end
+whole_array-bounds-bytes-end t c = whole_within c.args.bytes.now _ c.args.depth _ c.loop-n.n c.in-Some.size c.in-Some.value (tail_is c.loop-n.n c.args.bytes.now) c.loop-n.invariant.0 (whole_of _ _ _ _ c.in-Some.value c.in-Some.size c.in-Some.is c.in_ok-item.ensures.whole)
+
+pub whole_array-bounds-bytes-end-then-bytes-end-ne44 : goal.whole_array-bounds-bytes-end-then-bytes-end-ne44
+whole_array-bounds-bytes-end-then-bytes-end-ne44 t c = whole_within c.args.bytes.now _ c.args.depth _ c.loop-n.n c.in-Some.size c.in-Some.value (tail_is c.loop-n.n c.args.bytes.now) c.loop-n.invariant.0 (whole_of _ _ _ _ c.in-Some.value c.in-Some.size c.in-Some.is c.in_ok-item.ensures.whole)
+
+pub whole_object-bounds-bytes-end : goal.whole_object-bounds-bytes-end
+whole_object-bounds-bytes-end t c =
+    let k = looks_of _ _ _ _ _ (Valued c.in-Valued.pending c.in-Valued.m c.in-Valued.value c.in-Valued.size) c.in-Valued.is c.in_ok-other.ensures.whole in
+    members_within c.args.bytes.now c.args.at c.args.depth _ c.loop-n.n c.in-Valued.m c.in-Valued.size c.loop-n.done _ c.in-Valued.pending c.in-Valued.value (tail_is c.loop-n.n c.args.bytes.now) c.loop-n.invariant c.loop-n-test.true c.if-bytes-n-eq34.true k.0 k.1 c.in_ok-done-in-Valued.ensures
+
+pub whole_object-bounds-bytes-end-then-bytes-end-ne44 : goal.whole_object-bounds-bytes-end-then-bytes-end-ne44
+whole_object-bounds-bytes-end-then-bytes-end-ne44 t c =
+    let k = looks_of _ _ _ _ _ (Valued c.in-Valued.pending c.in-Valued.m c.in-Valued.value c.in-Valued.size) c.in-Valued.is c.in_ok-other.ensures.whole in
+    members_within c.args.bytes.now c.args.at c.args.depth _ c.loop-n.n c.in-Valued.m c.in-Valued.size c.loop-n.done _ c.in-Valued.pending c.in-Valued.value (tail_is c.loop-n.n c.args.bytes.now) c.loop-n.invariant c.loop-n-test.true c.if-bytes-n-eq34.true k.0 k.1 c.in_ok-done-in-Valued.ensures

@@ -1,6 +1,7 @@
-use Rattle.std.specs.Prelude.{false}
-use Rattle.std.proofs.Common.{◌∙◌, ap₂}
+use Rattle.std.specs.Prelude.{false, map}
+use Rattle.std.proofs.Common.{◌∙◌, ap, ap₂, refl}
 use Rattle.std.proofs.Math.Path.{fun_ext}
+use Rattle.gathering.proofs.Loops.{none_left}
 use Rattle.jani_tree.specs.Syntax.{file_of}
 use Rattle.jani_check.specs.ProfileFaults.{rewards_with}
 use Rattle.jani_check.specs.Rewarding.{element_rewards, rewarded_in}
@@ -17,3 +18,8 @@ loop-e-preserved c =
     ∙ ap₂ (λ k o. with_automaton (λ a. rewards_with k a y) false o) (fun_ext c.requires.things)
     (c.requires.automata c.e-item.result.name))
     c.loop-e.invariant
+
+pub returns : goal.returns
+returns c =
+    none_left (λ xs. map (element_rewards (file_of c.args.file.now)) xs) _ (map rewarded_in c.loop-e.list.items) c.as_slice-e-items.result.now c.loop-e.e-index refl c.loop-e-test.false c.loop-e.invariant
+    ∙ ap (map (element_rewards (file_of c.args.file.now))) c.as_slice-e-items.ensures

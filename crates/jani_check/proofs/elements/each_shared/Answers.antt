@@ -1,6 +1,7 @@
-use Rattle.std.specs.Prelude.{[]}
-use Rattle.std.proofs.Common.{◌∙◌, ap₂}
+use Rattle.std.specs.Prelude.{[], map}
+use Rattle.std.proofs.Common.{◌∙◌, ap, ap₂, refl}
 use Rattle.std.proofs.Math.Path.{fun_ext}
+use Rattle.gathering.proofs.Loops.{none_left}
 use Rattle.jani_tree.specs.Syntax.{file_of}
 use Rattle.jani_check.specs.NameLists.{names_under}
 use Rattle.jani_check.specs.Participants.{element_shared}
@@ -17,3 +18,8 @@ loop-e-preserved c =
     ∙ ap₂ (λ k o. with_automaton (λ a. shared_by k a y) [] o) (fun_ext c.requires.things)
     (c.requires.automata c.e-item.result.name))
     c.loop-e.invariant
+
+pub returns : goal.returns
+returns c =
+    none_left (λ xs. map (element_shared (file_of c.args.file.now)) xs) _ (map names_under c.loop-e.list.items) c.as_slice-e-items.result.now c.loop-e.e-index refl c.loop-e-test.false c.loop-e.invariant
+    ∙ ap (map (element_shared (file_of c.args.file.now))) c.as_slice-e-items.ensures

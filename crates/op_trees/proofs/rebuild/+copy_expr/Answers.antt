@@ -1,9 +1,20 @@
-use Rattle.std.proofs.Common.{◌≡◌, sym, subst}
+use Rattle.std.proofs.Common.{◌≡◌, sym, subst, ap, ℕ, List}
 use Rattle.std.specs.Prelude.{IfOk}
 use Rattle.op_trees.specs.declared.tree.Expr.{Expr}
-use Rattle.op_trees.specs.Tree.{tree, One, Two, Three}
+use Rattle.op_trees.specs.Tree.{tree, Name, One, Two, Three}
 use Rattle.op_trees.proofs.Made.{over_one, over_two, over_three}
 use Rattle.op_trees.proofs.rebuild.+copy_expr.Goals as goal
+
+pub returns-in-Truth : goal.returns-in-Truth
+returns-in-Truth g t c = sym (ap (λ (e : Expr _). tree e) c.in-Truth.is)
+
+pub returns-in-Number : goal.returns-in-Number
+returns-in-Number g t c = sym (ap (λ (e : Expr _). tree e) c.in-Number.is)
+
+pub returns-in-Name : goal.returns-in-Name
+returns-in-Name g t c =
+    subst (λ (e : Expr _). IfOk c.name.result (λ v. tree v ≡ tree e)) (sym c.in-Name.is)
+    (subst (λ (x : List ℕ). IfOk c.name.result (λ v. tree v ≡ Name c.in-Name.at x)) c.as_str.ensures c.name.ensures)
 
 pub returns-in-One : goal.returns-in-One
 returns-in-One g t c =

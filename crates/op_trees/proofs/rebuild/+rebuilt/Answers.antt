@@ -1,10 +1,26 @@
-use Rattle.std.proofs.Common.{◌≡◌, sym, subst}
+use Rattle.std.proofs.Common.{◌≡◌, sym, subst, ℕ, List}
 use Rattle.std.specs.Prelude.{IfOk}
 use Rattle.op_trees.specs.declared.tree.Expr.{Expr}
 use Rattle.op_trees.specs.Tree.{tree}
-use Rattle.op_trees.specs.Rebuilt.{OneNode, TwoNode, ThreeNode, mapped}
+use Rattle.op_trees.specs.Rebuilt.{NameNode, OneNode, TwoNode, ThreeNode, mapped}
 use Rattle.op_trees.proofs.Made.{over_one, over_two, over_three}
 use Rattle.op_trees.proofs.rebuild.+rebuilt.Goals as goal
+
+pub returns-in-Truth : goal.returns-in-Truth
+returns-in-Truth g t c =
+    let new = g.M.OpMap.rebuilt c.args.map.now in
+    subst (λ (e : Expr _). IfOk c.rebuild.result (λ v. tree v ≡ mapped new (tree e))) (sym c.in-Truth.is) c.rebuild.ensures
+
+pub returns-in-Number : goal.returns-in-Number
+returns-in-Number g t c =
+    let new = g.M.OpMap.rebuilt c.args.map.now in
+    subst (λ (e : Expr _). IfOk c.rebuild-in-Number.result (λ v. tree v ≡ mapped new (tree e))) (sym c.in-Number.is) c.rebuild-in-Number.ensures
+
+pub returns-in-Name : goal.returns-in-Name
+returns-in-Name g t c =
+    let new = g.M.OpMap.rebuilt c.args.map.now in
+    subst (λ (e : Expr _). IfOk c.rebuilt_name.result (λ v. tree v ≡ mapped new (tree e))) (sym c.in-Name.is)
+    (subst (λ (x : List ℕ). IfOk c.rebuilt_name.result (λ v. tree v ≡ new (NameNode c.in-Name.at x))) c.as_str.ensures c.rebuilt_name.ensures)
 
 pub returns-in-One : goal.returns-in-One
 returns-in-One g t c =

@@ -1,9 +1,25 @@
-use Rattle.std.proofs.Common.{◌≡◌, sym, subst}
+use Rattle.std.proofs.Common.{◌≡◌, sym, subst, ap, ℕ, List}
 use Rattle.std.specs.Prelude.{IfOk}
 use Rattle.op_trees.specs.declared.tree.Expr.{Expr}
-use Rattle.op_trees.specs.Tree.{tree, substituted, One, Two, Three}
+use Rattle.op_trees.specs.Tree.{tree, replaced, substituted, Name, One, Two, Three}
 use Rattle.op_trees.proofs.Made.{over_one, over_two, over_three}
 use Rattle.op_trees.proofs.rebuild.+with_bodies.Goals as goal
+
+pub returns-in-Truth : goal.returns-in-Truth
+returns-in-Truth g t c =
+    let bodies = g.B.Bodies.bodies c.args.bodies.now in
+    sym (ap (λ (e : Expr _). substituted bodies (tree e)) c.in-Truth.is)
+
+pub returns-in-Number : goal.returns-in-Number
+returns-in-Number g t c =
+    let bodies = g.B.Bodies.bodies c.args.bodies.now in
+    sym (ap (λ (e : Expr _). substituted bodies (tree e)) c.in-Number.is)
+
+pub returns-in-Name : goal.returns-in-Name
+returns-in-Name g t c =
+    let bodies = g.B.Bodies.bodies c.args.bodies.now in
+    subst (λ (e : Expr _). IfOk c.body_or_name.result (λ v. tree v ≡ substituted bodies (tree e))) (sym c.in-Name.is)
+    (subst (λ (x : List ℕ). IfOk c.body_or_name.result (λ v. tree v ≡ replaced (Name c.in-Name.at x) (bodies x))) c.as_str.ensures c.body_or_name.ensures)
 
 pub returns-in-One : goal.returns-in-One
 returns-in-One g t c =

@@ -2,6 +2,7 @@ use Rattle.std.specs.Prelude.{map}
 use Rattle.std.proofs.Common.{◌∙◌, ap, refl}
 use Rattle.std.proofs.lemmas.List.{map-append}
 use Rattle.prism_tree.specs.Syntax.{write_of}
+use Rattle.gathering.proofs.Loops.{none_left}
 use Rattle.prism_check.specs.Demands.{written}
 use Rattle.prism_check.specs.Views.{demand_by}
 use Rattle.prism_check.proofs.Lists.{map_left}
@@ -12,3 +13,6 @@ loop-write-preserved c =
     map_left (written c.args.acts) write_of _ (map demand_by c.loop-write.list.items) (map demand_by c.push.new.self.items) c.args.writes.now c.loop-write.write-index
     c.write-item.result _ c.loop-write-test.true c.write-item.is c.loop-write.invariant
     (ap (map demand_by) c.in_ok-push.ensures.items ∙ map-append demand_by c.loop-write.list.items _) refl
+
+pub returns : goal.returns
+returns c = none_left (λ xs. map (written c.args.acts) (map write_of xs)) _ (map demand_by c.loop-write.list.items) c.args.writes.now c.loop-write.write-index refl c.loop-write-test.false c.loop-write.invariant
