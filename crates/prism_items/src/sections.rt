@@ -49,39 +49,27 @@ fn parse_section<'a>(alloc: Global, tokens: Tokens<'a>) -> Result<(Section, Toke
     ensures { ParsesIn section_of (in_scope section) none (seen tokens.entry) result }
 {
     if word_next(tokens, Reserved::Const) {
-        return match parse_const(alloc, tokens) {
-            Ok((constant, rest)) => Ok((Section::Const(constant), rest)),
-            Err(stop) => Err(stop),
-        };
+        let (constant, rest) = parse_const(alloc, tokens)?;
+        return Ok((Section::Const(constant), rest));
     }
     if word_next(tokens, Reserved::Global) {
-        return match parse_global(alloc, tokens) {
-            Ok((global, rest)) => Ok((Section::Global(global), rest)),
-            Err(stop) => Err(stop),
-        };
+        let (global, rest) = parse_global(alloc, tokens)?;
+        return Ok((Section::Global(global), rest));
     }
     if word_next(tokens, Reserved::Formula) {
-        return match parse_formula(alloc, tokens) {
-            Ok((formula, rest)) => Ok((Section::Formula(formula), rest)),
-            Err(stop) => Err(stop),
-        };
+        let (formula, rest) = parse_formula(alloc, tokens)?;
+        return Ok((Section::Formula(formula), rest));
     }
     if word_next(tokens, Reserved::Module) {
-        return match parse_module(alloc, tokens) {
-            Ok((module, rest)) => Ok((Section::Module(module), rest)),
-            Err(stop) => Err(stop),
-        };
+        let (module, rest) = parse_module(alloc, tokens)?;
+        return Ok((Section::Module(module), rest));
     }
     if word_next(tokens, Reserved::Label) {
-        return match parse_label(alloc, tokens) {
-            Ok((label, rest)) => Ok((Section::Label(label), rest)),
-            Err(stop) => Err(stop),
-        };
+        let (label, rest) = parse_label(alloc, tokens)?;
+        return Ok((Section::Label(label), rest));
     }
-    match parse_rewards(alloc, tokens) {
-        Ok((rewards, rest)) => Ok((Section::Rewards(rewards), rest)),
-        Err(stop) => Err(stop),
-    }
+    let (rewards, rest) = parse_rewards(alloc, tokens)?;
+    Ok((Section::Rewards(rewards), rest))
 }
 
 /// A file with one item more.
