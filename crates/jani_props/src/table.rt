@@ -256,10 +256,12 @@ pub(crate) fn operand_form(form: Form) -> PropForm
 fn own_row(kind: PropKind, key: &str) -> Option<PropRow>
     ensures { result ≡ own_row_of kind key.now }
 {
-    own_rows(kind)
-        .iter()
-        .copied()
-        .find(|row| row.0.text() == key)
+    for row in own_rows(kind) {
+        if row.0.text() == key {
+            return Some(*row);
+        }
+    }
+    None
 }
 
 /// What the value of a member with this key has to be; none where an object of this kind has no such member.

@@ -94,11 +94,15 @@ impl PropOp {
     }
 
     /// The word that is written so.
-    #[tactic(auto, unfolding(crate::specs::Words::prop_op_of))]
     pub fn of(text: &str) -> Option<PropOp>
         ensures { result ≡ prop_op_of text.now }
     {
-        PROP_OPS.iter().copied().find(|op| op.text() == text)
+        for op in &PROP_OPS {
+            if op.text() == text {
+                return Some(*op);
+            }
+        }
+        None
     }
 }
 
@@ -157,11 +161,15 @@ impl Fun {
     }
 
     /// The word that is written so.
-    #[tactic(auto, unfolding(crate::specs::Words::fun_of))]
     pub fn of(text: &str) -> Option<Fun>
         ensures { result ≡ fun_of text.now }
     {
-        FUNS.iter().copied().find(|word| word.text() == text)
+        for word in &FUNS {
+            if word.text() == text {
+                return Some(*word);
+            }
+        }
+        None
     }
 }
 
