@@ -1,5 +1,5 @@
 -- Options.
-use Rattle.std.proofs.Common.{◌≡◌, ◌⊎◌, Bool, true, false, ◌||◌, List, [], ◌∷◌, Option, Some, None, is_some, is_none, option_map, if◌then◌else◌, refl, inl, inr}
+use Rattle.std.proofs.Common.{◌≡◌, ◌⊎◌, Bool, true, false, ◌||◌, List, [], ◌∷◌, map, Option, Some, None, is_some, is_none, option_map, if◌then◌else◌, refl, inl, inr}
 use Rattle.std.specs.Prelude.{IsTrue}
 use Rattle.std.specs.Option.{option_or}
 
@@ -24,6 +24,10 @@ none_is (Some x) e = absurd cc
 pub has_some : {A : Type 0} (o : Option A) → IsTrue (is_some o) → (x : A) × (o ≡ Some x)
 has_some None h = absurd cc
 has_some (Some x) h = (x, refl)
+
+pub if_some-map : {A B : Type 0} (f : A → B) (o : Option A) → if_some (option_map f o) ≡ map f (if_some o)
+if_some-map f None = refl
+if_some-map f (Some x) = refl
 
 pub is_some-map : {A B : Type 0} (f : A → B) (o : Option A) → is_some (option_map f o) ≡ is_some o
 is_some-map f None = refl

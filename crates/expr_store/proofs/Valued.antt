@@ -2,7 +2,6 @@
 use Rattle.std.proofs.Common.{◌≡◌, ℕ, List, Bool, true, false, ◌||◌, Option, Some, None, Result, Ok, Err, if◌then◌else◌, refl, sym, ap, subst, ◌∙◌}
 use Rattle.std.proofs.Math.Bool.{or-false, or-true}
 use Rattle.std.proofs.lemmas.Bool.{or_left}
-use Rattle.op_trees.proofs.Answered.{or_absorbs}
 use Rattle.op_trees.specs.declared.tree.Value.{Value}
 use Rattle.op_trees.specs.declared.tree.Next.{Next}
 use Rattle.op_trees.specs.declared.tree.Next.TheVariants.{Done, Second, Third, All}
@@ -10,7 +9,7 @@ use Rattle.op_trees.specs.declared.tree.EvalFail.{EvalFail}
 use Rattle.op_trees.specs.declared.tree.EvalFail.TheVariants.{Undef}
 use Rattle.op_trees.specs.Meaning.{Meaning, is_wide_value, answered, one_answer, both_answer, of_one, of_both, of_lazy, chosen}
 use Rattle.op_trees.specs.Seen.{Seen, known, node, asked_wide, asked_by_wide, one_node, two_node, lazy_node}
-use Rattle.op_trees.proofs.Answered.{next_answer, lazy_answer}
+use Rattle.op_trees.proofs.Answered.{or_absorbs, next_answer, lazy_answer, both_answered, single_answered}
 use Rattle.state_choices.specs.Trimmed.{computed}
 use Rattle.instance_start.specs.declared.data.Place.{Place}
 use Rattle.expr_store.specs.declared.node.Node.{Node}
@@ -55,21 +54,6 @@ module _ {O : Type 0} (m : Meaning O) where
   seen_counted at ns i = subst IsCounted (sym (seen_is m at ns i)) (some_counted at (seen_at m at ns) (node_at ns i))
 
   -- ---- answers of nodes
-  one_answered : (o : O) (p : Bool) (v : Option Value) → answered (is_wide_value (of_one m o v) || p) (of_one m o v) ≡ one_answer m o (answered p v)
-  one_answered o true v = ap (λ b. answered b (of_one m o v)) (or-true (is_wide_value (of_one m o v)))
-  one_answered o false None = refl
-  one_answered o false (Some x) = ap (λ b. answered b (m.value o x None)) (or-false (is_wide_value (m.value o x None)))
-
-  both_answered : (o : O) (p q : Bool) (v w : Option Value) →
-      answered (is_wide_value (of_both m o v w) || (p || q)) (of_both m o v w) ≡ both_answer m o (answered p v) (answered q w)
-  both_answered o true q v w = ap (λ b. answered b (of_both m o v w)) (or-true (is_wide_value (of_both m o v w)))
-  both_answered o false true None w = refl
-  both_answered o false true (Some x) w = ap (λ b. answered b (of_both m o (Some x) w)) (or-true (is_wide_value (of_both m o (Some x) w)))
-  both_answered o false false None None = refl
-  both_answered o false false None (Some y) = refl
-  both_answered o false false (Some x) None = refl
-  both_answered o false false (Some x) (Some y) = ap (λ b. answered b (m.value o x (Some y))) (or-false (is_wide_value (m.value o x (Some y))))
-
   next_answered : (b c : Seen) → IsCounted b → IsCounted c → (n : Next) →
       answered (is_wide_value (chosen n b.value c.value) || asked_wide n b.wide c.wide) (chosen n b.value c.value) ≡ next_answer n (computed b) (computed c)
   next_answered b c h k (Done v) = ap (λ t. answered t (Some v)) (or-false (is_wide_value (Some v)))
@@ -93,7 +77,7 @@ module _ {O : Type 0} (m : Meaning O) where
     where
       by_strict : (s : Bool) → computed (if s then node (of_both m o a.value b.value) (a.wide || b.wide) else lazy_node m o a b (known None))
           ≡ (if s then both_answer m o (computed a) (computed b) else lazy_answer m o (computed a) (computed b) (Err Undef))
-      by_strict true = both_answered o a.wide b.wide a.value b.value
+      by_strict true = both_answered m o a.wide b.wide a.value b.value
       by_strict false = three_answer o a b (known None) h (known_counted None)
 
   pub one_answer_is : (o : O) (a : Seen) →
@@ -102,7 +86,7 @@ module _ {O : Type 0} (m : Meaning O) where
     where
       by_strict : (s : Bool) → computed (if s then node (of_one m o a.value) a.wide else lazy_node m o a (known None) (known None))
           ≡ (if s then one_answer m o (computed a) else lazy_answer m o (computed a) (Err Undef) (Err Undef))
-      by_strict true = one_answered o a.wide a.value
+      by_strict true = single_answered m o a.wide a.value
       by_strict false = three_answer o a (known None) (known None) (known_counted None) (known_counted None)
 
 -- ---- operators over values

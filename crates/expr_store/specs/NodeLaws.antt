@@ -26,7 +26,7 @@ grown_then {a = a} g h = record { later = g.later ++ h.later; is = h.is ∙ ap (
 pub grown_length : {O : Type 0} {a b : List (Node O)} → IsGrown a b → length a ≤ length b
 grown_length {a = a} g = let e = ap length g.is ∙ length-append a g.later in omega (arith, e)
 
-get_last : {A : Type 0} (xs : List A) (x : A) → slice_get (xs ++ x ∷ []) (length xs) ≡ Some x
+pub get_last : {A : Type 0} (xs : List A) (x : A) → slice_get (xs ++ x ∷ []) (length xs) ≡ Some x
 get_last [] x = refl
 get_last (y ∷ xs) x = get_last xs x
 

@@ -2,7 +2,8 @@
 use Rattle.std.specs.Prelude.{◌≡◌, ℕ, zero, suc, Bool, true, false, ◌*◌, ◌/◌, ◌<◌, ◌≤◌, ◌^◌, ℤ, pos, negsuc, ◌*ℤ◌, neg_ℤ, nat_abs, nat_lt, int_lt, Ok, Err}
 use Rattle.std.specs.Int.{◌∣◌}
 use Rattle.std.specs.Ordering.{int_eq}
-use Rattle.std.proofs.Common.{arith, refl, sym, ap, ap₂, subst, subst₂, ◌∙◌, mul-pos, lt-ltb, le-ltb}
+use Rattle.std.proofs.lemmas.Int.{ints}
+use Rattle.std.proofs.Common.{arith, refl, sym, ap, ap₂, subst, subst₂, ◌∙◌, ◌-ℤ◌, mul-pos, lt-ltb, le-ltb}
 use Rattle.std.proofs.Math.Nat.{mul-div_cancel'}
 use Rattle.frac_core.specs.Gcd.{gcd, gcd_lem, gcd_pos, gcd-div}
 use Rattle.frac_core.specs.Fraction.{Fraction, fraction, signed, shrunk, quotient_pos, is_lowest_from, IsKept}
@@ -95,3 +96,7 @@ fraction_reduced n d g p e =
 pub signed-nat_abs : (n : ℤ) → signed (int_lt n (pos 0)) (nat_abs n) ≡ n
 signed-nat_abs (pos n) = ap (λ b. signed b n) (le-ltb n 0 (omega arith))
 signed-nat_abs (negsuc n) = refl
+
+-- ---- the other sign
+pub minus : (x y : ℤ) → x ≡ y → pos 0 -ℤ x ≡ neg_ℤ y
+minus x y e = omega (arith, ints)

@@ -30,6 +30,26 @@ each_left f total old new xs i x h e so_far added =
     ∙ ap (λ l. old ++ flat_map f l) (sym (drop_item xs i x h e))
     ∙ so_far
 
+-- where the members are seen as something: an image of each
+pub map_left : {B C X : Type 0} (f : C → X) (s : B → C) (total old new : List X) (xs : List B) (i : ℕ) (x : B) (y : X) → i < length xs → x ≡ get_or xs i x →
+    old ++ map f (map s (drop i xs)) ≡ total → new ≡ old ++ y ∷ [] → y ≡ f (s x) → new ++ map f (map s (drop (i + 1) xs)) ≡ total
+map_left f s total old new xs i x y h e so_far added here =
+    let rest = map f (map s (drop (i + 1) xs)) in
+    ap (λ l. l ++ rest) (added ∙ ap (λ z. old ++ z ∷ []) here)
+    ∙ append_assoc old (f (s x) ∷ []) rest
+    ∙ ap (λ l. old ++ map f (map s l)) (sym (drop_item xs i x h e))
+    ∙ so_far
+
+-- and a list for each
+pub flat_left : {B C X : Type 0} (f : C → List X) (s : B → C) (total old new : List X) (xs : List B) (i : ℕ) (x : B) → i < length xs → x ≡ get_or xs i x →
+    old ++ flat_map f (map s (drop i xs)) ≡ total → new ≡ old ++ f (s x) → new ++ flat_map f (map s (drop (i + 1) xs)) ≡ total
+flat_left f s total old new xs i x h e so_far added =
+    let rest = flat_map f (map s (drop (i + 1) xs)) in
+    ap (λ l. l ++ rest) added
+    ∙ append_assoc old (f (s x)) rest
+    ∙ ap (λ l. old ++ flat_map f (map s l)) (sym (drop_item xs i x h e))
+    ∙ so_far
+
 -- ---- a list for each member, behind what was there before
 pub flat_next : {X Y : Type 0} (f : X → List Y) (xs : List X) (i : ℕ) (x : X) (first old new : List Y) → i < length xs → x ≡ get_or xs i x → old ≡ first ++ flat_map f (take i xs) →
     new ≡ old ++ f x → new ≡ first ++ flat_map f (take (i + 1) xs)

@@ -2,7 +2,7 @@
 use Rattle.std.specs.Prelude.{◌≡◌, ℕ, zero, suc, List, [], ◌∷◌, map, length, Bool, true, false, not, ◌&&◌, ◌||◌, Option, Some, None, is_some, nat_eq, bytes_eq, if◌then◌else◌}
 use Rattle.std.specs.List.{flat_map, filter, find, list_any}
 use Rattle.std.specs.Option.{option_map, option_or as or_else}
-use Rattle.std.proofs.Common.{refl, sym, ap, ap₂, subst, ◌∙◌}
+use Rattle.std.proofs.Common.{refl, sym, ap, ap₂, ◌∙◌}
 use Rattle.std.proofs.lemmas.List.{length-map}
 use Rattle.std.proofs.Math.Path.{fun_ext}
 use Rattle.basics.specs.Members.{any_agree}
@@ -25,23 +25,18 @@ use Rattle.jani_check.specs.declared.things.Thing.{Thing}
 use Rattle.jani_check.specs.declared.things.Thing.TheVariants.{Variable, Transient}
 use Rattle.op_trees.specs.declared.wanted.Wanted.{Wanted}
 use Rattle.op_trees.specs.declared.wanted.Wanted.TheVariants as W
-use Rattle.name_rules.specs.Least as least
 use Rattle.name_rules.specs.Least.{fault, fault_if}
-use Rattle.jani_check.specs.Things.{kind_type, const_thing, var_thing, const_called, var_called, automaton_called, global_thing, beside, types_by, is_constant, is_lasting, is_transient, is_label, is_reward}
+use Rattle.jani_check.specs.Things.{kind_type, const_thing, var_thing, var_called, automaton_called, global_thing, beside, types_by, is_constant, is_lasting, is_transient, is_label, is_reward}
 use Rattle.name_rules.specs.Names.{Name, is_among}
-use Rattle.basics.specs.Options.{if_some}
+use Rattle.basics.specs.Options.{if_some, if_some-map}
 use Rattle.jani_check.specs.Demands.{Demand, fixed, varying, assigned, given, const_demands, bound_demands, var_demands, location_demands, destination_demands, edge_demands, automaton_demands, outer_demands}
-use Rattle.jani_check.specs.NameFaults.{var_names, global_names, location_names, automaton_names, doubled_in, doubled_names, names_used, unless_known, unknown_by, edge_locations, locations_used, actions_used, unknown_in, vector_actions, unknown_names, uses, uses_of, leads_to, is_circular, circular, circles, repeated_elements, no_element, bad_vector, composition_faults, name_faults}
+use Rattle.jani_check.specs.NameFaults.{var_names, global_names, location_names, automaton_names, doubled_in, doubled_names, names_used, unless_known, unknown_by, edge_locations, locations_used, actions_used, unknown_in, vector_actions, unknown_names, uses, uses_of, leads_to, is_circular, circular, circles, bad_vector, composition_faults, name_faults}
 use Rattle.name_rules.specs.Doubled.{doubled_after, doubled}
-use Rattle.name_rules.proofs.Placeless.{placeless, at_nought, tested, after-bare, doubled-bare, among-bare, unknown-bare}
+use Rattle.name_rules.proofs.Placeless.{placeless, at_nought, tested, first-bare, after-bare, doubled-bare, among-bare, unknown-bare}
 use Rattle.op_trees.specs.Wanted.{is_unwanted, wanted_by}
-use Rattle.jani_check.specs.TypeFaults.{kind_fault, var_faults, type_faults_of, is_variable, has_variable, wanted_at, demand_faults, targets, repeated, edge_repeats, repeated_writes, automaton_faults, has_action, edge_writes, with_automaton, taken_part, participants, assigned_by, edge_shared, shared_by, meet, clashing_writes, type_faults}
-use Rattle.jani_check.specs.ProfileFaults.{read_fault, reads, demand_profile, is_first, first_fault, start_faults, given_by, given_again, given_after, same_number, same_tree, value_for, rewards_by, lacks, differ, some_differ, branch_rewards, automaton_profile, assigns_reward, rewards_with, two_hold, two_writers, profile_faults}
+use Rattle.jani_check.specs.TypeFaults.{kind_fault, var_faults, type_faults_of, is_variable, wanted_at, demand_faults, targets, repeated, edge_repeats, repeated_writes, automaton_faults, has_action, edge_writes, with_automaton, taken_part, participants, assigned_by, edge_shared, shared_by, meet, clashing_writes, type_faults}
+use Rattle.jani_check.specs.ProfileFaults.{read_fault, reads, demand_profile, is_first, first_fault, start_faults, given_by, given_again, given_after, same_tree, value_for, rewards_by, lacks, differ, some_differ, branch_rewards, automaton_profile, assigns_reward, rewards_with, two_hold, two_writers, profile_faults}
 use Rattle.jani_check.specs.Faults.{faults}
-
-if_some-mapped : {A B : Type 0} (f : A → B) (o : Option A) → if_some (option_map f o) ≡ map f (if_some o)
-if_some-mapped f None = refl
-if_some-mapped f (Some x) = refl
 
 -- ---- names that are declared twice
 vars-bare : (xs : List Var) → var_names (map bare_var xs) ≡ map bare_name (var_names xs)
@@ -162,12 +157,12 @@ locations_used-bare a =
     (gathered bare_name bare_edge edge_locations edge_locations edge_locations-bare a.edges)
 
 actions_used-bare : (a : Automaton) → actions_used (bare_automaton a) ≡ map bare_name (actions_used a)
-actions_used-bare a = gathered bare_name bare_edge (λ e. if_some e.action) (λ e. if_some e.action) (λ e. if_some-mapped bare_name e.action) a.edges
+actions_used-bare a = gathered bare_name bare_edge (λ e. if_some e.action) (λ e. if_some e.action) (λ e. if_some-map bare_name e.action) a.edges
 
 vector_actions-bare : (v : Vector) → vector_actions (bare_vector v) ≡ map bare_name (vector_actions v)
 vector_actions-bare v =
     joined bare_name (flat_map if_some (map bare_part v.parts)) (if_some (option_map bare_name v.result)) (flat_map if_some v.parts) (if_some v.result)
-    (gathered bare_name bare_part if_some if_some (λ p. if_some-mapped bare_name p) v.parts) (if_some-mapped bare_name v.result)
+    (gathered bare_name bare_part if_some if_some (λ p. if_some-map bare_name p) v.parts) (if_some-map bare_name v.result)
 
 unknown_in-bare : (global actions : Name → Bool) (a : Automaton) → unknown_in global actions (bare_automaton a) ≡ map placeless (unknown_in global actions a)
 unknown_in-bare global actions a =
@@ -613,17 +608,10 @@ profile_faults-bare file =
     (gathered placeless bare_vector (two_writers (bare_file file)) (two_writers file) (two_writers-bare file) file.vectors))))
 
 -- ---- all of them
-or_else-mapped : (us vs xs ys : List Fault) → us ≡ map placeless xs → vs ≡ map placeless ys → least.or_else us vs ≡ map placeless (least.or_else xs ys)
-or_else-mapped us vs xs ys e h = ap₂ least.or_else e h ∙ of_first xs
-  where
-    of_first : (xs : List Fault) → least.or_else (map placeless xs) (map placeless ys) ≡ map placeless (least.or_else xs ys)
-    of_first [] = refl
-    of_first (x ∷ xs) = refl
-
 pub faults-bare : (file : File) → faults (bare_file file) ≡ map placeless (faults file)
 faults-bare file =
-    or_else-mapped (name_faults (bare_file file)) _ (name_faults file) _ (name_faults-bare file)
-    (or_else-mapped (type_faults (bare_file file)) _ (type_faults file) _ (type_faults-bare file) (profile_faults-bare file))
+    first-bare (name_faults (bare_file file)) _ (name_faults file) _ (name_faults-bare file)
+    (first-bare (type_faults (bare_file file)) _ (type_faults file) _ (type_faults-bare file) (profile_faults-bare file))
 
 -- where one of two files that are the same but for places has no fault, neither has the other
 pub none_too : (f g : File) → bare_file f ≡ bare_file g → faults f ≡ [] → faults g ≡ []

@@ -1,8 +1,8 @@
 -- Lists that are made part by part.
-use Rattle.std.specs.Prelude.{ℕ, ◌<◌, ◌≤◌, ◌+◌, List, [], ◌∷◌, ◌++◌, map, length, drop, Bool}
+use Rattle.std.specs.Prelude.{ℕ, ◌<◌, ◌+◌, List, [], ◌∷◌, ◌++◌, map, length, drop, Bool}
 use Rattle.std.specs.List.{filter, flat_map, sum_by}
-use Rattle.std.proofs.Common.{◌≡◌, refl, sym, ap, ◌∙◌, append_assoc, get_or, arith, append-nil}
-use Rattle.std.proofs.lemmas.List.{at_drop_all, at_drop_more, map-append}
+use Rattle.std.proofs.Common.{◌≡◌, refl, sym, ap, ◌∙◌, append_assoc, get_or, arith}
+use Rattle.std.proofs.lemmas.List.{at_drop_more, map-append}
 use Rattle.std.proofs.lemmas.List.Concat.{flat_map_single}
 use Rattle.std.proofs.lemmas.List.Sums.{sum_by-cons}
 use Rattle.std.proofs.lemmas.Simd.{map-map}
@@ -32,32 +32,6 @@ singles (x ∷ xs) = ap (λ r. x ∷ r) (singles xs)
 -- names that are parts themselves
 pub each_itself : {A : Type 0} (xs ys : List A) → xs ≡ ys → flat_map (λ x. x ∷ []) xs ≡ ys
 each_itself xs ys e = singles xs ∙ e
-
--- one part more of a list that is made part by part
-pub list_next : {A B C : Type 0} (view : A → B) (f : B → List C) (xs : List A) (i : ℕ) (x : A) (l0 l1 whole : List C) → i < length xs → x ≡ get_or xs i x →
-    l1 ≡ l0 ++ f (view x) → l0 ++ flat_map f (map view (drop i xs)) ≡ whole → l1 ++ flat_map f (map view (drop (i + 1) xs)) ≡ whole
-list_next view f xs i x l0 l1 whole h is added so_far =
-    let rest = flat_map f (map view (drop (i + 1) xs)) in
-    ap (λ l. l ++ rest) added
-    ∙ append_assoc l0 (f (view x)) rest
-    ∙ sym (at_drop_more (λ ys. l0 ++ flat_map f (map view ys)) xs i x h ∙ ap (λ y. l0 ++ flat_map f (map view (y ∷ drop (i + 1) xs))) (sym is))
-    ∙ so_far
-
-pub list_done : {A B C : Type 0} (view : A → B) (f : B → List C) (xs : List A) (i : ℕ) (l whole : List C) → length xs ≤ i → l ++ flat_map f (map view (drop i xs)) ≡ whole → l ≡ whole
-list_done view f xs i l whole h so_far = sym (append-nil l) ∙ sym (at_drop_all (λ ys. l ++ flat_map f (map view ys)) xs i h) ∙ so_far
-
--- one element of a list more that is made element by element
-pub map_next : {A B C : Type 0} (view : A → B) (f : B → C) (xs : List A) (i : ℕ) (x : A) (l0 l1 whole : List C) → i < length xs → x ≡ get_or xs i x →
-    l1 ≡ l0 ++ f (view x) ∷ [] → l0 ++ map f (map view (drop i xs)) ≡ whole → l1 ++ map f (map view (drop (i + 1) xs)) ≡ whole
-map_next view f xs i x l0 l1 whole h is added so_far =
-    let rest = map f (map view (drop (i + 1) xs)) in
-    ap (λ l. l ++ rest) added
-    ∙ append_assoc l0 (f (view x) ∷ []) rest
-    ∙ sym (at_drop_more (λ ys. l0 ++ map f (map view ys)) xs i x h ∙ ap (λ y. l0 ++ map f (map view (y ∷ drop (i + 1) xs))) (sym is))
-    ∙ so_far
-
-pub map_done : {A B C : Type 0} (view : A → B) (f : B → C) (xs : List A) (i : ℕ) (l whole : List C) → length xs ≤ i → l ++ map f (map view (drop i xs)) ≡ whole → l ≡ whole
-map_done view f xs i l whole h so_far = sym (append-nil l) ∙ sym (at_drop_all (λ ys. l ++ map f (map view ys)) xs i h) ∙ so_far
 
 pub from_none : {A : Type 0} (l rest : List A) → l ≡ [] → l ++ rest ≡ rest
 from_none l rest e = ap (λ k. k ++ rest) e

@@ -17,6 +17,7 @@ use Rattle.basics.specs.Texts.{bytes_eq-self, bytes_eq-true, bytes_eq_comm}
 use Rattle.gathering.proofs.Loops.{range_more, taken}
 use Rattle.name_rules.specs.Names.{put, under}
 use Rattle.process_core.specs.Equal.{IsEquality}
+use Rattle.process_core.specs.Zip.{AllZip-append}
 use Rattle.process_core.specs.Ready.{Name, firsts, same_label}
 use Rattle.process_core.proofs.Targets.{Distinct, firsts_distinct, firsts_more}
 use Rattle.jani_tree.specs.declared.syntax.JaniEdge.{JaniEdge}
@@ -91,18 +92,12 @@ counted_more view f n old new y so_far pushed here =
     ∙ sym (map-append f (range_with_len 0 n) ((0 + n) ∷ []))
     ∙ ap (map f) (sym (range_more 0 n))
 
-zip_push : {A B : Type 0} (R : A → B → Type 0) (xs : List A) (ys : List B) (x : A) (y : B) → AllZip R xs ys → R x y → AllZip R (xs ++ x ∷ []) (ys ++ y ∷ [])
-zip_push R [] [] x y h r = (r, tt)
-zip_push R [] (z ∷ ys) x y h r = absurd h
-zip_push R (w ∷ xs) [] x y h r = absurd h
-zip_push R (w ∷ xs) (z ∷ ys) x y h r = (h.0, zip_push R xs ys x y h.1 r)
-
 -- one more pair
 pub zip_more : {A B C : Type 0} (R : B → C → Type 0) (s : A → B) (xs : List A) (i : ℕ) (x : A) (old new : List C) (y : C) → i < length xs → x ≡ get_or xs i x →
     AllZip R (map s (take i xs)) old → new ≡ old ++ y ∷ [] → R (s x) y → AllZip R (map s (take (i + 1) xs)) new
 zip_more R s xs i x old new y h e so_far pushed here =
     subst (λ l. AllZip R (map s l) new) (sym (taken xs i x h e))
-    (subst (λ l. AllZip R l new) (sym (map-append s (take i xs) (x ∷ []))) (subst (AllZip R (map s (take i xs) ++ s x ∷ [])) (sym pushed) (zip_push R (map s (take i xs)) old (s x) y so_far here)))
+    (subst (λ l. AllZip R l new) (sym (map-append s (take i xs) (x ∷ []))) (subst (AllZip R (map s (take i xs) ++ s x ∷ [])) (sym pushed) (AllZip-append R (map s (take i xs)) (s x ∷ []) old (y ∷ []) so_far (here, tt))))
 
 pub zip_at : {A B : Type 0} (R : A → B → Type 0) (xs : List A) (ys : List B) (i : ℕ) (x : A) (y : B) → AllZip R xs ys → slice_get xs i ≡ Some x → slice_get ys i ≡ Some y → R x y
 zip_at R [] [] i x y h e g = absurd cc

@@ -13,6 +13,7 @@ use Rattle.jani_tree.specs.Syntax.{File, edge_of}
 use Rattle.jani_meaning.specs.Elements.{Owned}
 use Rattle.name_table.specs.declared.entry.Entry.{Entry}
 use Rattle.name_table.specs.PrismAsks.{NewNames}
+use Rattle.name_table.proofs.EntryLemmas.{named_at}
 use Rattle.prism_targets.specs.Elements.{elements, Element, Placed, placed_edges}
 use Rattle.prism_targets.specs.Targets.{Target, targets}
 use Rattle.prism_targets.specs.Parts.{instead}
@@ -21,7 +22,7 @@ use Rattle.prism_targets.specs.Marks.{Given, assigned_to, given_to, state_item, 
 use Rattle.prism_modules.specs.Element.{Element as CodeElement}
 use Rattle.prism_modules.specs.Code.{element_of}
 use Rattle.jani_to_prism.specs.Gains.{Gain, gain_by, gains_of, gain_item, structure_by}
-use Rattle.prism_modules.proofs.ByPlaces.{action_with, placed_with, later, named_at, whole_list}
+use Rattle.prism_modules.proofs.ByPlaces.{action_with, placed_with, later, whole_list}
 
 -- ---- edges that are looked up
 pub numbered_get : {A X Y : Type 0} (f : ℕ → X → Y) (s : A → X) (k : ℕ) (xs : List A) (i : ℕ) → slice_get (numbered (λ j z. f j z ∷ []) k (map s xs)) i ≡ option_map (λ x. f (k + i) (s x)) (slice_get xs i)

@@ -1,5 +1,5 @@
--- What a PRISM file without faults has, written out: no two of its constants and variables have one name, and its types are those that are
--- declared.
+-- What a PRISM file without faults has, written out: no two of its constants and variables have one name, and variables have the types that they
+-- are declared with.
 use Rattle.std.specs.Prelude.{◌≡◌, ℕ, ◌+◌, List, [], ◌∷◌, ◌++◌, map, max, Bool, true, false, cond, Option, Some, None, bytes_eq}
 use Rattle.std.specs.List.{IsDistinct, find, flat_map, list_all, AllByRecursion as Each}
 use Rattle.std.specs.Option.{option_map}
@@ -14,44 +14,18 @@ use Rattle.op_trees.specs.declared.tree.Ty.{Ty}
 use Rattle.name_rules.proofs.Plain.{no_fault}
 use Rattle.process_core.specs.Product.{map-map}
 use Rattle.process_core.specs.Ready.{Name}
-use Rattle.prism_tree.specs.Operators.{prism_meaning}
 use Rattle.prism_tree.specs.Syntax as prism
 use Rattle.prism_tree.specs.Syntax.{Module, plain, copied}
 use Rattle.op_trees.specs.Names.{is_called}
-use Rattle.prism_names.specs.Names.{formula_body, part_of}
+use Rattle.prism_names.specs.Names.{part_of}
 use Rattle.prism_flat.specs.Kept.{is_plain, IsWrittenOut}
 use Rattle.prism_check.specs.Demands.{var_type}
-use Rattle.prism_check.specs.NameFaults.{clash, doubled_after, doubled, module_vars, values, doubled_names, unknown_names, circles, copy_faults, no_module, name_faults}
-use Rattle.prism_check.specs.SizeFaults.{size_faults}
-use Rattle.prism_check.specs.TypeFaults.{Variable, numbered_variables, declared_types, types, type_faults}
+use Rattle.prism_check.specs.NameFaults.{clash, doubled_after, doubled, module_vars, values}
+use Rattle.prism_check.specs.TypeFaults.{Variable, numbered_variables, types}
 use Rattle.prism_check.specs.TypeFaults as source
-use Rattle.name_rules.specs.Least.{or_else}
-use Rattle.prism_check.proofs.TypeOrder.{types_of_plain}
-use Rattle.prism_check.proofs.CleanFile.{no_either}
+use Rattle.prism_check.proofs.Typed.{no_name_fault}
 use Rattle.name_table.specs.Flattened.{IsFlat}
 use Rattle.name_table.specs.Asks.{contents, bodies, variables, value_names}
-
--- ---- no fault of any kind
-pub no_name_fault : (file : prism.File) → IsFlat file → name_faults file ≡ []
-no_name_fault file flat = (no_either (name_faults file) (or_else (size_faults file) (type_faults file)) flat.checked.sound).0
-
-pub no_type_fault : (file : prism.File) → IsFlat file → type_faults file ≡ []
-no_type_fault file flat =
-    (no_either (size_faults file) (type_faults file) (no_either (name_faults file) (or_else (size_faults file) (type_faults file)) flat.checked.sound).1).1
-
-pub record NoFaults (file : prism.File) : Type 0 where
-  pub doubled : doubled_names file ≡ []
-  pub unknown : unknown_names file ≡ []
-  pub circles : circles file ≡ []
-  pub modules : no_module file ≡ []
-
-pub no_faults : (file : prism.File) → IsFlat file → NoFaults file
-no_faults file flat =
-    let a = append_parts (doubled_names file) (unknown_names file ++ (circles file ++ (flat_map (copy_faults file) file.modules ++ no_module file))) (no_name_fault file flat) in
-    let b = append_parts (unknown_names file) (circles file ++ (flat_map (copy_faults file) file.modules ++ no_module file)) a.1 in
-    let c = append_parts (circles file) (flat_map (copy_faults file) file.modules ++ no_module file) b.1 in
-    let d = append_parts (flat_map (copy_faults file) file.modules) (no_module file) c.1 in
-    record { doubled = a.0; unknown = b.0; circles = c.0; modules = d.1 }
 
 -- ---- names that stand once
 abbrev pub DiffersFrom : List Named → Named → Type 0
@@ -97,15 +71,9 @@ module _ (file : prism.File) where
   pub values_distinct : IsFlat file → IsDistinct bytes_eq (value_names file)
   values_distinct flat =
       subst (IsDistinct bytes_eq) (value_names_are flat.form)
-      (distinct_from TwiceNamed [] (values file) (append_parts (doubled TwiceNamed (values file)) _ (no_faults file flat).doubled).0)
+      (distinct_from TwiceNamed [] (values file) (append_parts (doubled TwiceNamed (values file)) _ (no_name_fault file flat).doubled).0)
 
-  -- ---- types
-  pub no_formula : IsFlat file → (x : Name) → formula_body file x ≡ None
-  no_formula flat x = ap (λ fs. option_map (λ f. f.body) (find (λ f. is_called x f.name) fs)) flat.form.formulas
-
-  pub types_declared : IsFlat file → (x : Name) → types file x ≡ declared_types file x
-  types_declared flat x = types_of_plain prism_meaning (formula_body file) (declared_types file) _ x (no_formula flat x)
-
+-- ---- types
 -- the first of two lists that are searched alike
 pub found_alike : {A B C : Type 0} (f : A → C) (g : B → C) (a : A) (b : B) (o : Option A) (p : Option B) (t : Bool) → f a ≡ g b →
     option_map f o ≡ option_map g p → option_map f (cond t (Some a) o) ≡ option_map g (cond t (Some b) p)

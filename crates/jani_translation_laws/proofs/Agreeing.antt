@@ -5,13 +5,11 @@ use Rattle.std.proofs.Common.{refl, sym, ap, subst}
 use Rattle.std.proofs.lemmas.List.Elements.{All-nil, All-cons}
 use Rattle.op_trees.specs.declared.tree.Ty.{Ty}
 use Rattle.op_trees.specs.declared.tree.Value.{Value}
-use Rattle.op_trees.specs.Tree.{Truth, Number, Name as At, One, Two, Three, AllNumbers}
 use Rattle.op_trees.specs.Types.{AgreesWith, type_in}
 use Rattle.op_trees.specs.TypeLaws.{value_agrees, typed_operands, some_agrees}
 use Rattle.op_trees.specs.Meaning.{value_of}
 use Rattle.op_trees.specs.Seen.{known}
 use Rattle.op_trees.specs.SeenLaws.{names_all, seen_is}
-use Rattle.frac_core.specs.Decimal.{is_normal}
 use Rattle.process_core.specs.Ready.{Name}
 use Rattle.prism_tree.specs.Operators.{prism_meaning}
 use Rattle.prism_tree.specs.OperatorLaws.{prism_lawful}
@@ -19,13 +17,15 @@ use Rattle.prism_tree.specs.Syntax as prism
 use Rattle.prism_names.specs.Names.{see}
 use Rattle.basics.specs.Options.{IfAny}
 use Rattle.prism_print.specs.Printable.{IsPrintableExpression}
+use Rattle.prism_print.proofs.Printable.{literals}
 use Rattle.op_trees.specs.Wanted.{wanted_by, is_wanted, wider as wider_value}
 use Rattle.prism_check.specs.TypeFaults.{types}
 use Rattle.prism_check.specs.Flattened.{IsFlat}
 use Rattle.prism_images.specs.Laws.{IsNoNumberOf}
 use Rattle.prism_images.proofs.Typed.{compares_truths, agreeing}
 use Rattle.jani_translation.specs.SeenLaws.{IsSound}
-use Rattle.jani_translation_laws.proofs.Expressions.{HasType, IsFixed}
+use Rattle.jani_translation_laws.proofs.Expressions.{IsFixed}
+use Rattle.prism_check.proofs.Typed.{HasType}
 
 -- ---- facts of each member of a list
 pub all_then : {A : Type 0} (P Q : A → Type 0) → ((x : A) → P x → Q x) → (xs : List A) → Each P xs → All Q xs
@@ -49,21 +49,13 @@ wider : (w t : Ty) (v : Option Value) → is_wanted (wanted_by w) t ≡ true →
 wider w t None k a = undefined (Some w)
 wider w t (Some x) k a = some_agrees w x (wider_value w t x k (a.agrees t x refl refl))
 
-literals : (e : prism.Expression) → IsPrintableExpression e → AllNumbers (λ d. IsTrue (is_normal d)) e
-literals (Truth at b) p = tt
-literals (Number at d) p = p.0
-literals (At at x) p = tt
-literals (One at o a) p = literals a p.1
-literals (Two at o a b) p = (literals a p.1, literals b p.2)
-literals (Three at o a b c) p = (literals a p.1, literals b p.2, literals c p.3)
-
 module _ (file : prism.File) (flat : IsFlat file) (env : Name → Option Value) where
   -- each name has a value of its type, or none
   abbrev pub AreTyped : Type 0
   AreTyped = (x : Name) → AgreesWith (types file x) (env x)
 
   -- no `<=>` of an expression stands between two numbers, and nodes have their operands
-  pub sound : AreTyped → (w : Ty) (e : prism.Expression) → HasType file flat w e → IsSound (λ x. known (env x)) e
+  pub sound : AreTyped → (w : Ty) (e : prism.Expression) → HasType file w e → IsSound (λ x. known (env x)) e
   sound a w e h =
       let some : IsTrue (is_some (type_in prism_meaning (types file) e)) = subst (λ o. IsTrue (is_some o)) (sym h.is) refl in (
         typed_operands prism_meaning prism_lawful (types file) e some,
@@ -76,7 +68,7 @@ module _ (file : prism.File) (flat : IsFlat file) (env : Name → Option Value) 
   sound_some a w (Some e) h = sound a w e h.0
 
   -- its value has the type that is wanted
-  pub value_typed : AreTyped → (w : Ty) (e : prism.Expression) → IsPrintableExpression e → HasType file flat w e → AgreesWith (Some w) (see e (λ x. known (env x))).value
+  pub value_typed : AreTyped → (w : Ty) (e : prism.Expression) → IsPrintableExpression e → HasType file w e → AgreesWith (Some w) (see e (λ x. known (env x))).value
   unfolding see
   value_typed a w e p h =
       subst (AgreesWith (Some w)) (sym (ap (λ s. s.value) (seen_is prism_meaning env e)))

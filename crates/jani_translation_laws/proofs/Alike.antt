@@ -22,7 +22,8 @@ use Rattle.jani_translation.specs.Translated.{translated}
 use Rattle.jani_translation.proofs.Fresh.{Agrees, no_empty, values_agree, agrees_front, agrees_back}
 use Rattle.jani_translation.proofs.SameSeen.{zip-take}
 use Rattle.jani_translation_laws.specs.TypeLaws.{NamesTypedAlike, NamesStayConstant, NamesAreNotTransient}
-use Rattle.jani_translation.proofs.Clean.{values_distinct, no_formula, types_declared, variable_types}
+use Rattle.jani_translation.proofs.Clean.{values_distinct, variable_types}
+use Rattle.prism_check.proofs.Typed.{no_formula, types_declared}
 
 -- ---- what names of the source become: constants, and variables that are not transient
 abbrev pub kind_by : Option prism.Range → VarKind

@@ -12,7 +12,6 @@ use Rattle.basics.specs.Lists.{append_both}
 use Rattle.basics.specs.Each.{map_each, each_parts, empty_each}
 use Rattle.bridge_io.specs.declared.reason.Named.{Named}
 use Rattle.bridge_io.specs.declared.reason.Reason.TheVariants.{Cycle}
-use Rattle.op_trees.specs.Tree.{Truth, Number, Name as At, One, Two, Three}
 use Rattle.op_trees.specs.Names.{names_of as names_in}
 use Rattle.process_core.specs.Ready.{Name}
 use Rattle.prism_tree.specs.Syntax as prism
@@ -25,40 +24,19 @@ use Rattle.jani_tree.specs.Syntax.{Const}
 use Rattle.jani_check.specs.NameFaults.{uses, uses_of, leads_to, is_circular, circular}
 use Rattle.jani_translation.specs.Entry.{Entry}
 use Rattle.prism_images.specs.Image.{image}
-use Rattle.jani_translation_laws.proofs.Unknown.{one_names}
-use Rattle.prism_check.specs.Flattened.{IsFlat}
+use Rattle.prism_images.proofs.Form.{names_kept}
 use Rattle.jani_translation.specs.Asks.{variables, value_names, entries, new_names}
 use Rattle.jani_translation.specs.Parts.{constant}
-use Rattle.jani_translation.proofs.Clean.{no_faults, values_distinct}
+use Rattle.jani_translation.proofs.Clean.{values_distinct}
+use Rattle.prism_check.proofs.Typed.{no_name_fault}
 use Rattle.jani_translation.proofs.Fresh.{values_agree, agrees_front, Takes, takes_from}
 use Rattle.jani_translation.proofs.Differ.{values_differ}
 use Rattle.jani_translation_laws.specs.NameLaws.{NoCircles}
-use Rattle.jani_translation_laws.proofs.Doubled.{names_of, each_contained}
+use Rattle.jani_translation_laws.proofs.Doubled.{each_contained}
 
 -- ---- names of images
 abbrev bytes_of : List Named → List Name
 bytes_of ns = map (λ n. n.name) ns
-
-images_name : (new : Name → Name) (e : prism.Expression) → bytes_of (names_in (image new e)) ≡ map new (bytes_of (names_in e))
-images_name new (Truth at b) = refl
-images_name new (Number at d) = refl
-images_name new (At at x) = refl
-images_name new (One at o a) = ap bytes_of (one_names at o (image new a)) ∙ images_name new a
-images_name new (Two at o a b) =
-    map-append (λ n. n.name) (names_in (image new a)) (names_in (image new b))
-    ∙ ap₂ (λ xs ys. xs ++ ys) (images_name new a) (images_name new b)
-    ∙ sym (map-append new (bytes_of (names_in a)) (bytes_of (names_in b)))
-    ∙ ap (map new) (sym (map-append (λ n. n.name) (names_in a) (names_in b)))
-images_name new (Three at o a b c) =
-    map-append (λ n. n.name) (names_in (image new a)) (names_in (image new b) ++ names_in (image new c))
-    ∙ ap₂ (λ xs ys. xs ++ ys) (images_name new a)
-    (map-append (λ n. n.name) (names_in (image new b)) (names_in (image new c))
-    ∙ ap₂ (λ xs ys. xs ++ ys) (images_name new b) (images_name new c)
-    ∙ sym (map-append new (bytes_of (names_in b)) (bytes_of (names_in c))))
-    ∙ sym (map-append new (bytes_of (names_in a)) (bytes_of (names_in b) ++ bytes_of (names_in c)))
-    ∙ ap (map new)
-    (ap (λ ys. bytes_of (names_in a) ++ ys) (sym (map-append (λ n. n.name) (names_in b) (names_in c)))
-    ∙ sym (map-append (λ n. n.name) (names_in a) (names_in b ++ names_in c)))
 
 abbrev declared : prism.Const → Declared
 declared c = pc.declared_const c
@@ -68,7 +46,7 @@ uses_alike new c e = by_value c.value
   where
     by_value : (o : Option prism.Expression) → uses (record { name = c.name; ty = c.ty; value = option_map (image new) o; note = None }) ≡ map new (used o)
     by_value None = refl
-    by_value (Some t) = map-append (λ n. n.name) (names_in (image new t)) [] ∙ append-nil (bytes_of (names_in (image new t))) ∙ images_name new t
+    by_value (Some t) = map-append (λ n. n.name) (names_in (image new t)) [] ∙ append-nil (bytes_of (names_in (image new t))) ∙ names_kept new t
 
 -- ---- constants that lead to constants
 module _ (new : Name → Name) (IsOld : Name → Type 0) (alike : (x y : Name) → IsOld y → bytes_eq (new y) (new x) ≡ bytes_eq y x)
@@ -164,6 +142,6 @@ no_circles file flat =
     let takes = takes_from new old (entries file) (λ x. agrees_front x (new x) old (map (λ y. y.name.name) (variables file)) (entries file) (values_agree file d x)) in
     let olds = map_each IsOld (λ c. c.name.name) file.constants (each_parts IsOld old (map (λ y. y.name.name) (variables file)) (each_contained file (value_names file))).0 in
     let goes = goes_from new IsOld alike turned file.constants (entries file) takes olds in
-    let k = subst (λ ds. flat_map (pc.circular ds) ds ≡ []) (declarations_are file flat.form) (no_faults file flat).circles in
+    let k = subst (λ ds. flat_map (pc.circular ds) ds ≡ []) (declarations_are file flat.form) (no_name_fault file flat).circles in
     none_circular new IsOld alike turned file.constants (new_names file).constants goes file.constants (new_names file).constants goes
     (empty_each (pc.circular (map declared file.constants)) (map declared file.constants) k)

@@ -27,7 +27,7 @@ use Rattle.jani_translation.specs.Asks.{bodies, actions, action_of, new_names}
 use Rattle.jani_translation.specs.Parts.{made}
 use Rattle.jani_translation.specs.Automata.{zz_silent, for_action, has_items, has_silent, earning_actions, is_some_name, earns_silently, has_monitor}
 use Rattle.jani_translation.specs.Translated.{has_command, part_if, silent_vector, silent_vectors, action_vector, translated}
-use Rattle.jani_translation.proofs.Clean.{no_faults}
+use Rattle.prism_check.proofs.Typed.{no_name_fault}
 use Rattle.jani_translation.proofs.Each.{n_bodies}
 use Rattle.jani_translation.proofs.OneForOne.{one_automaton_each, one_or_none}
 use Rattle.jani_translation.proofs.Watched.{n_numbered}
@@ -132,7 +132,7 @@ no_composition_faults file flat =
     let t = translated file in
     append_both (repeated_elements t) _ (not_doubled RepeatedAutomaton (automaton_names t) (automata_apart file))
     (append_both (no_element t) (flat_map (bad_vector (length t.elements)) t.vectors)
-    (fault_none (nat_eq (length t.elements) 0) t.elements_at Nothing (some_element file (no_faults file flat).modules))
+    (fault_none (nat_eq (length t.elements) 0) t.elements_at Nothing (some_element file (no_name_fault file flat).modules))
     (each_empty (bad_vector (length t.elements)) t.vectors (vectors_fine file)))
 
 pub no_name_faults : (file : prism.File) → NoNameFaults file

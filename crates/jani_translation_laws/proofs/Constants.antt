@@ -26,7 +26,8 @@ use Rattle.prism_check.specs.Flattened.{IsFlat}
 use Rattle.jani_translation.specs.Asks.{variables}
 use Rattle.jani_translation.specs.SeenLaws.{SoundRange, SoundVariable, SoundConstant, IsSoundUnder}
 use Rattle.jani_translation.proofs.Written.{given_reading}
-use Rattle.jani_translation.proofs.Clean.{values_distinct, types_declared}
+use Rattle.jani_translation.proofs.Clean.{values_distinct}
+use Rattle.prism_check.proofs.Typed.{types_declared}
 use Rattle.jani_translation_laws.proofs.Expressions.{IsFixed}
 use Rattle.jani_translation_laws.proofs.Sources.{IsFineConst, IsFineRange, IsFineVar, consts_fine, variables_fine}
 use Rattle.jani_translation_laws.specs.MeaningLaws.{GivesTyped, FlatIsSound}

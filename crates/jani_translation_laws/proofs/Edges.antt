@@ -20,7 +20,9 @@ use Rattle.prism_images.specs.Image.{image}
 use Rattle.jani_translation.specs.Asks.{new_names}
 use Rattle.jani_translation.specs.Automata.{write, destination, edge}
 use Rattle.jani_translation.specs.Translated.{translated}
-use Rattle.jani_translation_laws.proofs.Expressions.{HasType, has_type, known_names, image_fits}
+use Rattle.jani_translation_laws.proofs.Expressions.{image_fits}
+use Rattle.prism_check.proofs.NoFaults.{all_known}
+use Rattle.prism_check.proofs.Typed.{HasType, has_wanted_type}
 use Rattle.jani_translation_laws.proofs.Sources.{IsFine, IsFineBody, EachFrom}
 use Rattle.jani_translation_laws.proofs.Writes.{IsFineWrite, written_fine, assigned_clean}
 
@@ -32,15 +34,15 @@ nothing_mapped F g P h (x ∷ xs) p = append_both (F (g x)) _ (h x p.0) (nothing
 module _ (file : prism.File) (flat : IsFlat file) where
   -- ---- a command without faults
   abbrev pub IsFineBranch : prism.Branch → Type 0
-  IsFineBranch b = IfAny (HasType file flat T.Real) b.weight × Each (IsFineWrite file flat) b.writes
+  IsFineBranch b = IfAny (HasType file T.Real) b.weight × Each (IsFineWrite file flat) b.writes
 
   abbrev pub IsFineCommand : prism.Command → Type 0
-  IsFineCommand c = HasType file flat T.Bool c.guard × Each IsFineBranch c.branches
+  IsFineCommand c = HasType file T.Bool c.guard × Each IsFineBranch c.branches
 
-  varied : (i : ℕ) (w : Ty) (e : prism.Expression) → IsFine file flat i (source_demands.varying (wanted_by w) e) → HasType file flat w e
-  varied i w e h = has_type file flat w e (known_names file flat e h.1) h.0
+  varied : (i : ℕ) (w : Ty) (e : prism.Expression) → IsFine file flat i (source_demands.varying (wanted_by w) e) → HasType file w e
+  varied i w e h = has_wanted_type file flat w e (all_known file e h.1) h.0
 
-  weight_fine : (i : ℕ) (o : Option prism.Expression) → Each (IsFine file flat i) (map (source_demands.varying (wanted_by T.Real)) (if_some o)) → IfAny (HasType file flat T.Real) o
+  weight_fine : (i : ℕ) (o : Option prism.Expression) → Each (IsFine file flat i) (map (source_demands.varying (wanted_by T.Real)) (if_some o)) → IfAny (HasType file T.Real) o
   weight_fine i None h = tt
   weight_fine i (Some e) h = varied i T.Real e h.0
 
@@ -68,11 +70,11 @@ module _ (file : prism.File) (flat : IsFlat file) where
   )
 
   -- ---- its edge has none
-  varying_clean : (w : Ty) (e : prism.Expression) → HasType file flat w e →
+  varying_clean : (w : Ty) (e : prism.Expression) → HasType file w e →
       demand_faults (global_thing (translated file)) (varying (wanted_by w) (image (new_names file).value e)) ≡ []
   varying_clean w e h = image_fits file flat w e h
 
-  weight_clean : (o : Option prism.Expression) → IfAny (HasType file flat T.Real) o →
+  weight_clean : (o : Option prism.Expression) → IfAny (HasType file T.Real) o →
       flat_map (demand_faults (global_thing (translated file))) (map (varying (wanted_by T.Real)) (if_some (option_map (image (new_names file).value) o))) ≡ []
   weight_clean None h = refl
   weight_clean (Some e) h = append_both (demand_faults (global_thing (translated file)) (varying (wanted_by T.Real) (image (new_names file).value e))) [] (varying_clean T.Real e h) refl

@@ -5,7 +5,7 @@ use Rattle.std.specs.Option.{option_map}
 use Rattle.std.proofs.Common.{refl}
 use Rattle.basics.specs.Each.{each_map, each_join, each_zip, each_filter, each_flat, each_any, any_map}
 use Rattle.bridge_io.specs.declared.reason.Named.{Named}
-use Rattle.op_trees.specs.Tree.{Truth, Number, Name as At, One, Two, Three, AllNumbers}
+use Rattle.op_trees.specs.Tree.{Truth, Number, Name as At, One, Two, Three}
 use Rattle.op_trees.specs.SeenLaws.{names_then}
 use Rattle.process_core.specs.Ready.{Name}
 use Rattle.prism_tree.specs.Syntax as prism
@@ -13,10 +13,11 @@ use Rattle.prism_tree.specs.declared.syntax.ItemOn.{ItemOn}
 use Rattle.process_core.specs.Instance.{numbered, only_if}
 use Rattle.basics.specs.Options.{IfAny}
 use Rattle.prism_print.specs.Printable.{IsPrintableExpression, AreBranches}
+use Rattle.prism_print.proofs.Printable.{literals}
 use Rattle.jani_table.specs.declared.operator.JaniOp.TheVariants.{Add}
 use Rattle.jani_tree.specs.Syntax.{Expression, Write, Edge, Automaton}
 use Rattle.basics.specs.Lists.{IsNotEmpty as HasItems}
-use Rattle.jani_tree.specs.Form.{IsNormal, NameForm, ExprForm, KindForm, ConstRead, VarRead, WriteRead, DestinationRead, EdgeRead, AutomatonRead, PartForm, VectorRead}
+use Rattle.jani_tree.specs.Form.{NameForm, ExprForm, KindForm, ConstRead, VarRead, WriteRead, DestinationRead, EdgeRead, AutomatonRead, PartForm, VectorRead}
 use Rattle.jani_translation.specs.Entry.{Entry}
 use Rattle.prism_images.specs.Image.{image}
 use Rattle.prism_images.specs.Laws.{HasItsOperands}
@@ -48,14 +49,6 @@ operands (At at x) p = tt
 operands (One at o a) p = (p.0, operands a p.1)
 operands (Two at o a b) p = (p.0, operands a p.1, operands b p.2)
 operands (Three at o a b c) p = (p.0, operands a p.1, operands b p.2, operands c p.3)
-
-literals : (e : prism.Expression) → IsPrintableExpression e → AllNumbers IsNormal e
-literals (Truth at b) p = tt
-literals (Number at d) p = p.0
-literals (At at x) p = tt
-literals (One at o a) p = literals a p.1
-literals (Two at o a b) p = (literals a p.1, literals b p.2)
-literals (Three at o a b c) p = (literals a p.1, literals b p.2, literals c p.3)
 
 loc_name : (NameForm HasItems) loc
 loc_name = tt

@@ -24,7 +24,8 @@ use Rattle.prism_check.specs.NameFaults.{is_among, values, unless_known, unknown
 use Rattle.prism_check.proofs.NamesIn.{listed_names}
 use Rattle.prism_check.specs.Flattened.{IsFlat}
 use Rattle.jani_translation.specs.Asks.{contents, bodies, variables, value_names}
-use Rattle.jani_translation.proofs.Clean.{value_names_are, no_faults}
+use Rattle.jani_translation.proofs.Clean.{value_names_are}
+use Rattle.prism_check.proofs.Typed.{no_name_fault}
 
 -- ---- what is known
 -- some constant or variable has the name
@@ -169,7 +170,7 @@ pub is_good : (file : File) → IsFlat file → IsGood file
 is_good file h =
     let w = h.form in
     let p = h.checked.form in
-    let u = append_parts (flat_map (unknown file) (outer_demands file)) (flat_map (unknown file) (flat_map formula_demands file.formulas) ++ flat_map (unknown_in file) file.modules) (no_faults file h).unknown in
+    let u = append_parts (flat_map (unknown file) (outer_demands file)) (flat_map (unknown file) (flat_map formula_demands file.formulas) ++ flat_map (unknown_in file) file.modules) (no_name_fault file h).unknown in
     let v = append_parts (flat_map (unknown file) (flat_map formula_demands file.formulas)) (flat_map (unknown_in file) file.modules) u.1 in
     let F : Demand → Type 0 = λ d. unknown file d ≡ [] in
     let a = each_parts F (flat_map const_demands file.constants) (flat_map var_demands file.globals ++ (flat_map label_demands file.labels ++ flat_map rewards_demands file.rewards)) (empty_each (unknown file) (outer_demands file) u.0) in

@@ -32,7 +32,8 @@ use Rattle.jani_translation.specs.Automata.{zz_silent, zz_monitor, for_action, f
 use Rattle.jani_translation.specs.Translated.{has_command, part_if, silent_vector, silent_vectors, action_vector, translated}
 use Rattle.jani_translation.proofs.Differ.{values_differ, actions_are_not_silent}
 use Rattle.jani_translation_laws.specs.TypeLaws.{NoClashingWrites}
-use Rattle.jani_translation.proofs.Clean.{no_formula, values_distinct}
+use Rattle.jani_translation.proofs.Clean.{values_distinct}
+use Rattle.prism_check.proofs.Typed.{no_formula}
 use Rattle.jani_translation_laws.proofs.Sources.{IsFine, IsFineBody, EachFrom, bodies_fine}
 use Rattle.jani_translation_laws.proofs.Writes.{written_fine}
 use Rattle.jani_translation_laws.proofs.Rewarding.{IsReward, rewards_given}

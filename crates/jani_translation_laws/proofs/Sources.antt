@@ -19,8 +19,9 @@ use Rattle.name_rules.specs.Least.{fault_if}
 use Rattle.name_rules.proofs.Plain.{no_fault}
 use Rattle.prism_check.specs.Flattened.{IsFlat}
 use Rattle.jani_translation.specs.Asks.{contents, bodies, variables}
-use Rattle.jani_translation.proofs.Clean.{no_faults, no_type_fault}
-use Rattle.jani_translation_laws.proofs.Expressions.{HasType, has_type, known_names, IsFixed}
+use Rattle.prism_check.proofs.NoFaults.{all_known}
+use Rattle.prism_check.proofs.Typed.{HasType, has_wanted_type, no_name_fault, no_type_fault}
+use Rattle.jani_translation_laws.proofs.Expressions.{IsFixed}
 
 -- what holds of each of the modules and its number
 abbrev pub EachFrom : {A : Type 0} → (ℕ → A → Type 0) → ℕ → List A → Type 0
@@ -35,10 +36,10 @@ module _ (file : File) (flat : IsFlat file) where
   fixed_fine : (i : ℕ) (w : Ty) (e : Expression) → IsFine i (fixed (wanted_by w) e) → IsFixed file flat w e
   fixed_fine i w e h =
       let r = append_parts (type_faults_of (types file) (wanted_by w) e) (fault_if (has_variable file e) (offset_of e) NotConstant) h.0 in
-      (has_type file flat w e (known_names file flat e h.1) r.0, no_fault (has_variable file e) (offset_of e) NotConstant r.1)
+      (has_wanted_type file flat w e (all_known file e h.1) r.0, no_fault (has_variable file e) (offset_of e) NotConstant r.1)
 
-  varying_fine : (i : ℕ) (w : Ty) (e : Expression) → IsFine i (varying (wanted_by w) e) → HasType file flat w e
-  varying_fine i w e h = has_type file flat w e (known_names file flat e h.1) h.0
+  varying_fine : (i : ℕ) (w : Ty) (e : Expression) → IsFine i (varying (wanted_by w) e) → HasType file w e
+  varying_fine i w e h = has_wanted_type file flat w e (all_known file e h.1) h.0
 
   -- ---- all demands of the file
   fine_all : (i : ℕ) (ds : List Demand) → flat_map (demand_faults file i) ds ≡ [] → flat_map (unknown file) ds ≡ [] → Each (IsFine i) ds
@@ -53,7 +54,7 @@ module _ (file : File) (flat : IsFlat file) where
 
   all_names : (flat_map (unknown file) (outer_demands file) ≡ []) × (flat_map (unknown_in file) file.modules ≡ [])
   all_names =
-      let r = append_parts (flat_map (unknown file) (outer_demands file)) _ (no_faults file flat).unknown in
+      let r = append_parts (flat_map (unknown file) (outer_demands file)) _ (no_name_fault file flat).unknown in
       (r.0, (append_parts (flat_map (unknown file) (flat_map formula_demands file.formulas)) (flat_map (unknown_in file) file.modules) r.1).1)
 
   outer_fine : Each (IsFine 0) (outer_demands file)
@@ -124,10 +125,10 @@ module _ (file : File) (flat : IsFlat file) where
 
   -- ---- labels and items
   abbrev pub IsFineLabel : Label → Type 0
-  IsFineLabel l = HasType file flat T.Bool l.body
+  IsFineLabel l = HasType file T.Bool l.body
 
   abbrev pub IsFineItem : Item → Type 0
-  IsFineItem i = HasType file flat T.Bool i.guard × HasType file flat T.Real i.value
+  IsFineItem i = HasType file T.Bool i.guard × HasType file T.Real i.value
 
   last_fine : Each (IsFine 0) (flat_map label_demands file.labels) × Each (IsFine 0) (flat_map rewards_demands file.rewards)
   last_fine =

@@ -37,8 +37,8 @@ use Rattle.jani_translation.specs.Automata.{for_states}
 use Rattle.jani_translation.specs.SeenLaws.{IsSound}
 use Rattle.jani_translation.specs.StateLaws.{IsSoundHere, SoundWrite, SoundBranch, SoundCommand, CommandsAreSound, SoundItem, MarksAreSound, ItemsAreSound}
 use Rattle.jani_translation.proofs.Written.{given_reading, variable_columns}
-use Rattle.jani_translation.proofs.Clean.{no_faults, values_distinct, types_declared, variable_types, declared_type}
-use Rattle.jani_translation_laws.proofs.Expressions.{HasType}
+use Rattle.jani_translation.proofs.Clean.{values_distinct, variable_types, declared_type}
+use Rattle.prism_check.proofs.Typed.{HasType, no_name_fault, types_declared}
 use Rattle.jani_translation_laws.proofs.Sources.{IsFineLabel, IsFineItem, bodies_fine, labels_fine, rewards_fine}
 use Rattle.jani_translation_laws.proofs.Writes.{IsFineWrite, no_constant}
 use Rattle.jani_translation_laws.proofs.Edges.{IsFineBranch, IsFineCommand, commands_fine}
@@ -131,10 +131,10 @@ module _ (file : prism.File) (flat : IsFlat file) (v : Valuation) (gives : Gives
   names_are : names_in file v s unchanged ≡ (λ x. known (here x))
   names_are = given_reading file (λ x. known (here x)) flat.form.formulas
 
-  sound_here : (w : Ty) (e : prism.Expression) → HasType file flat w e → IsSoundHere file v s e
+  sound_here : (w : Ty) (e : prism.Expression) → HasType file w e → IsSoundHere file v s e
   sound_here w e h = subst (λ n. IsSound n e) (sym names_are) (sound file flat here here_typed w e h)
 
-  no_number_here : (e : prism.Expression) → IsPrintableExpression e → HasType file flat T.Bool e → IsNoNumber (see e (names_in file v s unchanged)).value
+  no_number_here : (e : prism.Expression) → IsPrintableExpression e → HasType file T.Bool e → IsNoNumber (see e (names_in file v s unchanged)).value
   no_number_here e p h =
       subst (λ n. IsNoNumber (see e n).value) (sym names_are)
       (agreeing (Some T.Bool) (see e (λ x. known (here x))).value (value_typed file flat here here_typed T.Bool e p h))
@@ -149,7 +149,7 @@ module _ (file : prism.File) (flat : IsFlat file) (v : Valuation) (gives : Gives
     sound_here h.ty y.value h.value,
   )
 
-  weight_sound : (o : Option prism.Expression) → IfAny (HasType file flat T.Real) o → IfSome o (IsSoundHere file v s)
+  weight_sound : (o : Option prism.Expression) → IfAny (HasType file T.Real) o → IfSome o (IsSoundHere file v s)
   weight_sound None h = tt
   weight_sound (Some e) h = sound_here T.Real e h
 
@@ -174,7 +174,7 @@ module _ (file : prism.File) (flat : IsFlat file) (v : Valuation) (gives : Gives
   not_empty (suc n) h = omega arith
 
   some_module : 0 < length file.modules
-  some_module = not_empty (length file.modules) (no_fault (nat_eq (length file.modules) 0) file.end Nothing (no_faults file flat).modules)
+  some_module = not_empty (length file.modules) (no_fault (nat_eq (length file.modules) 0) file.end Nothing (no_name_fault file flat).modules)
 
   abbrev IsGoodItem : prism.Item → Type 0
   IsGoodItem i = IsPrintableItem i × IsFineItem file flat i

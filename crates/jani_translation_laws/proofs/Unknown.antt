@@ -13,7 +13,7 @@ use Rattle.bridge_io.specs.declared.reason.Named.{Named}
 use Rattle.bridge_io.specs.declared.reason.Reason.TheVariants.{Unknown}
 use Rattle.bridge_io.specs.declared.reason.Fault.{Fault}
 use Rattle.op_trees.specs.declared.tree.Ty.{Ty}
-use Rattle.op_trees.specs.Tree.{Tree, Truth, Number, Name as At, One, Two, Three, AllNames}
+use Rattle.op_trees.specs.Tree.{Truth, Number, Name as At, One, Two, Three, AllNames}
 use Rattle.op_trees.specs.Names.{names_of as names_in}
 use Rattle.name_rules.proofs.Plain.{fault_none, among_names}
 use Rattle.process_core.specs.Ready.{Name}
@@ -24,13 +24,11 @@ use Rattle.jani_table.specs.declared.operator.JaniOp.TheVariants.{Add}
 use Rattle.jani_tree.specs.Syntax.{Expression, Const, Var, Write, Destination, Edge, Automaton, Vector}
 use Rattle.basics.specs.Options.{if_some, IfAny}
 use Rattle.op_trees.specs.Wanted.{wanted_by}
-use Rattle.prism_tree.specs.declared.operator.PrismOp.{PrismOp}
-use Rattle.prism_tree.specs.declared.operator.PrismOp.TheVariants as P
-use Rattle.jani_table.specs.declared.operator.JaniOp.{JaniOp}
 use Rattle.jani_check.specs.Demands.{Demand, fixed, assigned, given, const_demands, bound_demands, var_demands, destination_demands, edge_demands, automaton_demands, outer_demands}
 use Rattle.jani_check.specs.NameFaults.{is_among, global_names, automaton_names, unless_known, unknown_by, edge_locations, locations_used, actions_used, unknown_in, vector_actions}
 use Rattle.jani_translation.specs.Entry.{Entry}
-use Rattle.prism_images.specs.Image.{image, image_one}
+use Rattle.prism_images.specs.Image.{image}
+use Rattle.prism_images.proofs.Form.{one_names}
 use Rattle.jani_translation.specs.Asks.{bodies, variables, actions, new_name, value_names, entries, some_from, labels_at, rewards_at}
 use Rattle.jani_translation.specs.Parts.{made, instead, instead_if, kind_of, start_of, constant, variable, label, structure}
 use Rattle.jani_translation.specs.Automata.{loc, zz_silent, zz_monitor, for_states, for_silent, for_action, earning_actions, earns_silently, has_monitor, item_value, sum_behind, sum_to, reward_of, rewards_of, label_value, location_values, write, destination, edge_action, edge, automaton, module_automata, monitor_edge, monitor_edges, monitor, has_silent, has_items}
@@ -83,11 +81,6 @@ has_image f a (x ∷ xs) h = by_test (bytes_eq x a) refl h (has_image f a xs)
         let s : bytes_eq (f x) (f a) ≡ true = ap (λ u. bytes_eq (f u) (f a)) (bytes_eq-true x a e) ∙ bytes_eq-self (f a) in
         ap (λ b. b || list_any (λ y. bytes_eq y (f a)) (map f xs)) s
     by_test false e q r = or_right (bytes_eq (f x) (f a)) (list_any (λ y. bytes_eq y (f a)) (map f xs)) (r q)
-
--- minus, which takes its operand from 0, has the operand's names
-pub one_names : (at : ℕ) (o : PrismOp) (a : Tree JaniOp) → names_in (image_one at o a) ≡ names_in a
-one_names at P.Neg a = refl
-one_names at o a = refl
 
 module _ (file : prism.File) where
   abbrev globals : List Name

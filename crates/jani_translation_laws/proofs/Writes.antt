@@ -26,9 +26,11 @@ use Rattle.prism_images.specs.Image.{image}
 use Rattle.jani_translation.specs.Asks.{variables, new_names}
 use Rattle.jani_translation.specs.Automata.{write}
 use Rattle.jani_translation.specs.Translated.{translated}
-use Rattle.jani_translation.proofs.Clean.{no_formula, values_distinct, variable_types, declared_type}
+use Rattle.jani_translation.proofs.Clean.{values_distinct, variable_types, declared_type}
+use Rattle.prism_check.proofs.NoFaults.{all_known}
+use Rattle.prism_check.proofs.Typed.{HasType, has_wanted_type, no_formula}
 use Rattle.jani_translation_laws.proofs.Alike.{source_const, source_var, kind_typed, stand_alike}
-use Rattle.jani_translation_laws.proofs.Expressions.{HasType, has_type, known_names, image_fits}
+use Rattle.jani_translation_laws.proofs.Expressions.{image_fits}
 use Rattle.jani_translation_laws.proofs.Sources.{IsFine}
 
 -- ---- a variable's name is no constant's
@@ -73,7 +75,7 @@ module _ (file : prism.File) (flat : IsFlat file) where
   pub record IsFineWrite (w : prism.Write) : Type 0 where
     pub ty : Ty
     pub variable : declared_type w.name.name (variables file) ≡ Some ty
-    pub value : HasType file flat ty w.value
+    pub value : HasType file ty w.value
 
   by_variable : (i : ℕ) (acts : Bool) (w : prism.Write) (o : Option Variable) → variable_called file w.name.name ≡ o →
       flat_map (unless_known (is_among (values file))) (names_of w.value) ≡ [] →
@@ -84,7 +86,7 @@ module _ (file : prism.File) (flat : IsFlat file) where
       record {
         ty = v.ty;
         variable = sym (variable_types file flat w.name.name) ∙ ap (option_map (λ v. v.ty)) e;
-        value = has_type file flat v.ty w.value (known_names file flat w.value k) (by_owner v.owner r.0 r.1);
+        value = has_wanted_type file flat v.ty w.value (all_known file w.value k) (by_owner v.owner r.0 r.1);
       }
     where
       by_own : (b : Bool) → write_faults (if b then source.own v.ty else source.foreign (wanted_by v.ty)) acts w.name.at ≡ [] →

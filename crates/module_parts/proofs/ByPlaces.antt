@@ -1,13 +1,13 @@
 -- Actions by the places of their targets, and the edges of an element by their own.
 use Rattle.std.proofs.Common.{◌≡◌, ℕ, suc, zero, ◌+◌, ◌<◌, List, [], ◌∷◌, ◌++◌, map, length, get_or, cond, refl, sym, ap, ap₂, ◌∙◌, arith}
-use Rattle.std.specs.Prelude.{Bool, true, false, Option, slice_get, unwrap_or}
-use Rattle.std.specs.Option.{option_map}
+use Rattle.std.specs.Prelude.{Bool, true, false, slice_get}
 use Rattle.std.specs.List.{filter, zip}
 use Rattle.std.proofs.lemmas.List.{length-map, get_or-map}
 use Rattle.process_core.specs.Ready.{Name}
 use Rattle.process_core.specs.Instance.{numbered, only_if}
 use Rattle.name_table.specs.declared.entry.Entry.{Entry}
 use Rattle.name_table.specs.PrismAsks.{name_at}
+use Rattle.name_table.proofs.EntryLemmas.{named_at}
 use Rattle.jani_tree.specs.declared.syntax.JaniEdge.{JaniEdge}
 use Rattle.jani_tree.specs.Syntax.{Edge, edge_of}
 use Rattle.edge_tables.specs.Elements.{Element, Placed, placed_edges}
@@ -22,11 +22,6 @@ action_with p = record { target = p.0; name = p.1.name }
 
 pub later : (all es : List Entry) (e : Entry) (k : ℕ) → ((i : ℕ) → slice_get all (k + i) ≡ slice_get (e ∷ es) i) → (i : ℕ) → slice_get all ((k + 1) + i) ≡ slice_get es i
 later all es e k h i = let n : (k + 1) + i ≡ k + suc i = omega arith in ap (slice_get all) n ∙ h (suc i)
-
-pub named_at : (all es : List Entry) (e : Entry) (k : ℕ) → ((i : ℕ) → slice_get all (k + i) ≡ slice_get (e ∷ es) i) → name_at all k ≡ e.name
-named_at all es e k h =
-    let n : k ≡ k + 0 = omega arith in
-    ap (name_at all) n ∙ ap (λ (o : Option Entry). unwrap_or (option_map (λ (z : Entry). z.name) o) []) (h 0)
 
 -- those of the actions that pass a test, by the places of their targets
 pub by_places : {Z : Type 0} (g : Name → Z) (q : Target → Bool) (all : List Entry) (k : ℕ) (ts : List Target) (es : List Entry) → length es ≡ length ts →

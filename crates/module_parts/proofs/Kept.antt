@@ -1,13 +1,10 @@
 -- Those that pass a test, walked through; and homes by the table of writers.
-use Rattle.std.proofs.Common.{◌≡◌, ◌+◌, ◌<◌, List, [], ◌∷◌, ◌++◌, map, length, take, get_or, cond, refl, sym, ap, ap₂, ◌∙◌, append-nil, append_assoc}
+use Rattle.std.proofs.Common.{◌≡◌, ◌+◌, List, [], ◌∷◌, ◌++◌, map, cond, refl, ap, ◌∙◌}
 use Rattle.std.specs.Prelude.{Bool, true, false, ℕ, Option, Some, None}
 use Rattle.std.specs.List.{flat_map, filter}
-use Rattle.std.proofs.lemmas.List.{map-append}
-use Rattle.std.proofs.lemmas.List.Concat.{flat_map-append}
 use Rattle.jani_tree.specs.Syntax.{File}
 use Rattle.jani_meaning.specs.Elements.{is_owner}
 use Rattle.process_core.specs.Instance.{only_if}
-use Rattle.gathering.proofs.Loops.{taken}
 use Rattle.edge_tables.specs.Elements.{Lasting, home, home_by, writers, is_at}
 use Rattle.module_parts.specs.declared.writers.WriterTable.{WriterTable}
 use Rattle.module_parts.specs.Writers.{home_for, writers_at}
@@ -31,17 +28,6 @@ kept_walk q s (x ∷ xs) = by_test (q (s x)) (kept_walk q s xs)
         only_if b (s x) ++ flat_map (λ x. only_if (q (s x)) (s x)) xs ≡ cond b (s x ∷ filter q (map s xs)) (filter q (map s xs))
     by_test true e = ap (λ l. s x ∷ l) e
     by_test false e = e
-
--- one member more, whose part comes last
-pub walk_more : {A B Z : Type 0} (f : B → List Z) (s : A → B) (before : List Z) (xs : List A) (i : ℕ) (x : A) (old new : List Z) → i < length xs → x ≡ get_or xs i x →
-    old ≡ before ++ flat_map f (map s (take i xs)) → new ≡ old ++ f (s x) → new ≡ before ++ flat_map f (map s (take (i + 1) xs))
-walk_more f s before xs i x old new h e so_far next =
-    next
-    ∙ ap₂ (λ a b. a ++ b) so_far (sym (append-nil (f (s x))))
-    ∙ append_assoc before (flat_map f (map s (take i xs))) (f (s x) ++ [])
-    ∙ ap (λ l. before ++ l)
-    (sym (flat_map-append f (map s (take i xs)) (s x ∷ []))
-    ∙ ap (flat_map f) (sym (map-append s (take i xs) (x ∷ [])) ∙ ap (map s) (sym (taken xs i x h e))))
 
 pub at_owner : (k : ℕ) (o : Option ℕ) → is_at k o ≡ is_owner k o
 at_owner k None = refl

@@ -3,8 +3,6 @@ use Rattle.std.proofs.Common.{◌≡◌, ℕ, suc, zero, ◌+◌, ◌<◌, List,
 use Rattle.std.specs.Prelude.{Bool, true, false, ◌||◌, fold, nat_eq, slice_get, slice_set, unwrap_or, if◌then◌else◌}
 use Rattle.std.specs.List.{filter, list_any}
 use Rattle.std.proofs.lemmas.List.{map-append}
-use Rattle.std.proofs.lemmas.List.Folds.{list_any-append}
-use Rattle.std.proofs.Math.Bool.{or-false}
 use Rattle.jani_tree.specs.Syntax.{Automaton, File}
 use Rattle.process_core.specs.Instance.{numbered}
 use Rattle.jani_meaning.specs.Elements as jani
@@ -14,7 +12,7 @@ use Rattle.module_parts.specs.declared.writers.Writers.{Writers}
 use Rattle.module_parts.specs.declared.writers.Writers.TheVariants.{Nobody, One, Several}
 use Rattle.module_parts.specs.Code.{element_of, element_with}
 use Rattle.module_parts.specs.Writers.{with_writer, with_if, home_for, writes, writers_through}
-use Rattle.gathering.proofs.Loops.{taken}
+use Rattle.gathering.proofs.Loops.{any_next, taken}
 use Rattle.gathering.proofs.Lists.{first_apart, apart_first, next_same}
 
 -- ---- the table
@@ -55,10 +53,7 @@ with_more p s xs i x k start old new h e so_far next =
     next
     ∙ ap (with_if (p (s x)) k) so_far
     ∙ both_if (list_any p (map s (take i xs))) (p (s x)) k start
-    ∙ ap (λ (b : Bool). with_if b k start)
-    (ap (λ b. list_any p (map s (take i xs)) || b) (sym (or-false (p (s x))))
-    ∙ sym (list_any-append p (map s (take i xs)) (s x ∷ []))
-    ∙ ap (list_any p) (sym (map-append s (take i xs) (x ∷ [])) ∙ ap (map s) (sym (taken xs i x h e))))
+    ∙ ap (λ (b : Bool). with_if b k start) (sym (any_next p s xs i x h e))
 
 -- ---- one element more
 pub through_more : (file : File) (i : ℕ) (els : List CodeElement) (j : ℕ) (el : CodeElement) (old new : Writers) → j < length els → el ≡ get_or els j el →

@@ -1,6 +1,7 @@
 -- The entries of asks, place by place.
 use Rattle.std.proofs.Common.{◌≡◌, ◌≢◌, ℕ, zero, suc, ◌+◌, ◌<◌, Bool, true, false, cond, List, [], ◌∷◌, ◌++◌, length, take, drop, Option, Some, None, refl, sym, ap, subst, ◌∙◌, arith, append-nil, append_assoc, length-append, eq-eqb, drop-drop}
-use Rattle.std.specs.Prelude.{◌&&◌, not, slice_get, count_by, nat_lt, bytes_eq}
+use Rattle.std.specs.Prelude.{◌&&◌, not, slice_get, unwrap_or, count_by, nat_lt, bytes_eq}
+use Rattle.std.specs.Option.{option_map}
 use Rattle.std.proofs.lemmas.Option.{slice_get_past, same_Some}
 use Rattle.std.proofs.lemmas.Bool.Decides.{nat_tests}
 use Rattle.std.proofs.lemmas.Slice.Eq.{bytes_eq-Decides}
@@ -19,6 +20,7 @@ use Rattle.name_table.specs.Entries.{Ask, count_of, is_taken, keeps, kept_entry,
 use Rattle.name_table.specs.Laws.{ComesOf}
 use Rattle.name_table.proofs.MadeNames.{made_begins, made_class, made_number}
 use Rattle.name_table.specs.Asks.{some_from}
+use Rattle.name_table.specs.PrismAsks.{name_at}
 
 -- ---- lists
 
@@ -263,3 +265,9 @@ further es xs ys a n h k = k ∙ ap (λ (l : List Entry). drop n l) h ∙ drop-d
 
 pub part : (es xs r : List Entry) (a n : ℕ) → xs ≡ drop a es → r ≡ take n xs → r ≡ some_from a n es
 part es xs r a n h k = k ∙ ap (λ (l : List Entry). take n l) h
+
+-- ---- the name at a place
+pub named_at : (all es : List Entry) (e : Entry) (k : ℕ) → ((i : ℕ) → slice_get all (k + i) ≡ slice_get (e ∷ es) i) → name_at all k ≡ e.name
+named_at all es e k h =
+    let n : k ≡ k + 0 = omega arith in
+    ap (name_at all) n ∙ ap (λ (o : Option Entry). unwrap_or (option_map (λ (z : Entry). z.name) o) []) (h 0)

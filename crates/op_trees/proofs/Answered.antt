@@ -52,7 +52,7 @@ none_asked Third = refl
 none_asked All = refl
 
 module _ {O : Type 0} (m : Meaning O) (o : O) where
-  both_answered : (p q : Bool) (v w : Option Value) →
+  pub both_answered : (p q : Bool) (v w : Option Value) →
       answered (is_wide_value (of_both m o v w) || (p || q)) (of_both m o v w)
       ≡ both_answer m o (answered p v) (answered q w)
   both_answered true q v w = ap (λ b. answered b (of_both m o v w)) (or-true (is_wide_value (of_both m o v w)))
@@ -72,7 +72,7 @@ module _ {O : Type 0} (m : Meaning O) (o : O) where
   lone_lazy (Err g) r h = h
 
   -- a node with one operand asks for no other
-  single_answered : (p : Bool) (a : Option Value) →
+  pub single_answered : (p : Bool) (a : Option Value) →
       answered (is_wide_value (of_one m o a) || p) (of_one m o a) ≡ one_answer m o (answered p a)
   single_answered true a = ap (λ t. answered t (of_one m o a)) (or-true (is_wide_value (of_one m o a)))
   single_answered false None = refl

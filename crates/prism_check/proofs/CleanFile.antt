@@ -1,20 +1,19 @@
 -- A file without faults has none once it is written out.
-use Rattle.std.specs.Prelude.{◌≡◌, ℕ, ◌+◌, ◌<◌, List, [], ◌∷◌, ◌++◌, map, length, true, false, not, ◌&&◌, ◌||◌, Option, Some, None, is_some, nat_eq, if◌then◌else◌}
-use Rattle.std.specs.List.{flat_map, find, AllByRecursion as Each}
+use Rattle.std.specs.Prelude.{◌≡◌, ℕ, ◌+◌, ◌<◌, List, [], ◌∷◌, ◌++◌, map, length, false, not, ◌&&◌, ◌||◌, Option, Some, None, is_some, nat_eq, if◌then◌else◌}
+use Rattle.std.specs.List.{flat_map, AllByRecursion as Each}
 use Rattle.std.proofs.Common.{refl, sym, ap, ap₂, ◌∙◌, subst, arith}
 use Rattle.std.proofs.lemmas.List.{length-map}
 use Rattle.std.proofs.lemmas.List.Elements.{All-nil}
 use Rattle.std.proofs.lemmas.Bool.{or_parts, not-false}
 use Rattle.basics.specs.Options.{none_of, IfAny}
 use Rattle.basics.specs.Lists.{append_parts, append_both, empty_map}
-use Rattle.basics.specs.Each.{each_then, each_with, each_map, map_each, each_of, empty_each, each_empty, none_each, each_found, any_map}
+use Rattle.basics.specs.Each.{each_then, each_with, each_map, map_each, each_of, empty_each, each_empty, none_each}
 use Rattle.basics.specs.Mapped.{mapped, walked}
 use Rattle.bridge_io.specs.declared.reason.Named.{Named}
 use Rattle.bridge_io.specs.declared.reason.Reason.TheVariants.{Unknown, Nothing, WrongType, WrittenTwice, TooLarge}
-use Rattle.bridge_io.specs.declared.reason.Fault.{Fault}
 use Rattle.op_trees.specs.Tree.{AllNames}
 use Rattle.op_trees.specs.SeenLaws.{names_then}
-use Rattle.op_trees.specs.Names.{names_of, some_name, is_called}
+use Rattle.op_trees.specs.Names.{names_of, some_name}
 use Rattle.op_trees.specs.NameLaws.{names_with, none_named, names_renamed}
 use Rattle.process_core.specs.Ready.{Name}
 use Rattle.prism_tree.specs.Syntax.{Expression, Command, Module, plain, copied, File}
@@ -27,13 +26,14 @@ use Rattle.name_rules.specs.Least.{fault, fault_if, moved_to, or_else}
 use Rattle.prism_check.specs.Demands.{Demand, fixed, varying, written, formula_demands, part_demands, outer_demands}
 use Rattle.name_rules.specs.Names.{is_among}
 use Rattle.name_rules.specs.Doubled.{doubled}
-use Rattle.prism_check.specs.NameFaults.{values, unknown, some_used, is_lost, loses_name, unknown_in, unknown_names, circles, doubled_names, copy_faults, no_module, name_faults}
+use Rattle.prism_check.specs.NameFaults.{values, unknown, some_used, is_lost, loses_name, unknown_in, unknown_names, circles, doubled_names, copy_faults, name_faults}
 use Rattle.name_rules.specs.Unknown.{unless_known}
 use Rattle.name_rules.proofs.Plain.{no_fault, fault_none}
 use Rattle.prism_check.specs.TypeFaults.{types, misfits, demand_faults, write_faults, target, repeated_writes, part_faults, module_faults, numbered_faults, type_faults}
 use Rattle.prism_check.specs.SizeFaults.{passes_limit, size_faults}
 use Rattle.prism_check.specs.Clean.{FlatIsClean, FlatHasNoFault, FlatIsChecked}
-use Rattle.prism_check.proofs.NamesIn.{listed_names, names_listed, names_written_out}
+use Rattle.prism_check.proofs.NamesIn.{names_listed, names_written_out}
+use Rattle.prism_check.proofs.NoFaults.{NoNameFaults, no_faults, no_name_faults, IsKnown, known_one, all_known, each_body}
 use Rattle.prism_check.proofs.FlatDemands.{flat_demand, part-flat, outer-flat}
 use Rattle.prism_check.proofs.CleanPrintable.{flat_printable}
 use Rattle.prism_check.proofs.CleanValues.{known_still, none_doubled}
@@ -42,25 +42,14 @@ use Rattle.prism_check.proofs.FlatTwice.{flat_twice}
 use Rattle.prism_check.proofs.CleanTypes.{AllUsed, IsFree, judged_alike, same_written, written_free, written_out_judged}
 
 -- ---- names that are known
-abbrev IsKnown : File → Name → Type 0
-IsKnown file x = is_among (values file) x ≡ true
-
 used_then : (P Q : Name → Type 0) → ((x : Name) → P x → Q x) → (d : Demand) → AllUsed P d → AllUsed Q d
 used_then P Q h (fixed w e) p = names_then P Q h e p
 used_then P Q h (varying w e) p = names_then P Q h e p
 used_then P Q h (written acts w) p = (h w.name.name p.0, names_then P Q h w.value p.1)
 
 module _ (file : File) where
-  known_one : (n : Named) → unless_known (is_among (values file)) n ≡ [] → IsKnown file n.name
-  known_one n e = not-false (is_among (values file) n.name) (no_fault (not (is_among (values file) n.name)) n.at Unknown e)
-
   one_known : (n : Named) → IsKnown file n.name → unless_known (is_among (values file)) n ≡ []
   one_known n k = fault_none (not (is_among (values file) n.name)) n.at Unknown (ap not k)
-
-  known_names : (e : Expression) → flat_map (unless_known (is_among (values file))) (names_of e) ≡ [] → AllNames (IsKnown file) e
-  known_names e k =
-      listed_names (IsKnown file) e
-      (each_then (λ n. unless_known (is_among (values file)) n ≡ []) (λ n. IsKnown file n.name) known_one (names_of e) (empty_each (unless_known (is_among (values file))) (names_of e) k))
 
   names_known : (e : Expression) → AllNames (IsKnown file) e → flat_map (unless_known (is_among (values file))) (names_of e) ≡ []
   names_known e k =
@@ -68,11 +57,11 @@ module _ (file : File) where
       (each_then (λ n. IsKnown file n.name) (λ n. unless_known (is_among (values file)) n ≡ []) one_known (names_of e) (names_listed (IsKnown file) e k))
 
   known_used : (d : Demand) → unknown file d ≡ [] → AllUsed (IsKnown file) d
-  known_used (fixed w e) k = known_names e k
-  known_used (varying w e) k = known_names e k
+  known_used (fixed w e) k = all_known file e k
+  known_used (varying w e) k = all_known file e k
   known_used (written acts w) k =
       let r = append_parts (unless_known (is_among (values file)) w.name) (flat_map (unless_known (is_among (values file))) (names_of w.value)) k in
-      (known_one w.name r.0, known_names w.value r.1)
+      (known_one file w.name r.0, all_known file w.value r.1)
 
   used_known : (d : Demand) → AllUsed (IsKnown file) d → unknown file d ≡ []
   used_known (fixed w e) k = names_known e k
@@ -80,13 +69,6 @@ module _ (file : File) where
   used_known (written acts w) k =
       append_both (unless_known (is_among (values file)) w.name) (flat_map (unless_known (is_among (values file))) (names_of w.value))
       (one_known w.name k.0) (names_known w.value k.1)
-
--- ---- bodies
--- what holds of each formula's body holds of the body of each name
-each_body : (file : File) (P : Expression → Type 0) → Each (λ f. P f.body) file.formulas → (x : Name) → IfAny P (formula_body file x)
-each_body file P h x =
-    any_map (λ f. P f.body) P (λ f. f.body) (λ f p. p) (find (λ f. is_called x f.name) file.formulas)
-    (each_found (λ f. P f.body) (λ f. is_called x f.name) file.formulas h)
 
 -- ---- repeated writes
 same_writes : (file : File) (c : Command) → repeated_writes (flat_command file unchanged c) ≡ repeated_writes c
@@ -103,23 +85,14 @@ module _ (file : File) (order : List Name) (ordered : IsOrder file order) (clean
     free : IsFree file x
     known : IsKnown file x
 
-  doubled_part : (doubled_names file ≡ []) × ((unknown_names file ++ (circles file ++ (flat_map (copy_faults file) file.modules ++ no_module file))) ≡ [])
-  doubled_part = append_parts (doubled_names file) (unknown_names file ++ (circles file ++ (flat_map (copy_faults file) file.modules ++ no_module file))) clean_names
-
-  unknown_part : (unknown_names file ≡ []) × ((circles file ++ (flat_map (copy_faults file) file.modules ++ no_module file)) ≡ [])
-  unknown_part = append_parts (unknown_names file) (circles file ++ (flat_map (copy_faults file) file.modules ++ no_module file)) doubled_part.1
-
-  circle_part : (circles file ≡ []) × ((flat_map (copy_faults file) file.modules ++ no_module file) ≡ [])
-  circle_part = append_parts (circles file) (flat_map (copy_faults file) file.modules ++ no_module file) unknown_part.1
-
-  copy_part : (flat_map (copy_faults file) file.modules ≡ []) × (no_module file ≡ [])
-  copy_part = append_parts (flat_map (copy_faults file) file.modules) (no_module file) circle_part.1
+  no_names : NoNameFaults file
+  no_names = no_name_faults file clean_names
 
   abbrev bodies : List Demand
   bodies = flat_map formula_demands file.formulas
 
   unknown_outer : (flat_map (unknown file) (outer_demands file) ≡ []) × ((flat_map (unknown file) bodies ++ flat_map (unknown_in file) file.modules) ≡ [])
-  unknown_outer = append_parts (flat_map (unknown file) (outer_demands file)) (flat_map (unknown file) bodies ++ flat_map (unknown_in file) file.modules) unknown_part.0
+  unknown_outer = append_parts (flat_map (unknown file) (outer_demands file)) (flat_map (unknown file) bodies ++ flat_map (unknown_in file) file.modules) no_names.unknown
 
   unknown_rest : (flat_map (unknown file) bodies ≡ []) × (flat_map (unknown_in file) file.modules ≡ [])
   unknown_rest = append_parts (flat_map (unknown file) bodies) (flat_map (unknown_in file) file.modules) unknown_outer.1
@@ -133,7 +106,7 @@ module _ (file : File) (order : List Name) (ordered : IsOrder file order) (clean
   body_known : (x : Name) → IfAny (AllNames (IsKnown file)) (formula_body file x)
   body_known =
       each_body file (AllNames (IsKnown file))
-      (each_then (λ f. Each (λ d. unknown file d ≡ []) (formula_demands f)) (λ f. AllNames (IsKnown file) f.body) (λ f h. known_names file f.body h.0) file.formulas
+      (each_then (λ f. Each (λ d. unknown file d ≡ []) (formula_demands f)) (λ f. AllNames (IsKnown file) f.body) (λ f h. all_known file f.body h.0) file.formulas
       (each_of (λ d. unknown file d ≡ []) formula_demands file.formulas (empty_each (unknown file) bodies unknown_rest.0)))
 
   body_fits : (x : Name) → IfAny (λ e. misfits (types file) e ≡ []) (formula_body file x)
@@ -199,7 +172,7 @@ module _ (file : File) (order : List Name) (ordered : IsOrder file order) (clean
 
   kept_fine : (i : ℕ) (d : Demand) → AllUsed IsKept d → demand_faults file i d ≡ [] → IsFine i d
   kept_fine i d k j = record {
-    names = used_known (flat file) d (used_then IsKept (IsKnown (flat file)) (λ x h. known_still file copy_part.0 x h.free h.known) d k);
+    names = used_known (flat file) d (used_then IsKept (IsKnown (flat file)) (λ x h. known_still file no_names.copies x h.free h.known) d k);
     judged = judged_alike file i d (used_then IsKept (IsFree file) (λ x h. h.free) d k) ∙ j;
   }
 
@@ -283,14 +256,14 @@ module _ (file : File) (order : List Name) (ordered : IsOrder file order) (clean
 
   flat_names : name_faults (flat file) ≡ []
   flat_names =
-      append_both (doubled_names (flat file)) _ (none_doubled file copy_part.0 doubled_part.0)
+      append_both (doubled_names (flat file)) _ (none_doubled file no_names.copies no_names.doubled)
       (append_both (unknown_names (flat file)) _
       (append_both (flat_map (unknown (flat file)) (outer_demands (flat file))) _
       (each_empty (unknown (flat file)) (outer_demands (flat file)) (each_then (IsFine 0) (λ d. unknown (flat file) d ≡ []) (λ d k. k.names) (outer_demands (flat file)) outer_fine))
       all_modules.0)
-      (append_both (circles (flat file)) _ (no_circles file circle_part.0)
+      (append_both (circles (flat file)) _ (no_circles file no_names.circles)
       (append_both (flat_map (copy_faults (flat file)) (map (flat_module file) file.modules)) _ (no_copies file.modules)
-      (ap (λ n. fault_if (nat_eq n 0) file.end Nothing) (length-map file.modules (flat_module file)) ∙ copy_part.1))))
+      (ap (λ n. fault_if (nat_eq n 0) file.end Nothing) (length-map file.modules (flat_module file)) ∙ no_names.modules))))
 
   flat_types : type_faults (flat file) ≡ []
   flat_types =
@@ -309,19 +282,13 @@ flat_is_clean file places clean placed =
       types = flat_types file order ordered clean.names clean.types;
     }
 
--- ---- faults of each kind
-pub no_either : (xs ys : List Fault) → or_else xs ys ≡ [] → (xs ≡ []) × (ys ≡ [])
-no_either [] ys e = (refl, e)
-no_either (x ∷ xs) ys e = absurd cc
-
 pub flat_has_no_fault : FlatHasNoFault
 flat_has_no_fault file places e placed =
     let order = formula_names (at_places file.formulas places) in
     let ordered = places_order file places placed in
-    let r = no_either (name_faults file) (or_else (size_faults file) (type_faults file)) e in
-    let s = no_either (size_faults file) (type_faults file) r.1 in
-    ap (λ fs. or_else fs (or_else (size_faults (flat file)) (type_faults (flat file)))) (flat_names file order ordered r.0 s.1)
-    ∙ ap₂ or_else (ap (λ f. fault_if (passes_limit f) 0 TooLarge) (flat_twice file) ∙ s.0) (flat_types file order ordered r.0 s.1)
+    let no = no_faults file e in
+    ap (λ fs. or_else fs (or_else (size_faults (flat file)) (type_faults (flat file)))) (flat_names file order ordered no.names no.types)
+    ∙ ap₂ or_else (ap (λ f. fault_if (passes_limit f) 0 TooLarge) (flat_twice file) ∙ no.sizes) (flat_types file order ordered no.names no.types)
 
 -- ---- a judged file
 no_places : (file : File) → IsPlaceOrder (flat file) []

@@ -1,5 +1,5 @@
 -- The types of a file that is written out, and what its expressions have to be.
-use Rattle.std.specs.Prelude.{◌≡◌, ℕ, zero, suc, ◌+◌, List, [], ◌∷◌, ◌++◌, map, length, Bool, true, false, not, ◌&&◌, ◌||◌, Option, Some, None, is_some, cond, bytes_eq, if◌then◌else◌}
+use Rattle.std.specs.Prelude.{◌≡◌, ℕ, zero, suc, ◌+◌, List, [], ◌∷◌, ◌++◌, map, length, Bool, true, false, not, ◌&&◌, Option, Some, None, is_some, cond, bytes_eq, if◌then◌else◌}
 use Rattle.std.specs.List.{find}
 use Rattle.std.specs.Option.{option_map, option_or as or_else}
 use Rattle.std.proofs.Common.{refl, sym, ap, ap₂, ◌∙◌, subst}
@@ -21,7 +21,7 @@ use Rattle.prism_flat.specs.Names.{formula_body, is_formula, unchanged, written_
 use Rattle.prism_flat.specs.Flat.{flat_expression, flat_var, flat_constant, flat}
 use Rattle.prism_flat.specs.WrittenOut.{substituted_none, lower, lowest}
 use Rattle.prism_flat.specs.Laws.{flat_part, parts-flat}
-use Rattle.prism_flat.specs.Order.{place_in, IsOrder, whole, whole_plain, fills}
+use Rattle.prism_flat.specs.Order.{place_in, IsOrder, in_depth, whole, whole_plain, fills}
 use Rattle.basics.specs.Options.{IfAny}
 use Rattle.basics.specs.Mapped.{mapped}
 use Rattle.op_trees.specs.declared.wanted.Wanted.{Wanted}
@@ -32,7 +32,7 @@ use Rattle.prism_check.specs.Demands.{Demand, fixed, varying, written, var_type}
 use Rattle.op_trees.specs.Wanted.{is_unwanted}
 use Rattle.prism_check.specs.TypeFaults.{Variable, numbered_variables, variables, variable_called, declared_types, types, misfits, type_faults_of, is_variable, has_variable, target_of, target, write_faults, wanted_at, demand_faults}
 use Rattle.prism_check.proofs.FlatDemands.{flat_demand, same_type}
-use Rattle.prism_check.proofs.TypeOrder.{types_of_plain, in_depth, types_read}
+use Rattle.prism_check.proofs.TypeOrder.{types_of_plain, types_read}
 
 -- each name that a demand uses is such
 abbrev pub AllUsed : (Name → Type 0) → Demand → Type 0

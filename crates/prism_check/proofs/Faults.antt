@@ -6,8 +6,8 @@ use Rattle.std.specs.Option.{option_map, option_or as or_other}
 use Rattle.std.proofs.Common.{refl, ap, ap₂, ◌∙◌, sym}
 use Rattle.std.proofs.lemmas.List.{length-map}
 use Rattle.std.proofs.Math.Path.{fun_ext}
-use Rattle.basics.specs.Lists.{append_parts, empty_map}
-use Rattle.basics.specs.Options.{is_some-map, if_some}
+use Rattle.basics.specs.Lists.{empty_map}
+use Rattle.basics.specs.Options.{is_some-map, if_some, if_some-map}
 use Rattle.bridge_io.specs.declared.reason.Reason.{Reason}
 use Rattle.bridge_io.specs.declared.reason.Reason.TheVariants.{TwiceNamed, Unknown, Cycle, RenameMissing, RenameOfRenamed, Nothing, TooLarge, WrongType, NotConstant, SyncGlobalWrite, WrittenTwice}
 use Rattle.bridge_io.specs.declared.reason.Fault.{Fault}
@@ -28,25 +28,25 @@ use Rattle.prism_flat.specs.Flat.{flat}
 use Rattle.prism_flat.specs.Laws.{flat_part}
 use Rattle.prism_flat.specs.Same.{bare_const, bare_range, bare_var, bare_formula, bare_label, bare_write, bare_branch, bare_command, bare_pair, bare_copy, bare_module, bare_item, bare_rewards, bare_file}
 use Rattle.prism_check.specs.Demands.{Demand, fixed, varying, written, const_demands, formula_demands, range_demands, type_by, var_type, var_demands, branch_demands, command_demands, part_demands, label_demands, item_demands, rewards_demands, outer_demands, all_demands, expression_of}
-use Rattle.name_rules.specs.Least.{fault_if, fault, moved_to, or_else}
+use Rattle.name_rules.specs.Least.{fault_if, fault, moved_to}
 use Rattle.name_rules.specs.Names.{is_among}
 use Rattle.prism_check.specs.NameFaults.{has_pair, renamed_var, module_vars, values, given_labels, doubled_pairs, doubled_names, names_used, unknown, some_used, is_lost, loses_name, unknown_in, unknown_names, declarations, circles, is_copy, copy_faults, name_faults}
 use Rattle.name_rules.specs.Uses.{used}
 use Rattle.name_rules.specs.Unknown.{unless_known}
-use Rattle.name_rules.proofs.Placeless.{placeless, at_nought, tested, doubled-bare, among-bare, unknown-bare as unless_known-bare}
+use Rattle.name_rules.proofs.Placeless.{placeless, at_nought, tested, first-bare, doubled-bare, among-bare, unknown-bare as unless_known-bare}
 use Rattle.name_rules.specs.Circles.{Declared, uses_of, leads_to, is_circular, circular}
 use Rattle.prism_check.specs.SizeFaults.{nodes, height, command_count, part_actions, action_count, has_long_rewards, has_many_vectors, passes_limit, size_faults}
 use Rattle.op_trees.specs.Wanted.{is_unwanted, wanted_by}
 use Rattle.prism_check.specs.TypeFaults.{part_variables, numbered_variables, variables, variable_called, declared_types, types, misfits, type_faults_of, is_variable, has_variable, Target, own, global, foreign, target_of, target, wanted_at, write_faults, demand_faults, repeated_writes, part_faults, module_faults, numbered_faults, type_faults}
 use Rattle.prism_check.specs.Faults.{faults}
-use Rattle.prism_check.proofs.CleanFile.{no_either}
+use Rattle.prism_check.proofs.NoFaults.{no_faults, no_name_faults}
 use Rattle.prism_flat.specs.FlatLaws.{found_after}
 use Rattle.basics.specs.Mapped.{chosen_mapped, some_mapped, kept_mapped, any_mapped, joined, turned, gathered, mapped, walked}
 use Rattle.prism_check.proofs.SameNames.{bare_part, module_name-bare, renaming-bare, is_formula-bare, called-bare, part-bare, parts-bare, bodies-bare}
 use Rattle.prism_check.proofs.Flat.{whole-bare, flat-bare, contents-bare}
 use Rattle.prism_check.proofs.Trees.{count-bare, height-bare, types-bare}
 use Rattle.prism_check.proofs.Form.{printable_too}
-use Rattle.prism_check.proofs.Order.{if_some-mapped, order_too}
+use Rattle.prism_check.proofs.Order.{order_too}
 use Rattle.prism_check.specs.PlacesLaws.{NamesFaultAlike, SizesFaultAlike, TypesFaultAlike, FaultsAlike, CommandsAlike, CleanAlike, CheckedAlike}
 
 -- ---- names that are declared twice
@@ -87,7 +87,7 @@ module _ (file : File) where
       (joined placeless _ _ _ _ (doubled-bare TwiceNamed (given_labels ++ map (λ l. l.name) (map bare_label file.labels)) (given_labels ++ map (λ l. l.name) file.labels)
       (joined bare_name given_labels _ given_labels _ refl (turned bare_name bare_label (λ l. l.name) (λ l. l.name) (λ l. refl) file.labels)))
       (joined placeless _ _ _ _ (doubled-bare TwiceNamed (flat_map (λ r. if_some r.name) (map bare_rewards file.rewards)) (flat_map (λ r. if_some r.name) file.rewards)
-      (gathered bare_name bare_rewards _ _ (λ r. if_some-mapped bare_name r.name) file.rewards))
+      (gathered bare_name bare_rewards _ _ (λ r. if_some-map bare_name r.name) file.rewards))
       (gathered placeless bare_module _ _ doubled_pairs-bare file.modules))))
 
 -- ---- demands
@@ -425,17 +425,10 @@ module _ (file : File) where
       (joined placeless _ _ _ _ (demanded (demand_faults (bare_file file) 0) (demand_faults file 0) (demand_faults-bare 0) _ (flat_map formula_demands file.formulas) (formula_demands-bare file.formulas))
       (numbered_faults-bare 0 file.modules))
 
-or_else-mapped : (us vs xs ys : List Fault) → us ≡ map placeless xs → vs ≡ map placeless ys → or_else us vs ≡ map placeless (or_else xs ys)
-or_else-mapped us vs xs ys e h = ap₂ or_else e h ∙ of_first xs
-  where
-    of_first : (xs : List Fault) → or_else (map placeless xs) (map placeless ys) ≡ map placeless (or_else xs ys)
-    of_first [] = refl
-    of_first (x ∷ xs) = refl
-
 faults-bare : (file : File) → faults (bare_file file) ≡ map placeless (faults file)
 faults-bare file =
-    or_else-mapped (name_faults (bare_file file)) _ (name_faults file) _ (name_faults-bare file)
-    (or_else-mapped (size_faults (bare_file file)) _ (size_faults file) _ (size_faults-bare file ∙ at_nought (passes_limit (flat file)) 0 TooLarge) (type_faults-bare file))
+    first-bare (name_faults (bare_file file)) _ (name_faults file) _ (name_faults-bare file)
+    (first-bare (size_faults (bare_file file)) _ (size_faults file) _ (size_faults-bare file ∙ at_nought (passes_limit (flat file)) 0 TooLarge) (type_faults-bare file))
 
 -- where the one has no such fault, neither has the other
 none_too : (kind : File → List Fault) → ((file : File) → kind (bare_file file) ≡ map placeless (kind file)) → (f g : File) → bare_file f ≡ bare_file g → kind f ≡ [] → kind g ≡ []
@@ -462,5 +455,5 @@ clean_alike f g e h = record { printable = printable_too f g e h.printable; name
 pub checked_alike : CheckedAlike
 checked_alike f g e order h =
     let sound = faults_alike f g e h.sound in
-    let once = (append_parts (doubled_names g) _ (no_either (name_faults g) _ sound).0).0 in
+    let once = (no_name_faults g (no_faults g sound).names).doubled in
     record { form = printable_too f g e h.form; sound = sound; order = order_too f g e once order h.order }

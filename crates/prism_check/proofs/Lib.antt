@@ -24,6 +24,7 @@ pub mod Renamed
 pub mod Owners
 pub mod Misfits
 pub mod NamesIn
+pub mod NoFaults
 pub mod TypeOrder
 pub mod FlatDemands
 pub mod FlatTwice
@@ -32,6 +33,7 @@ pub mod CleanValues
 pub mod CleanCircles
 pub mod CleanTypes
 pub mod CleanFile
+pub mod Typed
 pub mod Lists
 pub mod Trees
 pub mod SameNames

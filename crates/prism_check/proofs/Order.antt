@@ -1,11 +1,10 @@
 -- An order of a file's formulas is one of each file that is the same but for places, where the formulas have different names.
-use Rattle.std.specs.Prelude.{◌≡◌, ℕ, zero, suc, get_or, ◌<◌, ◌≤◌, List, [], ◌∷◌, ◌++◌, map, length, Option, Some, None, is_some, slice_get}
+use Rattle.std.specs.Prelude.{◌≡◌, ℕ, zero, suc, get_or, ◌<◌, ◌≤◌, List, [], ◌∷◌, ◌++◌, map, length, Some, is_some, slice_get}
 use Rattle.std.specs.List.{All, AllByRecursion as Each}
-use Rattle.std.specs.Option.{option_map}
 use Rattle.std.proofs.Common.{arith, refl, sym, ap, ap₂, subst, ◌∙◌, inl, inr}
 use Rattle.std.proofs.lemmas.List.{length-map}
 use Rattle.std.proofs.lemmas.Option.{slice_get-map}
-use Rattle.basics.specs.Options.{none_of, has_some, if_some}
+use Rattle.basics.specs.Options.{none_of, has_some, if_some, if_some-map}
 use Rattle.basics.specs.Mapped.{mapped}
 use Rattle.op_trees.specs.Tree.{Truth, Number, Name as At, One, Two, Three, AllNames, bare}
 use Rattle.op_trees.specs.SeenLaws.{names_then}
@@ -20,13 +19,9 @@ use Rattle.prism_check.proofs.PlaceOrder.{no_formula, first_of_name}
 use Rattle.prism_check.proofs.SameNames.{is_formula-bare}
 
 -- ---- lists
-pub if_some-mapped : {A B : Type 0} (f : A → B) (o : Option A) → if_some (option_map f o) ≡ map f (if_some o)
-if_some-mapped f None = refl
-if_some-mapped f (Some x) = refl
-
 places-bare : (fs : List Formula) (places : List ℕ) → at_places (map bare_formula fs) places ≡ map bare_formula (at_places fs places)
 places-bare fs places =
-    flat_map_agree _ _ (λ i. ap if_some (slice_get-map bare_formula fs i) ∙ if_some-mapped bare_formula (slice_get fs i)) places
+    flat_map_agree _ _ (λ i. ap if_some (slice_get-map bare_formula fs i) ∙ if_some-map bare_formula (slice_get fs i)) places
     ∙ sym (map-flat_map bare_formula (λ i. if_some (slice_get fs i)) places)
 
 names-bare : (fs : List Formula) → formula_names (map bare_formula fs) ≡ formula_names fs

@@ -14,9 +14,9 @@ use Rattle.basics.specs.Texts.{bytes_eq-self}
 use Rattle.bridge_io.specs.declared.reason.Named.{Named}
 use Rattle.bridge_io.specs.declared.reason.Reason.{Reason}
 use Rattle.bridge_io.specs.declared.reason.Reason.TheVariants.{TwiceNamed}
-use Rattle.op_trees.specs.Tree.{Truth, Number, Name as At, One, Two, Three, AllNames}
+use Rattle.op_trees.specs.Tree.{Truth}
 use Rattle.op_trees.specs.SeenLaws.{names_then}
-use Rattle.op_trees.specs.Names.{names_of, is_called}
+use Rattle.op_trees.specs.Names.{is_called}
 use Rattle.basics.specs.Options.{if_some}
 use Rattle.process_core.specs.Ready.{Name}
 use Rattle.prism_tree.specs.Syntax.{Expression, Formula, File}
@@ -26,6 +26,7 @@ use Rattle.name_rules.specs.Least.{fault_if}
 use Rattle.name_rules.specs.Doubled.{clash, doubled_after, doubled}
 use Rattle.name_rules.specs.Circles.{Declared, nothing_declared, declared_at, HasTurned, AreInTurn, turns_from, AreTurns}
 use Rattle.prism_check.specs.NameFaults.{doubled_names, values, declared_const, declared_formula, declarations}
+use Rattle.prism_check.proofs.NamesIn.{each_name}
 
 -- ---- names that are not doubled
 module _ (r : Reason) where
@@ -87,26 +88,6 @@ found_at (f ∷ fs) x b h = by_test (is_called x f.name) refl h (found_at fs x b
         (k : ℕ) × (k < suc (length fs)) × (is_called x (get_or (f ∷ fs) k no_formula).name ≡ true)
     by_test true e k ih = (0, omega arith, e)
     by_test false e k ih = let r = ih k in let l = r.1 in (suc r.0, omega (arith, l), r.2)
-
-in_both : (P : Name → Type 0) (xs ys : List Named) → All P (map (λ n. n.name) (xs ++ ys)) → All P (map (λ n. n.name) xs) × All P (map (λ n. n.name) ys)
-in_both P [] ys h = (All-nil P, h)
-in_both P (x ∷ xs) ys h =
-    let rest = in_both P xs ys (All-tail P x.name (map (λ n. n.name) (xs ++ ys)) h) in
-    (All-cons P x.name (map (λ n. n.name) xs) (All-head P x.name (map (λ n. n.name) (xs ++ ys)) h) rest.0, rest.1)
-
--- a fact of each name in a list of them is one of each name in the expression
-each_name : (P : Name → Type 0) (e : Expression) → All P (map (λ n. n.name) (names_of e)) → AllNames P e
-each_name P (Truth at b) h = tt
-each_name P (Number at d) h = tt
-each_name P (At at x) h = All-head P x [] h
-each_name P (One at o a) h = each_name P a h
-each_name P (Two at o a b) h =
-    let parts = in_both P (names_of a) (names_of b) h in
-    (each_name P a parts.0, each_name P b parts.1)
-each_name P (Three at o a b c) h =
-    let parts = in_both P (names_of a) (names_of b ++ names_of c) h in
-    let last = in_both P (names_of b) (names_of c) parts.1 in
-    (each_name P a parts.0, each_name P b last.0, each_name P c last.1)
 
 -- ---- turns of formulas
 turns_from-append : (c : ℕ) (ts us : List ℕ) → turns_from c (ts ++ us) ≡ turns_from c ts ++ turns_from c us

@@ -1,10 +1,9 @@
 -- The types of names whose bodies lead round in no circle, and so those of formulas that stand in an order.
 use Rattle.std.specs.Prelude.{◌≡◌, ℕ, zero, suc, ◌<◌, List, length, Option, Some, None}
-use Rattle.std.proofs.Common.{refl, ap, ap₂, arith}
-use Rattle.op_trees.specs.declared.tree.Ty.{Ty}
+use Rattle.std.proofs.Common.{refl, ap, arith}
 use Rattle.op_trees.specs.Meaning.{Meaning}
-use Rattle.op_trees.specs.Tree.{Tree, Truth, Number, Name as At, One, Two, Three, AllNames}
-use Rattle.op_trees.specs.Types.{Types, type_in, sort_one, sort_two, sort_three, type_through, types_looked_up}
+use Rattle.op_trees.specs.Tree.{Tree}
+use Rattle.op_trees.specs.Types.{Types, type_through, types_looked_up}
 use Rattle.op_trees.specs.Seen.{FallsTo, IsFalling}
 use Rattle.op_trees.specs.SeenLaws.{names_then}
 use Rattle.op_trees.specs.TypeLaws.{type_agree_on}
@@ -12,7 +11,7 @@ use Rattle.process_core.specs.Ready.{Name}
 use Rattle.prism_tree.specs.Operators.{prism_meaning}
 use Rattle.prism_tree.specs.Syntax.{File}
 use Rattle.prism_flat.specs.Names.{formula_body}
-use Rattle.prism_flat.specs.Order.{place_in, IsOrder}
+use Rattle.prism_flat.specs.Order.{place_in, IsOrder, in_depth}
 use Rattle.prism_check.specs.TypeFaults.{types, declared_types}
 
 module _ {O : Type 0} (m : Meaning O) (bodies : Name → Option (Tree O)) (rank : Name → ℕ) (falling : IsFalling bodies rank) (given : Types) where
@@ -47,17 +46,7 @@ types_of_plain m bodies given zero x e = refl
 types_of_plain m bodies given (suc n) x e = ap (λ o. type_through m o (types_looked_up m bodies n given) (given x)) e
 
 module _ (file : File) (order : List Name) (ordered : IsOrder file order) where
-  -- where a file's formulas stand in an order, each name falls below their number
-  pub in_depth : (x : Name) → FallsTo (formula_body file) (place_in order) (length file.formulas) x
-  in_depth x = record {
-    below =
-        λ b e.
-        let c = ordered.covers x b e in
-        let n = ordered.count in
-        omega (arith, c, n);
-  }
-
-  -- so a formula's name has the type of its body, and any other the type that it is declared with
+  -- where a file's formulas stand in an order, a formula's name has the type of its body, and any other the type that it is declared with
   pub types_read : (x : Name) → types file x ≡ type_through prism_meaning (formula_body file x) (types file) (declared_types file x)
   types_read x =
-      types_looked_up_is prism_meaning (formula_body file) (place_in order) ordered.falling (declared_types file) (length file.formulas) x (in_depth x)
+      types_looked_up_is prism_meaning (formula_body file) (place_in order) ordered.falling (declared_types file) (length file.formulas) x (in_depth file order ordered x)

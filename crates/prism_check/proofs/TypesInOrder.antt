@@ -2,14 +2,13 @@
 use Rattle.std.specs.Prelude.{ℕ, zero, suc, ◌<◌, ◌+◌, List, [], ◌∷◌, ◌++◌, map, length, take, Bool, true, false, not, ◌&&◌, ◌||◌, ◌⊎◌, Option, Some, None, is_some, bytes_eq, if◌then◌else◌}
 use Rattle.std.specs.List.{fold}
 use Rattle.std.specs.Option.{option_map}
-use Rattle.std.proofs.Common.{◌≡◌, refl, sym, ap, ap₂, ◌∙◌, inl, inr, subst, append_assoc, append-nil, arith, get_or}
+use Rattle.std.proofs.Common.{◌≡◌, refl, sym, ap, ap₂, ◌∙◌, inl, inr, subst, append_assoc, append-nil, get_or}
 use Rattle.std.proofs.Math.Path.{fun_ext}
 use Rattle.std.proofs.lemmas.Slice.Eq.{bytes_eq-Decides}
 use Rattle.std.proofs.lemmas.List.Folds.{list_any-append}
 use Rattle.std.proofs.lemmas.List.Sums.{fold-append}
-use Rattle.op_trees.specs.declared.tree.Ty.{Ty}
-use Rattle.op_trees.specs.Tree.{tree, Truth, Number, Name as At, One, Two, Three, AllNames}
-use Rattle.op_trees.specs.Types.{Types, type_in, type_through, types_looked_up, sort_one, sort_two, sort_three}
+use Rattle.op_trees.specs.Tree.{tree, AllNames}
+use Rattle.op_trees.specs.Types.{Types, type_in, type_through, types_looked_up}
 use Rattle.op_trees.specs.Seen.{FallsTo}
 use Rattle.op_trees.specs.SeenLaws.{names_then}
 use Rattle.op_trees.specs.Names.{some_name}
@@ -20,7 +19,7 @@ use Rattle.prism_tree.specs.declared.syntax.PrismFormula.{PrismFormula}
 use Rattle.prism_tree.specs.Operators.{prism_meaning}
 use Rattle.prism_tree.specs.Syntax.{Expression, Formula, File, formula_of}
 use Rattle.prism_flat.specs.Names.{formula_body}
-use Rattle.prism_flat.specs.Order.{place_in, IsOrder}
+use Rattle.prism_flat.specs.Order.{place_in, IsOrder, in_depth}
 use Rattle.prism_flat.specs.WrittenOut.{lower, lowest}
 use Rattle.prism_flat.specs.Places.{at_places, formula_names, stands, IsEarlier, IsListed, IsPlaceOrder, places_order}
 use Rattle.prism_flat.proofs.Steps.{place_more}
@@ -34,15 +33,6 @@ use Rattle.prism_check.specs.Typing.{type_said, varies_said, known_by, with_know
 module _ (file : File) (order : List Name) (ordered : IsOrder file order) where
   abbrev Below : ℕ → Name → Type 0
   Below n x = FallsTo (formula_body file) (place_in order) n x
-
-  in_depth : (x : Name) → Below (length file.formulas) x
-  in_depth x = record {
-    below =
-        λ b e.
-        let c = ordered.covers x b e in
-        let n = ordered.count in
-        omega (arith, c, n);
-  }
 
   module _ (ty : Types) where
     abbrev looked_up : ℕ → Types

@@ -83,7 +83,7 @@ form_kept new (Three at o a b c) h d n =
 parted : (xs ys : List Named) → map (λ n. n.name) (xs ++ ys) ≡ map (λ n. n.name) xs ++ map (λ n. n.name) ys
 parted xs ys = map-append (λ n. n.name) xs ys
 
-pub one_names : (at : ℕ) (o : PrismOp) (a : Tree JaniOp) → names_in (image_one at o a) ≡ names_in a
+pub one_names : (at : ℕ) (o : PrismOp) (a : Tree JaniOp) → names_of (image_one at o a) ≡ names_of a
 one_names at P.Neg a = refl
 one_names at o a = refl
 
@@ -91,7 +91,7 @@ pub names_kept : (new : List ℕ → List ℕ) (e : Expression) → names_in (im
 names_kept new (Truth at b) = refl
 names_kept new (Number at d) = refl
 names_kept new (Name at x) = refl
-names_kept new (One at o a) = one_names at o (image new a) ∙ names_kept new a
+names_kept new (One at o a) = ap (map (λ (n : Named). n.name)) (one_names at o (image new a)) ∙ names_kept new a
 names_kept new (Two at o a b) =
     parted (names_of (image new a)) (names_of (image new b)) ∙ ap₂ (λ xs ys. xs ++ ys) (names_kept new a) (names_kept new b)
     ∙ sym (map-append new (names_in a) (names_in b)) ∙ ap (map new) (sym (parted (names_of a) (names_of b)))

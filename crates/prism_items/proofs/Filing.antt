@@ -1,5 +1,5 @@
 -- Lists of items, and whole files.
-use Rattle.std.proofs.Common.{◌≡◌, ◌≢◌, ℕ, Bool, true, false, List, [], ◌∷◌, ◌++◌, Option, Some, None, refl, sym, ap, subst, ◌∙◌, append_assoc, append-nil, length, arith, drop, map}
+use Rattle.std.proofs.Common.{◌≡◌, ◌≢◌, ℕ, Bool, true, false, List, [], ◌∷◌, ◌++◌, Some, None, refl, sym, ap, subst, ◌∙◌, append_assoc, append-nil, length, arith, drop, map}
 use Rattle.std.specs.Prelude.{Result, Err, IsErr, IsErrAnd}
 use Rattle.std.proofs.lemmas.Result.{err_from_is_err_and}
 use Rattle.prism_tree.specs.declared.syntax.PrismFile.{PrismFile}
@@ -53,7 +53,7 @@ pub data Cut (a b c d : List Lexeme) : Type 0 where
   longer : (p : Lexeme) (q : List Lexeme) → c ≡ a ++ p ∷ q → b ≡ (p ∷ q) ++ d → Cut a b c d
   shorter : (q : List Lexeme) → a ≡ c ++ q → d ≡ q ++ b → Cut a b c d
 
-cut : (a b c d : List Lexeme) → a ++ b ≡ c ++ d → Cut a b c d
+pub cut : (a b c d : List Lexeme) → a ++ b ≡ c ++ d → Cut a b c d
 cut [] b [] d e = shorter [] refl (sym e)
 cut [] b (p ∷ q) d e = longer p q refl e
 cut (t ∷ a) b [] d e = shorter (t ∷ a) refl (sym e)

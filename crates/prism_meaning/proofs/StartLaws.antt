@@ -15,13 +15,9 @@ use Rattle.prism_check.specs.Moment.{value_in, place_of}
 use Rattle.instance_start.specs.Columns.{column_at, value_at}
 use Rattle.instance_start.specs.declared.data.Place.{Place}
 use Rattle.instance_start.specs.declared.data.Place.TheVariants.{Constant, Variable}
-use Rattle.basics.specs.Lists.{append_parts}
 use Rattle.name_rules.specs.Circles.{circles as circles_of}
-use Rattle.prism_check.specs.NameFaults.{circles, copy_faults, declared_formula, doubled_names, name_faults, no_module, unknown_names}
-use Rattle.prism_check.specs.SizeFaults.{size_faults}
-use Rattle.prism_check.specs.TypeFaults.{type_faults}
-use Rattle.name_rules.specs.Least.{or_else}
-use Rattle.prism_check.proofs.CleanFile.{no_either}
+use Rattle.prism_check.specs.NameFaults.{circles, declared_formula}
+use Rattle.prism_check.proofs.Typed.{no_name_fault}
 use Rattle.prism_check.specs.Flattened.{IsFlat}
 use Rattle.process_core.specs.declared.data.Given.{Given}
 use Rattle.process_core.specs.declared.data.StartFail.{StartFail}
@@ -93,11 +89,8 @@ writes_are cs ks x = column_from (length cs) 0 cs ks x (let e : 0 + length cs �
 -- ---- no constant leads to itself
 pub no_circles : (file : File) → IsFlat file → circles_of (map declared_const file.constants) ≡ []
 no_circles file flat =
-    let names = (no_either (name_faults file) (or_else (size_faults file) (type_faults file)) flat.checked.sound).0 in
-    let a = append_parts (doubled_names file) (unknown_names file ++ (circles file ++ (flat_map (copy_faults file) file.modules ++ no_module file))) names in
-    let b = append_parts (unknown_names file) (circles file ++ (flat_map (copy_faults file) file.modules ++ no_module file)) a.1 in
-    let c = append_parts (circles file) (flat_map (copy_faults file) file.modules ++ no_module file) b.1 in
-    ap circles_of (sym (append-nil (map declared_const file.constants)) ∙ ap (λ fs. map declared_const file.constants ++ map declared_formula fs) (sym flat.form.formulas)) ∙ c.0
+    ap circles_of (sym (append-nil (map declared_const file.constants)) ∙ ap (λ fs. map declared_const file.constants ++ map declared_formula fs) (sym flat.form.formulas))
+    ∙ (no_name_fault file flat).circles
 
 -- ---- what isn't wide is trimmed
 pub narrow_trimmed : (table : List (Option Value)) → map trimmed_seen (map narrow_value table) ≡ map narrow_value table

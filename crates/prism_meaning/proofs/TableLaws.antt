@@ -10,8 +10,7 @@ use Rattle.std.proofs.lemmas.Option.{slice_get-map, slice_get_within, slice_get_
 use Rattle.std.proofs.lemmas.Slice.Eq.{bytes_eq-Decides}
 use Rattle.std.proofs.Math.Bool.{or-false}
 use Rattle.op_trees.specs.Seen.{Seen, known}
-use Rattle.op_trees.specs.SeenLaws.{names_then, seen_agree_on}
-use Rattle.op_trees.specs.Tree.{AllNames}
+use Rattle.op_trees.specs.SeenLaws.{names_then}
 use Rattle.op_trees.specs.declared.tree.Value.{Value}
 use Rattle.op_trees.specs.declared.tree.EvalFail.{EvalFail}
 use Rattle.name_rules.specs.Circles.{HasTurned, AreTurns}
@@ -20,11 +19,10 @@ use Rattle.name_rules.specs.Uses.{used}
 use Rattle.name_rules.specs.declared.map.NameMap.{NameMap}
 use Rattle.process_core.specs.Ready.{Name}
 use Rattle.process_core.specs.Instance.{Valuation}
-use Rattle.prism_tree.specs.Operators.{prism_meaning}
 use Rattle.prism_tree.specs.Syntax.{Expression, Const, File, const_of}
 use Rattle.prism_tree.specs.declared.syntax.PrismConst.{PrismConst}
 use Rattle.op_trees.specs.Names.{is_called}
-use Rattle.prism_names.specs.Names.{unchanged, see}
+use Rattle.prism_names.specs.Names.{unchanged}
 use Rattle.prism_check.specs.Scene.{constant, constant_seen, constant_value, constant_names, scene}
 use Rattle.prism_check.specs.ConstantLaws.{ConstantsHaveValues, see_agree_on}
 use Rattle.state_choices.specs.Views.{seen_of}
@@ -38,7 +36,8 @@ use Rattle.prism_meaning.specs.Places.{constant_place}
 use Rattle.prism_meaning.specs.Views.{names_by}
 use Rattle.prism_meaning.proofs.Found.{narrow_seen, value_seen}
 use Rattle.prism_meaning.proofs.Whole.{reads_plainly}
-use Rattle.prism_meaning.proofs.Turns.{declared_there, each_name, have_values, left_in_turn}
+use Rattle.prism_check.proofs.NamesIn.{each_name}
+use Rattle.prism_meaning.proofs.Turns.{declared_there, have_values, left_in_turn}
 
 -- ---- lists by their places
 get_set : {A : Type 0} (xs : List A) (i j : ℕ) (x : A) → i < length xs → slice_get (slice_set xs i x) j ≡ (if nat_eq j i then Some x else slice_get xs j)

@@ -5,12 +5,10 @@ use Rattle.std.specs.List.{All, find, list_any}
 use Rattle.std.specs.Option.{option_map}
 use Rattle.std.proofs.lemmas.Bool.Decides.{nat_tests}
 use Rattle.std.proofs.lemmas.List.{length-map}
-use Rattle.std.proofs.lemmas.List.Elements.{All-nil, All-cons, All-head, All-tail}
 use Rattle.std.proofs.lemmas.Option.{slice_get-map, slice_get_within, get_or_from_slice_get}
-use Rattle.bridge_io.specs.declared.reason.Named.{Named}
-use Rattle.op_trees.specs.Tree.{Truth, Number, Name as At, One, Two, Three, AllNames, written_out}
+use Rattle.op_trees.specs.Tree.{AllNames, written_out}
 use Rattle.op_trees.specs.SeenLaws.{names_then}
-use Rattle.op_trees.specs.Names.{names_of, is_called}
+use Rattle.op_trees.specs.Names.{is_called}
 use Rattle.name_rules.specs.Circles.{Declared, nothing_declared, declared_at, HasTurned, AreInTurn, turns_from, AreTurns}
 use Rattle.name_rules.specs.Uses.{used}
 use Rattle.process_core.specs.Ready.{Name}
@@ -18,6 +16,7 @@ use Rattle.prism_tree.specs.Syntax.{Expression, Const, File}
 use Rattle.prism_names.specs.Names.{formula_body}
 use Rattle.prism_names.specs.Order.{whole}
 use Rattle.prism_check.specs.Scene.{constant_called}
+use Rattle.prism_check.proofs.NamesIn.{each_name}
 use Rattle.prism_check.specs.ConstantLaws.{RanksBelow, ConstantsHaveValues, constants_have_values}
 use Rattle.prism_meaning.specs.Constants.{declared_const}
 
@@ -83,26 +82,6 @@ left_in_turn ds before (u ∷ us) zero t h e =
     subst (λ l. All (HasTurned ds l) (declared_at ds t).uses) (sym (append-nil before)) (subst (λ i. All (HasTurned ds before) (declared_at ds i).uses) (let s : u ≡ t = cc in s) h.0)
 left_in_turn ds before (u ∷ us) (suc k) t h e =
     subst (λ l. All (HasTurned ds l) (declared_at ds t).uses) (append_assoc before (u ∷ []) (take k us)) (left_in_turn ds (before ++ u ∷ []) us k t h.1 e)
-
--- ---- a fact of each name in a list of them is one of each name in the expression
-in_both : (P : Name → Type 0) (xs ys : List Named) → All P (map (λ n. n.name) (xs ++ ys)) → All P (map (λ n. n.name) xs) × All P (map (λ n. n.name) ys)
-in_both P [] ys h = (All-nil P, h)
-in_both P (x ∷ xs) ys h =
-    let rest = in_both P xs ys (All-tail P x.name (map (λ n. n.name) (xs ++ ys)) h) in
-    (All-cons P x.name (map (λ n. n.name) xs) (All-head P x.name (map (λ n. n.name) (xs ++ ys)) h) rest.0, rest.1)
-
-pub each_name : (P : Name → Type 0) (e : Expression) → All P (map (λ n. n.name) (names_of e)) → AllNames P e
-each_name P (Truth at b) h = tt
-each_name P (Number at d) h = tt
-each_name P (At at x) h = All-head P x [] h
-each_name P (One at o a) h = each_name P a h
-each_name P (Two at o a b) h =
-    let parts = in_both P (names_of a) (names_of b) h in
-    (each_name P a parts.0, each_name P b parts.1)
-each_name P (Three at o a b c) h =
-    let parts = in_both P (names_of a) (names_of b ++ names_of c) h in
-    let last = in_both P (names_of b) (names_of c) parts.1 in
-    (each_name P a parts.0, each_name P b last.0, each_name P c last.1)
 
 -- ---- the turns are ranks
 all_turns : (turns : List ℕ) → length (turns_from 0 turns) ≡ length turns

@@ -1,18 +1,13 @@
 -- The values of constants have their types, so a variable without a range begins with a truth value.
-use Rattle.std.proofs.Common.{◌≡◌, ℕ, zero, suc, ◌+◌, List, [], ◌∷◌, ◌++◌, map, length, Bool, true, false, not, ◌&&◌, ◌||◌, Option, Some, None, is_some, IsTrue, inl, inr, refl, sym, ap, ap₂, subst, ◌∙◌}
-use Rattle.std.specs.Prelude.{bytes_eq, if◌then◌else◌}
+use Rattle.std.proofs.Common.{◌≡◌, ℕ, zero, suc, ◌+◌, List, [], ◌∷◌, map, length, Bool, true, false, not, Option, Some, None, IsTrue, refl, sym, ap, subst, ◌∙◌}
+use Rattle.std.specs.Prelude.{bytes_eq}
 use Rattle.std.specs.List.{flat_map, find, list_any, list_all, AllByRecursion as Each}
 use Rattle.std.specs.Option.{option_map, option_or}
-use Rattle.std.proofs.lemmas.Bool.{or_cases}
 use Rattle.std.proofs.lemmas.List.Elements.{All-nil, All-cons}
-use Rattle.std.proofs.lemmas.List.Folds.{list_any-append}
-use Rattle.basics.specs.Members.{any-map}
-use Rattle.basics.specs.Options.{has_some, if_some, IfAny}
-use Rattle.basics.specs.Lists.{append_parts, empty_map}
-use Rattle.basics.specs.Each.{each_then, each_with, each_join, each_parts, each_of, empty_each, each_found}
-use Rattle.bridge_io.specs.declared.reason.Named.{Named}
-use Rattle.bridge_io.specs.declared.reason.Reason.TheVariants.{WrongType, NotConstant, Unknown}
-use Rattle.frac_core.specs.Decimal.{is_normal}
+use Rattle.basics.specs.Options.{if_some, IfAny}
+use Rattle.basics.specs.Lists.{append_parts}
+use Rattle.basics.specs.Each.{each_with, each_join, each_parts, each_of, empty_each, each_found}
+use Rattle.bridge_io.specs.declared.reason.Reason.TheVariants.{NotConstant}
 use Rattle.op_trees.specs.declared.tree.Ty.{Ty}
 use Rattle.op_trees.specs.declared.tree.Ty.TheVariants as T
 use Rattle.op_trees.specs.declared.tree.Value.{Value}
@@ -20,32 +15,29 @@ use Rattle.op_trees.specs.Meaning.{Environment, value_of}
 use Rattle.op_trees.specs.Seen.{Seen, known, known_names}
 use Rattle.op_trees.specs.SeenLaws.{names_all, seen_is}
 use Rattle.op_trees.specs.Names.{names_of, offset_of, is_called}
-use Rattle.op_trees.specs.Tree.{Truth, Number, Name as At, One, Two, Three, AllNames, AllNumbers}
-use Rattle.op_trees.specs.Types.{Types, AgreesWith, has_type, type_in, types_looked_up, misfit_at}
-use Rattle.op_trees.specs.Types as trees
-use Rattle.op_trees.specs.TypeLaws.{misfits_none, value_agrees}
-use Rattle.op_trees.specs.Wanted.{wider, is_wanted, is_unwanted, wanted_by}
-use Rattle.name_rules.specs.Least.{fault, fault_if, or_else}
+use Rattle.op_trees.specs.Types.{AgreesWith, has_type}
+use Rattle.op_trees.specs.TypeLaws.{value_agrees}
+use Rattle.op_trees.specs.Wanted.{wider, wanted_by}
+use Rattle.name_rules.specs.Least.{fault, fault_if}
 use Rattle.name_rules.specs.Names.{is_among}
 use Rattle.name_rules.specs.Unknown.{unless_known}
-use Rattle.name_rules.proofs.Plain.{no_fault}
 use Rattle.process_core.specs.Ready.{Name}
 use Rattle.process_core.specs.Instance.{Column}
 use Rattle.process_core.specs.declared.data.Given.{Given}
 use Rattle.prism_tree.specs.Operators.{prism_meaning}
 use Rattle.prism_tree.specs.OperatorLaws.{prism_lawful}
 use Rattle.prism_tree.specs.Syntax.{Expression, Const, Range, Var, Module, plain, copied, File}
-use Rattle.prism_names.specs.Names.{unchanged, part_of, parts, see, reading, formula_body}
+use Rattle.prism_names.specs.Names.{unchanged, part_of, see, reading}
 use Rattle.prism_check.specs.Kept.{is_plain}
 use Rattle.prism_check.specs.FlatLaws.{found_after}
 use Rattle.prism_check.specs.Scene.{constant_called, constant_seen, constant_value, constant_within, constant, constant_names, column, columns_of}
 use Rattle.prism_print.specs.Printable.{IsPrintableExpression, IsPrintableConst, IsPrintableVar, IsPrintableModule}
+use Rattle.prism_print.proofs.Printable.{literals}
 use Rattle.prism_check.specs.Demands.{Demand, fixed, var_type, const_demands, range_demands, var_demands, command_demands, part_demands, outer_demands, formula_demands}
-use Rattle.prism_check.specs.NameFaults.{copy_faults, circles, doubled_names, module_vars, name_faults, no_module, unknown, unknown_in, unknown_names, values}
-use Rattle.prism_check.specs.SizeFaults.{size_faults}
-use Rattle.prism_check.specs.TypeFaults.{Variable, declared_types, demand_faults, has_variable, misfits, numbered_faults, numbered_variables, part_faults, repeated_writes, type_faults, type_faults_of, types, variable_called, variables}
-use Rattle.prism_check.proofs.CleanFile.{no_either}
-use Rattle.prism_check.proofs.NamesIn.{listed_names}
+use Rattle.prism_check.specs.NameFaults.{unknown, unknown_in, values}
+use Rattle.prism_check.specs.TypeFaults.{demand_faults, has_variable, numbered_faults, part_faults, repeated_writes, type_faults_of, types, variable_called}
+use Rattle.prism_check.proofs.NoFaults.{all_known}
+use Rattle.prism_check.proofs.Typed.{has_wanted_type, no_name_fault, no_type_fault, types_declared}
 use Rattle.prism_check.specs.Flattened.{IsFlat}
 use Rattle.instance_start.specs.Firsts.{BeginRight, begins_right}
 use Rattle.instance_start.proofs.Givens as givens
@@ -56,37 +48,6 @@ use Rattle.prism_meaning.specs.Variables.{all_variables, own_variables}
 use Rattle.prism_meaning.proofs.StartLaws.{columns_are}
 use Rattle.prism_meaning.proofs.Whole.{reads_plainly}
 
--- ---- literals are in normal form
-normal_numbers : (e : Expression) → IsPrintableExpression e → AllNumbers (λ d. IsTrue (is_normal d)) e
-normal_numbers (Truth at b) h = tt
-normal_numbers (Number at d) h = h.0
-normal_numbers (At at x) h = tt
-normal_numbers (One at o a) h = normal_numbers a h.1
-normal_numbers (Two at o a b) h = (normal_numbers a h.1, normal_numbers b h.2)
-normal_numbers (Three at o a b c) h = (normal_numbers a h.1, normal_numbers b h.2, normal_numbers c h.3)
-
--- ---- the two lists of misfits are one, where each name has a type
-typed_name : (at : ℕ) (o : Option Ty) → IsTrue (is_some o) → misfit_at at true o ≡ []
-typed_name at None h = absurd cc
-typed_name at (Some t) h = refl
-
-same_misfits : (ty : Types) (e : Expression) → AllNames (λ x. IsTrue (is_some (ty x))) e → trees.misfits prism_meaning ty e ≡ misfits ty e
-same_misfits ty (Truth at b) h = refl
-same_misfits ty (Number at d) h = refl
-same_misfits ty (At at x) h = typed_name at (ty x) h
-same_misfits ty (One at o a) h = ap (λ ms. ms ++ misfit_at at (is_some (type_in prism_meaning ty a)) (type_in prism_meaning ty (One at o a))) (same_misfits ty a h)
-same_misfits ty (Two at o a b) h =
-    let last = misfit_at at (is_some (type_in prism_meaning ty a) && is_some (type_in prism_meaning ty b)) (type_in prism_meaning ty (Two at o a b)) in
-    ap₂ (λ ms ns. ms ++ (ns ++ last)) (same_misfits ty a h.0) (same_misfits ty b h.1)
-same_misfits ty (Three at o a b c) h =
-    let last = misfit_at at (is_some (type_in prism_meaning ty a) && (is_some (type_in prism_meaning ty b) && is_some (type_in prism_meaning ty c))) (type_in prism_meaning ty (Three at o a b c)) in
-    ap₂ (λ ms ns. ms ++ ns) (same_misfits ty a h.0) (ap₂ (λ ms ns. ms ++ (ns ++ last)) (same_misfits ty b h.1) (same_misfits ty c h.2))
-
--- ---- a value of a type that is wanted
-unwanted_not : (b : Bool) → not b ≡ false → b ≡ true
-unwanted_not true e = refl
-unwanted_not false e = absurd cc
-
 -- ---- given values
 given_typed : (cs : List Const) (given : List Given) → list_any (λ g. not (fits (map opened cs) g)) given ≡ false →
     (x : Name) (c : Const) → find (λ d. is_called x d.name) cs ≡ Some c → (v : Value) → given_by given x ≡ Some v → IsTrue (has_type c.ty v)
@@ -94,76 +55,7 @@ given_typed cs given h x c f v e =
     givens.given_typed (map opened cs) given h x (opened c)
     (found_after (λ d. bytes_eq d.name x) (λ d. is_called x d.name) opened (λ d. refl) cs ∙ ap (option_map opened) f) v e
 
--- ---- names that are known have types
-found_some : {A : Type 0} (p : A → Bool) (xs : List A) → list_any p xs ≡ true → IsTrue (is_some (find p xs))
-found_some p [] h = absurd cc
-found_some p (x ∷ xs) h = by_test (p x) h (found_some p xs)
-  where
-    by_test : (b : Bool) → (b || list_any p xs) ≡ true → (list_any p xs ≡ true → IsTrue (is_some (find p xs))) → IsTrue (is_some (if b then Some x else find p xs))
-    by_test true k r = refl
-    by_test false k r = r k
-
-some_mapped : {A B : Type 0} (f : A → B) (o : Option A) → IsTrue (is_some o) → IsTrue (is_some (option_map f o))
-some_mapped f None h = h
-some_mapped f (Some x) h = refl
-
-either_some : (a b : Option Ty) → IsTrue (is_some a) → IsTrue (is_some (option_or a b))
-either_some None b h = absurd cc
-either_some (Some t) b h = refl
-
-second_some : (a b : Option Ty) → IsTrue (is_some b) → IsTrue (is_some (option_or a b))
-second_some None b h = h
-second_some (Some t) b h = refl
-
 module _ (file : File) (flat : IsFlat file) where
-  -- ---- no fault of names or types
-  name_clean : unknown_names file ≡ []
-  name_clean =
-      let names = (no_either (name_faults file) (or_else (size_faults file) (type_faults file)) flat.checked.sound).0 in
-      let a = append_parts (doubled_names file) (unknown_names file ++ (circles file ++ (flat_map (copy_faults file) file.modules ++ no_module file))) names in
-      (append_parts (unknown_names file) (circles file ++ (flat_map (copy_faults file) file.modules ++ no_module file)) a.1).0
-
-  type_clean : type_faults file ≡ []
-  type_clean = (no_either (size_faults file) (type_faults file) (no_either (name_faults file) (or_else (size_faults file) (type_faults file)) flat.checked.sound).1).1
-
-  types_declared : (x : Name) → types file x ≡ declared_types file x
-  types_declared x = ap (λ n. types_looked_up prism_meaning (formula_body file) n (declared_types file) x) (ap length flat.form.formulas)
-
-  -- ---- known names
-  numbered_any : (x : Name) (i : ℕ) (ms : List Module) → list_all is_plain ms ≡ true →
-      list_any (is_called x) (flat_map (module_vars file) ms) ≡ list_any (λ v. bytes_eq v.name x) (numbered_variables i (map (part_of file) ms))
-  numbered_any x i [] h = refl
-  numbered_any x i (plain m ∷ ms) h =
-      list_any-append (is_called x) (map (λ y. y.name) m.vars) (flat_map (module_vars file) ms)
-      ∙ ap₂ (λ a b. a || b)
-      (any-map (is_called x) (λ y. y.name) m.vars ∙ sym (any-map (λ (v : Variable). bytes_eq v.name x) (λ y. record { owner = Some i; name = y.name.name; ty = var_type y }) m.vars))
-      (numbered_any x (i + 1) ms h)
-      ∙ sym (list_any-append (λ (v : Variable). bytes_eq v.name x) (map (λ y. record { owner = Some i; name = y.name.name; ty = var_type y }) m.vars) (numbered_variables (i + 1) (map (part_of file) ms)))
-  numbered_any x i (copied m ∷ ms) h = absurd cc
-
-  variables_any : (x : Name) → list_any (is_called x) (map (λ y. y.name) file.globals ++ flat_map (module_vars file) file.modules) ≡ list_any (λ v. bytes_eq v.name x) (variables file)
-  variables_any x =
-      list_any-append (is_called x) (map (λ y. y.name) file.globals) (flat_map (module_vars file) file.modules)
-      ∙ ap₂ (λ a b. a || b)
-      (any-map (is_called x) (λ y. y.name) file.globals ∙ sym (any-map (λ (v : Variable). bytes_eq v.name x) (λ y. record { owner = None; name = y.name.name; ty = var_type y }) file.globals))
-      (numbered_any x 0 file.modules flat.form.modules)
-      ∙ sym (list_any-append (λ (v : Variable). bytes_eq v.name x) (map (λ y. record { owner = None; name = y.name.name; ty = var_type y }) file.globals) (numbered_variables 0 (parts file)))
-
-  known_typed : (x : Name) → is_among (values file) x ≡ true → IsTrue (is_some (types file x))
-  known_typed x h =
-      subst (λ o. IsTrue (is_some o)) (sym (types_declared x))
-      (elim (or_cases (list_any (is_called x) (map (λ c. c.name) file.constants)) (list_any (is_called x) rest) (sym (list_any-append (is_called x) (map (λ c. c.name) file.constants) rest) ∙ h)) [
-        | inl e ↦ either_some _ _ (some_mapped (λ c. c.ty) _ (found_some (λ c. is_called x c.name) file.constants (sym (any-map (is_called x) (λ c. c.name) file.constants) ∙ e)))
-        | inr e ↦ second_some _ _ (some_mapped (λ v. v.ty) _ (found_some (λ v. bytes_eq v.name x) (variables file)
-            (sym (variables_any x) ∙ sym (ap (λ fs. list_any (is_called x) (map (λ f. f.name) fs ++ (map (λ y. y.name) file.globals ++ flat_map (module_vars file) file.modules))) flat.form.formulas) ∙ e)))
-      ])
-    where
-      rest : List Named
-      rest = map (λ f. f.name) file.formulas ++ (map (λ y. y.name) file.globals ++ flat_map (module_vars file) file.modules)
-
-  known_name : (n : Named) → unless_known (is_among (values file)) n ≡ [] → IsTrue (is_some (types file n.name))
-  known_name n e = known_typed n.name (unwanted_not (is_among (values file) n.name) (no_fault (not (is_among (values file) n.name)) n.at Unknown e))
-
   -- ---- expressions without a fault
   pub record IsFine (w : Ty) (e : Expression) : Type 0 where
     pub form : IsPrintableExpression e
@@ -172,14 +64,9 @@ module _ (file : File) (flat : IsFlat file) where
 
   fine_value : (env : Environment) → ((x : Name) → AgreesWith (types file x) (env x)) → (w : Ty) (e : Expression) → IsFine w e → (v : Value) → value_of prism_meaning e env ≡ Some v → IsTrue (has_type w v)
   fine_value env agree w e h v k =
-      let t = type_in prism_meaning (types file) e in
-      let r = append_parts (map (λ at. fault at WrongType) (misfits (types file) e)) (fault_if (is_unwanted (wanted_by w) t) (offset_of e) WrongType) h.types in
-      let typed = listed_names (λ x. IsTrue (is_some (types file x))) e
-      (each_then (λ n. unless_known (is_among (values file)) n ≡ []) (λ n. IsTrue (is_some (types file n.name))) known_name (names_of e) (empty_each (unless_known (is_among (values file))) (names_of e) h.names)) in
-      let s = has_some t ((misfits_none prism_meaning (types file) e).0 (same_misfits (types file) e typed ∙ empty_map (λ at. fault at WrongType) (misfits (types file) e) r.0)) in
-      let wanted = unwanted_not (is_wanted (wanted_by w) s.0) (sym (ap (is_unwanted (wanted_by w)) s.1) ∙ no_fault (is_unwanted (wanted_by w) t) (offset_of e) WrongType r.1) in
-      wider w s.0 v wanted
-      ((value_agrees prism_meaning prism_lawful (types file) env e (normal_numbers e h.form) (names_all (λ x. AgreesWith (types file x) (env x)) agree e)).agrees s.0 v s.1 k)
+      let t = has_wanted_type file flat w e (all_known file e h.names) h.types in
+      wider w t.ty v t.wanted
+      ((value_agrees prism_meaning prism_lawful (types file) env e (literals e h.form) (names_all (λ x. AgreesWith (types file x) (env x)) agree e)).agrees t.ty v t.is k)
 
   seen_value : (e : Expression) (env : Environment) → (see e (known_names env)).value ≡ value_of prism_meaning e env
   unfolding see
@@ -210,8 +97,8 @@ module _ (file : File) (flat : IsFlat file) where
 
   outer : Each (Holds 0) (outer_demands file)
   outer =
-      holds_all 0 (outer_demands file) (append_parts (flat_map (demand_faults file 0) (outer_demands file)) _ type_clean).0
-      (append_parts (flat_map (unknown file) (outer_demands file)) _ name_clean).0
+      holds_all 0 (outer_demands file) (append_parts (flat_map (demand_faults file 0) (outer_demands file)) _ (no_type_fault file flat)).0
+      (append_parts (flat_map (unknown file) (outer_demands file)) _ (no_name_fault file flat).unknown).0
 
   consts_fine : Each (λ c. IfAny (IsFine c.ty) c.value) file.constants
   consts_fine =
@@ -243,8 +130,8 @@ module _ (file : File) (flat : IsFlat file) where
   all_fine =
       let a = each_parts (Holds 0) (flat_map const_demands file.constants) _ outer in
       let b = each_parts (Holds 0) (flat_map var_demands file.globals) _ a.1 in
-      let t = append_parts (flat_map (demand_faults file 0) (outer_demands file)) _ type_clean in
-      let u = append_parts (flat_map (unknown file) (outer_demands file)) _ name_clean in
+      let t = append_parts (flat_map (demand_faults file 0) (outer_demands file)) _ (no_type_fault file flat) in
+      let u = append_parts (flat_map (unknown file) (outer_demands file)) _ (no_name_fault file flat).unknown in
       each_join IsFineVar file.globals (flat_map own_variables file.modules) (vars_fine 0 file.globals flat.checked.form.globals b.0)
       (own_fine 0 file.modules flat.form.modules flat.checked.form.modules
       (append_parts (flat_map (demand_faults file 0) (flat_map formula_demands file.formulas)) (numbered_faults file 0 file.modules) t.1).1
@@ -267,7 +154,7 @@ module _ (file : File) (flat : IsFlat file) where
         by_const r None e f = record { agrees = λ t v h k. absurd cc }
         by_const r (Some c) e f = record {
           agrees = λ t v h k.
-              let s : Some c.ty ≡ Some t = sym (types_declared x ∙ ap (λ o. option_or (option_map (λ d. d.ty) o) (option_map (λ w. w.ty) (variable_called file x))) e) ∙ h in
+              let s : Some c.ty ≡ Some t = sym (types_declared file flat x ∙ ap (λ o. option_or (option_map (λ d. d.ty) o) (option_map (λ w. w.ty) (variable_called file x))) e) ∙ h in
               subst (λ u. IsTrue (has_type u v)) (let z : c.ty ≡ t = cc in z) (by_value r c e c.value f v k);
         }
 

@@ -42,7 +42,8 @@ pub height-flat : (file : File) (rename : Name → Name) (e : Expression) → he
 height-flat file rename e = height-renamed rename (whole file e) ∙ height-written_out (formula_body file) (length file.formulas) e
 
 module _ (file : File) (order : List Name) (ordered : IsOrder file order) where
-  in_depth : (x : Name) → FallsTo (formula_body file) (place_in order) (length file.formulas) x
+  -- each name falls below the number of formulas
+  pub in_depth : (x : Name) → FallsTo (formula_body file) (place_in order) (length file.formulas) x
   in_depth x = record {
     below =
         λ b e.

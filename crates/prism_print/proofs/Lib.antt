@@ -1,3 +1,4 @@
+pub mod Printable
 pub mod Steps
 pub mod Stands
 pub mod Pieces

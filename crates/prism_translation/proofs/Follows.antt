@@ -26,7 +26,7 @@ use Rattle.prism_tree.specs.Operators.{prism_meaning}
 use Rattle.prism_tree.specs.Syntax as prism
 use Rattle.prism_names.specs.Names as prism_names
 use Rattle.prism_names.specs.Names.{unchanged}
-use Rattle.process_core.specs.Instance.{Valuation, Column, only_if, domain_at, fits_in, write_to}
+use Rattle.process_core.specs.Instance.{Valuation, Column, only_if, domain_at, fits_in}
 use Rattle.prism_flat.specs.Scene as prism_scene
 use Rattle.prism_flat.specs.Moment as prism_moment
 use Rattle.prism_flat.specs.Moment.{place_of}
@@ -56,7 +56,7 @@ use Rattle.prism_translation.proofs.Evaluated.{edge_ready, current, command_read
 pub only_location : (el : Element) (x : Name) → has_several el ≡ false → location_number el.automaton x ≡ 0
 only_location el x h = let l = location_within el.automaton x in let k = ltb-false 1 (length el.automaton.locations) h in omega arith
 
-not_less : (a b : ℕ) → nat_lt (a + b) a ≡ false
+pub not_less : (a b : ℕ) → nat_lt (a + b) a ≡ false
 not_less a b = by_test (nat_lt (a + b) a) refl
   where
     by_test : (c : Bool) → nat_lt (a + b) a ≡ c → nat_lt (a + b) a ≡ false

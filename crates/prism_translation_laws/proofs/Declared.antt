@@ -2,7 +2,7 @@
 use Rattle.std.specs.Prelude.{◌≡◌, ℕ, ◌+◌, ◌-◌, ◌<◌, List, [], ◌∷◌, ◌++◌, map, length, Bool, true, false, ◌&&◌, ◌||◌, cond, Option, Some, None, is_none, if◌then◌else◌, nat_eq, nat_lt, bytes_eq, slice_get, get_or}
 use Rattle.std.specs.List.{find, flat_map, list_any, zip, All}
 use Rattle.std.specs.Option.{option_map, option_or as or_else}
-use Rattle.std.proofs.Common.{refl, sym, ap, ap₂, ◌∙◌, arith, lt-ltb, ltb-true, ltb-false}
+use Rattle.std.proofs.Common.{refl, sym, ap, ap₂, ◌∙◌, arith, lt-ltb, ltb-false}
 use Rattle.std.proofs.lemmas.Bool.{eqb-true}
 use Rattle.std.proofs.lemmas.Option.{slice_get-get_or, get_or_from_slice_get}
 use Rattle.std.proofs.lemmas.List.{map-append, length-map}
@@ -20,7 +20,7 @@ use Rattle.prism_check.specs.Demands.{var_type}
 use Rattle.prism_check.specs.TypeFaults.{Variable, part_variables, numbered_variables, variables, variable_called, declared_types}
 use Rattle.jani_tree.specs.Syntax.{Const, Automaton, File}
 use Rattle.jani_meaning.specs.Elements as jani
-use Rattle.jani_meaning.specs.Elements.{Owned, lasting, is_owner}
+use Rattle.jani_meaning.specs.Elements.{lasting, is_owner}
 use Rattle.prism_translation.specs.PrismAsks.{NewNames, name_at}
 use Rattle.prism_translation.specs.Elements.{Element, elements, has_several, Lasting, lasting_variables, is_at, writers, home, home_by, shared, own, adopted, at_home}
 use Rattle.prism_translation.specs.Names.{new_names}
@@ -29,7 +29,7 @@ use Rattle.prism_translation.specs.Modules.{module_of}
 use Rattle.prism_translation.specs.StateLaws.{column_of, module_columns, columns}
 use Rattle.prism_translation.specs.Translated.{translated}
 use Rattle.prism_translation.proofs.Numbered.{numbered_from, lasting_length, lasting_numbers, lasting_owned_at}
-use Rattle.prism_translation.proofs.Follows.{column_name, variable_name}
+use Rattle.prism_translation.proofs.Follows.{column_name, not_less, variable_name}
 use Rattle.prism_translation.proofs.ColumnNames.{below, nothing, entries_differ, entries_long, constant_entry, index, index_below, named_by, names_apart}
 use Rattle.prism_translation.proofs.Coverage.{all_within, variable_stands, location_stands}
 use Rattle.prism_translation.proofs.NamesAlike as alike
@@ -101,13 +101,6 @@ module _ (file : File) where
 
   abbrev declared_in : Option ℕ → prism.Var → Variable
   declared_in o x = record { owner = o; name = x.name.name; ty = var_type x }
-
-  not_less : (a b : ℕ) → nat_lt (a + b) a ≡ false
-  not_less a b = by_test (nat_lt (a + b) a) refl
-    where
-      by_test : (c : Bool) → nat_lt (a + b) a ≡ c → nat_lt (a + b) a ≡ false
-      by_test true e = absurd (let l = ltb-true (a + b) a e in omega arith)
-      by_test false e = e
 
   column_is : (i : ℕ) → variable_of (n + i) ≡ of_lasting (lasting_at i)
   column_is i =

@@ -25,13 +25,15 @@ begun a b e f = f ∙ ap (λ l. l ++ codes "(") e
 pub ended : (texts : List (List ℕ)) (i : ℕ) (a b : List ℕ) → length texts ≤ i → a ≡ codes "(" ++ with_commas (take i texts) → b ≡ a ++ codes ")" → b ≡ tuple_text texts
 ended texts i a b h e f = f ∙ ap (λ l. l ++ codes ")") e ∙ at_take_all (λ l. (codes "(" ++ with_commas l) ++ codes ")") texts i h
 
--- after the part of an index
-pub goes_on : (texts : List (List ℕ)) (i : ℕ) (t a b c : List ℕ) → i < length texts → t ≡ get_or texts i t → a ≡ codes "(" ++ with_commas (take i texts) → b ≡ a ++ comma_before i → c ≡ b ++ t →
-    c ≡ codes "(" ++ with_commas (take (i + 1) texts)
-goes_on texts i t a b c h e f g k =
+-- after the part of an index, behind what was there before
+pub goes_on : (before : List ℕ) (texts : List (List ℕ)) (i : ℕ) (t a b c : List ℕ) → i < length texts → t ≡ get_or texts i t → a ≡ before ++ with_commas (take i texts) → b ≡ a ++ comma_before i →
+    c ≡ b ++ t → c ≡ before ++ with_commas (take (i + 1) texts)
+goes_on before texts i t a b c h e f g k =
     let n : length (take i texts) ≡ i = length-take-le i texts (omega arith) in
-    k ∙ ap (λ l. l ++ t) (g ∙ ap (λ l. l ++ comma_before i) f)
-    ∙ ap (λ l. 40 ∷ l) (sym (with_commas-snoc (take i texts) t i n) ∙ ap (λ l. with_commas (take i texts ++ l ∷ [])) e ∙ ap with_commas (sym (take_more texts i t h)))
+    let w = with_commas (take i texts) in
+    k ∙ ap (λ l. l ++ t) (g ∙ ap (λ l. l ++ comma_before i) f ∙ append_assoc before w (comma_before i))
+    ∙ append_assoc before (w ++ comma_before i) t
+    ∙ ap (λ l. before ++ l) (sym (with_commas-snoc (take i texts) t i n) ∙ ap (λ l. with_commas (take i texts ++ l ∷ [])) e ∙ ap with_commas (sym (take_more texts i t h)))
 
 pub text_pushed : (b c s t : List ℕ) → c ≡ b ++ s → s ≡ t → c ≡ b ++ t
 text_pushed b c s t e f = e ∙ ap (λ l. b ++ l) f

@@ -32,7 +32,7 @@ use Rattle.prop_grammar.specs.Grammar
 use Rattle.prop_grammar.specs.Grammar.{IsOpen, function_name, function_name_of, is_name, named_if}
 use Rattle.prop_reader.specs.Parts.{in_scope, operands, operands_of, opens, function_alone, IsPlainStop}
 use Rattle.prism_items.specs.Files.{plain}
-use Rattle.prism_items.proofs.Filing.{some_left}
+use Rattle.prism_items.proofs.Filing.{Cut, longer, shorter, cut, some_left}
 use Rattle.prop_reader.proofs.Shut.{IsFunction, function_is, operands_one, operands_word, operand_of}
 use Rattle.prop_reader.proofs.Bounding.{not_open}
 use Rattle.prop_reader.proofs.Deciding.{not_alone, call_begins, opening_token, test_open, opened_test}
@@ -173,21 +173,6 @@ prims_begin s u b = by_split u b.0 refl (prims_split s.counted (u ++ b.0) b.1 b.
     by_split (t ∷ v) r e (inl h) = let F : List Lexeme → Type 0 = λ w. operands s w b.1 in (r, b.1, subst F (sym e) h)
 
 -- ---- where an operand was refused
-
--- Of two ways to cut a list, one cuts later.
-pub data Cut (a b c d : List Lexeme) : Type 0 where
-  longer : (p : Lexeme) (q : List Lexeme) → c ≡ a ++ p ∷ q → b ≡ p ∷ (q ++ d) → Cut a b c d
-  shorter : (q : List Lexeme) → a ≡ c ++ q → d ≡ q ++ b → Cut a b c d
-
-cut : (a b c d : List Lexeme) → a ++ b ≡ c ++ d → Cut a b c d
-cut [] b [] d e = shorter [] refl (sym e)
-cut [] b (p ∷ q) d e = longer p q refl e
-cut (t ∷ a) b [] d e = shorter (t ∷ a) refl (sym e)
-cut (t ∷ a) b (u ∷ c) d e = go (cut a b c d (cc))
-  where
-    go : Cut a b c d → Cut (t ∷ a) b (u ∷ c) d
-    go (longer p q f g) = longer p q (let h : t ≡ u = cc in ap (λ (x : Lexeme). x ∷ c) (sym h) ∙ ap (λ (x : List Lexeme). t ∷ x) f) g
-    go (shorter q f g) = shorter q (let h : t ≡ u = cc in ap (λ (x : List Lexeme). t ∷ x) f ∙ ap (λ (x : Lexeme). x ∷ (c ++ q)) h) g
 
 abbrev NoOperand : Scope → List Lexeme → Type 0
 NoOperand s before = (x : Expression) → operands s before x → ⊥

@@ -4,7 +4,7 @@ use Rattle.std.specs.Prelude.{IsTrue, is_some, if◌then◌else◌}
 use Rattle.std.specs.List.{AllByRecursion as Each, flat_map, zip}
 use Rattle.std.proofs.lemmas.Bool.{not-false}
 use Rattle.std.proofs.lemmas.List.{length-map, length-drop}
-use Rattle.basics.specs.Each.{each_then, each_with, each_parts, each_of, empty_each, each_join}
+use Rattle.basics.specs.Each.{each_then, each_with, each_parts, each_of, empty_each}
 use Rattle.basics.specs.Lists.{append_parts, empty_map}
 use Rattle.bridge_io.specs.declared.reason.Named.{Named}
 use Rattle.bridge_io.specs.declared.reason.Reason.TheVariants.{TwiceNamed, Unknown, WrongType}
@@ -44,9 +44,11 @@ use Rattle.prop_trees.specs.Trees.{Name, PrismProperty, Role, parts, ask_parts, 
 use Rattle.prop_trees.specs.Names.{filed_name, meant}
 use Rattle.prop_trees.specs.PrismFaults.{all_parts, is_known, unknown_in, name_types, type_faults_of, part_faults, filed, number_of, AreSound, titles, structures, unknown_structure}
 use Rattle.prop_trees.specs.Agree.{jani_seen, SameValue, Agree, AllAgree}
+use Rattle.prop_trees.proofs.Made.{parts_with}
 use Rattle.prop_to_jani.specs.ToJani.{naming, whole, new_property_name, translated_expression, translated_property, property_asks, property_entries}
 use Rattle.prop_to_jani.specs.Laws.{TranslatedAgree}
-use Rattle.prop_to_jani.proofs.Judged.{IsJudged, IsKnown, IsPlain, judged}
+use Rattle.prop_to_jani.proofs.Judged.{IsJudged, IsPlain, judged}
+use Rattle.prism_check.proofs.NoFaults.{IsKnown}
 use Rattle.prop_to_jani.proofs.Filed.{whole_filed, whole_seen, whole_seen_alike, meant_type, whole_typed}
 use Rattle.prop_to_jani.proofs.Corresponding.{name_same, name_truth}
 
@@ -126,29 +128,6 @@ module _ {E F : Type 0} (Same : E → F → Type 0) (f : E → F) where
   paths_agree (weak_until a b) h = (h.0, h.1.0)
   paths_agree (finally_within k e) h = (h.0, h.1.0)
   paths_agree (until_within k a b) h = (h.0, h.1.0, h.1.1.0)
-
--- the parts of a property that is made part by part
-module _ {E F : Type 0} (P : F → Type 0) (f : E → F) where
-  ask_parts_with : {R S : Type 0} (g : R → S) (a : Ask E R) → Each (λ (x : Role × E). P (f x.1)) (ask_parts a) → Each (λ (x : Role × F). P x.1) (ask_parts (ask_with f g a))
-  ask_parts_with g greatest h = tt
-  ask_parts_with g least h = tt
-  ask_parts_with g (bounded c e) h = h
-  ask_parts_with g (greatest_reward r) h = tt
-  ask_parts_with g (least_reward r) h = tt
-
-  path_parts_with : (p : Path E) → Each (λ (x : Role × E). P (f x.1)) (path_parts p) → Each (λ (x : Role × F). P x.1) (path_parts (path_with f p))
-  path_parts_with (finally e) h = h
-  path_parts_with (globally e) h = h
-  path_parts_with (until a b) h = h
-  path_parts_with (weak_until a b) h = h
-  path_parts_with (finally_within k e) h = h
-  path_parts_with (until_within k a b) h = h
-
-  pub parts_with : {R S : Type 0} (g : R → S) (a : Ask E R) (p : Path E) → Each (λ (x : Role × E). P (f x.1)) (ask_parts a ++ path_parts p) →
-      Each (λ (x : Role × F). P x.1) (ask_parts (ask_with f g a) ++ path_parts (path_with f p))
-  parts_with g a p h =
-      let r = each_parts (λ (x : Role × E). P (f x.1)) (ask_parts a) (path_parts p) h in
-      each_join (λ (x : Role × F). P x.1) (ask_parts (ask_with f g a)) (path_parts (path_with f p)) (ask_parts_with g a r.0) (path_parts_with p r.1)
 
 -- ---- all properties
 module _ (file : File) where

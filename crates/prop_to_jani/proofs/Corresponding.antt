@@ -31,7 +31,8 @@ use Rattle.prop_trees.specs.Names.{marked, Meant, meant, initial_name, deadlock_
 use Rattle.prop_trees.specs.PrismFaults.{is_known}
 use Rattle.prop_trees.specs.Agree.{PrismEnvironment, JaniEnvironment, truth, jani_seen, Correspond, IsTyped, IsTruthValue}
 use Rattle.prop_to_jani.specs.ToJani.{label_names, new_property_name, paired, naming}
-use Rattle.prop_to_jani.proofs.Judged.{IsJudged, IsKnown}
+use Rattle.prop_to_jani.proofs.Judged.{IsJudged}
+use Rattle.prism_check.proofs.NoFaults.{IsKnown}
 use Rattle.prop_to_jani.proofs.Filed.{Written, given_initial, given_deadlock, a_label, a_value, written, as_filed, whole_seen, meant_type}
 
 -- ---- the entry of a name

@@ -24,7 +24,8 @@ use Rattle.prop_trees.proofs.Spelled.{IsSpellable, IsWritable, NormalParts, prop
 use Rattle.prop_to_jani.specs.ToJani.{translated_expression, translated_property, property_entries, to_jani, to_jani_node, reward_names}
 use Rattle.prop_to_jani.specs.Laws.{TranslatedSpelled, IsTranslated}
 use Rattle.prop_to_jani.proofs.Judged.{judged}
-use Rattle.prop_to_jani.proofs.Agreeing.{parts_with, fine_type, sound_parts, translated_agree}
+use Rattle.prop_trees.proofs.Made.{parts_with}
+use Rattle.prop_to_jani.proofs.Agreeing.{fine_type, sound_parts, translated_agree}
 use Rattle.prop_to_jani.proofs.Valued.{spellable, asks_with, translated_numbers, rewards_apart, rewards_many}
 
 module _ (file : File) where

@@ -21,7 +21,8 @@ use Rattle.op_trees.specs.Names.{is_called}
 use Rattle.prism_names.specs.Names.{formula_body}
 use Rattle.prism_names.specs.Order as plain
 use Rattle.basics.specs.Options.{IfAny}
-use Rattle.prism_print.specs.Printable.{IsPrintableExpression, IsPrintableFormula}
+use Rattle.prism_print.specs.Printable.{IsPrintableFormula}
+use Rattle.prism_print.proofs.Printable.{literals}
 use Rattle.jani_table.specs.declared.operator.JaniOp.{JaniOp}
 use Rattle.jani_tree.specs.Form.{IsNormal}
 use Rattle.name_table.specs.declared.entry.Entry.{Entry}
@@ -94,14 +95,6 @@ module _ {O : Type 0} (P : Decimal → Type 0) where
   numbers_written_out bodies b (suc n) t h =
       numbers_substituted (λ x. option_map (written_out bodies n) (bodies x))
       (λ x. any_map (AllNumbers P) (AllNumbers P) (written_out bodies n) (numbers_written_out bodies b n) (bodies x) (b x)) t h
-
-literals : (e : Expression) → IsPrintableExpression e → AllNumbers IsNormal e
-literals (Truth at b) p = tt
-literals (Number at d) p = p.0
-literals (At at x) p = tt
-literals (One at o a) p = literals a p.1
-literals (Two at o a b) p = (literals a p.1, literals b p.2)
-literals (Three at o a b c) p = (literals a p.1, literals b p.2, literals c p.3)
 
 body_numbers : (file : File) → Each IsPrintableFormula file.formulas → (x : Name) → IfAny (AllNumbers IsNormal) (formula_body file x)
 body_numbers file h x =

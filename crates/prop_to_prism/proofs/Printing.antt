@@ -3,7 +3,7 @@ use Rattle.std.specs.Prelude.{◌≡◌, ◌≤◌, ℕ, List, [], ◌∷◌, �
 use Rattle.std.specs.List.{AllByRecursion as Each}
 use Rattle.std.proofs.Common.{refl, sym, ap, subst, ◌∙◌, arith}
 use Rattle.std.proofs.lemmas.List.{length-map, length-take}
-use Rattle.basics.specs.Each.{each_then, each_with, each_parts, each_join, each_drop, empty_each}
+use Rattle.basics.specs.Each.{each_then, each_with, each_drop, empty_each}
 use Rattle.basics.specs.Lists.{append_left, empty_map}
 use Rattle.bridge_io.specs.declared.reason.Reason.TheVariants.{WrongType}
 use Rattle.frac_core.specs.declared.decimal.Decimal.{Decimal}
@@ -31,7 +31,7 @@ use Rattle.prism_translation_laws.proofs.Entries.{IsValidName, all_valid}
 use Rattle.prism_translation_laws.proofs.Images.{arity_kept, unsigned_normal}
 use Rattle.prism_translation_laws.proofs.TypedImages.{image_names}
 use Rattle.prop_grammar.specs.Property.{Ask, greatest, least, bounded, greatest_reward, least_reward, Path, finally, globally, until, weak_until, finally_within, until_within}
-use Rattle.prop_trees.specs.Trees.{Name, JaniProperty, Role, parts, ask_parts, path_parts, ask_with, path_with}
+use Rattle.prop_trees.specs.Trees.{Name, JaniProperty, Role, parts, ask_with, path_with}
 use Rattle.prop_trees.specs.Names.{meant, IsMeant}
 use Rattle.prop_trees.specs.Form.{HasForm, IsFinally, AsksWell, JaniForm}
 use Rattle.jani_props.specs.Syntax.{Written}
@@ -39,6 +39,7 @@ use Rattle.jani_props.specs.Faults.{is_known, name_types, wrong_in, wrong_types,
 use Rattle.jani_props.specs.Reading.{AreSound, AreOfJani}
 use Rattle.prop_trees.specs.Text.{plain}
 use Rattle.prop_trees.specs.Printable.{IsWord, IsPrintableTree, IsPrintableProperty}
+use Rattle.prop_trees.proofs.Made.{parts_with}
 use Rattle.prop_to_prism.specs.ToPrism.{new_property_name, new_names, reward_names, property_asks, all_entries, property_entries, translated_expression, translated_property, with_entries, to_prism}
 use Rattle.prop_to_prism.specs.Code.{plain_new}
 use Rattle.prop_to_prism.proofs.Texts.{renamed_image}
@@ -74,28 +75,6 @@ module _ (new : Name → Name) where
   operands (Three at o a b c) n h = (arity_kept o ∙ h.0, operands a n.0 h.1, operands b n.1 h.2, operands c n.2 h.3)
 
 -- ---- what is made part by part
-module _ {E F : Type 0} (P : F → Type 0) (f : E → F) where
-  ask_parts_with : {R S : Type 0} (g : R → S) (a : Ask E R) → Each (λ (x : Role × E). P (f x.1)) (ask_parts a) → Each (λ (x : Role × F). P x.1) (ask_parts (ask_with f g a))
-  ask_parts_with g greatest h = tt
-  ask_parts_with g least h = tt
-  ask_parts_with g (bounded c e) h = h
-  ask_parts_with g (greatest_reward r) h = tt
-  ask_parts_with g (least_reward r) h = tt
-
-  path_parts_with : (p : Path E) → Each (λ (x : Role × E). P (f x.1)) (path_parts p) → Each (λ (x : Role × F). P x.1) (path_parts (path_with f p))
-  path_parts_with (finally e) h = h
-  path_parts_with (globally e) h = h
-  path_parts_with (until a b) h = h
-  path_parts_with (weak_until a b) h = h
-  path_parts_with (finally_within k e) h = h
-  path_parts_with (until_within k a b) h = h
-
-  pub parts_with : {R S : Type 0} (g : R → S) (a : Ask E R) (p : Path E) → Each (λ (x : Role × E). P (f x.1)) (ask_parts a ++ path_parts p) →
-      Each (λ (x : Role × F). P x.1) (ask_parts (ask_with f g a) ++ path_parts (path_with f p))
-  parts_with g a p h =
-      let r = each_parts (λ (x : Role × E). P (f x.1)) (ask_parts a) (path_parts p) h in
-      each_join (λ (x : Role × F). P x.1) (ask_parts (ask_with f g a)) (path_parts (path_with f p)) (ask_parts_with g a r.0) (path_parts_with p r.1)
-
 module _ {E F : Type 0} (f : E → F) where
   finally_with : (p : Path E) → IsFinally p → IsFinally (path_with f p)
   finally_with (finally e) h = tt

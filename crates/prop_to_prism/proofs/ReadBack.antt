@@ -50,7 +50,8 @@ use Rattle.prop_to_prism.specs.Laws.{bare_property, TextSpelledBack}
 use Rattle.prop_to_prism.proofs.Entries.{rewards_same}
 use Rattle.prop_to_prism.proofs.Structures.{structures_named}
 use Rattle.prop_to_prism.proofs.Words.{IsFiled}
-use Rattle.prop_to_prism.proofs.Printing.{HasFiled, all_filed, all_printable, parts_with}
+use Rattle.prop_trees.proofs.Made.{parts_with}
+use Rattle.prop_to_prism.proofs.Printing.{HasFiled, all_filed, all_printable}
 use Rattle.prop_to_prism.proofs.Numbered.{Once, number_is}
 
 -- ---- expressions

@@ -1,7 +1,6 @@
 -- The reward structures of the translated file: their names, and which of them properties number.
-use Rattle.std.specs.Prelude.{◌≡◌, ℕ, suc, ◌+◌, unwrap_or, List, [], ◌∷◌, ◌++◌, map, length, take, Bool, true, false, not, ◌&&◌, cond, Option, Some, None, slice_get}
+use Rattle.std.specs.Prelude.{◌≡◌, ℕ, suc, ◌+◌, List, [], ◌∷◌, ◌++◌, map, length, take, Bool, true, false, not, ◌&&◌, cond, Option, Some, None, slice_get}
 use Rattle.std.specs.List.{filter}
-use Rattle.std.specs.Option.{option_map}
 use Rattle.std.proofs.Common.{refl, sym, ap, ap₂, ◌∙◌, arith}
 use Rattle.std.proofs.lemmas.List.{length-map}
 use Rattle.std.proofs.lemmas.List.Elements.{filter-append}
@@ -15,7 +14,7 @@ use Rattle.jani_meaning.specs.Elements.{Owned, owned_by, elements, is_structure}
 use Rattle.name_table.specs.declared.entry.Entry.{Entry}
 use Rattle.name_table.specs.Asks.{called}
 use Rattle.name_table.specs.PrismAsks.{NewNames, name_at}
-use Rattle.name_table.proofs.EntryLemmas.{first_alone}
+use Rattle.name_table.proofs.EntryLemmas.{first_alone, named_at}
 use Rattle.prism_translation_laws.specs.Targets.{targets}
 use Rattle.prism_translation_laws.specs.Names as translation
 use Rattle.prism_translation_laws.specs.Names.{action_ask}
@@ -29,11 +28,6 @@ use Rattle.prop_to_prism.specs.Laws.{StructuresNamed, NumberedFirst}
 use Rattle.prop_to_prism.proofs.Entries.{rewards_same}
 
 -- ---- names
-named_at : (all es : List Entry) (e : Entry) (k : ℕ) → ((i : ℕ) → slice_get all (k + i) ≡ slice_get (e ∷ es) i) → name_at all k ≡ e.name
-named_at all es e k h =
-    let n : k ≡ k + 0 = omega arith in
-    ap (name_at all) n ∙ ap (λ (o : Option Entry). unwrap_or (option_map (λ (z : Entry). z.name) o) []) (h 0)
-
 names_from : (file : File) (names : NewNames) (es : List Entry) (k : ℕ) (os : List Owned) → length es ≡ length os → ((i : ℕ) → slice_get names.rewards (k + i) ≡ slice_get es i) →
     map (λ r. called r.name) (numbered (λ j o. structure file names j o (name_at names.rewards j) ∷ []) k os) ≡ map (λ e. Some e.name) es
 names_from file names [] k [] l h = refl

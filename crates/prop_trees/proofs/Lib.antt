@@ -1,3 +1,4 @@
+pub mod Made
 pub mod Single
 pub mod Spelled
 pub mod Lexing

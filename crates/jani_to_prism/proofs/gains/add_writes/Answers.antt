@@ -9,13 +9,13 @@ use Rattle.choice_laws.proofs.Walks.{filter_walk}
 use Rattle.gathering.specs.Lists.{list_for}
 use Rattle.prism_modules.specs.Code.{file_in}
 use Rattle.jani_to_prism.specs.Gains.{gain_of, gain_with}
-use Rattle.prism_modules.proofs.Kept.{walk_more}
+use Rattle.gathering.proofs.Loops.{flat_seen}
 use Rattle.jani_to_prism.proofs.gains.add_writes.Goals as goal
 
 pub loop-w-preserved : goal.loop-w-preserved
 loop-w-preserved c = λ j.
-    walk_more (λ (w : Write). only_if (is_at j (structure_number (file_in c.args.names.now) c.args.element w.target.name)) (gain_with c.args.target c.args.element w)) write_of
-    (map gain_of (list_for c.args.all.now j)) c.args.writes.now c.loop-w.w-index c.w-item.result _ _ c.loop-w-test.true c.w-item.is (c.loop-w.invariant j) (c.in_ok-add_write.ensures j)
+    flat_seen (λ (w : Write). only_if (is_at j (structure_number (file_in c.args.names.now) c.args.element w.target.name)) (gain_with c.args.target c.args.element w)) write_of
+    c.args.writes.now c.loop-w.w-index c.w-item.result (map gain_of (list_for c.args.all.now j)) _ _ c.loop-w-test.true c.w-item.is (c.loop-w.invariant j) (c.in_ok-add_write.ensures j)
 
 pub returns : goal.returns
 returns c = λ j.

@@ -8,13 +8,13 @@ use Rattle.choice_laws.proofs.Walks.{filter_walk}
 use Rattle.gathering.specs.Lists.{list_under}
 use Rattle.prism_modules.specs.Code.{element_of}
 use Rattle.jani_to_prism.specs.Given.{given_of, given_with}
-use Rattle.prism_modules.proofs.Kept.{walk_more}
+use Rattle.gathering.proofs.Loops.{flat_seen}
 use Rattle.jani_to_prism.proofs.given.add_location.Goals as goal
 
 pub loop-w-preserved : goal.loop-w-preserved
 loop-w-preserved c = λ x.
-    walk_more (λ (w : Write). only_if (is_called x w.target) (given_with (element_of c.args.el.now) c.args.number w)) write_of (map given_of (list_under c.args.all.now x))
-    c.as_slice-w-items.result.now c.loop-w.w-index c.w-item.result _ _ c.loop-w-test.true c.w-item.is (c.loop-w.invariant x) (c.in_ok-add_value.ensures x)
+    flat_seen (λ (w : Write). only_if (is_called x w.target) (given_with (element_of c.args.el.now) c.args.number w)) write_of
+    c.as_slice-w-items.result.now c.loop-w.w-index c.w-item.result (map given_of (list_under c.args.all.now x)) _ _ c.loop-w-test.true c.w-item.is (c.loop-w.invariant x) (c.in_ok-add_value.ensures x)
 
 pub returns : goal.returns
 returns c = λ x.

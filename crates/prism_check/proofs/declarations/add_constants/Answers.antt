@@ -6,9 +6,8 @@ use Rattle.op_trees.specs.Tree.{tree}
 use Rattle.prism_tree.specs.Syntax.{const_of}
 use Rattle.name_rules.specs.Circles.{Declared, declared_by}
 use Rattle.name_rules.specs.Uses.{used}
-use Rattle.gathering.proofs.Loops.{none_left}
+use Rattle.gathering.proofs.Loops.{map_left, none_left}
 use Rattle.prism_check.specs.NameFaults.{declared_const}
-use Rattle.prism_check.proofs.Lists.{map_left}
 use Rattle.prism_check.proofs.declarations.add_constants.Goals as goal
 
 -- what a reference leads to

@@ -2,9 +2,8 @@ use Rattle.std.specs.Prelude.{map}
 use Rattle.std.proofs.Common.{refl}
 use Rattle.prism_tree.specs.Syntax.{formula_of}
 use Rattle.name_rules.specs.Circles.{declared_by}
-use Rattle.gathering.proofs.Loops.{none_left}
+use Rattle.gathering.proofs.Loops.{map_left, none_left}
 use Rattle.prism_check.specs.NameFaults.{declared_formula}
-use Rattle.prism_check.proofs.Lists.{map_left}
 use Rattle.prism_check.proofs.declarations.add_formulas.Goals as goal
 
 pub loop-formula-preserved : goal.loop-formula-preserved

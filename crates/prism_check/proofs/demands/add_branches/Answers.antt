@@ -2,10 +2,9 @@ use Rattle.std.specs.Prelude.{map}
 use Rattle.std.specs.List.{flat_map}
 use Rattle.std.proofs.Common.{refl}
 use Rattle.prism_tree.specs.Syntax.{branch_of}
-use Rattle.gathering.proofs.Loops.{none_left}
+use Rattle.gathering.proofs.Loops.{flat_left, none_left}
 use Rattle.prism_check.specs.Demands.{branch_demands}
 use Rattle.prism_check.specs.Views.{demand_by}
-use Rattle.prism_check.proofs.Lists.{flat_left}
 use Rattle.prism_check.proofs.demands.add_branches.Goals as goal
 
 pub loop-branch-preserved : goal.loop-branch-preserved

@@ -2,10 +2,9 @@ use Rattle.std.specs.Prelude.{map}
 use Rattle.std.proofs.Common.{◌∙◌, ap, refl}
 use Rattle.std.proofs.lemmas.List.{map-append}
 use Rattle.prism_tree.specs.Syntax.{write_of}
-use Rattle.gathering.proofs.Loops.{none_left}
+use Rattle.gathering.proofs.Loops.{map_left, none_left}
 use Rattle.prism_check.specs.Demands.{written}
 use Rattle.prism_check.specs.Views.{demand_by}
-use Rattle.prism_check.proofs.Lists.{map_left}
 use Rattle.prism_check.proofs.demands.add_writes.Goals as goal
 
 pub loop-write-preserved : goal.loop-write-preserved

@@ -3,9 +3,8 @@ use Rattle.std.specs.List.{flat_map}
 use Rattle.std.proofs.Common.{refl}
 use Rattle.prism_tree.specs.Syntax.{module_of}
 use Rattle.name_rules.specs.Names.{named_by}
-use Rattle.gathering.proofs.Loops.{none_left}
+use Rattle.gathering.proofs.Loops.{flat_left, none_left}
 use Rattle.prism_check.specs.Tables.{module_under, module_vars_by}
-use Rattle.prism_check.proofs.Lists.{flat_left}
 use Rattle.prism_check.proofs.values.add_all_vars.Goals as goal
 
 pub loop-entry-preserved : goal.loop-entry-preserved

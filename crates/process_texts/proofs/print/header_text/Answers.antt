@@ -1,4 +1,5 @@
 use Rattle.std.proofs.Common.{◌≡◌, ◌≤◌, sym, subst, IfOk}
+use Rattle.std.specs.Prelude.{codes}
 use Rattle.std.proofs.lemmas.Option.{slice_get_within, get_or_from_slice_get}
 use Rattle.process_texts.proofs.Commas.{begun, goes_on, ended, text_pushed}
 use Rattle.process_texts.proofs.print.header_text.Goals as goal
@@ -10,7 +11,7 @@ pub loop-i-preserved : goal.loop-i-preserved
 loop-i-preserved g c =
     let columns = (g.S.Steps.process c.args.s.now).columns in
     let e = c.in_ok-text.ensures in
-    goes_on columns c.loop-i.i c.in_ok-text.text _ _ _ (slice_get_within columns c.loop-i.i c.in_ok-text.text e) (sym (get_or_from_slice_get columns c.loop-i.i c.in_ok-text.text c.in_ok-text.text e)) c.loop-i.invariant
+    goes_on (codes "(") columns c.loop-i.i c.in_ok-text.text _ _ _ (slice_get_within columns c.loop-i.i c.in_ok-text.text e) (sym (get_or_from_slice_get columns c.loop-i.i c.in_ok-text.text c.in_ok-text.text e)) c.loop-i.invariant
     c.in_ok-push_comma.ensures (text_pushed _ _ _ _ c.in_ok-push_str-2.ensures.bytes c.as_str.ensures)
 
 pub returns : goal.returns

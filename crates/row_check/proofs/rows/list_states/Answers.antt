@@ -1,6 +1,7 @@
 use Rattle.std.proofs.Common.{◌≡◌, ◌∙◌, ◌+◌, ◌<◌, ℕ, List, ◌∷◌, ◌++◌, [], Bool, true, false, Some, None, drop, take, length, get_or, refl, sym, ap, subst, inl, inr, arith}
 use Rattle.std.specs.Prelude.{IsTrue}
 use Rattle.std.proofs.lemmas.List.{take_more, length-take-le}
+use Rattle.basics.specs.Booleans.{not_both}
 use Rattle.row_check.specs.declared.data.Verdict.TheVariants.{No}
 use Rattle.row_check.specs.declared.data.Why.TheVariants.{Outside, Repeated}
 use Rattle.row_check.specs.Index.{AddsState, IsIndex}
@@ -20,9 +21,6 @@ is_state r b e h = sym e ∙ h
 
 no_state : (r b : Bool) → r ≡ b → r ≡ false → IsTrue b → ⊥
 no_state r b e h k = let f : true ≡ false = sym k ∙ sym e ∙ h in cc
-
-stood : (b : Bool) → b ≡ true → b ≡ false → ⊥
-stood b h k = cc
 
 pub loop-i-init : goal.loop-i-init
 loop-i-init g c = record { rest = λ o h. h; index = c.requires }
@@ -64,7 +62,7 @@ returns-then-not-branch g c =
     let s = c.index-states-i.result in
     let told : AddsState c.add.new.self.numbers (take i ss) s false =
     subst (AddsState c.add.new.self.numbers (take i ss) s) c.if-not-branch.true (c.in_ok-add.ensures (take i ss) c.loop-i.invariant.index (so_many ss i c.loop-i-test.true)) in
-    let here : JudgesListed p ss i s (Some (No (Repeated i))) = inr (is_state c.valid.result _ c.valid.ensures c.if-not-valid.false, (stood _ told, refl)) in
+    let here : JudgesListed p ss i s (Some (No (Repeated i))) = inr (is_state c.valid.result _ c.valid.ensures c.if-not-valid.false, (not_both _ told, refl)) in
     record {
       judged =
           c.loop-i.invariant.rest (Some (No (Repeated i)))

@@ -1,13 +1,13 @@
-use Rattle.std.proofs.Common.{sym, ap, ◌∙◌, map, length, arith}
+use Rattle.std.proofs.Common.{sym, ap, ◌∙◌, map, arith}
 use Rattle.std.proofs.lemmas.List.{length-map}
 use Rattle.std.proofs.Math.ListN as Math
 use Rattle.process_texts.specs.Texts.{value_text}
-use Rattle.walk_texts.proofs.Values.{values_go_on}
+use Rattle.process_texts.proofs.Commas.{goes_on}
 use Rattle.walk_texts.proofs.parts.push_values.Goals as goal
 
 pub loop-i-preserved : goal.loop-i-preserved
 loop-i-preserved c =
     let values = c.args.values.now in
-    values_go_on c.args.out.now.items (map value_text values) c.loop-i.i (value_text c.index-values-i.result) _ _ _ (let n = length-map values value_text in let k = c.loop-i-test.true in omega arith)
+    goes_on c.args.out.now.items (map value_text values) c.loop-i.i (value_text c.index-values-i.result) _ _ _ (let n = length-map values value_text in let k = c.loop-i-test.true in omega arith)
     (ap value_text c.index-values-i.is ∙ sym (Math.get_or-map value_text values c.loop-i.i c.index-values-i.result)) c.loop-i.invariant
     c.in_ok-push_comma.ensures c.in_ok-push_value.ensures

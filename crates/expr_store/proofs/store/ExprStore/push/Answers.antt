@@ -1,12 +1,9 @@
-use Rattle.std.proofs.Common.{◌≡◌, List, [], ◌∷◌, ◌++◌, length, Some, slice_get, refl, sym, ap, ap₂, ◌∙◌, arith}
+use Rattle.std.proofs.Common.{◌≡◌, [], ◌∷◌, ◌++◌, length, slice_get, sym, ap, ap₂, ◌∙◌, arith}
 use Rattle.std.proofs.lemmas.List.{append-nil}
 use Rattle.expr_store.specs.Nodes.{is_behind}
+use Rattle.expr_store.specs.NodeLaws.{get_last}
 use Rattle.expr_store.specs.Views.{nodes}
 use Rattle.expr_store.proofs.store.ExprStore.push.Goals as goal
-
-last_there : {A : Type 0} (xs : List A) (x : A) → slice_get (xs ++ x ∷ []) (length xs) ≡ Some x
-last_there [] x = refl
-last_there (y ∷ xs) x = last_there xs x
 
 pub returns-in_err-pushed-in-Ok-clause-grows : goal.returns-in_err-pushed-in-Ok-clause-grows
 returns-in_err-pushed-in-Ok-clause-grows g c = record {
@@ -25,6 +22,6 @@ returns-in_ok-pushed-in-Ok-clause-holds g c =
     let ns = nodes c.args.self.now in
     let e : c.len-number.result ≡ length ns = omega (arith, c.args.self.now.nodes.ok.0) in
     record {
-      is = ap₂ slice_get (c.in_ok-pushed-in-Ok.ensures.items ∙ ap (λ all. all ++ c.args.node ∷ []) c.note-noted.ensures) e ∙ last_there ns c.args.node;
+      is = ap₂ slice_get (c.in_ok-pushed-in-Ok.ensures.items ∙ ap (λ all. all ++ c.args.node ∷ []) c.note-noted.ensures) e ∙ get_last ns c.args.node;
       behind = ap (λ i. is_behind i c.args.node) e ∙ c.requires;
     }

@@ -1,13 +1,11 @@
-use Rattle.std.proofs.Common.{◌≡◌, ℤ, pos, ◌-ℤ◌, neg_ℤ, ap, ap₂, ◌∙◌, to_z, of_z, rules, arith}
+use Rattle.std.proofs.Common.{pos, ◌-ℤ◌, ap, ap₂, ◌∙◌, to_z, of_z, rules}
 use Rattle.std.specs.Prelude.{FitsSigned}
 use Rattle.std.specs.Int.{int_div_euclid}
-use Rattle.std.proofs.lemmas.Int.{ints, to_z-of_z}
+use Rattle.std.proofs.lemmas.Int.{to_z-of_z}
 use mir.Syntax.{w64}
 use Rattle.frac_core.specs.Fraction.{whole}
+use Rattle.frac_core.proofs.Parts.{minus}
 use Rattle.frac_core.proofs.fraction.Frac.ceil.Goals as goal
-
-minus : (x y : ℤ) → x ≡ y → pos 0 -ℤ x ≡ neg_ℤ y
-minus x y e = omega (arith, ints)
 
 pub returns : goal.returns
 returns c =

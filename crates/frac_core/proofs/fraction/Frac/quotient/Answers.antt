@@ -1,15 +1,13 @@
 use Rattle.std.proofs.Common.{◌≡◌, ◌<◌, ℤ, pos, negsuc, ◌-ℤ◌, neg_ℤ, true, Err, if◌then◌else◌, ltb-true, refl, sym, ap, ap₂, ◌∙◌, to_z, of_z, rules, arith}
 use Rattle.std.specs.Prelude.{FitsSigned, int_lt, nat_abs}
 use Rattle.std.specs.Ordering.{int_eq}
-use Rattle.std.proofs.lemmas.Int.{ints, to_z-of_z}
+use Rattle.std.proofs.lemmas.Int.{to_z-of_z}
 use mir.Syntax.{w128}
 use Rattle.frac_core.specs.Fraction.{fraction, quotient}
 use Rattle.frac_core.specs.Results.{narrow}
 use Rattle.frac_core.specs.declared.fraction.FracFail.TheVariants.{ZeroDivisor}
+use Rattle.frac_core.proofs.Parts.{minus}
 use Rattle.frac_core.proofs.fraction.Frac.quotient.Goals as goal
-
-minus : (x y : ℤ) → x ≡ y → pos 0 -ℤ x ≡ neg_ℤ y
-minus x y e = omega (arith, ints)
 
 -- over a negative denominator
 turned : (n d : ℤ) → int_lt d (pos 0) ≡ true → narrow (fraction (neg_ℤ n) (nat_abs d)) ≡ (if int_eq d (pos 0) then Err ZeroDivisor else narrow (quotient n d))
