@@ -8,7 +8,7 @@ use Rattle.op_trees.specs.Seen.{Seen, known, seen}
 use Rattle.op_trees.specs.declared.tree.Value.{Value}
 use Rattle.op_trees.specs.declared.tree.Value.TheVariants as V
 use Rattle.process_core.specs.Ready.{Name}
-use Rattle.jani_tree.specs.Operators.{jani_meaning}
+use Rattle.jani_table.specs.Operators.{jani_meaning}
 use Rattle.jani_tree.specs.Syntax.{Expression, Const, VarKind, boolean, integer, number, real_bounded, one_sided, bounded, Var, Automaton, File}
 use Rattle.process_core.specs.Instance.{Valuation, Domain, Truths, Between, Column, Scene}
 use Rattle.op_trees.specs.Names.{is_called}

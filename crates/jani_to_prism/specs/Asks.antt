@@ -3,7 +3,7 @@ use Rattle.std.specs.Prelude.{Option}
 use Rattle.jani_tree.specs.Syntax.{Vector}
 use Rattle.name_table.specs.declared.class.NameClass.TheVariants.{Action}
 use Rattle.name_table.specs.Entries.{Ask}
-use Rattle.prism_targets.specs.Targets.{old_name_by}
+use Rattle.prism_translation.specs.Targets.{old_name_by}
 use Rattle.prism_targets.specs.declared.targets.Target.{Target}
 use Rattle.prism_targets.specs.Code.{target_view}
 

@@ -7,11 +7,11 @@ use Rattle.prism_tree.specs.Syntax as prism
 use Rattle.jani_tree.specs.Syntax.{Expression, Write, File}
 use Rattle.jani_meaning.specs.Elements.{Owned, structure_number}
 use Rattle.name_table.specs.PrismAsks.{NewNames, name_at, value_name}
-use Rattle.prism_targets.specs.Elements.{Placed}
+use Rattle.prism_translation.specs.Elements.{Placed}
 use Rattle.prism_targets.specs.Image.{image}
-use Rattle.prism_targets.specs.Parts.{made, instead}
-use Rattle.prism_targets.specs.Modules.{truth}
-use Rattle.prism_targets.specs.Marks.{Given, assigned_to, state_item, or_nought}
+use Rattle.prism_translation.specs.Parts.{made, instead}
+use Rattle.prism_translation.specs.Modules.{truth}
+use Rattle.prism_translation.specs.Marks.{Given, assigned_to, state_item, or_nought}
 use Rattle.prism_modules.specs.Places.{Places}
 use Rattle.jani_to_prism.specs.declared.gains.Gain.{Gain as CodeGain}
 use Rattle.prism_targets.specs.Places.{place_in}

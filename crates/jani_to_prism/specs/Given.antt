@@ -8,9 +8,9 @@ use Rattle.prism_tree.specs.Syntax as prism
 use Rattle.jani_tree.specs.Syntax.{Write, File}
 use Rattle.jani_meaning.specs.Elements.{Owned}
 use Rattle.name_table.specs.PrismAsks.{NewNames}
-use Rattle.prism_targets.specs.Elements.{Element, has_several}
-use Rattle.prism_targets.specs.Parts.{is_there}
-use Rattle.prism_targets.specs.Marks.{Given, given_by, given_image}
+use Rattle.prism_translation.specs.Elements.{Element, has_several}
+use Rattle.prism_translation.specs.Parts.{is_there}
+use Rattle.prism_translation.specs.Marks.{Given, given_by, given_image}
 use Rattle.jani_to_prism.specs.declared.given.Given.{Given as CodeGiven}
 use Rattle.jani_to_prism.specs.declared.given.GivenTable.{GivenTable}
 use Rattle.gathering.specs.declared.name_lists.NameLists.{NameLists}

@@ -6,9 +6,9 @@ use Rattle.decimal_json.specs.Text.{quoted}
 use Rattle.jani_tree.specs.Syntax.{Location, File}
 use Rattle.jani_meaning.specs.Elements.{Owned}
 use Rattle.name_table.specs.PrismAsks.{NewNames}
-use Rattle.prism_targets.specs.Elements.{Element}
-use Rattle.prism_targets.specs.Lines.{space, old_text, joined, name_lines, location_line, called}
-use Rattle.prism_targets.specs.Targets.{old_name_by}
+use Rattle.prism_translation.specs.Elements.{Element}
+use Rattle.prism_translation.specs.Lines.{space, old_text, joined, name_lines, location_line, called}
+use Rattle.prism_translation.specs.Targets.{old_name_by}
 use Rattle.prism_targets.specs.declared.targets.Target.{Target}
 use Rattle.jani_to_prism.specs.Asks.{vector_in}
 

@@ -7,10 +7,10 @@ use Rattle.jani_tree.specs.Syntax.{File}
 use Rattle.jani_meaning.specs.Elements as jani
 use Rattle.process_core.specs.Instance.{numbered}
 use Rattle.name_table.specs.PrismAsks.{NewNames, name_at}
-use Rattle.prism_targets.specs.Elements.{elements, shared}
-use Rattle.prism_targets.specs.Parts.{constant, variable}
-use Rattle.prism_targets.specs.Modules.{module_of}
-use Rattle.prism_targets.specs.Marks.{label, structure}
+use Rattle.prism_translation.specs.Elements.{elements, shared}
+use Rattle.prism_translation.specs.Parts.{constant, variable}
+use Rattle.prism_translation.specs.Modules.{module_of}
+use Rattle.prism_translation.specs.Marks.{label, structure}
 
 module _ (file : File) (names : NewNames) where
   abbrev pub constants_in : List prism.Const

@@ -4,7 +4,7 @@ use Rattle.prism_tree.specs.Syntax as prism
 use Rattle.prism_print.specs.Same.{bare_file}
 use Rattle.prism_check.specs.Clean.{IsClean}
 use Rattle.jani_tree.specs.Syntax as jani
-use Rattle.prism_translation_laws.specs.Translated.{translated}
+use Rattle.prism_translation.specs.Translated.{translated}
 use Rattle.prism_translation_laws.specs.SameMeaning.{MeansTheSame}
 
 -- It has no fault of names or types, and the form that is asked of a file that is printed. Its shape is fixed, place by place.

@@ -5,8 +5,8 @@ use Rattle.prism_tree.specs.Syntax as prism
 use Rattle.prism_print.specs.Same.{bare_file}
 use Rattle.jani_tree.specs.Syntax.{File}
 use Rattle.name_table.specs.PrismAsks.{NewNames}
-use Rattle.prism_targets.specs.Translated.{translated, translated_by}
-use Rattle.prism_targets.specs.Lines.{lines, lines_by}
+use Rattle.prism_translation.specs.Translated.{translated, translated_by}
+use Rattle.prism_translation.specs.Lines.{lines, lines_by}
 use Rattle.jani_to_prism.specs.declared.translation.CheckedPrismText.{CheckedPrismText}
 
 pub record IsTranslation (t : CheckedPrismText) (file : File) : Type 0 where

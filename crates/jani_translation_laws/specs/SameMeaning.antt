@@ -12,8 +12,8 @@ use Rattle.prism_check.specs.Checked.{Checked, IsChecked}
 use Rattle.jani_tree.specs.Syntax as jani
 use Rattle.jani_tree.specs.Places.{bare_file}
 use Rattle.jani_meaning.specs.Process as jani_process
-use Rattle.jani_translation.specs.Asks.{new_names}
-use Rattle.jani_translation.specs.Correspond.{Correspond}
+use Rattle.name_table.specs.Asks.{new_names}
+use Rattle.name_table.specs.Correspond.{Correspond}
 use Rattle.jani_translation.specs.Translated.{translated}
 use Rattle.jani_translation.specs.StateLaws.{at_home}
 

@@ -9,7 +9,7 @@ use Rattle.prism_check.specs.Flattened.{IsFlat}
 use Rattle.jani_check.specs.Things.{global_thing, beside, types_by, is_transient}
 use Rattle.jani_check.specs.Demands.{automaton_demands, outer_demands}
 use Rattle.jani_check.specs.TypeFaults.{is_variable, var_faults, demand_faults, repeated_writes, clashing_writes, type_faults}
-use Rattle.jani_translation.specs.Asks.{new_names}
+use Rattle.name_table.specs.Asks.{new_names}
 use Rattle.jani_translation.specs.Translated.{translated}
 
 -- ---- what names stand for

@@ -9,8 +9,8 @@ use Rattle.prism_print.specs.Same.{bare_file, SpellsFile}
 use Rattle.prism_print.specs.Comments.{lines_text}
 use Rattle.name_rules.specs.Least.{IsLeast}
 use Rattle.jani_tree.specs.Syntax as jani
-use Rattle.jani_to_prism.specs.Lines.{lines}
-use Rattle.jani_to_prism.specs.Refused.{refused}
+use Rattle.prism_translation.specs.Lines.{lines}
+use Rattle.prism_translation.specs.Refused.{refused}
 use Rattle.jani_to_prism.specs.Promise.{IsTranslated}
 use Rattle.model_files.specs.JaniFile.{IsFaultlessJani, IsJaniFault}
 

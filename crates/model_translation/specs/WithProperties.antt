@@ -8,7 +8,7 @@ use Rattle.jani_table.specs.Node.{Node}
 use Rattle.jani_tree.specs.Syntax as jani
 use Rattle.jani_tree.specs.Places.{bare_file}
 use Rattle.jani_tree.specs.Back.{SpellsFile}
-use Rattle.prism_to_jani.specs.SameMeaning.{MeansTheSame}
+use Rattle.jani_translation_laws.specs.SameMeaning.{MeansTheSame}
 use Rattle.prism_to_jani.specs.Promise.{IsTranslated}
 use Rattle.prop_trees.specs.Trees.{PrismProperty}
 use Rattle.prop_check.specs.Read.{AreProperties, IsLeastOf}

@@ -3,8 +3,8 @@ use Rattle.std.specs.Prelude.{◌≡◌, ℕ, List, []}
 use Rattle.bridge_io.specs.declared.reason.Refused.{Refused}
 use Rattle.bridge_io.specs.declared.reason.Refused.TheVariants.{Memory, At}
 use Rattle.prism_tree.specs.Syntax.{File}
-use Rattle.prism_flat.specs.Places.{IsPlaceOrder}
-use Rattle.prism_flat.specs.Printable.{IsPrintable}
+use Rattle.prism_names.specs.Places.{IsPlaceOrder}
+use Rattle.prism_print.specs.Printable.{IsPrintable}
 use Rattle.name_rules.specs.Least.{IsLeast}
 use Rattle.prism_check.specs.Faults.{faults}
 

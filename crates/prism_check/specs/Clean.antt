@@ -2,9 +2,9 @@
 -- written out (PRISM manual, "The PRISM Language").
 use Rattle.std.specs.Prelude.{◌≡◌, ℕ, List, []}
 use Rattle.prism_tree.specs.Syntax.{File}
-use Rattle.prism_flat.specs.Flat.{flat}
-use Rattle.prism_flat.specs.Places.{IsPlaceOrder}
-use Rattle.prism_flat.specs.Printable.{IsPrintable}
+use Rattle.prism_names.specs.Flat.{flat}
+use Rattle.prism_names.specs.Places.{IsPlaceOrder}
+use Rattle.prism_print.specs.Printable.{IsPrintable}
 use Rattle.prism_check.specs.NameFaults.{name_faults}
 use Rattle.prism_check.specs.TypeFaults.{type_faults}
 use Rattle.prism_check.specs.Faults.{faults}

@@ -10,9 +10,9 @@ use Rattle.basics.specs.Options.{if_some}
 use Rattle.process_core.specs.Ready.{Name}
 use Rattle.prism_tree.specs.declared.syntax.NamePair.{NamePair}
 use Rattle.prism_tree.specs.Syntax.{Command, Module, plain, copied, File}
-use Rattle.prism_flat.specs.Names.{formula_body}
-use Rattle.prism_flat.specs.Flat.{flat}
-use Rattle.prism_flat.specs.Sizes.{nodes_by, height_by, name_nodes, name_height}
+use Rattle.prism_names.specs.Names.{formula_body}
+use Rattle.prism_names.specs.Flat.{flat}
+use Rattle.prism_names.specs.Sizes.{nodes_by, height_by, name_nodes, name_height}
 use Rattle.prism_check.specs.Demands.{Demand, expression_of, var_demands, command_demands}
 use Rattle.prism_check.specs.SizeFaults.{passes_limit, command_count}
 use Rattle.name_rules.specs.Names.{under}

@@ -6,7 +6,7 @@ use Rattle.op_trees.specs.declared.tree.Ty.{Ty}
 use Rattle.op_trees.specs.declared.tree.Ty.TheVariants as T
 use Rattle.basics.specs.Options.{if_some}
 use Rattle.prism_tree.specs.Syntax.{Expression, Const, Range, Var, Formula, Label, Write, Branch, Command, Item, Rewards, File}
-use Rattle.prism_flat.specs.Names.{Part, parts}
+use Rattle.prism_names.specs.Names.{Part, parts}
 use Rattle.op_trees.specs.declared.wanted.Wanted.{Wanted}
 use Rattle.op_trees.specs.declared.wanted.Wanted.TheVariants as W
 use Rattle.op_trees.specs.Wanted.{wanted_by}

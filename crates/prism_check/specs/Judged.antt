@@ -1,7 +1,7 @@
 -- What the names of a file were judged to be.
 use Rattle.std.specs.Prelude.{◌≡◌, [], Some, None}
 use Rattle.prism_tree.specs.Syntax.{File}
-use Rattle.prism_flat.specs.Places.{IsPlaceOrder}
+use Rattle.prism_names.specs.Places.{IsPlaceOrder}
 use Rattle.prism_check.specs.declared.names.Names.{Names}
 use Rattle.prism_check.specs.declared.names.Names.TheVariants.{Faulty, Ordered}
 use Rattle.prism_check.specs.declared.judge.Verdict.{Verdict}

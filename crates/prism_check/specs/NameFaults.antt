@@ -19,8 +19,8 @@ use Rattle.basics.specs.Options.{if_some}
 use Rattle.prism_tree.specs.declared.syntax.NamePair.{NamePair}
 use Rattle.prism_tree.specs.declared.syntax.CopiedModule.{CopiedModule}
 use Rattle.prism_tree.specs.Syntax.{Expression, Const, Formula, Var, Module, plain, copied, File}
-use Rattle.prism_flat.specs.Order.{whole}
-use Rattle.prism_flat.specs.Names.{is_formula, renaming, module_name, module_called, Part, part_of}
+use Rattle.prism_names.specs.Order.{whole}
+use Rattle.prism_names.specs.Names.{is_formula, renaming, module_name, module_called, Part, part_of}
 use Rattle.prism_check.specs.Demands.{Demand, fixed, varying, written, formula_demands, part_demands, outer_demands}
 
 -- ---- names that are declared twice

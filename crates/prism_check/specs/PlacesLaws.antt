@@ -2,9 +2,9 @@
 -- functions of this crate. A place tells nothing but where a fault stands. (This project's own rule.)
 use Rattle.std.specs.Prelude.{◌≡◌, ℕ, List, []}
 use Rattle.prism_tree.specs.Syntax.{File}
-use Rattle.prism_flat.specs.Flat.{flat}
-use Rattle.prism_flat.specs.Printable.{IsPrintable}
-use Rattle.prism_flat.specs.Same.{bare_file}
+use Rattle.prism_names.specs.Flat.{flat}
+use Rattle.prism_print.specs.Printable.{IsPrintable}
+use Rattle.prism_print.specs.Same.{bare_file}
 use Rattle.process_core.specs.Ready.{Values}
 use Rattle.process_core.specs.Instance.{Valuation}
 use Rattle.prism_flat.specs.Scene.{scene}

@@ -9,9 +9,9 @@ use Rattle.op_trees.specs.Tree.{node_count, height_of}
 use Rattle.basics.specs.Options.{if_some}
 use Rattle.process_core.specs.Ready.{Name, firsts}
 use Rattle.prism_tree.specs.Syntax.{File}
-use Rattle.prism_flat.specs.Names.{Part, parts}
-use Rattle.prism_flat.specs.Flat.{flat}
-use Rattle.prism_flat.specs.Order.{whole_nodes, whole_height}
+use Rattle.prism_names.specs.Names.{Part, parts}
+use Rattle.prism_names.specs.Flat.{flat}
+use Rattle.prism_names.specs.Order.{whole_nodes, whole_height}
 use Rattle.name_rules.specs.Least.{fault_if}
 use Rattle.prism_check.specs.Demands.{expression_of, all_demands}
 

@@ -14,14 +14,14 @@ use Rattle.op_trees.specs.declared.tree.Expr.{Expr}
 use Rattle.bridge_io.specs.declared.reason.Reason.TheVariants.{RenameMissing, RenameOfRenamed}
 use Rattle.bridge_io.specs.declared.reason.Fault.{Fault}
 use Rattle.name_rules.specs.Least.{fault_if}
-use Rattle.prism_flat.specs.Names.{formula_body, module_called}
+use Rattle.prism_names.specs.Names.{formula_body, module_called}
 use Rattle.prism_check.specs.NameFaults.{is_copy, values}
 use Rattle.name_rules.specs.Names.{is_among, has_name, under}
 use Rattle.prism_check.specs.declared.scope.Scope.{Scope}
 use Rattle.bridge_io.specs.declared.reason.Named.{Named}
 use Rattle.prism_tree.specs.Syntax.{Expression, Module, module_of, formula_of, Var, Command, File, plain, copied}
 use Rattle.op_trees.specs.Names.{is_called}
-use Rattle.prism_flat.specs.Names.{module_name}
+use Rattle.prism_names.specs.Names.{module_name}
 use Rattle.prism_check.specs.declared.tables.Renaming.{Renaming}
 use Rattle.prism_check.specs.declared.tables.Renaming.TheVariants.{Few, Many}
 use Rattle.prism_check.specs.declared.tables.Modules.{Modules}

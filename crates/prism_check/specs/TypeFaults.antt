@@ -12,9 +12,9 @@ use Rattle.op_trees.specs.Names.{offset_of, some_name, is_called}
 use Rattle.process_core.specs.Ready.{Name}
 use Rattle.prism_tree.specs.Operators.{prism_meaning}
 use Rattle.prism_tree.specs.Syntax.{Expression, Command, Module, plain, copied, File}
-use Rattle.prism_flat.specs.Names.{formula_body, is_formula, Part, part_of, parts}
-use Rattle.prism_flat.specs.Laws.{flat_part}
-use Rattle.prism_flat.specs.Order.{whole}
+use Rattle.prism_names.specs.Names.{formula_body, is_formula, Part, part_of, parts}
+use Rattle.prism_names.specs.Laws.{flat_part}
+use Rattle.prism_names.specs.Order.{whole}
 use Rattle.name_rules.specs.Least.{fault, fault_if, moved_to}
 use Rattle.op_trees.specs.declared.wanted.Wanted.{Wanted}
 use Rattle.op_trees.specs.declared.wanted.Wanted.TheVariants as W

@@ -1,7 +1,7 @@
 -- What copies of modules are written out by.
 use Rattle.std.specs.Prelude.{Option, Some, None}
 use Rattle.prism_tree.specs.Syntax.{File}
-use Rattle.prism_flat.specs.Places.{IsPlaceOrder}
+use Rattle.prism_names.specs.Places.{IsPlaceOrder}
 use Rattle.prism_flat.specs.declared.writer.Writer.{Writer}
 use Rattle.prism_flat.specs.Writers.{IsWriterOf}
 use Rattle.prism_check.specs.declared.writing.Writing.{Writing}

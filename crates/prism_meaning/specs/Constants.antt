@@ -13,7 +13,7 @@ use Rattle.prism_tree.specs.Syntax.{Const, File}
 use Rattle.instance_start.specs.Columns.{value_at}
 use Rattle.prism_meaning.specs.Places.{constant_place}
 use Rattle.prism_names.specs.Names.{unchanged}
-use Rattle.prism_check.specs.Scene.{constant, constant_seen, constant_names, scene}
+use Rattle.prism_flat.specs.Scene.{constant, constant_seen, constant_names, scene}
 
 -- what a constant comes out as
 abbrev pub seen_constant : File → Valuation → Const → Seen

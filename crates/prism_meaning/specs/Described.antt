@@ -8,9 +8,9 @@ use Rattle.instance_start.specs.Description.{Constant, Description}
 use Rattle.prism_tree.specs.Syntax.{Const, File}
 use Rattle.prism_names.specs.Flat.{flat}
 use Rattle.prism_print.specs.Same.{bare_file}
-use Rattle.prism_check.specs.Scene.{scene}
-use Rattle.prism_check.specs.Moment.{moment}
-use Rattle.prism_check.specs.Process.{choices, excess, marks, has_wide_mark}
+use Rattle.prism_flat.specs.Scene.{scene}
+use Rattle.prism_flat.specs.Moment.{moment}
+use Rattle.prism_flat.specs.Process.{choices, excess, marks, has_wide_mark}
 use Rattle.process_core.specs.Steps.{Process}
 
 -- the name of a reward structure, empty where it has none

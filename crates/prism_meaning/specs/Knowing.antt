@@ -7,7 +7,7 @@ use Rattle.process_core.specs.Instance.{Column, Valuation}
 use Rattle.prism_tree.specs.Operators.{prism_meaning}
 use Rattle.prism_tree.specs.Syntax.{File, Item, Label}
 use Rattle.prism_names.specs.Names.{see}
-use Rattle.prism_check.specs.Scene.{scene}
+use Rattle.prism_flat.specs.Scene.{scene}
 use Rattle.state_choices.specs.Trimmed.{trimmed_group}
 use Rattle.instance_start.specs.Columns.{AreColumns, column_of}
 use Rattle.instance_start.specs.declared.data.Place.{Place}

@@ -19,9 +19,9 @@ use Rattle.instance_start.specs.Given.{given_by}
 use Rattle.instance_start.specs.Firsts.{BeginRight, initial_states, first_is}
 use Rattle.prism_tree.specs.Syntax.{Branch, Command, File}
 use Rattle.prism_names.specs.Names.{Part, parts, see, written_name}
-use Rattle.prism_check.specs.Scene.{scene, columns_of}
-use Rattle.prism_check.specs.Moment.{place_of, write_at, update_at, command_at, names_in, part_at, moment}
-use Rattle.prism_check.specs.Process.{combinations, choice_rewards}
+use Rattle.prism_flat.specs.Scene.{scene, columns_of}
+use Rattle.prism_flat.specs.Moment.{place_of, write_at, update_at, command_at, names_in, part_at, moment}
+use Rattle.prism_flat.specs.Process.{combinations, choice_rewards}
 use Rattle.prism_meaning.specs.Described.{described}
 use Rattle.prism_meaning.specs.Instance.{process_of}
 use Rattle.prism_meaning.specs.declared.instance.PrismInstance.{PrismInstance}

@@ -11,8 +11,8 @@ use Rattle.process_core.specs.Instance.{Column, write_to}
 use Rattle.prism_tree.specs.Syntax.{Branch, Command, Item, Module, plain, copied, Rewards, File}
 use Rattle.prism_tree.specs.Syntax as syntax
 use Rattle.prism_names.specs.Names.{unchanged, see}
-use Rattle.prism_check.specs.Moment.{Adds, adds_of, action_of, place_of, weight_seen}
-use Rattle.prism_check.specs.Process.{is_for_states, is_for_choices}
+use Rattle.prism_flat.specs.Moment.{Adds, adds_of, action_of, place_of, weight_seen}
+use Rattle.prism_flat.specs.Process.{is_for_states, is_for_choices}
 use Rattle.state_choices.specs.Groups.{Group}
 
 -- one command of each list, with one label, and what that earns in each reward structure

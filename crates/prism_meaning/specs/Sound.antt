@@ -11,8 +11,8 @@ use Rattle.prism_tree.specs.declared.operator.PrismOp.{PrismOp}
 use Rattle.prism_tree.specs.Operators.{prism_meaning}
 use Rattle.prism_tree.specs.Syntax.{File}
 use Rattle.prism_names.specs.Names.{see, unchanged}
-use Rattle.prism_check.specs.Scene.{scene, columns_of}
-use Rattle.prism_check.specs.Moment.{names_in}
+use Rattle.prism_flat.specs.Scene.{scene, columns_of}
+use Rattle.prism_flat.specs.Moment.{names_in}
 use Rattle.state_choices.specs.Trimmed.{trimmed_group}
 use Rattle.instance_start.specs.Given.{given_by}
 use Rattle.instance_start.specs.Columns.{column_of, value_at}

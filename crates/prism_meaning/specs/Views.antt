@@ -18,7 +18,7 @@ use Rattle.instance_start.specs.declared.data.Place.{Place}
 use Rattle.instance_start.specs.Columns.{column_of, value_at, column_at, type_of, agrees}
 use Rattle.state_choices.specs.Groups.{Group}
 use Rattle.state_choices.specs.Views as choices
-use Rattle.prism_check.specs.Moment.{place_of}
+use Rattle.prism_flat.specs.Moment.{place_of}
 use Rattle.prism_tree.specs.Syntax as syntax
 use Rattle.prism_meaning.specs.Shapes as shapes
 use Rattle.prism_meaning.specs.declared.data.Shape.{Shape}

@@ -6,7 +6,7 @@ use Rattle.jani_tree.specs.Syntax as jani
 use Rattle.jani_tree.specs.Back.{IsWritable}
 use Rattle.jani_tree.specs.Places.{bare_file}
 use Rattle.jani_check.specs.Faults.{IsChecked}
-use Rattle.jani_automata.specs.Translated.{translated}
+use Rattle.jani_translation.specs.Translated.{translated}
 use Rattle.jani_translation_laws.specs.SameMeaning.{MeansTheSame}
 
 -- It has no fault of names, types or the profile, and the form that is asked of a file that is written. Its shape is fixed, place

@@ -10,7 +10,7 @@ use Rattle.jani_tree.specs.Syntax.{File}
 use Rattle.name_table.specs.declared.entry.Entry.{Entry}
 use Rattle.jani_automata.specs.Names.{Names}
 use Rattle.name_table.specs.Asks.{variables, actions, entries, new_names}
-use Rattle.jani_automata.specs.Translated.{translated}
+use Rattle.jani_translation.specs.Translated.{translated}
 use Rattle.jani_automata.specs.Code.{names_in}
 
 -- these are the variables of the file, in the order of columns

@@ -10,7 +10,7 @@ use Rattle.prism_print.specs.Same.{bare_file}
 use Rattle.jani_tree.specs.Syntax.{File}
 use Rattle.jani_check.specs.Faults.{IsChecked}
 use Rattle.jani_meaning.specs.Process as jani_process
-use Rattle.prism_translation.specs.Correspond.{Correspond}
+use Rattle.name_table.specs.Correspond.{Correspond}
 use Rattle.prism_translation.specs.SameMeaning.{placed, AreAlike}
 use Rattle.prism_translation.specs.Sound.{FileIsSound, MarksAreSound, EdgesPayAlike}
 use Rattle.prism_translation.specs.StateLaws.{state_of, old_label}

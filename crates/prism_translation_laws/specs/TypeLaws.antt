@@ -21,8 +21,8 @@ use Rattle.jani_tree.specs.Syntax.{Expression, Var, File}
 use Rattle.jani_check.specs.Things.{global_thing, beside, types_by, is_constant, is_transient}
 use Rattle.jani_check.specs.Faults.{IsChecked}
 use Rattle.jani_meaning.specs.Elements as jani
-use Rattle.prism_translation.specs.PrismAsks.{value_name}
-use Rattle.prism_translation.specs.Image.{image}
+use Rattle.name_table.specs.PrismAsks.{value_name}
+use Rattle.jani_images.specs.Image.{image}
 use Rattle.prism_translation.specs.Elements.{elements}
 use Rattle.prism_translation.specs.Names.{new_names}
 use Rattle.prism_translation.specs.Modules.{module_of, commands}

@@ -8,7 +8,7 @@ use Rattle.jani_meaning.specs.Elements as all
 use Rattle.name_table.specs.Asks.{called}
 use Rattle.jani_props.specs.Faults.{structures}
 use Rattle.jani_props.specs.Reading.{AreOfJani}
-use Rattle.prism_translation_laws.specs.Translated.{translated}
+use Rattle.prism_translation.specs.Translated.{translated}
 use Rattle.prop_grammar.specs.Syntax.{WrittenProperty}
 use Rattle.prop_grammar.specs.Faults.{Spells}
 use Rattle.prop_trees.specs.Trees.{JaniProperty, PrismProperty, ask_with, path_with}
