@@ -2,6 +2,7 @@ pub mod Node
 pub mod NodeLaws
 pub mod Operators
 pub mod OperatorLaws
+pub mod Members
 pub mod Table
 pub mod Words
 pub mod Faults

@@ -1,5 +1,5 @@
--- What stands where in a JANI file (jani-model specification, version 1): the objects, their members and what each member
--- has to be.
+-- What stands where in a JANI file (jani-model specification, version 1): how keys are written, which members each object
+-- has, and what the value of a member and the items of a list have to be.
 use Rattle.std.specs.Prelude.{ℕ, List, Bool, true, false, Option, Some, None, codes, bytes_eq, find}
 use Rattle.jani_table.specs.declared.key.Key.{Key}
 use Rattle.jani_table.specs.declared.key.Key.TheVariants as K
@@ -9,7 +9,7 @@ use Rattle.jani_table.specs.declared.table.Kind.{Kind}
 use Rattle.jani_table.specs.declared.table.Kind.TheVariants as O
 use Rattle.jani_table.specs.declared.table.Need.{Need}
 use Rattle.jani_table.specs.declared.table.Need.TheVariants.{Required, Optional}
-use Rattle.jani_table.specs.declared.table.TheConstants.{MODEL, ACTION, CONSTANT, VARIABLE, RANGE, AUTOMATON, LOCATION, TRANSIENT_VALUE, EDGE, DESTINATION, ASSIGNMENT, SYSTEM, ELEMENT, VECTOR, BOXED, UNARY, BINARY, CHOICE, UNCLEAR}
+use Rattle.jani_table.specs.Members as members
 
 -- the key as it is written
 abbrev pub spelled : Key → List ℕ
@@ -67,30 +67,30 @@ spelled K.Comment = codes "comment"
 abbrev pub Row : Type 0
 Row = Key × Need × Form
 
--- The members of each object, as src/table.rt lists them. A comment may stand in every object.
+-- The members of each object. The conditions on initial states have those of a guard, and beside them a rule of their own.
 abbrev pub rows_of : Kind → List Row
-rows_of O.Model = MODEL
-rows_of O.Action = ACTION
-rows_of O.Constant = CONSTANT
-rows_of O.ConstantRange = RANGE
-rows_of O.Variable = VARIABLE
-rows_of O.Range = RANGE
-rows_of O.Automaton = AUTOMATON
-rows_of O.Location = LOCATION
-rows_of O.TransientValue = TRANSIENT_VALUE
-rows_of O.Edge = EDGE
-rows_of O.Destination = DESTINATION
-rows_of O.Assignment = ASSIGNMENT
-rows_of O.System = SYSTEM
-rows_of O.Element = ELEMENT
-rows_of O.Vector = VECTOR
-rows_of O.Boxed = BOXED
-rows_of O.ModelInitial = BOXED
-rows_of O.AutomatonInitial = BOXED
-rows_of O.Unary = UNARY
-rows_of O.Binary = BINARY
-rows_of O.Choice = CHOICE
-rows_of O.Unclear = UNCLEAR
+rows_of O.Model = members.model
+rows_of O.Action = members.action
+rows_of O.Constant = members.constant_declaration
+rows_of O.ConstantRange = members.bounded_type
+rows_of O.Variable = members.variable_declaration
+rows_of O.Range = members.bounded_type
+rows_of O.Automaton = members.automaton
+rows_of O.Location = members.location
+rows_of O.TransientValue = members.transient_value
+rows_of O.Edge = members.edge
+rows_of O.Destination = members.destination
+rows_of O.Assignment = members.assignment
+rows_of O.System = members.composition
+rows_of O.Element = members.element
+rows_of O.Vector = members.vector
+rows_of O.Boxed = members.guard
+rows_of O.ModelInitial = members.guard
+rows_of O.AutomatonInitial = members.guard
+rows_of O.Unary = members.unary
+rows_of O.Binary = members.binary
+rows_of O.Choice = members.if_then_else
+rows_of O.Unclear = members.unclear
 
 abbrev pub is_required : Need → Bool
 is_required Required = true
