@@ -20,27 +20,27 @@ Members = List (Key × Need × Form)
 -- a model (Model)
 abbrev pub model : Members
 model =
-    (K.JaniVersion, Required, F.Version)                  -- the profile reads version 1 alone
+    (K.JaniVersion, Required, F.Version)  -- the profile reads version 1 alone
     ∷ (K.Name, Required, F.Text)
-    ∷ (K.Type, Required, F.ModelType)                     -- the profile leaves out all types but "mdp"
-    ∷ (K.Features, Optional, F.Features)                  -- no features
-    ∷ (K.Actions, Optional, F.Actions)                    -- no actions
-    ∷ (K.Constants, Optional, F.Constants)                -- no constants
-    ∷ (K.Variables, Optional, F.Variables)                -- no global variables
-    ∷ (K.RestrictInitial, Optional, F.ModelInitial)       -- true; the profile leaves out all other conditions
-    ∷ (K.Properties, Optional, F.Anything)                -- no properties; in a model they are passed over, jani_props judges them
+    ∷ (K.Type, Required, F.ModelType)  -- the profile leaves out all types but "mdp"
+    ∷ (K.Features, Optional, F.Features)  -- no features
+    ∷ (K.Actions, Optional, F.Actions)  -- no actions
+    ∷ (K.Constants, Optional, F.Constants)  -- no constants
+    ∷ (K.Variables, Optional, F.Variables)  -- no global variables
+    ∷ (K.RestrictInitial, Optional, F.ModelInitial)  -- true; the profile leaves out all other conditions
+    ∷ (K.Properties, Optional, F.Anything)  -- no properties; in a model they are passed over, jani_props judges them
     ∷ (K.Automata, Required, F.Automata)
     ∷ (K.System, Required, F.System)
-    ∷ (K.Functions, Optional, F.LeftOut)                  -- no functions; of the feature "functions", which the profile leaves out
-    ∷ (K.Metadata, Optional, F.Anything)                  -- nothing; the profile passes over any value
-    ∷ (K.Comment, Optional, F.Text)                       -- nothing
+    ∷ (K.Functions, Optional, F.LeftOut)  -- no functions; of the feature "functions", which the profile leaves out
+    ∷ (K.Metadata, Optional, F.Anything)  -- nothing; the profile passes over any value
+    ∷ (K.Comment, Optional, F.Text)  -- nothing
     ∷ []
 
 -- an action (an item of "actions" of Model)
 abbrev pub action : Members
 action =
     (K.Name, Required, F.Name)
-    ∷ (K.Comment, Optional, F.Text)                       -- nothing
+    ∷ (K.Comment, Optional, F.Text)  -- nothing
     ∷ []
 
 -- ---- "Types"
@@ -50,9 +50,9 @@ abbrev pub bounded_type : Members
 bounded_type =
     (K.Kind, Required, F.BoundedWord)
     ∷ (K.Base, Required, F.BaseWord)
-    ∷ (K.LowerBound, Optional, F.Expression)              -- no bound from below; one of the two bounds has to be there
-    ∷ (K.UpperBound, Optional, F.Expression)              -- no bound from above; likewise
-    ∷ (K.Comment, Optional, F.Text)                       -- nothing
+    ∷ (K.LowerBound, Optional, F.Expression)  -- no bound from below; one of the two bounds has to be there
+    ∷ (K.UpperBound, Optional, F.Expression)  -- no bound from above; likewise
+    ∷ (K.Comment, Optional, F.Text)  -- nothing
     ∷ []
 
 -- ---- "Constants", "Variable declarations"
@@ -61,9 +61,9 @@ bounded_type =
 abbrev pub constant_declaration : Members
 constant_declaration =
     (K.Name, Required, F.Name)
-    ∷ (K.Type, Required, F.ConstantType)                  -- the profile leaves out bounded types
-    ∷ (K.Value, Optional, F.Expression)                   -- a parameter of the model
-    ∷ (K.Comment, Optional, F.Text)                       -- nothing
+    ∷ (K.Type, Required, F.ConstantType)  -- the profile leaves out bounded types
+    ∷ (K.Value, Optional, F.Expression)  -- a parameter of the model
+    ∷ (K.Comment, Optional, F.Text)  -- nothing
     ∷ []
 
 -- a variable (VariableDeclaration)
@@ -71,9 +71,9 @@ abbrev pub variable_declaration : Members
 variable_declaration =
     (K.Name, Required, F.Name)
     ∷ (K.Type, Required, F.VariableType)
-    ∷ (K.Transient, Optional, F.Truth)                    -- false
-    ∷ (K.InitialValue, Optional, F.Expression)            -- every value of the type, which the profile leaves out; a transient one has to have it
-    ∷ (K.Comment, Optional, F.Text)                       -- nothing
+    ∷ (K.Transient, Optional, F.Truth)  -- false
+    ∷ (K.InitialValue, Optional, F.Expression)  -- every value of the type, which the profile leaves out; a transient one has to have it
+    ∷ (K.Comment, Optional, F.Text)  -- nothing
     ∷ []
 
 -- ---- "Automata"
@@ -82,22 +82,22 @@ variable_declaration =
 abbrev pub automaton : Members
 automaton =
     (K.Name, Required, F.Name)
-    ∷ (K.Variables, Optional, F.Variables)                -- no variables of its own
+    ∷ (K.Variables, Optional, F.Variables)  -- no variables of its own
     ∷ (K.Locations, Required, F.Locations)
     ∷ (K.InitialLocations, Required, F.InitialLocations)  -- the profile leaves out several ones
     ∷ (K.Edges, Required, F.Edges)
-    ∷ (K.RestrictInitial, Optional, F.AutomatonInitial)   -- true; the profile leaves out all other conditions
-    ∷ (K.Functions, Optional, F.LeftOut)                  -- no functions; of the feature "functions", which the profile leaves out
-    ∷ (K.Comment, Optional, F.Text)                       -- nothing
+    ∷ (K.RestrictInitial, Optional, F.AutomatonInitial)  -- true; the profile leaves out all other conditions
+    ∷ (K.Functions, Optional, F.LeftOut)  -- no functions; of the feature "functions", which the profile leaves out
+    ∷ (K.Comment, Optional, F.Text)  -- nothing
     ∷ []
 
 -- a location (an item of "locations" of Automaton)
 abbrev pub location : Members
 location =
     (K.Name, Required, F.Name)
-    ∷ (K.TransientValues, Optional, F.TransientValues)    -- transient variables have their initial values
-    ∷ (K.TimeProgress, Optional, F.LeftOut)               -- true; of models with time, which the profile leaves out
-    ∷ (K.Comment, Optional, F.Text)                       -- nothing
+    ∷ (K.TransientValues, Optional, F.TransientValues)  -- transient variables have their initial values
+    ∷ (K.TimeProgress, Optional, F.LeftOut)  -- true; of models with time, which the profile leaves out
+    ∷ (K.Comment, Optional, F.Text)  -- nothing
     ∷ []
 
 -- a value of a transient variable (an item of "transient-values" of a location)
@@ -105,27 +105,27 @@ abbrev pub transient_value : Members
 transient_value =
     (K.Ref, Required, F.Name)
     ∷ (K.Value, Required, F.Expression)
-    ∷ (K.Comment, Optional, F.Text)                       -- nothing
+    ∷ (K.Comment, Optional, F.Text)  -- nothing
     ∷ []
 
 -- an edge (an item of "edges" of Automaton)
 abbrev pub edge : Members
 edge =
     (K.Location, Required, F.Name)
-    ∷ (K.Action, Optional, F.Name)                        -- the silent action
-    ∷ (K.Guard, Optional, F.Boxed)                        -- true
+    ∷ (K.Action, Optional, F.Name)  -- the silent action
+    ∷ (K.Guard, Optional, F.Boxed)  -- true
     ∷ (K.Destinations, Required, F.Destinations)
-    ∷ (K.Rate, Optional, F.LeftOut)                       -- no rate; of models with time, which the profile leaves out
-    ∷ (K.Comment, Optional, F.Text)                       -- nothing
+    ∷ (K.Rate, Optional, F.LeftOut)  -- no rate; of models with time, which the profile leaves out
+    ∷ (K.Comment, Optional, F.Text)  -- nothing
     ∷ []
 
 -- a destination (an item of "destinations" of an edge)
 abbrev pub destination : Members
 destination =
     (K.Location, Required, F.Name)
-    ∷ (K.Probability, Optional, F.Boxed)                  -- 1
-    ∷ (K.Assignments, Optional, F.Assignments)            -- no assignments
-    ∷ (K.Comment, Optional, F.Text)                       -- nothing
+    ∷ (K.Probability, Optional, F.Boxed)  -- 1
+    ∷ (K.Assignments, Optional, F.Assignments)  -- no assignments
+    ∷ (K.Comment, Optional, F.Text)  -- nothing
     ∷ []
 
 -- an assignment (an item of "assignments" of a destination)
@@ -133,15 +133,15 @@ abbrev pub assignment : Members
 assignment =
     (K.Ref, Required, F.Name)
     ∷ (K.Value, Required, F.Expression)
-    ∷ (K.Index, Optional, F.Index)                        -- 0; the profile leaves out all others
-    ∷ (K.Comment, Optional, F.Text)                       -- nothing
+    ∷ (K.Index, Optional, F.Index)  -- 0; the profile leaves out all others
+    ∷ (K.Comment, Optional, F.Text)  -- nothing
     ∷ []
 
 -- a guard, a probability, or a condition on initial states ("guard", "probability", "restrict-initial")
 abbrev pub guard : Members
 guard =
     (K.Exp, Required, F.Expression)
-    ∷ (K.Comment, Optional, F.Text)                       -- nothing
+    ∷ (K.Comment, Optional, F.Text)  -- nothing
     ∷ []
 
 -- ---- "System composition"
@@ -150,24 +150,24 @@ guard =
 abbrev pub composition : Members
 composition =
     (K.Elements, Required, F.Elements)
-    ∷ (K.Syncs, Optional, F.Vectors)                      -- no synchronisation vectors
-    ∷ (K.Comment, Optional, F.Text)                       -- nothing
+    ∷ (K.Syncs, Optional, F.Vectors)  -- no synchronisation vectors
+    ∷ (K.Comment, Optional, F.Text)  -- nothing
     ∷ []
 
 -- an element (an item of "elements" of Composition)
 abbrev pub element : Members
 element =
     (K.Automaton, Required, F.Name)
-    ∷ (K.InputEnable, Optional, F.InputEnable)            -- no actions; the profile leaves out all other lists
-    ∷ (K.Comment, Optional, F.Text)                       -- nothing
+    ∷ (K.InputEnable, Optional, F.InputEnable)  -- no actions; the profile leaves out all other lists
+    ∷ (K.Comment, Optional, F.Text)  -- nothing
     ∷ []
 
 -- a synchronisation vector (an item of "syncs" of Composition)
 abbrev pub vector : Members
 vector =
     (K.Synchronise, Required, F.Synchronise)
-    ∷ (K.Result, Optional, F.Name)                        -- the silent action
-    ∷ (K.Comment, Optional, F.Text)                       -- nothing
+    ∷ (K.Result, Optional, F.Name)  -- the silent action
+    ∷ (K.Comment, Optional, F.Text)  -- nothing
     ∷ []
 
 -- ---- "Expressions"
@@ -179,8 +179,8 @@ abbrev pub unary : Members
 unary =
     (K.Op, Required, F.Operator)
     ∷ (K.Exp, Required, F.Expression)
-    ∷ (K.Constant, Optional, F.LeftOut)                   -- no mathematical constant
-    ∷ (K.Comment, Optional, F.Text)                       -- nothing
+    ∷ (K.Constant, Optional, F.LeftOut)  -- no mathematical constant
+    ∷ (K.Comment, Optional, F.Text)  -- nothing
     ∷ []
 
 -- an operator with two operands
@@ -189,8 +189,8 @@ binary =
     (K.Op, Required, F.Operator)
     ∷ (K.Left, Required, F.Expression)
     ∷ (K.Right, Required, F.Expression)
-    ∷ (K.Constant, Optional, F.LeftOut)                   -- no mathematical constant
-    ∷ (K.Comment, Optional, F.Text)                       -- nothing
+    ∷ (K.Constant, Optional, F.LeftOut)  -- no mathematical constant
+    ∷ (K.Comment, Optional, F.Text)  -- nothing
     ∷ []
 
 -- the operator with three operands ("ite")
@@ -200,8 +200,8 @@ if_then_else =
     ∷ (K.If, Required, F.Expression)
     ∷ (K.Then, Required, F.Expression)
     ∷ (K.Else, Required, F.Expression)
-    ∷ (K.Constant, Optional, F.LeftOut)                   -- no mathematical constant
-    ∷ (K.Comment, Optional, F.Text)                       -- nothing
+    ∷ (K.Constant, Optional, F.LeftOut)  -- no mathematical constant
+    ∷ (K.Comment, Optional, F.Text)  -- nothing
     ∷ []
 
 -- An expression whose operator is missing or is none of those that are read: no object of the specification. It may have the
@@ -215,6 +215,6 @@ unclear =
     ∷ (K.If, Optional, F.Expression)
     ∷ (K.Then, Optional, F.Expression)
     ∷ (K.Else, Optional, F.Expression)
-    ∷ (K.Constant, Optional, F.LeftOut)                   -- no mathematical constant
-    ∷ (K.Comment, Optional, F.Text)                       -- nothing
+    ∷ (K.Constant, Optional, F.LeftOut)  -- no mathematical constant
+    ∷ (K.Comment, Optional, F.Text)  -- nothing
     ∷ []
