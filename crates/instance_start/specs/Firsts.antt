@@ -87,3 +87,16 @@ pub first_is : (cs : List Column) (o : Option Values) → all_defined (map (λ c
     MatchOption o (Unit {0}) (λ f. (s : Values) → (IsTrue (is_initial cs s) ↔ (s ≡ f)) × (false ≡ false))
 first_is cs None e = tt
 first_is cs (Some f) e = λ s. (only_initial cs f s e, refl)
+
+-- without a fault of a column each has a first value
+pub first_known : (i : ℕ) (cs : List Column) → numbered column_faults i cs ≡ [] → all_defined (map (λ c. c.first.value) cs) ≡ None → ⊥
+first_known i [] h e = absurd cc
+first_known i (c ∷ cs) h e =
+    let parts = append_parts (column_faults i c) (numbered column_faults (i + 1) cs) h in
+    by_first (append_parts (domain_faults i c.domain) (first_faults i c.domain c.first.value) parts.0).1 (first_known (i + 1) cs parts.1) c.first.value refl (all_defined (map (λ c. c.first.value) cs)) refl
+  where
+    by_first : first_faults i c.domain c.first.value ≡ [] → (all_defined (map (λ c. c.first.value) cs) ≡ None → ⊥) → (o : Option Value) → c.first.value ≡ o →
+        (r : Option Values) → all_defined (map (λ c. c.first.value) cs) ≡ r → ⊥
+    by_first none ih None k r l = absurd (let z = subst (λ o. first_faults i c.domain o ≡ []) k none in cc)
+    by_first none ih (Some w) k None l = ih l
+    by_first none ih (Some w) k (Some g) l = absurd (let z : Some (w ∷ g) ≡ None = ap₂ with_first (sym k) (sym l) ∙ e in cc)

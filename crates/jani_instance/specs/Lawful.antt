@@ -1,6 +1,6 @@
 -- The process that a file describes keeps the laws of processes, where its instance has no fault and what begins with a value of
 -- the right type. (jani-model specification, version 1: "Models" for type "mdp".)
-use Rattle.std.specs.Prelude.{◌≡◌, ℕ, zero, suc, ◌+◌, List, [], length, codes}
+use Rattle.std.specs.Prelude.{◌≡◌, ℕ, zero, suc, ◌+◌, List, [], length, true, false, codes}
 use Rattle.std.proofs.Common.{refl, sym, ap, ap₂, ◌∙◌, length-append}
 use Rattle.basics.specs.Lists.{append_parts}
 use Rattle.process_core.specs.Instance.{Valuation, constant_faults, column_faults, numbered, instance_faults, first_values}
@@ -10,7 +10,7 @@ use Rattle.jani_meaning.specs.Elements.{labels, structures, lasting}
 use Rattle.jani_meaning.specs.Scene.{scene, columns_of}
 use Rattle.jani_meaning.proofs.Columns.{states_have_columns}
 use Rattle.jani_meaning.proofs.Proper.{choices_are_proper}
-use Rattle.instance_start.specs.Firsts.{BeginRight, first_is, initial_states}
+use Rattle.instance_start.specs.Firsts.{BeginRight, first_known, first_is, initial_states}
 use Rattle.instance_start.specs.Marks.{first_names, marks_length, mark_kinds}
 use Rattle.instance_start.specs.Given.{given_by}
 use Rattle.jani_instance.specs.Described.{described, texts_from, column_texts}
@@ -34,6 +34,8 @@ module _ (file : File) (v : Valuation) (t : BeginRight (columns_of file v)) (h :
     labels = first_names _ _ (labels file) (structures file);
     kinds = λ s i m k e. mark_kinds _ _ _ _ (λ l. refl) (λ l. refl) (labels file) (structures file) i m e;
     initial = initial_states 0 (columns_of file v) t (append_parts (numbered constant_faults 0 (scene file v).constants) (numbered column_faults 0 (columns_of file v)) h).1;
+    wide_initial = λ s k. absurd (let z : false ≡ true = k in cc);
+    condition = (λ e. absurd (first_known 0 (columns_of file v) (append_parts (numbered constant_faults 0 (scene file v).constants) (numbered column_faults 0 (columns_of file v)) h).1 e), λ k. absurd (let z : false ≡ true = k in cc));
     first = first_is (columns_of file v) (first_values (scene file v)) refl;
     proper = choices_are_proper file v;
   }

@@ -70,6 +70,7 @@ process_by k names n at = record {
   is_state = is_state k.columns;
   is_initial = is_initial k.columns;
   has_wide_initial = λ s. false;
+  has_condition = false;
   first = first_values k;
   choices = λ s. choices (at s) s;
   excess = λ s. excess (at s);

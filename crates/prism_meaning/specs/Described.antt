@@ -30,6 +30,7 @@ described file v = record {
   is_state = is_state (scene file v).columns;
   is_initial = is_initial (scene file v).columns;
   has_wide_initial = λ s. false;
+  has_condition = false;
   first = first_values (scene file v);
   choices = λ s. choices (moment file v s) s;
   excess = λ s. excess (moment file v s);

@@ -1,6 +1,6 @@
 -- The process that a file describes keeps the laws of processes, where the instance has no fault.
 -- (The laws are those of Markov decision processes, as the PRISM manual has them in "The PRISM Language".)
-use Rattle.std.specs.Prelude.{◌≡◌, List, []}
+use Rattle.std.specs.Prelude.{◌≡◌, List, [], true, false}
 use Rattle.std.specs.List.{All}
 use Rattle.std.proofs.Common.{refl}
 use Rattle.std.proofs.lemmas.List.Elements.{All-map}
@@ -16,7 +16,7 @@ use Rattle.instance_start.specs.States.{state_length}
 use Rattle.instance_start.specs.Participants.{of_all}
 use Rattle.instance_start.specs.Marks.{marks_length, first_names, mark_kinds}
 use Rattle.instance_start.specs.Given.{given_by}
-use Rattle.instance_start.specs.Firsts.{BeginRight, initial_states, first_is}
+use Rattle.instance_start.specs.Firsts.{BeginRight, initial_states, first_known, first_is}
 use Rattle.prism_tree.specs.Syntax.{Branch, Command, File}
 use Rattle.prism_names.specs.Names.{Part, parts, see, written_name}
 use Rattle.prism_flat.specs.Scene.{scene, columns_of}
@@ -58,6 +58,8 @@ module _ (file : File) (v : Valuation) (t : BeginRight (columns_of file v)) (h :
     labels = first_names _ _ file.labels file.rewards;
     kinds = λ s i m k e. mark_kinds _ _ _ _ (λ l. refl) (λ l. refl) file.labels file.rewards i m e;
     initial = initial_states 0 (columns_of file v) t (append_parts (numbered constant_faults 0 (scene file v).constants) (numbered column_faults 0 (columns_of file v)) h).1;
+    wide_initial = λ s k. absurd (let z : false ≡ true = k in cc);
+    condition = (λ e. absurd (first_known 0 (columns_of file v) (append_parts (numbered constant_faults 0 (scene file v).constants) (numbered column_faults 0 (columns_of file v)) h).1 e), λ k. absurd (let z : false ≡ true = k in cc));
     first = first_is (columns_of file v) (first_values (scene file v)) refl;
     proper = λ s k. choices_proper (is_state (columns_of file v)) s (combinations (moment file v s)) k
         (of_all (KeepsAll (is_state (columns_of file v))) (choice_rewards (moment file v s).rewards) (moment file v s).modules (all_keep file v s));

@@ -17,5 +17,6 @@ pub mod Merging
 pub mod Answers
 pub mod Instance
 pub mod Steps
+pub mod Paths
 pub mod Laws
 pub mod States

@@ -16,8 +16,9 @@ pub struct InitialWide;
 
 /// A process that can be stepped, a model under given constants. `process` says what it is over unbounded numbers, and
 /// the calls answer by it. Its laws: a state has a value for each column and a mark for each name, labels first; initial
-/// states are states, and a first state is the only one and narrow; in each good choice of a state every target is a state,
-/// no probability is negative, and the probabilities add up to 1.
+/// states are states, and the initial test is wide of states alone; there is a first state exactly where the model has no
+/// initial condition, and it is the only initial one and narrow; in each good choice of a state every target is a state, no
+/// probability is negative, and the probabilities add up to 1.
 pub trait Steps {
     ghost process: { Self → Process };
 
@@ -34,11 +35,11 @@ pub trait Steps {
     fn valid(&self, s: &State) -> bool
         ensures { result ≡ (process self.now).is_state s.now.values };
 
-    /// Whether this is an initial state, or that the test of it is wide.
+    /// Whether this is an initial state, or that the test of it is wide; `InitialWide` only where this is a state.
     fn initial(&self, s: &State) -> Result<bool, InitialWide>
         ensures { result ≡ (if (process self.now).has_wide_initial s.now.values then Err (record {}) else Ok ((process self.now).is_initial s.now.values)) };
 
-    /// The one initial state, or none where the model has an initial condition.
+    /// The one initial state: `None` exactly where the model has an initial condition.
     fn first(&self, alloc: Global) -> Result<Option<State>, AllocError>
         ensures { IfOk result (λ s. option_map values_of s ≡ (process self.now).first) };
 
