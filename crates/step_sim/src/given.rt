@@ -1,7 +1,8 @@
 // Walks along given numbers.
 
 ghost use Rattle.std.specs.Prelude.{◌≡◌, IfOk, IsTrue};
-ghost use Rattle.step_sim.specs.Paths.{IsPath};
+ghost use Rattle.process_core.specs.Paths.{IsPath};
+ghost use Rattle.step_sim.specs.Paths.{moves};
 ghost use Rattle.step_sim.specs.Walks.{IsGivenStop, IsGivenWalk, step_given};
 
 use crate::walk::{Step, Stop, Walk, last_state, step_along};
@@ -21,7 +22,7 @@ pub fn run_given<S: Steps>(
     ensures starts { IfOk result (λ w. w.first ≡ start) }
     ensures walk { IfOk result (λ w. IsGivenWalk (S.process s.now) start.values pairs.now w.steps w.stop) }
     ensures stop { IfOk result (λ w. IsGivenStop w.stop) }
-    ensures path { IfOk result (λ w. IsPath (S.process s.now) start.values w.steps) }
+    ensures path { IfOk result (λ w. IsPath (S.process s.now) start.values (moves w.steps)) }
 {
     let mut steps = List::new(alloc);
     for pair in pairs.as_slice() {

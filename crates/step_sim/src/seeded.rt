@@ -1,7 +1,8 @@
 // Walks along words of a generator of random numbers.
 
 ghost use Rattle.std.specs.Prelude.{◌≡◌, IfOk, IfErr, IsTrue};
-ghost use Rattle.step_sim.specs.Paths.{IsPath};
+ghost use Rattle.process_core.specs.Paths.{IsPath};
+ghost use Rattle.step_sim.specs.Paths.{moves};
 ghost use Rattle.step_sim.specs.Walks.{IsDrawnStop};
 ghost use Rattle.step_sim.specs.Words.{IsDrawnStep, IsSeededWalk, IsWalkOfSeed};
 
@@ -25,7 +26,7 @@ pub fn run_seeded<S: Steps, R: Rng>(
     requires { IsTrue ((S.process s.now).is_initial start.values) }
     ensures walk { IfOk result (λ w. IsSeededWalk (S.process s.now) start.values steps (R.stream words.old) (R.stream words.new) w) }
     ensures stop { IfOk result (λ w. IsDrawnStop w.stop) }
-    ensures path { IfOk result (λ w. IsPath (S.process s.now) start.values w.steps) }
+    ensures path { IfOk result (λ w. IsPath (S.process s.now) start.values (moves w.steps)) }
 {
     let mut taken = List::new(alloc);
     for _ in 0..steps {
@@ -81,7 +82,7 @@ fn step_drawn<S: Steps, R: Rng>(
     }
 }
 
-/// The walk of so many steps from an initial state along the words of a seed.
+/// The walk of so many steps from an initial state along the words of a seed. `NoChoice` and `NoBranch` never come.
 pub fn run_seed<S: Steps>(
     alloc: Global,
     s: &S,
@@ -90,7 +91,9 @@ pub fn run_seed<S: Steps>(
     steps: u32,
 ) -> Result<Walk, AllocError>
     requires { IsTrue ((S.process s.now).is_initial start.values) }
-    ensures { IfOk result (λ w. IsWalkOfSeed (S.process s.now) start.values steps seed w) }
+    ensures walk { IfOk result (λ w. IsWalkOfSeed (S.process s.now) start.values steps seed w) }
+    ensures stop { IfOk result (λ w. IsDrawnStop w.stop) }
+    ensures path { IfOk result (λ w. IsPath (S.process s.now) start.values (moves w.steps)) }
 {
     let mut words = Pcg64::seed_from_u64(seed);
     run_seeded(alloc, s, start, &mut words, steps)
