@@ -14,7 +14,8 @@ use Rattle.row_check.specs.declared.data.Verdict.{Verdict}
 use Rattle.row_check.specs.declared.data.Verdict.TheVariants.{Yes, No}
 use Rattle.row_check.specs.declared.data.Why.TheVariants.{Step}
 use Rattle.process_core.specs.Steps.{Process}
-use Rattle.row_check.specs.Paths.{is_positive, any_leads_to, leads_to, is_step, JudgesStep, JudgesSteps}
+use Rattle.process_core.specs.Paths.{is_positive, any_leads_to, leads_to, is_step}
+use Rattle.row_check.specs.Paths.{JudgesStep, JudgesSteps}
 use Rattle.row_check.proofs.Judged.{passes, no_yes_excess}
 
 -- what stands from place `i` on

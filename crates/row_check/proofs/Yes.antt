@@ -18,7 +18,8 @@ use Rattle.process_core.specs.Steps.{Process}
 use Rattle.row_check.specs.Judging.{Judges, excess_verdict}
 use Rattle.row_check.specs.Index.{stands_in, values_at}
 use Rattle.row_check.specs.Merging.{TargetsListed}
-use Rattle.row_check.specs.Paths.{is_step, StartsInitial, StartsNarrow, AreSteps, StepsNarrow, JudgesStart, JudgesSteps, JudgesPath}
+use Rattle.process_core.specs.Paths.{is_step, IsPathFrom}
+use Rattle.row_check.specs.Paths.{read_steps, IsPathAlong, StartsNarrow, StepsNarrow, JudgesStart, JudgesSteps, JudgesPath}
 use Rattle.row_check.specs.Rows.{AreReadRows, AreRows, AreNarrowRows, has_wide_start, JudgesListed, JudgesState, JudgesRows, start_verdict, target_verdict}
 use Rattle.row_check.specs.Laws.{PathYes, RowsYes, PathIsYes, RowsAreYes}
 use Rattle.row_check.proofs.Judged.{all_pass, none_fails, AnswersOnce, must_once, told_once, before_once, each_once}
@@ -32,35 +33,30 @@ excess_none : (k : ℕ) (e : Option Excess) → e ≡ None → None ≡ excess_v
 excess_none k e h = sym (ap (excess_verdict k) h)
 
 -- ---- paths
-start_yes : (p : Process) (ss : List State) → JudgesStart p ss None → StartsInitial p ss × StartsNarrow p ss
-start_yes p [] h = (h, tt)
-start_yes p (s ∷ ss) h = (h.1, h.0)
-
-yes_start : (p : Process) (ss : List State) → StartsInitial p ss → StartsNarrow p ss → JudgesStart p ss None
-yes_start p [] h k = h
-yes_start p (s ∷ ss) h k = (k, h)
-
-steps_yes : (p : Process) (k : ℕ) (ss : List State) (ls : List (Option Name)) → JudgesSteps p k ss ls None → AreSteps p ss ls × StepsNarrow p ss ls
-steps_yes p k [] ls h = (tt, tt)
-steps_yes p k (s ∷ []) ls h = (tt, tt)
-steps_yes p k (s ∷ t ∷ ss) [] h = (tt, tt)
-steps_yes p k (s ∷ t ∷ ss) (l ∷ ls) h =
-    let r = steps_yes p (k + 1) (t ∷ ss) ls h.1 in
+steps_yes : (p : Process) (k : ℕ) (s : State) (ss : List State) (ls : List (Option Name)) → JudgesSteps p k (s ∷ ss) ls None → IsPathFrom p s.values (read_steps ss ls) × StepsNarrow p (s ∷ ss) ls
+steps_yes p k s [] ls h = (tt, tt)
+steps_yes p k s (t ∷ ss) [] h = (tt, tt)
+steps_yes p k s (t ∷ ss) (l ∷ ls) h =
+    let r = steps_yes p (k + 1) t ss ls h.1 in
     ((h.0.1, r.0), (no_excess k (p.excess s.values) h.0.0, r.1))
 
-yes_steps : (p : Process) (k : ℕ) (ss : List State) (ls : List (Option Name)) → AreSteps p ss ls → StepsNarrow p ss ls → JudgesSteps p k ss ls None
-yes_steps p k [] ls h n = refl
-yes_steps p k (s ∷ []) ls h n = refl
-yes_steps p k (s ∷ t ∷ ss) [] h n = refl
-yes_steps p k (s ∷ t ∷ ss) (l ∷ ls) h n = ((excess_none k (p.excess s.values) n.0, h.0), yes_steps p (k + 1) (t ∷ ss) ls h.1 n.1)
+yes_steps : (p : Process) (k : ℕ) (s : State) (ss : List State) (ls : List (Option Name)) → IsPathFrom p s.values (read_steps ss ls) → StepsNarrow p (s ∷ ss) ls → JudgesSteps p k (s ∷ ss) ls None
+yes_steps p k s [] ls h n = refl
+yes_steps p k s (t ∷ ss) [] h n = refl
+yes_steps p k s (t ∷ ss) (l ∷ ls) h n = ((excess_none k (p.excess s.values) n.0, h.0), yes_steps p (k + 1) t ss ls h.1 n.1)
+
+along_yes : (p : Process) (ss : List State) (ls : List (Option Name)) → JudgesStart p ss None → JudgesSteps p 0 ss ls None → IsPathAlong p ss ls × StartsNarrow p ss × StepsNarrow p ss ls
+along_yes p [] ls h k = absurd h
+along_yes p (s ∷ ss) ls h k = let r = steps_yes p 0 s ss ls k in ((h.1, r.0), h.0, r.1)
+
+yes_along : (p : Process) (ss : List State) (ls : List (Option Name)) → IsPathAlong p ss ls → StartsNarrow p ss → StepsNarrow p ss ls → JudgesStart p ss None × JudgesSteps p 0 ss ls None
+yes_along p [] ls h n m = absurd h
+yes_along p (s ∷ ss) ls h n m = ((n, h.0), yes_steps p 0 s ss ls h.1 m)
 
 pub path_yes : PathYes
 path_yes p path = (
-  λ h.
-      let a = start_yes p path.states h.0 in
-      let b = steps_yes p 0 path.states path.labels h.1 in
-      (record { initial = a.0; steps = b.0 }, record { start = a.1; steps = b.1 }),
-  λ h. (yes_start p path.states h.0.initial h.1.start, yes_steps p 0 path.states path.labels h.0.steps h.1.steps),
+  λ h. let r = along_yes p path.states path.labels h.0 h.1 in (r.0, record { start = r.1; steps = r.2 }),
+  λ h. yes_along p path.states path.labels h.0 h.1.start h.1.steps,
 )
 
 -- ---- rows

@@ -7,13 +7,13 @@ use Rattle.row_check.specs.declared.data.ReadRows.{ReadRows}
 use Rattle.row_check.specs.declared.data.Verdict.{Verdict}
 use Rattle.row_check.specs.declared.data.Verdict.TheVariants.{Yes}
 use Rattle.row_check.specs.Judging.{Judges}
-use Rattle.row_check.specs.Paths.{IsPath, IsNarrowPath, JudgesPath}
+use Rattle.row_check.specs.Paths.{IsOwnPath, IsNarrowPath, JudgesPath}
 use Rattle.row_check.specs.Rows.{AreReadRows, AreRows, AreNarrowRows, JudgesRows}
 use Rattle.row_check.specs.Forms.{IsPathFile, AreRowFiles, ReadsPath, ReadsStates, ReadsRowsOf}
 
 -- nothing fails exactly where the path is the model's and nothing passes a bound
 abbrev pub PathYes : Type 0
-PathYes = (p : Process) (path : ReadPath) → JudgesPath p path None ↔ (IsPath p path × IsNarrowPath p path)
+PathYes = (p : Process) (path : ReadPath) → JudgesPath p path None ↔ (IsOwnPath p path × IsNarrowPath p path)
 
 -- likewise of rows
 abbrev pub RowsYes : Type 0
@@ -28,7 +28,7 @@ RowsOnce = (p : Process) (r : ReadRows) (o q : Option Verdict) → JudgesRows p 
 
 -- a verdict is Yes exactly where the path is the model's and nothing passes a bound; likewise of rows
 abbrev pub PathIsYes : Type 0
-PathIsYes = (p : Process) (path : ReadPath) (v : Verdict) → Judges (JudgesPath p path) v → (v ≡ Yes) ↔ (IsPath p path × IsNarrowPath p path)
+PathIsYes = (p : Process) (path : ReadPath) (v : Verdict) → Judges (JudgesPath p path) v → (v ≡ Yes) ↔ (IsOwnPath p path × IsNarrowPath p path)
 
 abbrev pub RowsAreYes : Type 0
 RowsAreYes = (p : Process) (r : ReadRows) (v : Verdict) → AreReadRows r → Judges (JudgesRows p r) v → (v ≡ Yes) ↔ (AreRows p r × AreNarrowRows p r)

@@ -1,47 +1,30 @@
--- When a path is a model's own, and the verdict on one.
-use Rattle.std.specs.Prelude.{◌≡◌, ℕ, ◌+◌, List, [], ◌∷◌, ◌&&◌, Bool, false, IsTrue, Option, None, int_lt, pos}
-use Rattle.std.specs.List.{list_any}
-use Rattle.frac_core.specs.Fraction.{Fraction}
-use Rattle.process_core.specs.Process.{Branch, Outcome, Good, Bad, Choice}
-use Rattle.process_core.specs.Ready.{Values, Name, same_label}
-use Rattle.process_core.specs.Equal.{equal_states}
+-- When a path that is read is a model's own, and the verdict on one. (PRISM manual, "Debugging Models With The Simulator"; the order of
+-- failures is this project's own.)
+use Rattle.std.specs.Prelude.{◌≡◌, ℕ, ◌+◌, List, [], ◌∷◌, false, IsTrue, Option, None}
+use Rattle.process_core.specs.Ready.{Values, Name}
+use Rattle.process_core.specs.Steps.{Process}
+use Rattle.process_core.specs.Paths.{is_step, IsPath}
 use Rattle.process_core.specs.declared.data.State.{State}
 use Rattle.row_check.specs.declared.data.ReadPath.{ReadPath}
 use Rattle.row_check.specs.declared.data.Verdict.{Verdict}
 use Rattle.row_check.specs.declared.data.Verdict.TheVariants.{No, Wide}
 use Rattle.row_check.specs.declared.data.Why.TheVariants.{Step}
-use Rattle.process_core.specs.Steps.{Process}
 use Rattle.row_check.specs.Judging.{Must, Before, excess_verdict}
 
-abbrev pub is_positive : Fraction → Bool
-is_positive x = int_lt (pos 0) x.num
-
--- a branch of positive probability to this state
-abbrev pub any_leads_to : Values → List (Branch Fraction Values) → Bool
-any_leads_to t bs = list_any (λ b. is_positive b.probability && equal_states t b.target) bs
-
-abbrev pub leads_to : Values → Outcome Fraction Values → Bool
-leads_to t (Good bs) = any_leads_to t bs
-leads_to t (Bad k) = false
-
--- a good choice with this label that leads to this state
-abbrev pub is_step : List (Choice Name Fraction Values) → Option Name → Values → Bool
-is_step cs l t = list_any (λ c. same_label l c.label && leads_to t c.outcome) cs
-
 -- ---- the relation
--- from the first of the states each step leads to the next
-abbrev pub AreSteps : Process → List State → List (Option Name) → Type 0
-AreSteps p (s ∷ t ∷ ss) (l ∷ ls) = IsTrue (is_step (p.choices s.values) l t.values) × AreSteps p (t ∷ ss) ls
-AreSteps p ss ls = Unit {0}
+-- the later states, each behind the label of the step to it
+abbrev pub read_steps : List State → List (Option Name) → List (Option Name × Values)
+read_steps [] ls = []
+read_steps (s ∷ ss) [] = []
+read_steps (s ∷ ss) (l ∷ ls) = (l, s.values) ∷ read_steps ss ls
 
-abbrev pub StartsInitial : Process → List State → Type 0
-StartsInitial p [] = ⊥
-StartsInitial p (s ∷ ss) = IsTrue (p.is_initial s.values)
+abbrev pub IsPathAlong : Process → List State → List (Option Name) → Type 0
+IsPathAlong p [] ls = ⊥
+IsPathAlong p (s ∷ ss) ls = IsPath p s.values (read_steps ss ls)
 
--- a path is the model's where its first state is initial and the model has each of its steps
-pub record IsPath (p : Process) (path : ReadPath) : Type 0 where
-  pub initial : StartsInitial p path.states
-  pub steps : AreSteps p path.states path.labels
+-- a path that is read is the model's own where from its first state on it is a path of the process
+abbrev pub IsOwnPath : Process → ReadPath → Type 0
+IsOwnPath p path = IsPathAlong p path.states path.labels
 
 -- nothing passes a bound on the way: the first state's initial test, and the states from which a step is taken
 abbrev pub StartsNarrow : Process → List State → Type 0

@@ -2,9 +2,10 @@
 
 ghost use Rattle.std.specs.Prelude.{◌≡◌, ◌<◌, ◌^◌, ◌&&◌, suc, IfOk, IsTrue, length, map};
 ghost use Rattle.process_core.specs.Equal.{equal_states};
+ghost use Rattle.process_core.specs.Paths.{any_leads_to, is_positive, is_step, leads_to};
 ghost use Rattle.process_core.specs.Seen.{seen_branch, seen_choice, seen_outcome};
 ghost use Rattle.row_check.specs.Judging.{Judges};
-ghost use Rattle.row_check.specs.Paths.{JudgesPath, JudgesStep, any_leads_to, is_positive, is_step, leads_to};
+ghost use Rattle.row_check.specs.Paths.{JudgesPath, JudgesStep};
 
 use crate::data::{ReadPath, Verdict, Why};
 use bridge_io::{List, Text};
@@ -70,7 +71,8 @@ fn has_step(choices: &List<Choice>, label: &Option<Text>, to: &State) -> bool
     false
 }
 
-fn leads_to(outcome: &Outcome, to: &State) -> bool
+/// Whether an outcome is a good one that has a branch of positive probability to this state.
+pub fn leads_to(outcome: &Outcome, to: &State) -> bool
     ensures { result ≡ leads_to to.now.values (seen_outcome outcome.now) }
 {
     match outcome {

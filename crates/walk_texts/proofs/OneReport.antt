@@ -112,6 +112,6 @@ pub one_walked_by_seed : OneStateText → OneDrawnWalk → (p : Process) (from :
 one_walked_by_seed one walks p from seed steps =
     one_walked one p (IsWalkBySeed p seed steps)
     (λ s v w h k.
-    let e = walks p s steps (pcg64_words seed) h.walk.begun k.walk.begun v.steps w.steps v.stop w.stop h.walk.walk k.walk.walk in
-    alike p v.first.values w.first.values v.steps w.steps v.stop w.stop (h.walk.starts ∙ sym k.walk.starts) e.1 e.2)
+    let e = walks p s steps (pcg64_words seed) h.walk.walk.begun k.walk.walk.begun v.steps w.steps v.stop w.stop h.walk.walk.walk k.walk.walk.walk in
+    alike p v.first.values w.first.values v.steps w.steps v.stop w.stop (h.walk.walk.starts ∙ sym k.walk.walk.starts) e.1 e.2)
     from

@@ -5,11 +5,13 @@ use Rattle.process_core.specs.Bounds.{Excess, IsWide}
 use Rattle.process_core.specs.Answers.{only_wide}
 use Rattle.process_core.specs.Ready.{Values}
 use Rattle.process_core.specs.Steps.{Process}
+use Rattle.process_core.specs.Paths.{IsPath}
 use Rattle.process_core.specs.declared.data.State.{State}
 use Rattle.process_texts.specs.Given.{is_wide_value}
 use Rattle.process_texts.specs.States.{SpellsState}
 use Rattle.step_sim.specs.Walks.{IsGivenWalk}
 use Rattle.step_sim.specs.Words.{IsWalkOfSeed}
+use Rattle.step_sim.specs.Paths.{moves}
 use Rattle.step_sim.specs.declared.walk.Stop.{Stop}
 use Rattle.step_sim.specs.declared.walk.Stop.TheVariants as S
 use Rattle.step_sim.specs.declared.walk.Walk.{Walk}
@@ -90,17 +92,19 @@ pub record IsWalked (p : Process) (Is : Values → Walk → Type 0) (from : Opti
   pub starts : IsStart p from start
   pub reports : ReportsWalk p Is start r
 
--- the walk from a state along pairs of numbers
+-- the walk from a state along pairs of numbers; its labels and states are a path of the process
 pub record IsWalkAlong (p : Process) (pairs : List (ℕ × ℕ)) (s : Values) (w : Walk) : Type 0 where
   pub starts : w.first.values ≡ s
   pub walk : IsGivenWalk p s pairs w.steps w.stop
+  pub path : IsPath p s (moves w.steps)
 
 abbrev pub IsWalkedAlong : Process → Option (List ℕ) → List (ℕ × ℕ) → Report → Type 0
 IsWalkedAlong p from pairs r = IsWalked p (IsWalkAlong p pairs) from r
 
--- the walk of so many steps from a state along the words of a seed
-abbrev pub IsWalkBySeed : Process → ℕ → ℕ → Values → Walk → Type 0
-IsWalkBySeed p seed steps s w = IsWalkOfSeed p s steps seed w
+-- the walk of so many steps from a state along the words of a seed; its labels and states are a path of the process
+pub record IsWalkBySeed (p : Process) (seed steps : ℕ) (s : Values) (w : Walk) : Type 0 where
+  pub walk : IsWalkOfSeed p s steps seed w
+  pub path : IsPath p s (moves w.steps)
 
 abbrev pub IsWalkedBySeed : Process → Option (List ℕ) → ℕ → ℕ → Report → Type 0
 IsWalkedBySeed p from seed steps r = IsWalked p (IsWalkBySeed p seed steps) from r
