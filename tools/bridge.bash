@@ -1,0 +1,32 @@
+# Completion for bash of the words of `bridge`:  source tools/bridge.bash
+# It offers commands, languages, files, and the constants that a PRISM model leaves open.
+
+# The constants of a PRISM file that have no expression, as NAME=.
+_bridge_constants() {
+  sed -n 's,//.*,,; s/^[[:space:]]*const[[:space:]]\{1,\}\(int\|double\|bool\)\{0,1\}[[:space:]]*\([A-Za-z_][A-Za-z0-9_]*\)[[:space:]]*;.*/\2=/p' "$1" 2>/dev/null
+}
+
+_bridge() {
+  local cur=${COMP_WORDS[COMP_CWORD]} command=${COMP_WORDS[1]} place=$COMP_CWORD
+  local files=3 # the place of the last file
+  case $command in
+    to-jani) files=3 ;;
+    to-prism | to-prism-props) files=2 ;;
+    check-path) files=4 ;;
+    check-rows) files=5 ;;
+  esac
+  COMPREPLY=()
+  if [ "$place" -eq 1 ]; then
+    mapfile -t COMPREPLY < <(compgen -W "to-jani to-prism to-prism-props check show simulate check-path check-rows" -- "$cur")
+  elif [ "$place" -eq 2 ] && [[ $command != to-* ]]; then
+    mapfile -t COMPREPLY < <(compgen -W "prism jani" -- "$cur")
+  elif [ "$place" -le "$files" ]; then
+    mapfile -t COMPREPLY < <(compgen -f -- "$cur")
+  elif [ "$place" -eq 4 ] && [ "$command" = simulate ]; then
+    mapfile -t COMPREPLY < <(compgen -W "from given seed" -- "$cur")
+  elif [ "$place" -gt 4 ] && [[ $command != to-* && $command != check && ${COMP_WORDS[2]} == prism ]]; then
+    mapfile -t COMPREPLY < <(compgen -W "$(_bridge_constants "${COMP_WORDS[3]}")" -- "$cur")
+    compopt +o filenames -o nospace # the value comes right behind the sign, and no part of these is quoted
+  fi
+}
+complete -o filenames -F _bridge bridge
