@@ -1,6 +1,6 @@
 -- How a job that shows a state or walks ends: what it writes, or why it does not begin. (This project's own rule.)
 use Rattle.std.specs.Prelude.{◌≡◌, ℕ, Bool, true, false, IsTrue, List, [], length, Option, Some, None}
-use Rattle.std.specs.List.{list_any}
+use Rattle.std.specs.List.{All, list_any}
 use Rattle.process_core.specs.Bounds.{Excess, IsWide}
 use Rattle.process_core.specs.Answers.{only_wide}
 use Rattle.process_core.specs.Ready.{Values}
@@ -12,6 +12,7 @@ use Rattle.process_texts.specs.States.{SpellsState}
 use Rattle.step_sim.specs.Walks.{IsGivenWalk}
 use Rattle.step_sim.specs.Words.{IsWalkOfSeed}
 use Rattle.step_sim.specs.Paths.{moves}
+use Rattle.step_sim.specs.declared.walk.Step.{Step}
 use Rattle.step_sim.specs.declared.walk.Stop.{Stop}
 use Rattle.step_sim.specs.declared.walk.Stop.TheVariants as S
 use Rattle.step_sim.specs.declared.walk.Walk.{Walk}
@@ -80,9 +81,17 @@ ended path line S.TooMany = R.Excess path line
 abbrev pub report_of : Process → Walk → Report
 report_of p w = ended (path_text p w.first.values w.steps) (stop_line (length w.steps) w.stop) w.stop
 
--- From the start on there is such a walk, and this is written of it.
+-- the numbers in the states of a walk are within the bound of fractions
+abbrev pub IsNarrowStep : Step → Type 0
+IsNarrowStep t = list_any is_wide_value t.target.values ≡ false
+
+pub record IsNarrowWalk (w : Walk) : Type 0 where
+  pub first : list_any is_wide_value w.first.values ≡ false
+  pub steps : All IsNarrowStep w.steps
+
+-- From the start on there is such a walk, within the bound, and this is written of it.
 abbrev pub ReportsWalk : Process → (Values → Walk → Type 0) → Start → Report → Type 0
-ReportsWalk p Is (At s) r = (w : Walk) × Is s.values w × (r ≡ report_of p w)
+ReportsWalk p Is (At s) r = (w : Walk) × Is s.values w × (r ≡ report_of p w) × IsNarrowWalk w
 ReportsWalk p Is Nowhere r = r ≡ R.NoStart
 ReportsWalk p Is Wide r = r ≡ R.Excess [] (excess_line 0 IsWide)
 

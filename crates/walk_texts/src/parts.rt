@@ -1,8 +1,11 @@
 // The parts of lines.
 
-ghost use Rattle.std.specs.Prelude.{◌≡◌, ◌++◌, OnOk, decimal, map};
+ghost use Rattle.std.specs.Prelude.{◌≡◌, ◌++◌, OnOk, decimal, false, map};
+ghost use Rattle.std.specs.List.{list_any};
+ghost use Rattle.frac_core.specs.Fraction.{is_wide};
 ghost use Rattle.decimal_json.specs.Text.{with_commas};
 ghost use Rattle.process_core.specs.Seen.{seen_kinds};
+ghost use Rattle.process_texts.specs.Given.{is_wide_value};
 ghost use Rattle.process_texts.specs.Texts.{comma_before, fraction_text, name_text, state_text, value_text};
 ghost use Rattle.walk_texts.specs.Lines.{kinds_text, label_text};
 
@@ -23,7 +26,8 @@ pub(crate) fn push_number(out: &mut Vec<u8>, n: usize) -> Result<(), AllocError>
 
 /// Writes a fraction.
 pub(crate) fn push_fraction(out: &mut Vec<u8>, x: Frac) -> Result<(), AllocError>
-    ensures { OnOk result (out.new.items ≡ out.old.items ++ fraction_text x) }
+    ensures text { OnOk result (out.new.items ≡ out.old.items ++ fraction_text x) }
+    ensures narrow { is_wide x ≡ false }
 {
     let mut buffer = Buffer::new();
     out.extend_from_slice(buffer.format(x.num()).as_bytes())?;
@@ -36,7 +40,8 @@ pub(crate) fn push_fraction(out: &mut Vec<u8>, x: Frac) -> Result<(), AllocError
 
 /// Writes a value.
 fn push_value(out: &mut Vec<u8>, value: Value) -> Result<(), AllocError>
-    ensures { OnOk result (out.new.items ≡ out.old.items ++ value_text value) }
+    ensures text { OnOk result (out.new.items ≡ out.old.items ++ value_text value) }
+    ensures narrow { is_wide_value value ≡ false }
 {
     match value {
         Value::Truth(true) => out.extend_from_slice(b"true"),
@@ -57,7 +62,8 @@ fn push_comma(out: &mut Vec<u8>, i: usize) -> Result<(), AllocError>
 
 /// Writes values with commas between them.
 fn push_values(out: &mut Vec<u8>, values: &[Value]) -> Result<(), AllocError>
-    ensures { OnOk result (out.new.items ≡ out.old.items ++ with_commas (map value_text values.now)) }
+    ensures text { OnOk result (out.new.items ≡ out.old.items ++ with_commas (map value_text values.now)) }
+    ensures narrow { OnOk result (list_any is_wide_value values.now ≡ false) }
 {
     for (i, value) in values.iter().enumerate() {
         push_comma(out, i)?;
@@ -68,7 +74,8 @@ fn push_values(out: &mut Vec<u8>, values: &[Value]) -> Result<(), AllocError>
 
 /// Writes a state.
 pub(crate) fn push_state(out: &mut Vec<u8>, s: &State) -> Result<(), AllocError>
-    ensures { OnOk result (out.new.items ≡ out.old.items ++ state_text s.now.values) }
+    ensures text { OnOk result (out.new.items ≡ out.old.items ++ state_text s.now.values) }
+    ensures narrow { OnOk result (list_any is_wide_value s.now.values ≡ false) }
 {
     out.extend_from_slice(b"(")?;
     push_values(out, s.values.as_slice())?;

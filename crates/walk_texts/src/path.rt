@@ -1,8 +1,8 @@
 // What is written of a walk, and why it goes no further.
 
 ghost use Rattle.std.specs.Prelude.{◌≡◌, ◌++◌, OnOk, IfOk};
-ghost use Rattle.std.specs.List.{flat_map};
-ghost use Rattle.walk_texts.specs.Jobs.{ended, report_of};
+ghost use Rattle.std.specs.List.{All, flat_map};
+ghost use Rattle.walk_texts.specs.Jobs.{IsNarrowStep, IsNarrowWalk, ended, report_of};
 ghost use Rattle.walk_texts.specs.Lines.{path_text, step_line};
 ghost use Rattle.walk_texts.specs.Stops.{stop_line};
 
@@ -16,7 +16,8 @@ use step_sim::{Step, Stop, Walk};
 
 /// Writes the line of a step.
 fn push_step(alloc: Global, out: &mut Vec<u8>, step: &Step) -> Result<(), AllocError>
-    ensures { OnOk result (out.new.items ≡ out.old.items ++ step_line step.now) }
+    ensures text { OnOk result (out.new.items ≡ out.old.items ++ step_line step.now) }
+    ensures narrow { OnOk result (IsNarrowStep step.now) }
 {
     push_label(alloc, out, &step.label)?;
     out.extend_from_slice(b" ")?;
@@ -26,7 +27,8 @@ fn push_step(alloc: Global, out: &mut Vec<u8>, step: &Step) -> Result<(), AllocE
 
 /// Writes the lines of steps.
 fn push_steps(alloc: Global, out: &mut Vec<u8>, steps: &[Step]) -> Result<(), AllocError>
-    ensures { OnOk result (out.new.items ≡ out.old.items ++ flat_map step_line steps.now) }
+    ensures text { OnOk result (out.new.items ≡ out.old.items ++ flat_map step_line steps.now) }
+    ensures narrow { OnOk result (All IsNarrowStep steps.now) }
 {
     for step in steps {
         push_step(alloc, out, step)?;
@@ -36,7 +38,8 @@ fn push_steps(alloc: Global, out: &mut Vec<u8>, steps: &[Step]) -> Result<(), Al
 
 /// The text of a walk.
 fn path_text<S: Steps>(alloc: Global, s: &S, walk: &Walk) -> Result<List<u8>, AllocError>
-    ensures { IfOk result (λ t. t ≡ path_text (S.process s.now) walk.now.first.values walk.now.steps) }
+    ensures text { IfOk result (λ t. t ≡ path_text (S.process s.now) walk.now.first.values walk.now.steps) }
+    ensures narrow { OnOk result (IsNarrowWalk walk.now) }
 {
     let mut out = Vec::new(alloc);
     push_head(alloc, &mut out, s, &walk.first)?;
@@ -76,7 +79,8 @@ fn ended(alloc: Global, path: List<u8>, k: usize, stop: Stop) -> Result<Report, 
 
 /// What is written of a walk.
 pub(crate) fn report_of<S: Steps>(alloc: Global, s: &S, walk: &Walk) -> Result<Report, AllocError>
-    ensures { IfOk result (λ r. r ≡ report_of (S.process s.now) walk.now) }
+    ensures report { IfOk result (λ r. r ≡ report_of (S.process s.now) walk.now) }
+    ensures narrow { OnOk result (IsNarrowWalk walk.now) }
 {
     let path = path_text(alloc, s, walk)?;
     ended(alloc, path, walk.steps.len(), walk.stop)

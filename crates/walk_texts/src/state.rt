@@ -1,10 +1,11 @@
 // What is written of one state.
 
-ghost use Rattle.std.specs.Prelude.{◌≡◌, ◌++◌, OnOk, IfOk, IsTrue, length, map};
-ghost use Rattle.std.specs.List.{flat_map};
+ghost use Rattle.std.specs.Prelude.{◌≡◌, ◌++◌, OnOk, IfOk, IsTrue, false, length, map};
+ghost use Rattle.std.specs.List.{flat_map, list_any};
 ghost use Rattle.process_core.specs.Instance.{numbered};
 ghost use Rattle.process_core.specs.Answers.{Answers, only_wide};
 ghost use Rattle.process_core.specs.Seen.{seen_branch, seen_choice, seen_outcome};
+ghost use Rattle.process_texts.specs.Given.{is_wide_value};
 ghost use Rattle.walk_texts.specs.Lines.{branch_line, choice_lines, fraction_or_undef, head_lines, mark_line, mark_lines, marked_text, outcome_text, reward_text, show_text, truth_or_undef};
 ghost use Rattle.walk_texts.specs.Jobs.{show_excess};
 
@@ -22,7 +23,8 @@ pub(crate) fn push_head<S: Steps>(
     s: &S,
     state: &State,
 ) -> Result<(), AllocError>
-    ensures { OnOk result (out.new.items ≡ out.old.items ++ head_lines (S.process s.now) state.now.values) }
+    ensures text { OnOk result (out.new.items ≡ out.old.items ++ head_lines (S.process s.now) state.now.values) }
+    ensures narrow { OnOk result (list_any is_wide_value state.now.values ≡ false) }
 {
     let header = header_text(alloc, s)?;
     out.extend_from_slice(header.as_str().as_bytes())?;
