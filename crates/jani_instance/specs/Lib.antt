@@ -11,3 +11,4 @@ pub mod Lawful
 pub mod Transients
 pub mod Actions
 pub mod Knowing
+pub mod OneProcess

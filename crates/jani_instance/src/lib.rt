@@ -11,6 +11,7 @@ mod data;
 mod edges;
 mod groups;
 mod instance;
+mod laws;
 mod located;
 mod marks;
 mod parts;
@@ -21,4 +22,5 @@ mod transients;
 mod vectors;
 
 pub use instance::JaniInstance;
+pub use laws::one_process_law;
 pub use start::start_jani;

@@ -10,3 +10,4 @@ pub mod Knowing
 pub mod Sound
 pub mod Instance
 pub mod Lawful
+pub mod OneProcess

@@ -1,5 +1,6 @@
 //! Laws of what files describe: functions that do nothing, whose contracts are the laws.
 ghost use Rattle.prism_meaning.specs.Described.{DescribedAlike};
+ghost use Rattle.prism_meaning.specs.OneProcess.{OneProcess};
 
 use prism_check::meaning_law;
 
@@ -10,3 +11,8 @@ pub fn described_law()
 {
     meaning_law();
 }
+
+/// Under each valuation the process that a file describes is the one that it means. Nothing is done.
+pub fn one_process_law()
+    ensures { OneProcess }
+{}

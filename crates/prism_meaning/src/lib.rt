@@ -19,5 +19,5 @@ mod state_names;
 mod variables;
 
 pub use instance::PrismInstance;
-pub use laws::described_law;
+pub use laws::{described_law, one_process_law};
 pub use start::start_prism;
