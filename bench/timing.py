@@ -49,7 +49,7 @@ def words(program):
     return os.path.abspath(given.program), given.runs
 
 
-@functools.cache
+@functools.lru_cache(maxsize=None)
 def runner():
     """The program RUN, compiled into a folder of its own."""
     at = tempfile.mkdtemp()
