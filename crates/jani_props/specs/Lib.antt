@@ -1,4 +1,5 @@
 pub mod Words
+pub mod Members
 pub mod Table
 pub mod Shape
 pub mod Clean

@@ -1,5 +1,6 @@
--- What stands where in the properties of a JANI file (jani-model specification, version 1, "Properties"): the objects, their members and
--- what each member has to be. Which forms are left out is this project's own rule.
+-- What stands where in the properties of a JANI file (jani-model specification, version 1, "Properties"): how keys are written, which
+-- members each object has, and what the value of a member and the items of a list have to be. Which forms are left out is this project's
+-- own rule.
 use Rattle.std.specs.Prelude.{ℕ, List, [], Option, Some, None, codes, bytes_eq, find, map}
 use Rattle.std.specs.Option.{option_map}
 use Rattle.jani_table.specs.declared.table.Form.{Form}
@@ -7,14 +8,13 @@ use Rattle.jani_table.specs.declared.table.Form.TheVariants as Table
 use Rattle.jani_table.specs.declared.table.Need.{Need}
 use Rattle.jani_table.specs.Table as table
 use Rattle.jani_table.specs.Table.{spelled}
-use Rattle.jani_props.specs.declared.words.Side.TheVariants.{Least, Greatest}
 use Rattle.jani_props.specs.declared.table.PropKey.{PropKey}
 use Rattle.jani_props.specs.declared.table.PropKey.TheVariants as K
 use Rattle.jani_props.specs.declared.table.PropForm.{PropForm}
 use Rattle.jani_props.specs.declared.table.PropForm.TheVariants as F
 use Rattle.jani_props.specs.declared.table.PropKind.{PropKind}
 use Rattle.jani_props.specs.declared.table.PropKind.TheVariants as O
-use Rattle.jani_props.specs.declared.table.TheConstants.{PROPERTY, FILTER, PROBABILITY, REWARD, FROM_BELOW, FROM_ABOVE, ONE_PATH, TWO_PATHS, STEP_BOUND, LABEL}
+use Rattle.jani_props.specs.Members as members
 
 -- the key as it is written
 abbrev pub spelled_key : PropKey → List ℕ
@@ -32,18 +32,17 @@ spelled_key K.Upper = codes "upper"
 abbrev pub Row : Type 0
 Row = PropKey × Need × PropForm
 
--- The members of each object of properties alone, as src/table.rt lists them. A comment may stand in every object.
+-- the members of each object of properties alone; none of an operator, whose members are those that it has in a model
 abbrev pub own_rows : PropKind → List Row
-own_rows O.Property = PROPERTY
-own_rows O.Filter = FILTER
-own_rows O.Probability = PROBABILITY
-own_rows O.Reward = REWARD
-own_rows (O.Comparison Least) = FROM_BELOW
-own_rows (O.Comparison Greatest) = FROM_ABOVE
-own_rows O.OnePath = ONE_PATH
-own_rows O.TwoPaths = TWO_PATHS
-own_rows O.StepBound = STEP_BOUND
-own_rows O.Label = LABEL
+own_rows O.Property = members.property
+own_rows O.Filter = members.filter
+own_rows O.Probability = members.probability
+own_rows O.Reward = members.reward
+own_rows (O.Comparison side) = members.comparison side
+own_rows O.OnePath = members.one_path
+own_rows O.TwoPaths = members.two_paths
+own_rows O.StepBound = members.step_bound
+own_rows O.Label = members.label
 own_rows (O.Operation k) = []
 
 -- what the value of an operator's member has to be, by what it has to be in a model
