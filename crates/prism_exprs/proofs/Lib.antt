@@ -7,6 +7,7 @@ pub mod Furthest
 pub mod Cut
 pub mod Exprs
 pub mod Keeping
+pub mod Ascii
 pub mod Symbols
 pub mod Climb
 pub mod Rising

@@ -2,7 +2,6 @@
 use Rattle.std.proofs.Common.{◌≡◌, ℕ, Bool, true, false, List, [], ◌∷◌, ◌++◌, Option, Some, None, refl, sym, ap, subst, ◌∙◌, map, append-nil}
 use Rattle.std.specs.Prelude.{if◌then◌else◌}
 use Rattle.std.specs.Option.{option_map}
-use Rattle.std.specs.Str.{is_utf8}
 use Rattle.frac_core.specs.declared.decimal.Decimal.{Decimal}
 use Rattle.op_trees.specs.Tree.{Number, Name}
 use Rattle.prism_lex.specs.declared.token.TokenKind.TheVariants as K
@@ -12,7 +11,7 @@ use Rattle.prism_exprs.specs.declared.tokens.Kept.TheVariants as H
 use Rattle.prism_exprs.specs.declared.tokens.Found.{Found}
 use Rattle.prism_exprs.specs.declared.tokens.Literal.{Literal}
 use Rattle.prism_tree.specs.Lang.{Lang, gives, token_with, ◌>>=◌, ◌or◌}
-use Rattle.prism_exprs.specs.Kept.{lexeme_at, lexeme_by, literal_at, in_row, text_at, made}
+use Rattle.prism_exprs.specs.Kept.{is_ascii_text, lexeme_at, lexeme_by, literal_at, in_row, text_at, made}
 use Rattle.prism_exprs.specs.Reading.{none, Fails}
 use Rattle.prism_tree.specs.Grammar.{number_at, number_of, name_or_call, arguments, function_of, prim, expr}
 use Rattle.prism_exprs.specs.Levels.{more, begins_prim}
@@ -75,7 +74,7 @@ number_missing bytes literals found xs x row e h v =
 
 -- ---- names
 
-name_kept : (bytes : List ℕ) (literals : List Literal) (x : Found) (b : Bool) → x.kind ≡ H.Ident → is_utf8 (text_at bytes x.at x.size) ≡ b →
+name_kept : (bytes : List ℕ) (literals : List Literal) (x : Found) (b : Bool) → x.kind ≡ H.Ident → is_ascii_text (text_at bytes x.at x.size) ≡ b →
     lexeme_at bytes literals x ≡ (if b then made K.Ident (text_at bytes x.at x.size) x.at else made K.End (text_at bytes x.at x.size) x.at)
 name_kept bytes literals x b h e =
     let w = text_at bytes x.at x.size in
@@ -86,15 +85,15 @@ unfolding name_or_call
 name_leads_by t us h = leads_on (prim_name (t ∷ us) us t refl h) (step _ _ (begin (name_or_call expr) (more 0) (t ∷ us)) (token_one _) (token_reads t us refl h))
 
 pub name_leads : (bytes : List ℕ) (literals : List Literal) (found xs : List Found) (x : Found) (us : List Lexeme) (w : List ℕ) → found ≡ x ∷ xs → x.kind ≡ H.Ident → us ≡ map (lexeme_at bytes literals) xs →
-    (w ≡ text_at bytes x.at x.size) × (is_utf8 w ≡ true) → Leads (more 0) (prim expr) (map (lexeme_at bytes literals) found) (gives (Name x.at w) or arguments expr (function_of w) x.at) us
+    (w ≡ text_at bytes x.at x.size) × (is_ascii_text w ≡ true) → Leads (more 0) (prim expr) (map (lexeme_at bytes literals) found) (gives (Name x.at w) or arguments expr (function_of w) x.at) us
 name_leads bytes literals found xs x us w e h g v =
     let f = lexeme_at bytes literals in
-    let n : f x ≡ made K.Ident (text_at bytes x.at x.size) x.at = name_kept bytes literals x true h (ap is_utf8 (sym v.0) ∙ v.1) in
+    let n : f x ≡ made K.Ident (text_at bytes x.at x.size) x.at = name_kept bytes literals x true h (ap is_ascii_text (sym v.0) ∙ v.1) in
     let m : f x ≡ made K.Ident w x.at = n ∙ ap (λ (u : List ℕ). made K.Ident u x.at) (sym v.0) in
     let F : List Lexeme → Type 0 = λ u. Leads (more 0) (prim expr) u (gives (Name x.at w) or arguments expr (function_of w) x.at) us in
     subst F (ap (λ (t : Lexeme). t ∷ us) (sym m) ∙ ap (λ (u : List Lexeme). f x ∷ u) g ∙ sym (map_cons f found xs x e)) (name_leads_by (made K.Ident w x.at) us refl)
 
-pub name_missing : (bytes : List ℕ) (literals : List Literal) (found xs : List Found) (x : Found) → found ≡ x ∷ xs → x.kind ≡ H.Ident → is_utf8 (text_at bytes x.at x.size) ≡ false →
+pub name_missing : (bytes : List ℕ) (literals : List Literal) (found xs : List Found) (x : Found) → found ≡ x ∷ xs → x.kind ≡ H.Ident → is_ascii_text (text_at bytes x.at x.size) ≡ false →
     Fails (prim expr) (more 0) (map (lexeme_at bytes literals) found) (map (lexeme_at bytes literals) found)
 name_missing bytes literals found xs x e h v =
     no_operand _ found xs x e (ap (λ (t : Lexeme). begins_prim t.kind) (name_kept bytes literals x false h v))

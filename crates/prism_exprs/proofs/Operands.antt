@@ -1,6 +1,5 @@
 -- The steps of the reader of operands over kept tokens: truth values and parentheses.
 use Rattle.std.proofs.Common.{◌≡◌, ℕ, true, false, List, ◌∷◌, refl, sym, ap, subst, ◌∙◌, map, length}
-use Rattle.std.specs.Str.{is_utf8}
 use Rattle.op_trees.specs.Tree.{Truth}
 use Rattle.prism_lex.specs.declared.token.TokenKind.TheVariants as K
 use Rattle.prism_lex.specs.declared.words.Reserved.{Reserved}
@@ -15,7 +14,7 @@ use Rattle.prism_exprs.specs.declared.tokens.Literal.{Literal}
 use Rattle.prism_exprs.specs.declared.tokens.Stop.{Stop}
 use Rattle.prism_tree.specs.Syntax.{Expression, moved}
 use Rattle.prism_tree.specs.Lang.{Lang, gives, ◌>>=◌}
-use Rattle.prism_exprs.specs.Kept.{lexeme_at, lexeme_by, text_at}
+use Rattle.prism_exprs.specs.Kept.{is_ascii_text, lexeme_at, lexeme_by, text_at}
 use Rattle.prism_exprs.specs.Reading.{none, Reads, Fails, Stops}
 use Rattle.prism_tree.specs.Grammar.{symbol, word, truth, parenthesised, prim, expr}
 use Rattle.prism_exprs.specs.Levels.{more, goes_on, begins_prim}
@@ -118,4 +117,4 @@ pub quoted_name : (bytes : List ℕ) (literals : List Literal) (found xs : List 
     Fails (prim expr) (more 0) (map (lexeme_at bytes literals) found) (map (lexeme_at bytes literals) found)
 quoted_name bytes literals found xs x e h =
     let w = text_at bytes x.at x.size in
-    no_operand _ found xs x e (ap begins_prim (kind_kept bytes literals x H.Quoted h) ∙ of_name (is_utf8 w) K.Quoted w x.at begins_prim false refl refl)
+    no_operand _ found xs x e (ap begins_prim (kind_kept bytes literals x H.Quoted h) ∙ of_name (is_ascii_text w) K.Quoted w x.at begins_prim false refl refl)

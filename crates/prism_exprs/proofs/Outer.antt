@@ -7,7 +7,7 @@ use Rattle.std.proofs.lemmas.Result.{err_from_is_err_and}
 use Rattle.std.proofs.Math.Seq.{drop-append_seam}
 use Rattle.std.proofs.Math.ListN.{drop_of_length-le}
 use Rattle.std.proofs.Math.Nat.{min-le_left, min-le_right, min-eq_left, min-eq_right}
-use Rattle.std.specs.Prelude.{◌⊎◌, Contains, slice_index_or, take, drop, min, map, ◌-◌, Result, IsErr, IsErrAnd}
+use Rattle.std.specs.Prelude.{◌⊎◌, Contains, slice_index_or, take, drop, min, map, ◌-◌, Result, IsErr, IsErrAnd, IfErr}
 use Rattle.prism_lex.specs.declared.token.TokenKind.{TokenKind}
 use Rattle.prism_lex.specs.Tokens.{Lexeme}
 use Rattle.prism_tree.specs.Syntax.{Expression}
@@ -23,7 +23,7 @@ use Rattle.prism_exprs.specs.declared.tokens.Stop.TheVariants.{Memory, At}
 use Rattle.prism_exprs.specs.Kept.{seen, lexeme_at}
 use Rattle.prism_exprs.specs.Reading.{Ends, next, Dead, Reads, Fails, Stops}
 use Rattle.prism_exprs.specs.Levels.{more, goes_on, CanBegin}
-use Rattle.prism_exprs.specs.Scope.{Scope, expressions, expressions_of, early, in_limit, prims, IsCounted, Halts, StopsIn, ParsesIn, IsWithin, IsPast}
+use Rattle.prism_exprs.specs.Scope.{Scope, expressions, expressions_of, early, in_limit, prims, IsCounted, Halts, StopsIn, ParsesIn, IsWithin, IsPast, IsPlainStop}
 use Rattle.prism_exprs.proofs.Laws.{IsOne, HasWord, Ends-next}
 use Rattle.prism_exprs.proofs.Choice.{Opens, then_opens}
 use Rattle.prism_exprs.proofs.Exprs.{expr_one, expr_word, expr-conditional, level_opens, prim_one}
@@ -363,3 +363,14 @@ pub leaves_in : {X A : Type 0} (view : X → A) (L : Scope → Lang A) (more : T
 leaves_in view L more ts r e h s =
     let p = err_from_is_err_and r h.1 in
     rw (p.1, p.2) s
+
+-- ---- why reading stops
+
+pub past_plain : (n : ℕ) (ts : List Lexeme) (e : Stop) → IsPast n ts e → IsPlainStop e
+past_plain n ts Memory p = absurd p
+past_plain n ts (At r c) p = let F : Cause → Type 0 = λ d. IsPlainStop (At r d) in subst F (sym p.2) tt
+
+pub leaves_plain : {Y : Type 0} (r : Result Y Stop) (e : Stop) → IsErr r × IsErrAnd r (λ x. x ≡ e) → IsPlainStop e → IfErr r IsPlainStop
+leaves_plain r e h p =
+    let q = err_from_is_err_and r h.1 in
+    rw (q.1, q.2) p

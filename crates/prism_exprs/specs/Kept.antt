@@ -1,6 +1,7 @@
 -- The tokens that the code keeps, as the grammar sees them.
 use Rattle.std.specs.Prelude.{ℕ, ◌+◌, ◌*◌, Bool, false, List, [], map, take, drop, Option, Some, None, slice_get, if◌then◌else◌}
-use Rattle.std.specs.Str.{is_utf8}
+use Rattle.std.specs.Char.{is_ascii}
+use Rattle.std.specs.List.{list_all}
 use Rattle.prism_lex.specs.declared.token.TokenKind.{TokenKind}
 use Rattle.prism_lex.specs.declared.token.TokenKind.TheVariants as K
 use Rattle.prism_lex.specs.Tokens.{Lexeme}
@@ -23,9 +24,12 @@ text_at bytes at size = take size (drop at bytes)
 abbrev pub made : TokenKind → List ℕ → ℕ → Lexeme
 made kind text at = record { kind = kind; text = text; at = at }
 
--- A name that is no text, or a number that is no literal, is seen as an end, which no grammar reads.
+abbrev pub is_ascii_text : List ℕ → Bool
+is_ascii_text w = list_all is_ascii w
+
+-- Names are ASCII. A name that isn't, or a number that is no literal, is seen as an end, which no grammar reads.
 abbrev pub name_at : TokenKind → List ℕ → ℕ → Lexeme
-name_at kind text at = if is_utf8 text then made kind text at else made K.End text at
+name_at kind text at = if is_ascii_text text then made kind text at else made K.End text at
 
 abbrev pub literal_at : List ℕ → Option Literal → ℕ → Lexeme
 literal_at bytes None at = made K.End [] at

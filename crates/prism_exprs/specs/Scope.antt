@@ -86,6 +86,13 @@ abbrev pub ParsesIn : {X A : Type 0} → (X → A) → (Scope → Lang A) → (T
 ParsesIn view L more ts (Ok y) = (s : Scope) → Reads (L s) more ts (view y.0) (seen y.1)
 ParsesIn view L more ts (Err e) = (s : Scope) → StopsIn s (L s) more ts e
 
+-- Reading stopped because a token cannot stand there, or because of the limit.
+abbrev pub IsPlainStop : Stop → Type 0
+IsPlainStop Memory = Unit {0}
+IsPlainStop (At r C.Form) = Unit {0}
+IsPlainStop (At r C.Deep) = Unit {0}
+IsPlainStop (At r c) = ⊥
+
 -- These are the tokens behind the first few, and those are no more than 1,024.
 abbrev pub IsWithin : ℕ → List Lexeme → List Lexeme → Type 0
 IsWithin n ts rest = (n ≤ 1024) × (rest ≡ drop n ts)

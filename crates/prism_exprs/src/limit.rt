@@ -3,7 +3,7 @@ ghost use Rattle.std.specs.Prelude.{◌≤◌, length, IfOk, IfErr};
 ghost use Rattle.op_trees.specs.Tree.{tree};
 ghost use Rattle.prism_exprs.specs.Kept.{seen};
 ghost use Rattle.prism_exprs.specs.Levels.{more, goes_on};
-ghost use Rattle.prism_exprs.specs.Scope.{ParsesIn, expressions, prims, IsWithin, IsPast};
+ghost use Rattle.prism_exprs.specs.Scope.{ParsesIn, expressions, prims, IsWithin, IsPast, IsPlainStop};
 
 use crate::expressions::{parse_expr, parse_prim};
 use crate::tokens::{Cause, Stop, Tokens};
@@ -38,12 +38,13 @@ pub fn parse_outer<'a>(
 }
 
 /// An operand that stands inside no other expression, of at most 1,024 tokens, as `parse_outer` reads an expression. Behind it no
-/// `(` stands.
+/// `(` stands. Reading stops because of `Cause::Form` or `Cause::Deep`, and of no other.
 pub fn parse_outer_prim<'a>(
     alloc: Global,
     tokens: Tokens<'a>,
 ) -> Result<(PrismExpr, Tokens<'a>), Stop<'a>>
-    ensures { ParsesIn tree prims (more 0) (seen tokens.entry) result }
+    ensures read { ParsesIn tree prims (more 0) (seen tokens.entry) result }
+    ensures plain { IfErr result IsPlainStop }
 {
     let ahead = tokens.found.len().min(MOST + 1);
     let (front, _) = tokens.found.split_at(ahead);

@@ -1,8 +1,7 @@
 // The tokens that are still to be read, as they are kept, and why reading stops.
 ghost use Rattle.std.specs.Prelude.{◌≡◌, map, IfSome, IfNone, true, false};
 ghost use Rattle.std.specs.Option.{option_map};
-ghost use Rattle.std.specs.Str.{is_utf8};
-ghost use Rattle.prism_exprs.specs.Kept.{text_at, in_row, lexeme_at, seen};
+ghost use Rattle.prism_exprs.specs.Kept.{is_ascii_text, text_at, in_row, lexeme_at, seen};
 ghost use Rattle.prism_exprs.specs.declared.tokens.Stop.TheVariants.{Memory};
 
 use frac_core::Decimal;
@@ -124,15 +123,17 @@ impl<'a> Tokens<'a> {
         rest.split_at((token.size as usize).min(rest.len())).0
     }
 
-    /// The text of a name; none where its bytes are no text, and the grammar sees an end.
+    /// The text of a name; none where its bytes aren't all ASCII, and the grammar sees an end.
     pub fn name(self, token: Found) -> Option<&'a str>
-        ensures some { IfSome result (λ name. (name.now ≡ text_at self.entry.source.now.bytes.now token.at token.size) × (is_utf8 name.now ≡ true)) }
-        ensures none { IfNone result (is_utf8 (text_at self.entry.source.now.bytes.now token.at token.size) ≡ false) }
+        ensures some { IfSome result (λ name. (name.now ≡ text_at self.entry.source.now.bytes.now token.at token.size) × (is_ascii_text name.now ≡ true)) }
+        ensures none { IfNone result (is_ascii_text (text_at self.entry.source.now.bytes.now token.at token.size) ≡ false) }
     {
-        match str::from_utf8(self.text(token)) {
-            Ok(name) => Some(name),
-            Err(_) => None,
+        let text = self.text(token);
+        if !text.is_ascii() {
+            return None;
         }
+        // What is ASCII is UTF-8, so nothing more has to be looked at.
+        Some(unsafe { str::from_utf8_unchecked(text) })
     }
 
     /// The value of a number, by the row of its literal and the place in it; none where the file has no such literal, and the

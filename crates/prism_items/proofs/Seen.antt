@@ -1,5 +1,5 @@
 -- One token of those that are kept, as the grammar sees it.
-use Rattle.std.proofs.Common.{◌≡◌, ℕ, Bool, true, false, List, [], ◌∷◌, Some, None, refl, sym, ap, subst, ◌∙◌, map, length, if◌then◌else◌}
+use Rattle.std.proofs.Common.{◌≡◌, ℕ, Bool, true, false, List, [], ◌∷◌, ◌++◌, Some, None, refl, sym, ap, subst, ◌∙◌, map, length, if◌then◌else◌}
 use denote.Enum.Bare.{true_same}
 use Rattle.bridge_io.specs.declared.reason.Named.{Named}
 use Rattle.prism_lex.specs.contracts.words.Reserved.{the_type as words}
@@ -14,8 +14,7 @@ use Rattle.prism_exprs.specs.declared.tokens.Found.{Found}
 use Rattle.prism_exprs.specs.declared.tokens.Literal.{Literal}
 use Rattle.prism_exprs.specs.declared.tokens.Kept.{Kept}
 use Rattle.prism_exprs.specs.declared.tokens.Kept.TheVariants as H
-use Rattle.std.specs.Str.{is_utf8}
-use Rattle.prism_exprs.specs.Kept.{lexeme_at, lexeme_by, in_row, made, text_at}
+use Rattle.prism_exprs.specs.Kept.{is_ascii_text, lexeme_at, lexeme_by, in_row, text_at}
 use Rattle.prism_exprs.specs.Reading.{none, Reads, starts, is_kind, same_kind}
 use Rattle.prism_exprs.specs.Scope.{Scope, Halts}
 use Rattle.prism_exprs.proofs.Laws.{none_follows, token_word, gives_word, then_word, then_reads, token_reads, gives_reads}
@@ -25,6 +24,9 @@ use Rattle.prism_exprs.proofs.Loops.{same_is, starts_not}
 use Rattle.prism_exprs.proofs.Symbols.{starts_empty}
 use Rattle.std.proofs.Common.{arith, Option}
 use Rattle.std.proofs.lemmas.Option.{cond_some}
+use Rattle.std.proofs.lemmas.Bool.{and_parts}
+use Rattle.std.proofs.lemmas.List.Folds.{list_all-append}
+use Rattle.std.specs.Char.{is_ascii}
 use Rattle.op_trees.specs.declared.tree.Ty.{Ty}
 use Rattle.op_trees.specs.declared.tree.Ty.TheVariants as T
 use Rattle.prism_lex.specs.declared.words.Reserved.TheVariants as W
@@ -46,20 +48,6 @@ pub none_next : (f : Found → Lexeme) (k : TokenKind) (found : List Found) → 
 none_next f k found same e s = not_next k (map f found) same (starts_empty (is_kind k) f found e) s
 
 -- ---- texts
-
-named_text : (b c : Bool) (k : TokenKind) (w : List ℕ) (at : ℕ) → same_kind k k ≡ true → b ≡ c → text_if k (if b then made k w at else made K.End w at) ≡ (if c then Some w else None)
-named_text true true k w at e g = rw e refl
-named_text false false k w at e g = refl
-named_text true false k w at e g = absurd cc
-named_text false true k w at e g = absurd cc
-
-pub identifier_kept : (bytes : List ℕ) (literals : List Literal) (x : Found) (b : Bool) → x.kind ≡ H.Ident → is_utf8 (text_at bytes x.at x.size) ≡ b → text_if K.Ident (lexeme_at bytes literals x) ≡ (if b then Some (text_at bytes x.at x.size) else None)
-identifier_kept bytes literals x b e h =
-    ap (λ (k : Kept). text_if K.Ident (lexeme_by bytes literals k x.at x.size)) e ∙ named_text (is_utf8 (text_at bytes x.at x.size)) b K.Ident (text_at bytes x.at x.size) x.at refl h
-
-pub quotation_kept : (bytes : List ℕ) (literals : List Literal) (x : Found) (b : Bool) → x.kind ≡ H.Quoted → is_utf8 (text_at bytes x.at x.size) ≡ b → text_if K.Quoted (lexeme_at bytes literals x) ≡ (if b then Some (text_at bytes x.at x.size) else None)
-quotation_kept bytes literals x b e h =
-    ap (λ (k : Kept). text_if K.Quoted (lexeme_by bytes literals k x.at x.size)) e ∙ named_text (is_utf8 (text_at bytes x.at x.size)) b K.Quoted (text_at bytes x.at x.size) x.at refl h
 
 none_kind : (b : Bool) (t : List ℕ) → (if b then Some t else None) ≡ None → b ≡ false
 none_kind true t e = absurd cc
@@ -95,8 +83,8 @@ word_type r = refl
 pub type_kept : (bytes : List ℕ) (literals : List Literal) (k : Kept) (at size : ℕ) → type_of (lexeme_by bytes literals k at size).kind ≡ kept_type k
 type_kept bytes literals (H.Word r) at size = word_type r
 type_kept bytes literals (H.Symbol a) at size = refl
-type_kept bytes literals H.Ident at size = of_name (is_utf8 (text_at bytes at size)) K.Ident (text_at bytes at size) at type_of None refl refl
-type_kept bytes literals H.Quoted at size = of_name (is_utf8 (text_at bytes at size)) K.Quoted (text_at bytes at size) at type_of None refl refl
+type_kept bytes literals H.Ident at size = of_name (is_ascii_text (text_at bytes at size)) K.Ident (text_at bytes at size) at type_of None refl refl
+type_kept bytes literals H.Quoted at size = of_name (is_ascii_text (text_at bytes at size)) K.Quoted (text_at bytes at size) at type_of None refl refl
 type_kept bytes literals (H.Number row) at size = of_literal bytes (in_row literals row size) at type_of None (λ l. refl) refl
 
 pub type_seen : (bytes : List ℕ) (literals : List Literal) (found xs : List Found) (x : Found) (ty : Option Ty) → found ≡ x ∷ xs → ty ≡ kept_type x.kind →
@@ -113,3 +101,8 @@ type_none f [] e = refl
 type_none f (x ∷ xs) e = absurd (omega (arith, e))
 
 -- ---- quotes
+
+pub ascii_between : (w v x : List ℕ) (a b : ℕ) → w ≡ a ∷ v → v ≡ x ++ b ∷ [] → is_ascii_text w ≡ true → is_ascii_text x ≡ true
+ascii_between w v x a b e f h =
+    let i : is_ascii_text v ≡ true = (and_parts (is_ascii a) (is_ascii_text v) (sym (ap is_ascii_text e) ∙ h)).1 in
+    (and_parts (is_ascii_text x) (is_ascii_text (b ∷ [])) (sym (list_all-append is_ascii x (b ∷ [])) ∙ sym (ap is_ascii_text f) ∙ i)).0

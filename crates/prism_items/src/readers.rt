@@ -1,9 +1,9 @@
 // One token, and what stands next.
-ghost use Rattle.std.specs.Prelude.{◌≡◌, ◌⊎◌, ◌++◌, ◌∷◌, [], Err, IfErr, IfNone, IfOk, IfSome, None, Ok, Some, drop};
+ghost use Rattle.std.specs.Prelude.{◌≡◌, ◌⊎◌, ◌++◌, ◌∷◌, [], Err, IfErr, IfNone, IfOk, IfSome, None, Ok, Some, drop, true};
 ghost use Rattle.prism_exprs.specs.declared.tokens.Stop.TheVariants.{Memory};
 ghost use Rattle.prism_lex.specs.declared.token.TokenKind.TheVariants as K;
 ghost use Rattle.prism_tree.specs.Grammar.{symbol, word, name, quoted, unquoted};
-ghost use Rattle.prism_exprs.specs.Kept.{seen, lexeme_at};
+ghost use Rattle.prism_exprs.specs.Kept.{is_ascii_text, seen, lexeme_at};
 ghost use Rattle.prism_exprs.specs.Reading.{none, starts, is_kind};
 ghost use Rattle.prism_exprs.specs.Scope.{ParsesIn};
 ghost use Rattle.prism_items.specs.Parts.{text_if, all_but, followed_by};
@@ -12,7 +12,6 @@ use bridge_io::{List, Named, Text};
 use prism_exprs::{Cause, Found, Kept, Stop, Tokens, symbol_next};
 use prism_lex::{Reserved, Symbol};
 use std::alloc::Global;
-use std::str::from_utf8;
 
 /// Whether this word stands next.
 pub fn word_next(tokens: Tokens, wanted: Reserved) -> bool
@@ -70,24 +69,19 @@ fn identifier<'a>(tokens: Tokens<'a>, found: Found) -> Option<&'a str>
     ensures none { IfNone result (text_if K.Ident (lexeme_at tokens.entry.source.now.bytes.now tokens.entry.source.now.literals.now found) ≡ None) }
 {
     match found.kind {
-        Kept::Ident => match from_utf8(tokens.text(found)) {
-            Ok(text) => Some(text),
-            Err(_) => None,
-        },
+        Kept::Ident => tokens.name(found),
         _ => None,
     }
 }
 
 /// The text of a token, if it is a quoted name.
 fn quotation<'a>(tokens: Tokens<'a>, found: Found) -> Option<&'a str>
+    ensures ascii { IfSome result (λ text. is_ascii_text text.now ≡ true) }
     ensures some { IfSome result (λ text. text_if K.Quoted (lexeme_at tokens.entry.source.now.bytes.now tokens.entry.source.now.literals.now found) ≡ Some text.now) }
     ensures none { IfNone result (text_if K.Quoted (lexeme_at tokens.entry.source.now.bytes.now tokens.entry.source.now.literals.now found) ≡ None) }
 {
     match found.kind {
-        Kept::Quoted => match from_utf8(tokens.text(found)) {
-            Ok(text) => Some(text),
-            Err(_) => None,
-        },
+        Kept::Quoted => tokens.name(found),
         _ => None,
     }
 }
@@ -166,16 +160,19 @@ pub(crate) fn read_name<'a>(
     Ok((Named { name, at }, tokens.with(rest)))
 }
 
-/// What stands between the first byte of a text and its last; none where this is no text.
-pub fn between(text: &str) -> Option<&str>
-    ensures { IfSome result (λ inner. inner.now ≡ unquoted text.now) }
+/// What stands between the first byte of a text of ASCII and its last.
+pub fn between(text: &str) -> &str
+    requires { is_ascii_text text.now ≡ true }
+    ensures { result.now ≡ unquoted text.now }
 {
-    let (_, behind) = text.as_bytes().split_first()?;
-    let (_, inner) = behind.split_last()?;
-    match from_utf8(inner) {
-        Ok(name) => Some(name),
-        Err(_) => None,
-    }
+    let Some((_, behind)) = text.as_bytes().split_first() else {
+        return "";
+    };
+    let Some((_, inner)) = behind.split_last() else {
+        return "";
+    };
+    // It is ASCII, and so UTF-8: nothing has to be looked at.
+    unsafe { str::from_utf8_unchecked(inner) }
 }
 
 /// One quoted name, without its quotes.
@@ -191,11 +188,7 @@ pub(crate) fn read_quoted<'a>(
     let Some(text) = quotation(tokens, *first) else {
         return Err(Stop::At(tokens, Cause::Form));
     };
-    // Between quotes stands a text, so this does not come to pass with tokens of a file.
-    let Some(inner) = between(text) else {
-        return Err(Stop::Memory);
-    };
-    let name = Text::copy_of(alloc, inner)?;
+    let name = Text::copy_of(alloc, between(text))?;
     let at = first.at as usize;
     Ok((Named { name, at }, tokens.with(rest)))
 }

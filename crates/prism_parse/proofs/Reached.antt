@@ -1,8 +1,7 @@
 -- A reader that keeps tokens: what it has kept are the tokens up to an offset, and go on with the next.
 use Rattle.std.proofs.Common.{arith, ◌≡◌, ℕ, zero, suc, ◌+◌, ◌*◌, ◌-◌, ◌≤◌, Bool, true, List, [], ◌∷◌, ◌++◌, map, length, refl, sym, ap, ap₂, subst, ◌∙◌}
 use Rattle.std.specs.Prelude.{Option, Some, None, slice_get, if◌then◌else◌}
-use Rattle.std.specs.Str.{IsAscii, is_utf8}
-use Rattle.std.proofs.lemmas.Str.{IsUtf8-from_ascii, is_utf8-from_IsUtf8}
+use Rattle.std.specs.Str.{IsAscii}
 use Rattle.std.proofs.lemmas.List.{map-append, length-append}
 use Rattle.prism_lex.specs.declared.token.Token.{Token}
 use Rattle.prism_lex.specs.declared.token.TokenKind.{TokenKind}
@@ -14,10 +13,11 @@ use Rattle.prism_exprs.specs.declared.tokens.Kept.{Kept}
 use Rattle.prism_exprs.specs.declared.tokens.Kept.TheVariants.{Word, Symbol, Ident, Quoted, Number}
 use Rattle.prism_exprs.specs.declared.tokens.Found.{Found}
 use Rattle.prism_exprs.specs.declared.tokens.Literal.{Literal}
-use Rattle.prism_exprs.specs.Kept.{text_at, made, name_at, literal_at, in_row, lexeme_by, lexeme_at}
+use Rattle.prism_exprs.specs.Kept.{is_ascii_text, text_at, made, name_at, literal_at, in_row, lexeme_by, lexeme_at}
+use Rattle.prism_exprs.proofs.Ascii.{bytes_ascii}
 use Rattle.prism_parse.specs.Lexed.{kept_kind, IsKeptAs, Keeps}
 
--- ---- a name is a text
+-- ---- a name is ASCII
 
 before_quote : (bs : List ℕ) → IsAscii bs → IsAscii (bs ++ 34 ∷ [])
 before_quote [] h zero = omega arith
@@ -29,11 +29,8 @@ quoted_ascii : (bs : List ℕ) → is_name bs ≡ true → IsAscii (34 ∷ (bs +
 quoted_ascii bs e zero = omega arith
 quoted_ascii bs e (suc i) = before_quote bs (name_ascii bs e) i
 
-ascii_text : (w : List ℕ) → IsAscii w → is_utf8 w ≡ true
-ascii_text w h = is_utf8-from_IsUtf8 w (IsUtf8-from_ascii w h)
-
-quoted_text : (w bs : List ℕ) → w ≡ 34 ∷ (bs ++ 34 ∷ []) → is_name bs ≡ true → is_utf8 w ≡ true
-quoted_text w bs e n = ap is_utf8 e ∙ ascii_text (34 ∷ (bs ++ 34 ∷ [])) (quoted_ascii bs n)
+quoted_text : (w bs : List ℕ) → w ≡ 34 ∷ (bs ++ 34 ∷ []) → is_name bs ≡ true → is_ascii_text w ≡ true
+quoted_text w bs e n = ap is_ascii_text e ∙ bytes_ascii (34 ∷ (bs ++ 34 ∷ [])) (quoted_ascii bs n)
 
 -- ---- what is kept of one token
 
@@ -45,7 +42,7 @@ get_more (y ∷ xs) ys (suc i) x e = get_more xs ys i x e
 some_same : (j k : Kept) → Some j ≡ Some k → k ≡ j
 some_same j k e = cc
 
-named : (k : TokenKind) (w : List ℕ) (at : ℕ) → is_utf8 w ≡ true → name_at k w at ≡ made k w at
+named : (k : TokenKind) (w : List ℕ) (at : ℕ) → is_ascii_text w ≡ true → name_at k w at ≡ made k w at
 named k w at e = ap (λ (b : Bool). if b then made k w at else made K.End w at) e
 
 kept_same : (bytes : List ℕ) (literals : List Literal) (kind : TokenKind) (at n size : ℕ) (k : Kept) → IsKind (text_at bytes at n) kind → IsKeptAs literals kind n k size
@@ -56,7 +53,7 @@ kept_same bytes literals (K.Symbol s) at n size k is h =
     ap (λ (j : Kept). lexeme_by bytes literals j at size) (some_same (Symbol s) k h.0) ∙ ap (λ (m : ℕ). lexeme_by bytes literals (Symbol s) at m) h.1
 kept_same bytes literals K.Ident at n size k is h =
     ap (λ (j : Kept). lexeme_by bytes literals j at size) (some_same Ident k h.0) ∙ ap (λ (m : ℕ). lexeme_by bytes literals Ident at m) h.1
-    ∙ named K.Ident (text_at bytes at n) at (ascii_text _ (name_ascii _ is.0))
+    ∙ named K.Ident (text_at bytes at n) at (bytes_ascii (text_at bytes at n) (name_ascii (text_at bytes at n) is.0))
 kept_same bytes literals K.Quoted at n size k is h =
     ap (λ (j : Kept). lexeme_by bytes literals j at size) (some_same Quoted k h.0) ∙ ap (λ (m : ℕ). lexeme_by bytes literals Quoted at m) h.1
     ∙ named K.Quoted (text_at bytes at n) at (quoted_text _ is.0 is.1 is.2)

@@ -22,7 +22,7 @@ use Rattle.prism_exprs.specs.declared.tokens.Tokens.{Tokens}
 use Rattle.prism_exprs.specs.Kept.{seen}
 use Rattle.prism_exprs.specs.Reading.{Ends, none, next, Dead, Reads, starts, is_kind}
 use Rattle.prism_exprs.specs.Levels.{more, binds_below}
-use Rattle.prism_exprs.specs.Scope.{Scope, early, in_limit, prims, IsStopped, Halts, StopsIn, ParsesIn}
+use Rattle.prism_exprs.specs.Scope.{Scope, early, in_limit, prims, IsStopped, Halts, StopsIn, ParsesIn, IsPlainStop}
 use Rattle.prism_exprs.proofs.Laws.{IsOne, none_ends}
 use Rattle.prism_exprs.proofs.Choice.{Same, same_reads}
 use Rattle.prism_exprs.proofs.Exprs.{number_opens, truth_opens, parenthesised_opens, extremum_opens, arguments_opens}
@@ -30,7 +30,7 @@ use Rattle.prism_exprs.proofs.Outer.{early_short, one_in, prims_read}
 use Rattle.prop_grammar.specs.Faults.{operand, outer_operand, IsNoFunctionName}
 use Rattle.prop_grammar.specs.Grammar
 use Rattle.prop_grammar.specs.Grammar.{IsOpen, function_name, function_name_of, is_name, named_if}
-use Rattle.prop_reader.specs.Parts.{in_scope, operands, operands_of, opens, function_alone, IsPlainStop}
+use Rattle.prop_reader.specs.Parts.{in_scope, operands, operands_of, opens, function_alone}
 use Rattle.prism_items.specs.Files.{plain}
 use Rattle.prism_items.proofs.Filing.{Cut, longer, shorter, cut, some_left}
 use Rattle.prop_reader.proofs.Shut.{IsFunction, function_is, operands_one, operands_word, operand_of}

@@ -1,14 +1,13 @@
 -- Where quoted names are kept as names, they are seen as names.
 use Rattle.std.proofs.Common.{◌≡◌, ℕ, Bool, true, false, List, [], ◌∷◌, map, Option, Some, None, refl, ap, ◌∙◌}
 use Rattle.std.specs.Prelude.{if◌then◌else◌}
-use Rattle.std.specs.Str.{is_utf8}
 use Rattle.prism_lex.specs.declared.token.TokenKind.TheVariants as K
 use Rattle.prism_lex.specs.Tokens.{Lexeme}
 use Rattle.prism_exprs.specs.declared.tokens.Found.{Found}
 use Rattle.prism_exprs.specs.declared.tokens.Kept.{Kept}
 use Rattle.prism_exprs.specs.declared.tokens.Kept.TheVariants.{Word, Symbol, Ident, Quoted, Number}
 use Rattle.prism_exprs.specs.declared.tokens.Literal.{Literal}
-use Rattle.prism_exprs.specs.Kept.{lexeme_at, lexeme_by, literal_at, in_row, text_at, made}
+use Rattle.prism_exprs.specs.Kept.{is_ascii_text, lexeme_at, lexeme_by, literal_at, in_row, text_at, made}
 use Rattle.prop_grammar.specs.Grammar.{as_name}
 use Rattle.prop_reader.specs.Marks.{kept_name, named_found}
 
@@ -27,8 +26,8 @@ literal_seen bytes (Some l) at = refl
 one_seen : (bytes : List ℕ) (literals : List Literal) (k : Kept) (at size : ℕ) → lexeme_by bytes literals (kept_name k) at size ≡ as_name (lexeme_by bytes literals k at size)
 one_seen bytes literals (Word r) at size = refl
 one_seen bytes literals (Symbol s) at size = refl
-one_seen bytes literals Ident at size = name_seen (is_utf8 (text_at bytes at size)) (text_at bytes at size) at
-one_seen bytes literals Quoted at size = quoted_seen (is_utf8 (text_at bytes at size)) (text_at bytes at size) at
+one_seen bytes literals Ident at size = name_seen (is_ascii_text (text_at bytes at size)) (text_at bytes at size) at
+one_seen bytes literals Quoted at size = quoted_seen (is_ascii_text (text_at bytes at size)) (text_at bytes at size) at
 one_seen bytes literals (Number row) at size = literal_seen bytes (in_row literals row size) at
 
 pub marked_seen : (bytes : List ℕ) (literals : List Literal) (found : List Found) → map (lexeme_at bytes literals) (map named_found found) ≡ map as_name (map (lexeme_at bytes literals) found)

@@ -1,7 +1,6 @@
 -- The fault of kept tokens, from the number of those that are left.
 use Rattle.std.proofs.Common.{◌≡◌, ℕ, ◌-◌, Bool, false, List, [], ◌∷◌, ◌++◌, length, map, take, drop, refl, sym, ap, subst, ◌∙◌}
 use Rattle.std.specs.Prelude.{Some, None, slice_get}
-use Rattle.std.specs.Str.{is_utf8}
 use Rattle.bridge_io.specs.declared.reason.Reason.{Reason}
 use Rattle.bridge_io.specs.declared.reason.Reason.TheVariants.{Syntax}
 use Rattle.prism_lex.specs.declared.token.TokenKind.TheVariants as K
@@ -12,7 +11,7 @@ use Rattle.prism_exprs.specs.declared.tokens.Found.{Found}
 use Rattle.prism_exprs.specs.declared.tokens.Kept.{Kept}
 use Rattle.prism_exprs.specs.declared.tokens.Kept.TheVariants.{Word, Symbol, Ident, Quoted, Number}
 use Rattle.prism_exprs.specs.declared.tokens.Literal.{Literal}
-use Rattle.prism_exprs.specs.Kept.{lexeme_at, lexeme_by, in_row, text_at}
+use Rattle.prism_exprs.specs.Kept.{is_ascii_text, lexeme_at, lexeme_by, in_row, text_at}
 use Rattle.prism_exprs.proofs.Keeping.{of_name, of_literal, place_kept}
 use Rattle.prism_parse.specs.Reasons.{unless_deep}
 use Rattle.prism_parse.proofs.Places.{ends_seen, none_left, some_left, cut_where_left}
@@ -27,8 +26,8 @@ use Rattle.prop_reader.proofs.Reasoning.{refused_at_token, refused_at_end}
 reason_kept : (bytes : List ℕ) (literals : List Literal) (at size : ℕ) (k : Kept) (a b : Bool) → form_reason (lexeme_by bytes literals k at size).kind a b ≡ kept_reason k a b
 reason_kept bytes literals at size (Word r) a b = refl
 reason_kept bytes literals at size (Symbol s) a b = refl
-reason_kept bytes literals at size Ident a b = of_name (is_utf8 (text_at bytes at size)) K.Ident (text_at bytes at size) at (λ k. form_reason k a b) Syntax refl refl
-reason_kept bytes literals at size Quoted a b = of_name (is_utf8 (text_at bytes at size)) K.Quoted (text_at bytes at size) at (λ k. form_reason k a b) Syntax refl refl
+reason_kept bytes literals at size Ident a b = of_name (is_ascii_text (text_at bytes at size)) K.Ident (text_at bytes at size) at (λ k. form_reason k a b) Syntax refl refl
+reason_kept bytes literals at size Quoted a b = of_name (is_ascii_text (text_at bytes at size)) K.Quoted (text_at bytes at size) at (λ k. form_reason k a b) Syntax refl refl
 reason_kept bytes literals at size (Number row) a b = of_literal bytes (in_row literals row size) at (λ k. form_reason k a b) Syntax (λ l. refl) refl
 
 unbounded_kept : (bytes : List ℕ) (literals : List Literal) (at size : ℕ) (k : Kept) → is_unbounded (lexeme_by bytes literals k at size).kind ≡ kept_unbounded k
@@ -36,8 +35,8 @@ unbounded_kept bytes literals at size (Word W.GWord) = refl
 unbounded_kept bytes literals at size (Word W.WWord) = refl
 unbounded_kept bytes literals at size (Word r) = refl
 unbounded_kept bytes literals at size (Symbol s) = refl
-unbounded_kept bytes literals at size Ident = of_name (is_utf8 (text_at bytes at size)) K.Ident (text_at bytes at size) at is_unbounded false refl refl
-unbounded_kept bytes literals at size Quoted = of_name (is_utf8 (text_at bytes at size)) K.Quoted (text_at bytes at size) at is_unbounded false refl refl
+unbounded_kept bytes literals at size Ident = of_name (is_ascii_text (text_at bytes at size)) K.Ident (text_at bytes at size) at is_unbounded false refl refl
+unbounded_kept bytes literals at size Quoted = of_name (is_ascii_text (text_at bytes at size)) K.Quoted (text_at bytes at size) at is_unbounded false refl refl
 unbounded_kept bytes literals at size (Number row) = of_literal bytes (in_row literals row size) at is_unbounded false (λ l. refl) refl
 
 pub last_kept : (bytes : List ℕ) (literals : List Literal) (found front : List Found) (last : Found) → found ≡ front ++ last ∷ []

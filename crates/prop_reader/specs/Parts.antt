@@ -11,7 +11,6 @@ use Rattle.prism_tree.specs.Lang.{Lang, gives, ◌>>=◌, ◌>>◌, Begins}
 use Rattle.prism_tree.specs.Grammar.{symbol}
 use Rattle.prism_exprs.specs.Scope.{Scope, expressions, IsStopped, IsPassed, GoesOn}
 use Rattle.prism_exprs.specs.declared.tokens.Cause.{Cause}
-use Rattle.prism_exprs.specs.declared.tokens.Cause.TheVariants as Y
 use Rattle.prism_exprs.specs.declared.tokens.Tokens.{Tokens}
 use Rattle.prism_items.specs.Files.{IsWhole}
 use Rattle.prism_exprs.specs.Reading.{Reads}
@@ -47,13 +46,6 @@ opens k = is_kind (K.Symbol S.LeftParenthesis) k
 -- the bounds that stand inside no other expression
 abbrev pub operands : Scope → Lang Expression
 operands s = operands_of s.counted
-
--- reading stopped for no other cause
-abbrev pub IsPlainStop : Stop → Type 0
-IsPlainStop Memory = Unit {0}
-IsPlainStop (At r Y.Form) = Unit {0}
-IsPlainStop (At r Y.Deep) = Unit {0}
-IsPlainStop (At r c) = ⊥
 
 -- a part of a properties file, in a scope
 abbrev pub in_scope : {A : Type 0} → (Lang Expression → Lang Expression → Lang A) → Scope → Lang A

@@ -84,7 +84,7 @@ fn parse_before<'a>(
             Cause::Form => Err(Stop::At(rest, Cause::Form)),
             Cause::Deep => Err(Stop::At(rest, Cause::Form)),
             // Operands are stopped for no other cause.
-            Cause::Item | Cause::Type => Err(Stop::Memory),
+            Cause::Item | Cause::Type => unreachable!(),
         },
     }
 }
@@ -101,7 +101,7 @@ fn parse_operand<'a>(alloc: Global, tokens: Tokens<'a>) -> Result<(PrismExpr, To
             Cause::Form => parse_before(alloc, tokens, rest),
             Cause::Deep => Err(Stop::At(rest, Cause::Deep)),
             // Operands are stopped for no other cause.
-            Cause::Item | Cause::Type => Err(Stop::Memory),
+            Cause::Item | Cause::Type => unreachable!(),
         },
     }
 }

@@ -1,6 +1,6 @@
 // One token that has a meaning, and words that ask.
-ghost use Rattle.std.specs.Prelude.{◌≡◌, IfSome, IfNone, Some, None};
-ghost use Rattle.prism_exprs.specs.Kept.{seen, lexeme_at};
+ghost use Rattle.std.specs.Prelude.{◌≡◌, true, IfSome, IfNone, Some, None};
+ghost use Rattle.prism_exprs.specs.Kept.{is_ascii_text, seen, lexeme_at};
 ghost use Rattle.prism_exprs.specs.Reading.{none};
 ghost use Rattle.prism_exprs.specs.Scope.{ParsesIn};
 ghost use Rattle.prop_grammar.specs.Grammar.{title, title_text, comparison, question, asks};
@@ -50,6 +50,7 @@ pub(crate) fn read_comparison<'a>(tokens: Tokens<'a>) -> Result<(Compare, Tokens
 
 /// The text of a token that is a name between quotes, quotes included.
 fn title_text<'a>(tokens: Tokens<'a>, found: Found) -> Option<&'a str>
+    ensures ascii { IfSome result (λ text. is_ascii_text text.now ≡ true) }
     ensures some { IfSome result (λ text. title_text (lexeme_at tokens.entry.source.now.bytes.now tokens.entry.source.now.literals.now found) ≡ Some text.now) }
     ensures none { IfNone result (title_text (lexeme_at tokens.entry.source.now.bytes.now tokens.entry.source.now.literals.now found) ≡ None) }
 {
@@ -86,11 +87,7 @@ pub(crate) fn read_title<'a>(
     let Some(text) = title_text(tokens, *first) else {
         return Err(Stop::At(tokens, Cause::Form));
     };
-    // Between quotes stands a text, so this does not come to pass with tokens of a file.
-    let Some(inner) = between(text) else {
-        return Err(Stop::Memory);
-    };
-    let name = Text::copy_of(alloc, inner)?;
+    let name = Text::copy_of(alloc, between(text))?;
     let at = first.at as usize;
     Ok((Named { name, at }, tokens.with(rest)))
 }

@@ -16,4 +16,4 @@ returns-in_default-quotation c = text_missing K.Quoted unquoted _ refl (text_oth
 
 pub returns : goal.returns
 unfolding quoted
-returns c = λ s. text_read _ K.Quoted unquoted _ _ c.in-Some.first.now _ _ _ _ c.in-Some.ensures.cases.0 c.in-Some-quotation.ensures.some (c.in_ok-name.ensures ∙ c.in-Some-between.ensures) (sym (place_kept _ _ c.in-Some.first.now.kind c.in-Some.first.now.at c.in-Some.first.now.size)) c.with.ensures
+returns c = λ s. text_read _ K.Quoted unquoted _ _ c.in-Some.first.now _ _ _ _ c.in-Some.ensures.cases.0 c.in-Some-quotation.ensures.some (c.in_ok-name.ensures ∙ c.between.ensures) (sym (place_kept _ _ c.in-Some.first.now.kind c.in-Some.first.now.at c.in-Some.first.now.size)) c.with.ensures
