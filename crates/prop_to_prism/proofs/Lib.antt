@@ -10,5 +10,11 @@ mod Structures
 mod Written
 mod Words
 mod Printing
-mod ReadBack
 mod Numbered
+mod ReadBack
+mod Places
+mod Declared
+mod Faultless
+mod Judged
+mod Limits
+mod TextBack

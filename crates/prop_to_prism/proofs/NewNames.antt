@@ -21,7 +21,7 @@ use Rattle.prop_to_prism.specs.Code.{text_at, label_text, plain_given, plain_new
 
 -- ---- what a name is written as, by what it means
 module _ (file : File) (names : NewNames) where
-  abbrev written_meant : Meant → Name
+  abbrev pub written_meant : Meant → Name
   written_meant (of_model y) = model_name file names y
   written_meant is_initial = quoted initial_name
   written_meant is_deadlock = quoted deadlock_name
@@ -33,7 +33,7 @@ module _ (file : File) (names : NewNames) where
   plain_by x is_deadlock h = ap plain_meant h
   plain_by x nothing h = ap plain_meant h
 
-  plain_is : (x : Name) → plain_new file names x ≡ written_meant (meant x)
+  pub plain_is : (x : Name) → plain_new file names x ≡ written_meant (meant x)
   plain_is x = plain_by x (meant x) refl
 
   by_test : (b : Bool) (x y : Meant) → written_meant (if b then x else y) ≡ (if b then written_meant x else written_meant y)

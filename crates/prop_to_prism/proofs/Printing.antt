@@ -97,7 +97,7 @@ module _ (file : File) where
   abbrev pub HasMeaning : Expression → Type 0
   HasMeaning e = AllNames (λ x. IsMeant (meant x)) e
 
-  has_meanings : (x : Role × Expression) → wrong_in (global_thing file) x ≡ [] → HasMeaning x.1
+  pub has_meanings : (x : Role × Expression) → wrong_in (global_thing file) x ≡ [] → HasMeaning x.1
   has_meanings x k =
       let own = append_left (map (λ at. fault at WrongType) (misfits jani_meaning (name_types (global_thing file)) x.1)) _ (append_left _ (constant_faults (global_thing file) x.0 x.1) k) in
       names_then (λ y. IsTrue (is_some (name_types (global_thing file) y))) (λ y. IsMeant (meant y)) (has_meaning file) x.1
@@ -145,7 +145,7 @@ module _ (file : File) (checked : IsChecked file) where
 
   -- ---- properties
   -- properties number some of all structures
-  few_structures : length (structures file) ≤ length (reward_names file)
+  pub few_structures : length (structures file) ≤ length (reward_names file)
   few_structures =
       let n = ap length (numbered_first file) in
       let m = length-map (take (length (structures file)) (all.structures file)) (λ o. o.var.name.name) in

@@ -1,9 +1,8 @@
 -- Translated properties that are written are read as themselves.
-use Rattle.std.specs.Prelude.{◌≡◌, ◌<◌, ℕ, zero, suc, List, [], ◌∷◌, map, length, false, cond, Option, Some, None, get_or, unwrap_or, bytes_eq}
+use Rattle.std.specs.Prelude.{◌≡◌, ◌<◌, ℕ, suc, List, [], ◌∷◌, map, length, false, cond, Option, Some, None, unwrap_or, bytes_eq}
 use Rattle.std.specs.List.{AllByRecursion as Each, AllZip, list_any, position}
 use Rattle.std.specs.Option.{option_map}
-use Rattle.std.proofs.Common.{refl, sym, ap, ap₂, subst, ◌∙◌, arith}
-use Rattle.std.proofs.lemmas.Bool.{both_ways}
+use Rattle.std.proofs.Common.{refl, sym, ap, ap₂, subst, ◌∙◌}
 use Rattle.std.proofs.lemmas.List.Elements.{recursion_from_All}
 use Rattle.std.proofs.lemmas.Slice.Eq.{bytes_eq-Decides}
 use Rattle.std.proofs.Math.Bool.{or-false}
@@ -17,7 +16,6 @@ use Rattle.op_trees.specs.SeenLaws.{names_then}
 use Rattle.basics.specs.Options.{if_some}
 use Rattle.process_core.proofs.Targets.{Distinct}
 use Rattle.op_trees.specs.Names.{is_called}
-use Rattle.prism_lex.specs.Tokens.{is_name}
 use Rattle.prism_tree.specs.Syntax.{Expression, Rewards}
 use Rattle.prism_tree.specs.Syntax as prism
 use Rattle.name_table.proofs.Trees.{renamed-bare}
@@ -31,7 +29,6 @@ use Rattle.name_table.specs.PrismAsks.{rewards_at}
 use Rattle.name_table.proofs.EntryLemmas.{first_alone}
 use Rattle.prism_translation_laws.specs.Targets.{targets}
 use Rattle.prism_translation_laws.specs.Names.{action_ask}
-use Rattle.prism_translation_laws.specs.Translated.{translated}
 use Rattle.prism_translation_laws.proofs.Entries.{IsValidName}
 use Rattle.prism_translation_laws.proofs.Segments.{rewards_part, valid_from}
 use Rattle.prism_translation_laws.proofs.TypedImages.{image_names}
@@ -44,21 +41,20 @@ use Rattle.prop_trees.specs.Form.{AsksWell}
 use Rattle.prop_trees.specs.PrismFaults.{is_titled, number_by, number_of, filed}
 use Rattle.prop_trees.specs.Text.{plain_name, plain, structure_name}
 use Rattle.prop_trees.specs.Printable.{IsTitle, IsPrintableProperty}
-use Rattle.prop_trees.specs.Back.{SameExpression, with_names, names_written, SameWritten, TextSpells}
-use Rattle.prop_to_prism.specs.ToPrism.{new_property_name, new_names, reward_names, property_entries, translated_expression, with_entries, to_prism}
-use Rattle.prop_to_prism.specs.Laws.{bare_property, TextSpelledBack}
+use Rattle.prop_trees.specs.Back.{SameExpression, with_names, names_written, SameWritten}
+use Rattle.prop_to_prism.specs.ToPrism.{new_property_name, new_names, reward_names, translated_expression, with_entries}
+use Rattle.prop_to_prism.specs.Laws.{bare_property}
 use Rattle.prop_to_prism.proofs.Entries.{rewards_same}
-use Rattle.prop_to_prism.proofs.Structures.{structures_named}
 use Rattle.prop_to_prism.proofs.Words.{IsFiled}
 use Rattle.prop_trees.proofs.Made.{parts_with}
-use Rattle.prop_to_prism.proofs.Printing.{HasFiled, all_filed, all_printable}
-use Rattle.prop_to_prism.proofs.Numbered.{Once, number_is}
+use Rattle.prop_to_prism.proofs.Printing.{HasFiled}
+use Rattle.prop_to_prism.proofs.Numbered.{Once, name_there, name_some, number_is}
 
 -- ---- expressions
-abbrev IsBackName : Name → Type 0
+abbrev pub IsBackName : Name → Type 0
 IsBackName x = filed_name (plain_name x) ≡ x
 
-abbrev IsBack : Expression → Type 0
+abbrev pub IsBack : Expression → Type 0
 IsBack e = AllNames IsBackName e
 
 undone : (e : Expression) → IsBack e → renamed filed_name (plain e) ≡ e
@@ -144,7 +140,7 @@ path_back (until_within k a b) (finally_within u x) n h = absurd h
 path_back (until_within k a b) (until_within u x y) n h = ap₂ {B = Expression → Path Expression} (λ t f. f t) (read_back b y h.2 n.1.1.0) (ap₂ (λ s t r. until_within s t r) (read_back k u h.0 n.0) (read_back a x h.1 n.1.0))
 
 module _ (file : prism.File) (rewards : List Name) (numbers : (r : ℕ) → r < length rewards → number_by file (Some (structure_name rewards r)) ≡ Some r) where
-  abbrev HasBack : PrismProperty → Type 0
+  abbrev pub HasBack : PrismProperty → Type 0
   HasBack p = Each (λ x. IsBack x.1) (parts p)
 
   property_back : (p : PrismProperty) (w : WrittenProperty) → IsPrintableProperty rewards p → HasBack p → SameWritten rewards p w → bare_property (filed file w) ≡ bare_property p
@@ -154,7 +150,7 @@ module _ (file : prism.File) (rewards : List Name) (numbers : (r : ℕ) → r < 
       let path = path_back p.path w.path each.1 same.path in
       λ i. record { name = same.name i; ask = ask i; path = path i }
 
-  all_back : (ps : List PrismProperty) (ws : List WrittenProperty) → Each (IsPrintableProperty rewards) ps → Each HasBack ps → AllZip (SameWritten rewards) ps ws →
+  pub all_back : (ps : List PrismProperty) (ws : List WrittenProperty) → Each (IsPrintableProperty rewards) ps → Each HasBack ps → AllZip (SameWritten rewards) ps ws →
       map (λ w. bare_property (filed file w)) ws ≡ map bare_property ps
   all_back [] [] f h same = refl
   all_back [] (w ∷ ws) f h same = absurd same
@@ -184,22 +180,12 @@ once (y ∷ ys) d = (
   once ys d.1,
 )
 
-name_there : (xs : List Name) (r : ℕ) → get_or xs r [] ≡ structure_name xs r
-name_there [] r = refl
-name_there (x ∷ xs) zero = refl
-name_there (x ∷ xs) (suc r) = name_there xs r
-
-name_some : (xs : List Name) (r : ℕ) → Each IsTitle xs → r < length xs → structure_name xs r ≡ [] → ⊥
-name_some [] r h l e = omega (arith, l)
-name_some (x ∷ xs) zero h l e = both_ways (is_name x) (ap is_name e) h.0
-name_some (x ∷ xs) (suc r) h l e = name_some xs r h.1 (omega (arith, l)) e
-
 module _ (file : File) where
   valid_rewards : Each IsValidName (new_names file).rewards
   valid_rewards =
       subst (λ es. Each IsValidName es) (rewards_same file first_alone (map action_ask (targets file))) (valid_from file (rewards_at file) (length (all.structures file)))
 
-  titles : Each IsTitle (reward_names file)
+  pub titles : Each IsTitle (reward_names file)
   titles = each_map IsValidName IsTitle (λ e. e.name) (λ e v. v.spelled.0) (new_names file).rewards valid_rewards
 
   rewards_once : Once (reward_names file)
@@ -207,9 +193,11 @@ module _ (file : File) where
       once (reward_names file)
       (subst (λ es. Distinct bytes_eq bytes_eq-Decides (map (λ (e : Entry). e.name) es)) (rewards_same file first_alone (map action_ask (targets file))) (rewards_part file).distinct)
 
-  number_there : (r : ℕ) → r < length (reward_names file) → number_by (translated file) (Some (structure_name (reward_names file) r)) ≡ Some r
-  number_there r l =
-      titled_place (structure_name (reward_names file) r) (translated file).rewards (reward_names file) (structures_named file)
+  -- in any tree whose structures have these names
+  pub number_there : (model : prism.File) → map (λ r. called r.name) model.rewards ≡ map Some (reward_names file) → (r : ℕ) → r < length (reward_names file) →
+      number_by model (Some (structure_name (reward_names file) r)) ≡ Some r
+  number_there model named r l =
+      titled_place (structure_name (reward_names file) r) model.rewards (reward_names file) named
       ∙ number_is (reward_names file) (structure_name (reward_names file) r) r rewards_once (name_there (reward_names file) r) (name_some (reward_names file) r titles l)
 
 module _ (file : File) (checked : IsChecked file) where
@@ -218,7 +206,7 @@ module _ (file : File) (checked : IsChecked file) where
       image_names IsBackName (new_property_name file (new_names file)) e
       (names_then (λ x. IsFiled (new_property_name file (new_names file) x)) (λ x. IsBackName (new_property_name file (new_names file) x)) (λ x f. f.back) e h)
 
-  back_each : (ps : List JaniProperty) (es : List Entry) → Each (λ p. Each (λ x. HasFiled file checked x.1) (parts p)) ps → Each (λ p. Each (λ x. IsBack x.1) (parts p)) (with_entries file ps es)
+  pub back_each : (ps : List JaniProperty) (es : List Entry) → Each (λ p. Each (λ x. HasFiled file checked x.1) (parts p)) ps → Each (λ p. Each (λ x. IsBack x.1) (parts p)) (with_entries file ps es)
   back_each [] es h = tt
   back_each (p ∷ ps) [] h = tt
   back_each (p ∷ ps) (e ∷ es) h = (
@@ -226,12 +214,3 @@ module _ (file : File) (checked : IsChecked file) where
         (each_then (λ x. HasFiled file checked x.1) (λ (x : Role × jani.Expression). IsBack (translated_expression file x.1)) (λ x. back_tree x.1) (parts p) h.0),
     back_each ps es h.1,
   )
-
-pub text_spelled_back : TextSpells → TextSpelledBack
-text_spelled_back spells file checked ps are =
-    let printable = all_printable file checked ps are in
-    let s = spells (reward_names file) (to_prism file ps) (titles file) printable in (
-      s.0,
-      s.1,
-      all_back (translated file) (reward_names file) (number_there file) (to_prism file ps) s.0 printable (back_each file checked ps (property_entries file ps) (all_filed file checked ps are.sound)) s.2,
-    )

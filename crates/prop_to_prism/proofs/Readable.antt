@@ -49,20 +49,20 @@ label_test v = by_test v.transient v.kind
     by_test true (bounded low high) = refl
     by_test false k = refl
 
-constant_no_label : (o : Option Thing) → is_constant o ≡ true → things.is_label o ≡ false
+pub constant_no_label : (o : Option Thing) → is_constant o ≡ true → things.is_label o ≡ false
 constant_no_label None h = refl
 constant_no_label (Some (Constant t)) h = refl
 constant_no_label (Some (Variable t)) h = absurd cc
 constant_no_label (Some (Transient t)) h = absurd cc
 
-lasting_no_label : (o : Option Thing) → things.is_lasting o ≡ true → things.is_label o ≡ false
+pub lasting_no_label : (o : Option Thing) → things.is_lasting o ≡ true → things.is_label o ≡ false
 lasting_no_label None h = refl
 lasting_no_label (Some (Constant t)) h = absurd cc
 lasting_no_label (Some (Variable t)) h = refl
 lasting_no_label (Some (Transient t)) h = absurd cc
 
 module _ (test : Option Thing → Bool) (nothing : test None ≡ false) where
-  is_there : (o : Option Thing) → test o ≡ true → is_some o ≡ true
+  pub is_there : (o : Option Thing) → test o ≡ true → is_some o ≡ true
   is_there None h = absurd (both_ways (test None) nothing h)
   is_there (Some t) h = refl
 
@@ -128,7 +128,7 @@ module _ (file : File) (checked : IsChecked file) where
       ∙ label_test o.var
       ∙ filter_passes is_label (variables file) i nobody l
 
-  no_label : (x : Name) → is_some (thing x) ≡ true → things.is_label (thing x) ≡ false → label_name file (new_names file) x ≡ None
+  pub no_label : (x : Name) → is_some (thing x) ≡ true → things.is_label (thing x) ≡ false → label_name file (new_names file) x ≡ None
   no_label x h n = ap (name_at_some (new_names file).labels) (by_place (position (λ o. is_called x o.var.name) (labels file)) refl)
     where
       by_place : (p : Option ℕ) → position (λ o. is_called x o.var.name) (labels file) ≡ p → position (λ o. is_called x o.var.name) (labels file) ≡ None
@@ -177,7 +177,7 @@ module _ (file : File) (checked : IsChecked file) where
     a_variable : VariableAt x → ReadAt x
     a_label : LabelAt x → ReadAt x
 
-  constant_at : (x : Name) → is_constant (thing x) ≡ true → ConstantAt x
+  pub constant_at : (x : Name) → is_constant (thing x) ≡ true → ConstantAt x
   constant_at x h =
       let there = is_there is_constant refl (thing x) h in
       let k = (constant_known file checked (outside file) x (besides is_constant refl (thing x) _ h)).known in
@@ -191,7 +191,7 @@ module _ (file : File) (checked : IsChecked file) where
             ∙ ap₂ (λ v c. unwrap_or (option_or (name_at_some names.variables v) (name_at_some names.constants c)) []) k.no_variable k.stands_there;
       }
 
-  variable_at : (x : Name) → things.is_lasting (thing x) ≡ true → VariableAt x
+  pub variable_at : (x : Name) → things.is_lasting (thing x) ≡ true → VariableAt x
   variable_at x h =
       let there = is_there things.is_lasting refl (thing x) h in
       let k = variable_known file checked (outside file) x (besides things.is_lasting refl (thing x) _ h) in
@@ -206,7 +206,7 @@ module _ (file : File) (checked : IsChecked file) where
             ∙ ap (λ v. unwrap_or (option_or (name_at_some names.variables v) (name_at_some names.constants (position (λ c. is_called x c.name) file.constants))) []) k.stands_there;
       }
 
-  label_at : (x : Name) → things.is_label (thing x) ≡ true → LabelAt x
+  pub label_at : (x : Name) → things.is_label (thing x) ≡ true → LabelAt x
   label_at x h =
       let there = is_there things.is_label refl (thing x) h in
       let place = has_some (position (λ o. is_called x o.var.name) (labels file)) (is_some-position (λ o. is_called x o.var.name) (labels file) ∙ some_label x h) in

@@ -14,6 +14,7 @@ ghost use Rattle.prop_to_prism.specs.ToPrism.{all_entries, property_asks};
 ghost use Rattle.prop_to_prism.specs.Code.{all_written, at_entry, name_in, names_of, text_by, written_by};
 ghost use Rattle.prop_to_prism.specs.Laws.{IsWritten};
 
+use crate::laws::properties_law;
 use crate::names::PropertyNames;
 use crate::text::write_property;
 use bridge_io::List;
@@ -27,7 +28,8 @@ use std::alloc::{AllocError, Global};
 
 /// The canonical text of the properties of a JANI model under the names of its translation to PRISM (`prism_names`), those of the
 /// properties behind all others, by this project's own rule: of each property in order the one that it is translated to, which agrees
-/// with it. The properties have the form that reading tells of, and no fault of names and types. An `Err` is want of memory.
+/// with it. Against the translated model the text is read back as these, and nothing but a limit is found in it. The properties have the
+/// form that reading tells of, and no fault of names and types. An `Err` is want of memory.
 pub fn props_to_prism(
     alloc: Global,
     props: &List<JaniProperty>,
@@ -52,6 +54,7 @@ fn text_list(
     requires props { AreOfJani (file_of model.now) (map jani_property_of props.now) }
     ensures { IfOk result (λ text. IsWritten (file_of model.now) (map jani_property_of props.now) text) }
 {
+    properties_law();
     let file = model.file();
     let text = text_under(alloc, props, file, entries)?;
     Ok(List::from_vec(text))

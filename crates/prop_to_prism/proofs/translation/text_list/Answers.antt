@@ -12,7 +12,7 @@ pub returns : goal.returns
 returns c =
     let file : File = file_of c.args.model.now in
     let ps : List JaniProperty = map jani_property_of c.args.props.now in
-    is_written file c.file-file.ensures.checked ps c.requires.props c.from_vec.result
+    is_written c.properties_law.ensures.read file c.file-file.ensures.checked ps c.requires.props c.from_vec.result
     (c.from_vec.ensures
     ∙ c.in_ok-text.ensures
     ∙ ap (λ (f : JaniFile). text_by (file_of f) c.args.entries.now ps) c.file-file.ensures.same
