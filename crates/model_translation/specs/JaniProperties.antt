@@ -18,7 +18,8 @@ pub record HoldsProperties (bytes : List ℕ) (tree : jani.File) (ps : List Jani
 abbrev pub HasProperties : List ℕ → Type 0
 HasProperties bytes = (tree : jani.File) × (ps : List JaniProperty) × HoldsProperties bytes tree ps
 
--- The text is that of the properties that these are translated to, with which they agree.
+-- The text is that of the properties that these are translated to, with which they agree; against the model that the file is translated to it is
+-- read back as these, and no fault of names and of types is found in it.
 pub record IsPropertiesText (bytes text : List ℕ) (tree : jani.File) (ps : List JaniProperty) : Type 0 where
   pub holds : HoldsProperties bytes tree ps
   pub written : IsWritten tree ps text
