@@ -107,7 +107,7 @@ module _ (file : File) where
       let m = append_parts (map (λ at. fault at WrongType) (misfits prism_meaning (name_types file) e)) _ k in
       (misfits_none prism_meaning (name_types file) e).0 (empty_map (λ at. fault at WrongType) (misfits prism_meaning (name_types file) e) m.0)
 
-  fine : (order : List Name) (is : IsJudged file order) (w : IsWrittenOut (flat file)) (s : TypedImageSeenAlike) (a : AgreeingIsNoNumber) (x : Role × Expression) →
+  pub fine : (order : List Name) (is : IsJudged file order) (w : IsWrittenOut (flat file)) (s : TypedImageSeenAlike) (a : AgreeingIsNoNumber) (x : Role × Expression) →
       unknown_in file x ≡ [] → part_faults file x ≡ [] → IsFine file order is w s a x.1
   fine order is w s a x k t = record { known = fine_names x.1 k; typed = fine_type x.0 x.1 (append_parts (type_faults_of file x.0 x.1) _ t).0 }
 
@@ -163,15 +163,21 @@ pub filed_parts : (file : File) (P : Expression → Type 0) (ws : List WrittenPr
 filed_parts file P [] h = tt
 filed_parts file P (w ∷ ws) h = (parts_with P (renamed filed_name) (number_of file) w.ask w.path h.0, filed_parts file P ws h.1)
 
--- so it is where it holds of the parts in which the phases find nothing
+-- what holds of each part in which the phases find nothing holds of the parts of written properties
+pub sound_each : (file : File) (P : Role × Expression → Type 0) → ((x : Role × Expression) → unknown_in file x ≡ [] → part_faults file x ≡ [] → P x) → (ps : List PrismProperty) (sound : AreSound file ps) →
+    Each (λ w. Each P (parts w)) sound.written
+sound_each file P h ps sound =
+    let names = append_parts (doubled TwiceNamed (titles sound.written)) _ sound.names in
+    let unknown = append_parts (flat_map (unknown_structure file) (structures sound.written)) (flat_map (unknown_in file) (all_parts sound.written)) names.1 in
+    each_of P parts sound.written
+    (each_with (λ x. unknown_in file x ≡ []) (λ x. part_faults file x ≡ []) P h
+    (all_parts sound.written) (empty_each (unknown_in file) (all_parts sound.written) unknown.1) (empty_each (part_faults file) (all_parts sound.written) sound.types))
+
+-- so it is of the parts of the filed properties
 pub sound_parts : (file : File) (P : Expression → Type 0) → ((x : Role × Expression) → unknown_in file x ≡ [] → part_faults file x ≡ [] → P (renamed filed_name x.1)) →
     (ps : List PrismProperty) → AreSound file ps → Each (λ p. Each (λ x. P x.1) (parts p)) ps
 sound_parts file P h ps sound =
-    let names = append_parts (doubled TwiceNamed (titles sound.written)) _ sound.names in
-    let unknown = append_parts (flat_map (unknown_structure file) (structures sound.written)) (flat_map (unknown_in file) (all_parts sound.written)) names.1 in
-    let each = each_with (λ x. unknown_in file x ≡ []) (λ x. part_faults file x ≡ []) (λ x. P (renamed filed_name x.1)) h
-    (all_parts sound.written) (empty_each (unknown_in file) (all_parts sound.written) unknown.1) (empty_each (part_faults file) (all_parts sound.written) sound.types) in
-    subst (λ qs. Each (λ p. Each (λ x. P x.1) (parts p)) qs) sound.are (filed_parts file P sound.written (each_of (λ x. P (renamed filed_name x.1)) parts sound.written each))
+    subst (λ qs. Each (λ p. Each (λ x. P x.1) (parts p)) qs) sound.are (filed_parts file P sound.written (sound_each file (λ x. P (renamed filed_name x.1)) h ps sound))
 
 pub translated_agree : OneEach → TypedImageSeenAlike → AgreeingIsNoNumber → TranslatedAgree
 translated_agree one image_seen agreeing c checked ps sound =

@@ -23,8 +23,8 @@ use Rattle.prism_check.proofs.TypeOrder.{types_of_plain}
 use Rattle.name_table.specs.declared.entry.Entry.{Entry}
 use Rattle.name_table.specs.Asks.{variables, entries, new_name, new_names}
 use Rattle.prism_images.specs.Laws.{IsNoNumberOf, AgreeingIsNoNumber}
-use Rattle.jani_automata.proofs.Clean.{value_names_are}
-use Rattle.jani_automata.proofs.Each.{for_labels, n_entries}
+use Rattle.jani_translation.proofs.Clean.{value_names_are}
+use Rattle.jani_translation.proofs.Each.{for_labels, n_entries}
 use Rattle.prop_grammar.specs.Grammar.{has_quotes}
 use Rattle.prop_trees.specs.Trees.{Name}
 use Rattle.prop_trees.specs.Names.{marked, Meant, meant, initial_name, deadlock_name, is_given_label, filed_name}
@@ -36,14 +36,14 @@ use Rattle.prism_check.proofs.NoFaults.{IsKnown}
 use Rattle.prop_to_jani.proofs.Filed.{Written, given_initial, given_deadlock, a_label, a_value, written, as_filed, whole_seen, meant_type}
 
 -- ---- the entry of a name
-abbrev stands : List Name → Name → Bool
+abbrev pub stands : List Name → Name → Bool
 stands xs x = list_any (λ y. bytes_eq y x) xs
 
-abbrev Pairs : (Name → Name → Type 0) → List (Name × Name) → Type 0
+abbrev pub Pairs : (Name → Name → Type 0) → List (Name × Name) → Type 0
 Pairs P ns = Each (λ n. P n.0 n.1) ns
 
 -- the first pair of a name
-paired_first : (P : Name → Name → Type 0) (xs : List Name) (es : List Entry) (x : Name) → length xs ≤ length es → Pairs P (paired xs es) → stands xs x ≡ true → P x (new_name xs es x)
+pub paired_first : (P : Name → Name → Type 0) (xs : List Name) (es : List Entry) (x : Name) → length xs ≤ length es → Pairs P (paired xs es) → stands xs x ≡ true → P x (new_name xs es x)
 paired_first P [] es x l h s = absurd cc
 paired_first P (y ∷ ys) [] x l h s = absurd (omega (arith, l))
 paired_first P (y ∷ ys) (e ∷ es) x l h s = by_test (bytes_eq y x) refl (paired_first P ys es x (omega (arith, l)) h.1) s
@@ -77,17 +77,17 @@ paired_both P f g (y ∷ ys) zs (e ∷ es) x l h s = by_test (bytes_eq (f y) x) 
     by_test false t r k = r k
 
 -- ---- what is among names
-among_is : (ns : List Named) (x : Name) → is_among ns x ≡ stands (map (λ n. n.name) ns) x
+pub among_is : (ns : List Named) (x : Name) → is_among ns x ≡ stands (map (λ n. n.name) ns) x
 among_is [] x = refl
 among_is (n ∷ ns) x = ap (λ b. bytes_eq n.name x || b) (among_is ns x)
 
 -- the labels of a file that is written out are the file's
-labels_named : (ls : List Label) (file : File) (x : Name) → is_among (map (λ l. l.name) ls) x ≡ stands (map (λ l. l.name.name) (map (flat_label file) ls)) x
+pub labels_named : (ls : List Label) (file : File) (x : Name) → is_among (map (λ l. l.name) ls) x ≡ stands (map (λ l. l.name.name) (map (flat_label file) ls)) x
 labels_named [] file x = refl
 labels_named (l ∷ ls) file x = ap (λ b. bytes_eq l.name.name x || b) (labels_named ls file x)
 
 -- a known label that not every model has is one of the file's
-own_label : (ls : List Named) (y : Name) → is_given_label y ≡ false → is_among (given_labels ++ ls) y ≡ true → is_among ls y ≡ true
+pub own_label : (ls : List Named) (y : Name) → is_given_label y ≡ false → is_among (given_labels ++ ls) y ≡ true → is_among ls y ≡ true
 own_label ls y g h = by_tests (bytes_eq y (codes "init")) (bytes_eq y (codes "deadlock")) g
     (ap₂ (λ s t. s || (t || is_among ls y)) (bytes_eq_comm y (codes "init")) (bytes_eq_comm y (codes "deadlock")) ∙ h)
   where

@@ -8,6 +8,15 @@ mod Corresponding
 mod Agreeing
 mod Valued
 mod Promised
+mod Shaped
+mod Placed
+mod Lifted
+mod Roles
+mod Standing
+mod Structures
+mod Titled
+mod Fitting
+mod ReadBack
 mod Lookups
 mod Entries
 mod Translating

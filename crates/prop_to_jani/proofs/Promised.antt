@@ -1,5 +1,5 @@
 -- What is promised of the value of translated properties.
-use Rattle.std.proofs.Common.{◌≡◌, ℕ, refl, sym, ap, subst, arith, List, [], ◌∷◌, map, length}
+use Rattle.std.proofs.Common.{◌≡◌, ℕ, refl, sym, ap, subst, ◌∙◌, arith, List, [], ◌∷◌, map, length}
 use Rattle.std.specs.List.{AllByRecursion as Each, zip}
 use Rattle.basics.specs.Each.{each_then}
 use Rattle.basics.specs.Lists.{append_parts}
@@ -11,7 +11,8 @@ use Rattle.prism_names.specs.Places.{at_places, formula_names}
 use Rattle.prism_check.specs.Checked.{Checked, IsChecked}
 use Rattle.jani_table.specs.Node.{Node}
 use Rattle.jani_tree.specs.Form.{IsNormal, NormalNode, KeysOnce}
-use Rattle.jani_tree.specs.Places.{bare_node}
+use Rattle.jani_tree.specs.Places.{bare_node, bare_file}
+use Rattle.jani_translation.specs.Translated.{translated}
 use Rattle.name_table.specs.declared.entry.Entry.{Entry}
 use Rattle.name_table.specs.Laws.{OneEach}
 use Rattle.prism_images.specs.Laws.{TypedImageSeenAlike, AgreeingIsNoNumber, ImageHasOperands}
@@ -23,6 +24,7 @@ use Rattle.prop_trees.proofs.Single.{HasStructure, single_properties}
 use Rattle.prop_trees.proofs.Spelled.{IsSpellable, IsWritable, NormalParts, properties_spelled, properties_once, properties_normal}
 use Rattle.prop_to_jani.specs.ToJani.{translated_expression, translated_property, property_entries, to_jani, to_jani_node, reward_names}
 use Rattle.prop_to_jani.specs.Laws.{TranslatedSpelled, IsTranslated}
+use Rattle.prop_to_jani.specs.ReadBack.{with_properties, TranslatedReadBack}
 use Rattle.prop_to_jani.proofs.Judged.{judged}
 use Rattle.prop_trees.proofs.Made.{parts_with}
 use Rattle.prop_to_jani.proofs.Agreeing.{fine_type, sound_parts, translated_agree}
@@ -30,7 +32,7 @@ use Rattle.prop_to_jani.proofs.Valued.{spellable, asks_with, translated_numbers,
 
 module _ (file : File) where
   -- what holds of each property's translation holds of all
-  translated_each : (P : PrismProperty → Type 0) (Q : JaniProperty → Type 0) → ((p : PrismProperty) (e : Entry) → P p → Q (translated_property file p e)) →
+  pub translated_each : (P : PrismProperty → Type 0) (Q : JaniProperty → Type 0) → ((p : PrismProperty) (e : Entry) → P p → Q (translated_property file p e)) →
       (ps : List PrismProperty) (es : List Entry) → Each P ps → Each Q (map (λ q. translated_property file q.0 q.1) (zip ps es))
   translated_each P Q h [] es p = tt
   translated_each P Q h (p ∷ ps) [] k = tt
@@ -90,9 +92,9 @@ translated_spelled operands c checked ps of =
     }
 
 -- the value has what is promised, where it is that of the translation
-pub is_translated : OneEach → TypedImageSeenAlike → AgreeingIsNoNumber → (c : Checked) → IsChecked c → (ps : List PrismProperty) → AreOfPrism c.file ps →
+pub is_translated : OneEach → TypedImageSeenAlike → AgreeingIsNoNumber → TranslatedReadBack → (c : Checked) → IsChecked c → (ps : List PrismProperty) → AreOfPrism c.file ps →
     (v : Node) → v ≡ to_jani_node c.file ps → IsTranslated c ps v
-is_translated one image_seen agreeing c checked ps of v e =
+is_translated one image_seen agreeing read_back c checked ps of v e =
     let file : File = c.file in
     let count : ℕ = length file.rewards in
     record {
@@ -102,4 +104,5 @@ is_translated one image_seen agreeing c checked ps of v e =
           (properties_normal (reward_names (flat file)) (to_jani file ps)
           (translated_each file (PropertyForm arity count) (λ q. NormalParts (parts q)) (normal_parts file count (translated_numbers file checked.form.formulas)) ps (property_entries (flat file) ps) of.form));
       once = subst KeysOnce (sym e) (properties_once (reward_names (flat file)) (to_jani file ps));
+      read = λ other clean q. read_back c checked ps of other clean (q ∙ ap (λ n. bare_file (with_properties (translated (flat file)) n)) e);
     }

@@ -30,8 +30,8 @@ use Rattle.name_table.specs.Asks.{entries, new_names, rewards_at}
 use Rattle.name_table.proofs.Parts.{get_part, values_apart}
 use Rattle.prism_images.specs.Image.{image, image_one}
 use Rattle.prism_images.specs.Laws.{ImageHasOperands}
-use Rattle.jani_automata.proofs.Each.{for_rewards}
-use Rattle.jani_automata.proofs.Fresh.{no_empty}
+use Rattle.jani_translation.proofs.Each.{for_rewards}
+use Rattle.jani_translation.proofs.Fresh.{no_empty}
 use Rattle.prop_grammar.specs.Property.{Ask, greatest, least, bounded, greatest_reward, least_reward, Path, finally, globally, until, weak_until, finally_within, until_within}
 use Rattle.prop_trees.specs.Trees.{Name, ask_with, path_with}
 use Rattle.prop_trees.specs.Names.{marked, Meant, of_model, is_initial, is_deadlock, nothing, IsMeant, meant, filed_name, initial_name, deadlock_name}
@@ -48,7 +48,7 @@ names_one : (Q : Name → Type 0) (at : ℕ) (o : PrismOp) (a : Tree JaniOp) →
 names_one Q at P.Neg a h = (tt, h)
 names_one Q at o a h = h
 
-image_names : (Q : Name → Type 0) (new : Name → Name) (e : Expression) → AllNames (λ x. Q (new x)) e → AllNames Q (image new e)
+pub image_names : (Q : Name → Type 0) (new : Name → Name) (e : Expression) → AllNames (λ x. Q (new x)) e → AllNames Q (image new e)
 image_names Q new (Truth at b) h = tt
 image_names Q new (Number at d) h = tt
 image_names Q new (At at x) h = h
@@ -152,7 +152,7 @@ asks_with f count (greatest_reward r) p h = (h.0, finally_with f p h.1)
 asks_with f count (least_reward r) p h = (h.0, finally_with f p h.1)
 
 -- ---- the names of reward structures
-distinct_names : (es : List Entry) → ((i j : ℕ) (e u : Entry) → i ≢ j → slice_get es i ≡ Some e → slice_get es j ≡ Some u → bytes_eq e.name u.name ≡ false) →
+pub distinct_names : (es : List Entry) → ((i j : ℕ) (e u : Entry) → i ≢ j → slice_get es i ≡ Some e → slice_get es j ≡ Some u → bytes_eq e.name u.name ≡ false) →
     IsDistinct bytes_eq (map (λ e. e.name) es)
 unfolding IsDistinct
 distinct_names [] h = tt

@@ -1,3 +1,4 @@
 pub mod ToJani
 pub mod Laws
 pub mod Code
+pub mod ReadBack
