@@ -1,11 +1,19 @@
 -- What is written for a PRISM file with its properties.
-use Rattle.std.proofs.Common.{sym}
+use Rattle.std.specs.Prelude.{ℕ, List}
+use Rattle.std.proofs.Common.{sym, ap, ◌∙◌}
+use Rattle.prism_check.specs.Checked.{Checked}
 use Rattle.jani_table.specs.Node.{Node}
 use Rattle.jani_tree.specs.Syntax as jani
 use Rattle.jani_tree.specs.Form.{KeysOnce, NormalNode}
+use Rattle.jani_tree.specs.Places.{bare_node}
 use Rattle.jani_check.specs.Faults.{IsChecked}
+use Rattle.jani_check.proofs.Profiled.{places_aside}
+use Rattle.prism_to_jani.specs.Promise.{IsTranslated}
+use Rattle.prop_trees.specs.Trees.{PrismProperty}
 use Rattle.prop_to_jani.specs.Laws as properties
-use Rattle.model_translation.specs.WithProperties.{with_properties}
+use Rattle.prop_to_jani.specs.ReadBack.{with_properties}
+use Rattle.model_translation.specs.Translation.{IsText}
+use Rattle.model_translation.specs.WithProperties.{IsWrittenWith}
 
 -- a file has no fault of its own whatever its properties are
 pub checked_with : (f : jani.File) (v : Node) → IsChecked f → NormalNode v → KeysOnce v → IsChecked (with_properties f v)
@@ -21,4 +29,18 @@ checked_with f v h normal once = record {
     properties = normal;
   };
   once = once;
+}
+
+-- the text of the translated file with the value of the translated properties
+pub is_written_with : (c : Checked) (ps : List PrismProperty) (text : List ℕ) (model : jani.File) (value : Node) → IsTranslated c.file model → properties.IsTranslated c ps value →
+    IsText text (with_properties model value) → IsWrittenWith c ps text model value
+is_written_with c ps text model value m p t = record {
+  written = t;
+  translated = m;
+  properties = p;
+  same = m.same;
+  read = λ other s.
+      let same = t.spells.only other s in
+      p.read other (places_aside (with_properties model value) other (sym same) (checked_with model value m.clean p.normal p.once))
+      (same ∙ ap (λ f. with_properties f (bare_node value)) m.shape);
 }

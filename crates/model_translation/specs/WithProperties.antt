@@ -1,47 +1,36 @@
 -- What is written for a PRISM file with its properties: the text of a JANI file that means the same, with properties that agree (this
 -- project's own rule).
-use Rattle.std.specs.Prelude.{◌≡◌, ℕ, List, [], ◌∷◌, ◌++◌, Result, Ok, Err}
+use Rattle.std.specs.Prelude.{◌≡◌, ℕ, List, Result, Ok, Err}
 use Rattle.bridge_io.specs.declared.reason.Fault.{Fault}
 use Rattle.prism_tree.specs.Syntax as prism
 use Rattle.prism_check.specs.Checked.{Checked}
 use Rattle.jani_table.specs.Node.{Node}
 use Rattle.jani_tree.specs.Syntax as jani
-use Rattle.jani_tree.specs.Places.{bare_file}
 use Rattle.jani_tree.specs.Back.{SpellsFile}
 use Rattle.jani_translation_laws.specs.SameMeaning.{MeansTheSame}
 use Rattle.prism_to_jani.specs.Promise.{IsTranslated}
 use Rattle.prop_trees.specs.Trees.{PrismProperty}
 use Rattle.prop_check.specs.Read.{AreProperties, IsLeastOf}
+use Rattle.prop_to_jani.specs.ReadBack.{with_properties, IsReadBack}
 use Rattle.prop_to_jani.specs.Laws as properties
 use Rattle.model_files.specs.PrismFile.{IsFaultless, IsPrismFault}
 use Rattle.model_translation.specs.Translation.{IsText}
 use Rattle.model_translation.specs.declared.properties.FilesRefused.{FilesRefused}
 use Rattle.model_translation.specs.declared.properties.FilesRefused.TheVariants.{Memory, Model, Properties}
 
--- a JANI file with this value for its properties
-abbrev pub with_properties : jani.File → Node → jani.File
-with_properties f v = record {
-  actions = f.actions;
-  constants = f.constants;
-  variables = f.variables;
-  automata = f.automata;
-  elements = f.elements;
-  elements_at = f.elements_at;
-  vectors = f.vectors;
-  properties = v;
-}
-
 -- The file is what the PRISM file is translated to, with the value of the translated properties, with which they agree.
 abbrev pub IsFileWith : Checked → List PrismProperty → jani.File → Type 0
 IsFileWith c ps full = (model : jani.File) × (value : Node) × (full ≡ with_properties model value) × IsTranslated c.file model × properties.IsTranslated c ps value
 
 -- The text spells the JANI file that the PRISM file is translated to, with this value for its properties, and no other. The value is that of the
--- translated properties, with which they agree; and the file with it means the same process too.
+-- translated properties, with which they agree; and the file with it means the same process too. In each tree that the text spells these are
+-- the properties that are read, places aside, without a fault but of names of more than 255 bytes.
 pub record IsWrittenWith (c : Checked) (ps : List PrismProperty) (text : List ℕ) (model : jani.File) (value : Node) : Type 0 where
   pub written : IsText text (with_properties model value)
   pub translated : IsTranslated c.file model
   pub properties : properties.IsTranslated c ps value
   pub same : MeansTheSame c.file (with_properties model value)
+  pub read : (other : jani.File) → SpellsFile text other → IsReadBack c ps other
 
 -- Both files have no fault, and this is written for them.
 pub record IsTranslationWith (model properties text : List ℕ) (c : Checked) (ps : List PrismProperty) : Type 0 where

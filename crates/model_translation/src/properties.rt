@@ -8,7 +8,8 @@ ghost use Rattle.jani_tree.specs.Syntax.{File, file_of};
 ghost use Rattle.prop_trees.specs.Form.{AreOfPrism};
 ghost use Rattle.prop_trees.specs.Syntax.{property_of};
 ghost use Rattle.prop_to_jani.specs.Laws as of_properties;
-ghost use Rattle.model_translation.specs.WithProperties.{IsFileWith, IsWrittenWith, TranslatesFiles, with_properties};
+ghost use Rattle.prop_to_jani.specs.ReadBack.{with_properties};
+ghost use Rattle.model_translation.specs.WithProperties.{IsFileWith, IsWrittenWith, TranslatesFiles};
 
 use crate::translation::{room_for, text_of};
 use bridge_io::{Fault, List, Refused};
@@ -44,8 +45,8 @@ impl From<AllocError> for FilesRefused {
 }
 
 /// The canonical text of the JANI file that the PRISM file of the first bytes is translated to, with the properties that the second bytes
-/// hold of it, and a line feed. That file means the same process, and its properties agree with those that were read, one by one, in order. An
-/// `Err` is want of memory, or the least fault of the model, or else of the properties.
+/// hold of it, and a line feed. That file means the same process, and its properties agree with those that were read, one by one, in order;
+/// they are what is read of it. An `Err` is want of memory, or the least fault of the model, or else of the properties.
 pub fn translate_with_properties(
     alloc: Global,
     model: &[u8],

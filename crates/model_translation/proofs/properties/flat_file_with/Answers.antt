@@ -2,7 +2,7 @@ use Rattle.std.proofs.Common.{◌≡◌}
 use Rattle.std.proofs.lemmas.Result.{IfOk-weaker}
 use Rattle.jani_table.specs.Node.{node}
 use Rattle.jani_tree.specs.Syntax.{file_of}
-use Rattle.model_translation.specs.WithProperties.{with_properties}
+use Rattle.prop_to_jani.specs.ReadBack.{with_properties}
 use Rattle.model_translation.proofs.properties.flat_file_with.Goals as goal
 
 pub returns : goal.returns

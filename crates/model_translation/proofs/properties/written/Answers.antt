@@ -1,20 +1,13 @@
-use Rattle.std.proofs.Common.{subst}
+use Rattle.std.proofs.Common.{subst, map}
 use Rattle.std.proofs.lemmas.Result.{IfOk-weaker}
 use Rattle.jani_tree.specs.Syntax.{file_of}
+use Rattle.prop_trees.specs.Syntax.{property_of}
 use Rattle.model_translation.specs.Translation.{IsText}
+use Rattle.model_translation.proofs.Paired.{is_written_with}
 use Rattle.model_translation.proofs.properties.written.Goals as goal
 
 pub returns : goal.returns
 returns c =
     let f = c.in_ok-full.ensures in
     IfOk-weaker c.text_of.result (λ text. IsText text (file_of c.in_ok-full.full)) _
-    (λ text h. (
-      f.0,
-      f.1,
-      record {
-        written = subst (IsText text) f.2 h;
-        translated = f.3;
-        properties = f.4;
-        same = f.3.same;
-      },
-    )) c.text_of.ensures
+    (λ text h. (f.0, f.1, is_written_with c.args.checked (map property_of c.args.props) text f.0 f.1 f.3 f.4 (subst (IsText text) f.2 h))) c.text_of.ensures
