@@ -4,4 +4,5 @@ mod GainItems
 mod GivenTo
 mod LineLists
 mod LongActions
+mod Utf8Lines
 pub use Rattle.prism_targets.proofs.Positions

@@ -1,6 +1,7 @@
 // The comment lines before a translated file, which tell the old names of things.
 
 ghost use Rattle.std.specs.Prelude.{◌≡◌, ◌++◌, Some, codes, map, option_copied, IfOk, OnOk};
+ghost use Rattle.std.specs.Str.{IsUtf8};
 ghost use Rattle.std.specs.List.{flat_map};
 ghost use Rattle.decimal_json.specs.Text.{quoted};
 ghost use Rattle.jani_tree.specs.Syntax as jani;
@@ -24,19 +25,19 @@ use prism_modules::{Element, Names, name_at};
 use prism_targets::Target;
 use std::alloc::{AllocError, Global};
 
-/// Bytes as a text; they are UTF-8.
+/// Bytes in UTF-8 as a text.
 fn text_of(alloc: Global, bytes: &[u8]) -> Result<Text, AllocError>
+    requires { IsUtf8 bytes.now }
     ensures { IfOk result (λ t. t ≡ bytes.now) }
 {
-    match str::from_utf8(bytes) {
-        Ok(text) => Text::copy_of(alloc, text),
-        Err(_) => Err(AllocError),
-    }
+    // They are UTF-8, so nothing has to be looked at.
+    Text::copy_of(alloc, unsafe { str::from_utf8_unchecked(bytes) })
 }
 
 /// Writes an old name as a JSON string, or that there was none.
 fn push_old(out: &mut Vec<u8>, old: Option<&str>) -> Result<(), AllocError>
-    ensures { OnOk result (out.new.items ≡ out.old.items ++ old_text (option_copied old.entry)) }
+    ensures text { OnOk result (out.new.items ≡ out.old.items ++ old_text (option_copied old.entry)) }
+    ensures utf8 { OnOk result (IsUtf8 out.old.items → IsUtf8 out.new.items) }
 {
     match old {
         Some(name) => push_string(out, name),
@@ -55,7 +56,8 @@ fn made_line(alloc: Global, what: &str, name: &str, old: Option<&str>) -> Result
 
 /// Writes the line of a made name.
 fn push_made(out: &mut Vec<u8>, what: &str, name: &str, old: Option<&str>) -> Result<(), AllocError>
-    ensures { OnOk result (out.new.items ≡ out.old.items ++ made_line what.now name.now (option_copied old.entry)) }
+    ensures text { OnOk result (out.new.items ≡ out.old.items ++ made_line what.now name.now (option_copied old.entry)) }
+    ensures utf8 { OnOk result (IsUtf8 out.old.items → IsUtf8 out.new.items) }
 {
     out.extend_from_slice(b"// ")?;
     out.extend_from_slice(what.as_bytes())?;
@@ -155,7 +157,8 @@ fn add_action_lines(
 
 /// Writes the names of locations as a JSON list.
 fn push_locations(out: &mut Vec<u8>, locations: &[JaniLocation]) -> Result<(), AllocError>
-    ensures { OnOk result (out.new.items ≡ out.old.items ++ joined (map (λ l. quoted l.name.name) (map jani.location_of locations.now))) }
+    ensures text { OnOk result (out.new.items ≡ out.old.items ++ joined (map (λ l. quoted l.name.name) (map jani.location_of locations.now))) }
+    ensures utf8 { OnOk result (IsUtf8 out.old.items → IsUtf8 out.new.items) }
 {
     let [first, others @ ..] = locations else {
         return Ok(());
@@ -179,7 +182,8 @@ fn several_line(alloc: Global, name: &str, locations: &[JaniLocation]) -> Result
 
 /// Writes the line of an element with several locations.
 fn push_several(out: &mut Vec<u8>, name: &str, locations: &[JaniLocation]) -> Result<(), AllocError>
-    ensures { OnOk result (out.new.items ≡ out.old.items ++ several_line name.now (map jani.location_of locations.now)) }
+    ensures text { OnOk result (out.new.items ≡ out.old.items ++ several_line name.now (map jani.location_of locations.now)) }
+    ensures utf8 { OnOk result (IsUtf8 out.old.items → IsUtf8 out.new.items) }
 {
     out.extend_from_slice(b"// location ")?;
     out.extend_from_slice(name.as_bytes())?;
