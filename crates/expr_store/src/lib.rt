@@ -1,5 +1,4 @@
-//! The expressions of an instance, each different subexpression once, with names resolved to places; and their values in a state,
-//! where what is shared is evaluated once.
+//! The expressions of an instance as nodes that they share, with names resolved to places; and their values in a state.
 #![tactic(auto)]
 
 mod answers;

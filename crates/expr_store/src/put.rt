@@ -23,8 +23,8 @@ pub trait Scope {
 }
 
 impl<O: Operator> ExprStore<O> {
-    /// Puts an expression with all its parts, each of which stands once. What stands already goes on standing, also after an
-    /// `Err`, which is want of memory.
+    /// Puts an expression with all its parts; those that are found there are not added again. What stands already goes on
+    /// standing, also after an `Err`, which is want of memory.
     pub fn put<S: Scope>(&mut self, e: &Expr<O>, scope: &S) -> Result<ExprId, AllocError>
         ensures grows { IsGrown (nodes self.old) (nodes self.new) }
         ensures stands { IfOk result (λ id. Stands O.meaning (S.places scope.now) (nodes self.new) id.number (tree e.now)) }

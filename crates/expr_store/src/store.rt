@@ -1,5 +1,5 @@
 //! The expressions of an instance, as nodes.
-ghost use Rattle.std.specs.Prelude.{◌≡◌, ◌<◌, [], IfOk, IfSome, IsTrue, length, true};
+ghost use Rattle.std.specs.Prelude.{◌≡◌, ◌⊎◌, ◌<◌, ◌++◌, ◌∷◌, [], IfOk, IfSome, IsTrue, length, true};
 ghost use Rattle.expr_store.specs.Nodes.{Holds, IsGrown, is_behind, node_at};
 ghost use Rattle.expr_store.specs.Views.{nodes};
 ghost use Rattle.expr_store.specs.declared.node.Node.TheVariants.{Fixed};
@@ -10,7 +10,7 @@ use indexmap::IndexMap;
 use op_trees::{Operator, Value};
 use std::alloc::{AllocError, Global};
 
-/// Expressions, each different subexpression once: its nodes in an order in which each stands behind its operands. Names are
+/// Expressions as nodes, each of which stands behind its operands; one that is equal to one that is found isn't added. Names are
 /// resolved to places.
 pub struct ExprStore<O: Operator> {
     nodes: Vec<Node<O>>,
@@ -90,11 +90,12 @@ impl<O: Operator> ExprStore<O> {
         }
     }
 
-    /// Puts a node, if no equal one is there. `Err` is want of memory.
+    /// Puts a node: adds it last, unless an equal one is found. `Err` is want of memory.
     pub(crate) fn put_node(&mut self, node: Node<O>) -> Result<ExprId, AllocError>
         requires { is_behind (length (nodes self.old)) node ≡ true }
         ensures grows { IsGrown (nodes self.old) (nodes self.new) }
         ensures holds { IfOk result (λ id. Holds (nodes self.new) id.number node) }
+        ensures added { IfOk result (λ id. (nodes self.new ≡ nodes self.old) ⊎ (nodes self.new ≡ nodes self.old ++ node ∷ [])) }
     {
         let bucket = bucket_of(&node);
         let newest = self.newest.get(&bucket).copied();
@@ -161,7 +162,7 @@ impl<O: Operator> ExprStore<O> {
         }
     }
 
-    /// Adds a node. `Err` is want of memory.
+    /// Adds a node last. `Err` is want of memory.
     fn push(
         &mut self,
         node: Node<O>,
@@ -171,6 +172,7 @@ impl<O: Operator> ExprStore<O> {
         requires { is_behind (length (nodes self.old)) node ≡ true }
         ensures grows { IsGrown (nodes self.old) (nodes self.new) }
         ensures holds { IfOk result (λ id. Holds (nodes self.new) id.number node) }
+        ensures added { IfOk result (λ id. nodes self.new ≡ nodes self.old ++ node ∷ []) }
     {
         let number = self.nodes.len();
         let cost = self.cost(&node);

@@ -25,3 +25,6 @@ returns-in_ok-pushed-in-Ok-clause-holds g c =
       is = ap₂ slice_get (c.in_ok-pushed-in-Ok.ensures.items ∙ ap (λ all. all ++ c.args.node ∷ []) c.note-noted.ensures) e ∙ get_last ns c.args.node;
       behind = ap (λ i. is_behind i c.args.node) e ∙ c.requires;
     }
+
+pub returns-in_ok-pushed-in-Ok-clause-added : goal.returns-in_ok-pushed-in-Ok-clause-added
+returns-in_ok-pushed-in-Ok-clause-added g c = c.in_ok-pushed-in-Ok.ensures.items ∙ ap (λ ns. ns ++ c.args.node ∷ []) c.note-noted.ensures
