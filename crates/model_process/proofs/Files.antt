@@ -1,6 +1,6 @@
 -- From a model to the bytes of all files, the model's first.
 use Rattle.std.proofs.Common.{arith, ◌≡◌, refl, sym, ap, subst, ℕ, suc, List, [], ◌∷◌, length, drop, slice_index_or}
-use Rattle.std.specs.Prelude.{Result, Ok, Err}
+use Rattle.std.specs.Prelude.{Result, Err}
 use Rattle.bridge_io.specs.declared.reason.Refused.{Refused}
 use Rattle.bridge_io.specs.declared.reason.Refused.TheVariants as F
 use Rattle.command_words.specs.Words.{Checking}

@@ -3,3 +3,8 @@ pub mod Starts
 pub mod Walks
 pub mod Files
 pub mod Judged
+pub mod StateTexts
+pub mod NameTexts
+pub mod PathTexts
+pub mod WalkVerdicts
+pub mod AcceptedWalks

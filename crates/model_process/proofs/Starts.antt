@@ -1,5 +1,5 @@
 -- How a model that was to be started ends, from what starting it answers.
-use Rattle.std.proofs.Common.{arith, ◌≡◌, ◌∙◌, refl, sym, ap, subst, ℕ, ◌+◌, ◌-◌, ◌<◌, ◌≤◌, List, [], length, Some, None}
+use Rattle.std.proofs.Common.{arith, ◌≡◌, ◌∙◌, sym, ap, subst, ℕ, ◌+◌, ◌-◌, ◌<◌, ◌≤◌, List, [], length, Some, None}
 use Rattle.std.specs.Prelude.{◌≢◌, ◌^◌, Result, Ok, Err, IfOk, true, false}
 use Rattle.process_core.specs.Instance.{is_wide_instance, instance_faults}
 use Rattle.process_core.specs.Steps.{Process}

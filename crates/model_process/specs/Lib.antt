@@ -4,3 +4,5 @@ pub mod Starts
 pub mod Walks
 pub mod Claims
 pub mod Verdicts
+pub mod ReadBack
+pub mod WrittenPaths

@@ -4,11 +4,13 @@
 
 mod ending;
 mod judging;
+mod laws;
 mod lines;
 mod starting;
 mod walking;
 
 pub use ending::Ending;
 pub use judging::{ClaimRefused, judge_claim};
+pub use laws::walk_law;
 pub use starting::{Unstarted, begun, good_front, read_flat};
 pub use walking::show_or_walk;
