@@ -1,16 +1,19 @@
 -- What is read of files is as it is to be judged.
-use Rattle.std.proofs.Common.{◌≡◌, ℕ, suc, ◌<◌, List, [], ◌∷◌, ◌++◌, ◌&&◌, ◌||◌, nat_eq, Bool, true, false, Ok, length, refl, sym, ap, ◌∙◌, subst, append-nil, append_assoc}
+use Rattle.std.proofs.Common.{◌≡◌, ℕ, suc, ◌<◌, ◌≤◌, List, [], ◌∷◌, ◌++◌, ◌&&◌, ◌||◌, nat_eq, Bool, true, false, Ok, length, refl, sym, ap, ◌∙◌, subst, append-nil, append_assoc, length-append, arith}
 use Rattle.std.specs.List.{list_any, All}
 use Rattle.std.proofs.lemmas.List.{length-map}
 use Rattle.std.proofs.lemmas.List.Elements.{All-push, All-nil}
 use Rattle.basics.specs.Booleans.{first_false, second_false}
+use Rattle.frac_core.specs.Fraction.{Fraction, nought}
+use Rattle.frac_core.specs.Order.{AtMost}
 use Rattle.row_check.specs.declared.data.Row.{Row}
 use Rattle.row_check.specs.declared.data.ReadRows.{ReadRows}
 use Rattle.row_check.specs.declared.data.ReadPath.{ReadPath}
 use Rattle.row_check.specs.Lines.{Line, lines, Hold, AreReadAs, AreReadBehind}
 use Rattle.row_check.specs.Rows.{same_choice, FollowEachOther, AreOrdered, RowsDiffer, AreReadRows}
-use Rattle.row_check.specs.Forms.{IsHeader, MayFollow, IsRowLine, IsCounts, ReadsFirst, rows_said}
-use Rattle.row_check.specs.Laws.{RowFilesOrdered, PathFileWhole}
+use Rattle.row_check.specs.Forms.{IsHeader, MayFollow, IsRowLine, IsBoundLine, IsCounts, ReadsFirst, rows_said}
+use Rattle.row_check.specs.Laws.{RowFilesOrdered, PathFileWhole, WeightsNotNegative, BoundsNotNegative}
+use Rattle.row_check.proofs.NotNegative.{probability_not_negative}
 
 -- what holds of no members, and is kept by one more, holds of what lines hold
 holds_after : {C : Type 0} (Next : List C → List ℕ → C → Type 0) (P : List C → Type 0) → ((before : List C) (text : List ℕ) (c : C) → P before → Next before text c → P (before ++ c ∷ [])) →
@@ -65,6 +68,32 @@ row_files_ordered p states rows r h = by_lines (lines rows) h.1
         let e : h.2.0 ≡ r.rows = sym (ap (λ (q : ReadRows). q.rows) h.2.2) in
         let g = subst (Good (length r.states)) e (rows_good (length r.states) ls h.2.0 h.2.1) in
         record { ordered = g.ordered; sources = g.sources; differ = g.differ }
+
+-- ---- no number is negative
+row_not_negative : (n : ℕ) (before : List Row) (text : List ℕ) (r : Row) → All (λ (q : Row). AtMost nought q.weight) before → IsRowLine n before text r → All (λ (q : Row). AtMost nought q.weight) (before ++ r ∷ [])
+row_not_negative n before text r h l = All-push (λ (q : Row). AtMost nought q.weight) before r h (probability_not_negative l.row.weight r.weight l.row.weight_is)
+
+pub weights_not_negative : WeightsNotNegative
+weights_not_negative p states rows r h = by_lines (lines rows) h.1
+  where
+    by_lines : (ls : List Line) → AreReadBehind IsCounts (λ c. AreReadAs (IsRowLine (length r.states)) (rows_said r.states c)) (length rows) ls (Ok r) → All (λ (q : Row). AtMost nought q.weight) r.rows
+    by_lines [] h = absurd h
+    by_lines (l ∷ ls) h =
+        subst (All (λ (q : Row). AtMost nought q.weight)) (sym (ap (λ (q : ReadRows). q.rows) h.2.2))
+        (holds_after (IsRowLine (length r.states)) (All (λ (q : Row). AtMost nought q.weight)) (row_not_negative (length r.states)) [] ls h.2.0 (All-nil (λ (q : Row). AtMost nought q.weight)) h.2.1)
+
+bound_not_negative : (n : ℕ) (before : List Fraction) (text : List ℕ) (x : Fraction) → All (AtMost nought) before → IsBoundLine n before text x → All (AtMost nought) (before ++ x ∷ [])
+bound_not_negative n before text x h l = All-push (AtMost nought) before x h (probability_not_negative l.value x l.value_is)
+
+pub bounds_not_negative : BoundsNotNegative
+bounds_not_negative n bytes xs h = holds_after (IsBoundLine n) (All (AtMost nought)) (bound_not_negative n) [] (lines bytes) xs (All-nil (AtMost nought)) h.0
+
+-- ---- there are no more bounds than are wanted
+one_bound : (n : ℕ) (before : List Fraction) (text : List ℕ) (x : Fraction) → length before ≤ n → IsBoundLine n before text x → length (before ++ x ∷ []) ≤ n
+one_bound n before text x h l = let w = l.wanted in let e = length-append before (x ∷ []) in omega arith
+
+pub bounds_few : (n : ℕ) (ls : List Line) (xs : List Fraction) → Hold (IsBoundLine n) [] ls xs → length xs ≤ n
+bounds_few n ls xs h = holds_after (IsBoundLine n) (λ ys. length ys ≤ n) (one_bound n) [] ls xs (omega arith) h
 
 pub path_file_whole : PathFileWhole
 path_file_whole p bytes path h = by_header (lines bytes) h

@@ -20,4 +20,6 @@ pub mod RowLines
 pub mod NextLine
 pub mod Reading
 pub mod OneForm
+pub mod NotNegative
 pub mod Formed
+pub mod BoundLines

@@ -1,5 +1,5 @@
 -- A line holds one thing, so a file has one content.
-use Rattle.std.proofs.Common.{◌≡◌, ℕ, List, [], ◌∷◌, ◌++◌, Option, Some, None, Result, Ok, Err, refl, sym, ap, ◌∙◌, subst, inl, inr, append-nil, nat_eq, false, length}
+use Rattle.std.proofs.Common.{◌≡◌, ℕ, ◌<◌, arith, List, [], ◌∷◌, ◌++◌, Option, Some, None, Result, Ok, Err, refl, sym, ap, ◌∙◌, subst, inl, inr, append-nil, nat_eq, false, length}
 use Rattle.std.specs.List.{list_any}
 use Rattle.frac_core.specs.Fraction.{Fraction}
 use Rattle.op_trees.specs.declared.tree.Value.TheVariants.{Number}
@@ -15,8 +15,8 @@ use Rattle.row_check.specs.declared.data.Counts.{Counts}
 use Rattle.row_check.specs.declared.data.PathStep.{PathStep}
 use Rattle.row_check.specs.Lines.{Line, lines, Hold, BreakAt, AreRead, AreReadAs, AreReadBehind}
 use Rattle.row_check.specs.Texts.{IsStateText, IsNameText, IsProbability}
-use Rattle.row_check.specs.Forms.{IsHeader, IsStateLine, IsLabelPart, IsNumbered, IsRowText, IsRowLine, IsCounts, IsStepLabel, IsStepLine, path_of, rows_said, ReadsFirst}
-use Rattle.row_check.specs.Laws.{PathReadOnce, StatesReadOnce, RowsReadOnce}
+use Rattle.row_check.specs.Forms.{IsHeader, IsStateLine, IsLabelPart, IsNumbered, IsRowText, IsRowLine, IsCounts, IsStepLabel, IsStepLine, IsBoundLine, path_of, rows_said, ReadsFirst, ReadsBounds}
+use Rattle.row_check.specs.Laws.{BoundsReadOnce, PathReadOnce, StatesReadOnce, RowsReadOnce}
 use Rattle.row_check.proofs.Parts.{front_same, last_same, lacks_mark, number_apart, number_no_colon, number_once}
 
 abbrev pub HoldsOne : {C : Type 0} → (List C → C → Type 0) → Type 0
@@ -149,7 +149,29 @@ module _ (values : OneValueText) (states : OneStateText) (names : OneNameText) w
       same_step s.label t.label s.state t.state (label_once h.label k.label s.label t.label f.0 h.label_is k.label_is)
       (state_text_once h.state k.state s.state t.state f.1 h.state_is k.state_is)
 
+  bound_once : (n : ℕ) (text : List ℕ) (before : List Fraction) (x y : Fraction) → IsBoundLine n before text x → IsBoundLine n before text y → x ≡ y
+  bound_once n text before x y h k =
+      let f = front_same 58 h.number k.number h.value k.value (number_no_colon h.number _ h.counts) (number_no_colon k.number _ k.counts) (sym h.parts ∙ k.parts) in
+      probability_once h.value k.value x y f.1 h.value_is k.value_is
+
+  too_few : (n : ℕ) (bytes : List ℕ) (xs ys : List Fraction) → ReadsBounds n bytes (Ok xs) → Hold (IsBoundLine n) [] (lines bytes) ys → length ys < n → ⊥
+  too_few n bytes xs ys h k l =
+      let e = ap length (hold_once (IsBoundLine n) (bound_once n) [] (lines bytes) xs ys h.0 k) in
+      let m = h.1 in
+      omega arith
+
   -- ---- whole files
+  pub bounds_read_once : BoundsReadOnce
+  bounds_read_once n bytes (Ok xs) (Ok ys) h k = ap Ok (hold_once (IsBoundLine n) (bound_once n) [] (lines bytes) xs ys h.0 k.0)
+  bounds_read_once n bytes (Ok xs) (Err at) h (inl k) = absurd (hold_or_break (IsBoundLine n) (bound_once n) [] (lines bytes) xs at h.0 k)
+  bounds_read_once n bytes (Ok xs) (Err at) h (inr k) = absurd (too_few n bytes xs k.0 h k.1 k.2)
+  bounds_read_once n bytes (Err at) (Ok ys) (inl h) k = absurd (hold_or_break (IsBoundLine n) (bound_once n) [] (lines bytes) ys at k.0 h)
+  bounds_read_once n bytes (Err at) (Ok ys) (inr h) k = absurd (too_few n bytes ys h.0 k h.1 h.2)
+  bounds_read_once n bytes (Err at) (Err to) (inl h) (inl k) = ap Err (break_once (IsBoundLine n) (bound_once n) [] (lines bytes) at to h k)
+  bounds_read_once n bytes (Err at) (Err to) (inl h) (inr k) = absurd (hold_or_break (IsBoundLine n) (bound_once n) [] (lines bytes) k.0 at k.1 h)
+  bounds_read_once n bytes (Err at) (Err to) (inr h) (inl k) = absurd (hold_or_break (IsBoundLine n) (bound_once n) [] (lines bytes) h.0 to h.1 k)
+  bounds_read_once n bytes (Err at) (Err to) (inr h) (inr k) = ap Err (h.3 ∙ sym k.3)
+
   pub states_read_once : StatesReadOnce
   states_read_once p bytes = behind_once (IsHeader p) (λ u. AreRead IsStateLine) (header_once p) (λ u. read_once IsStateLine state_once) (length bytes) (lines bytes)
 

@@ -1,10 +1,11 @@
--- The forms of files of states, rows and paths. (This project's own.)
-use Rattle.std.specs.Prelude.{◌≤◌, ◌≡◌, ℕ, ◌<◌, List, [], ◌∷◌, ◌++◌, map, ◌&&◌, false, Option, Some, None, Result, Ok, Err, nat_eq, length, Vec}
+-- The forms of files of states, rows, paths and bounds. (This project's own.)
+use Rattle.std.specs.Prelude.{◌≤◌, ◌≡◌, ℕ, ◌<◌, List, [], ◌∷◌, ◌++◌, ◌⊎◌, map, ◌&&◌, false, Option, Some, None, Result, Ok, Err, nat_eq, length, Vec}
 use Rattle.std.specs.Global.{Global}
 use Rattle.std.specs.List.{list_any}
 use Rattle.bridge_io.specs.declared.reason.Reason.TheVariants.{RowSyntax}
 use Rattle.bridge_io.specs.declared.reason.Refused.{Refused}
 use Rattle.bridge_io.specs.declared.reason.Refused.TheVariants as R
+use Rattle.frac_core.specs.Fraction.{Fraction}
 use Rattle.process_core.specs.Ready.{Name}
 use Rattle.process_core.specs.Steps.{Process}
 use Rattle.process_core.specs.declared.data.State.{State}
@@ -98,6 +99,16 @@ pub record IsStepLine (before : List PathStep) (text : List ℕ) (step : PathSte
   pub label_is : IsStepLabel label step.label
   pub state_is : IsStateText state step.state
 
+-- ---- files of bounds
+-- `i:` and a value, i being the number of values before, of `n` in all
+pub record IsBoundLine (n : ℕ) (before : List Fraction) (text : List ℕ) (x : Fraction) : Type 0 where
+  pub number : List ℕ
+  pub value : List ℕ
+  pub parts : text ≡ number ++ 58 ∷ value
+  pub counts : IsNumber number (length before)
+  pub wanted : length before < n
+  pub value_is : IsProbability value x
+
 -- ---- whole files
 -- What a file is read as: its content, or the offset of the first line that breaks the form; a line that is missing breaks it
 -- at the end.
@@ -123,6 +134,13 @@ ReadsFirst end = AreReadBehind IsStateText (λ s. AreReadAs IsStepLine (path_of 
 abbrev pub ReadsPath : Process → List ℕ → Result ReadPath ℕ → Type 0
 ReadsPath p bytes = AreReadBehind (IsHeader p) (λ u. ReadsFirst (length bytes)) (length bytes) (lines bytes)
 
+-- `n` values
+abbrev pub ReadsBounds : ℕ → List ℕ → Result (List Fraction) ℕ → Type 0
+ReadsBounds n bytes (Ok xs) = Hold (IsBoundLine n) [] (lines bytes) xs × (length xs ≡ n)
+ReadsBounds n bytes (Err at) =
+    BreakAt (IsBoundLine n) [] (lines bytes) at
+    ⊎ ((xs : List Fraction) × Hold (IsBoundLine n) [] (lines bytes) xs × (length xs < n) × (at ≡ length bytes))
+
 -- ---- contents and breaks
 abbrev pub IsPathFile : Process → List ℕ → ReadPath → Type 0
 IsPathFile p bytes path = ReadsPath p bytes (Ok path)
@@ -140,6 +158,10 @@ IsStatesBreak p states at = ReadsStates p states (Err at)
 -- the file of rows breaks its form, that of states doesn't
 abbrev pub IsRowsBreak : Process → List ℕ → List ℕ → ℕ → Type 0
 IsRowsBreak p states rows at = (ss : List State) × ReadsStates p states (Ok ss) × ReadsRowsOf ss rows (Err at)
+
+-- the values that a file gives so many states
+abbrev pub AreBounds : ℕ → List ℕ → List Fraction → Type 0
+AreBounds n bytes xs = ReadsBounds n bytes (Ok xs)
 
 -- ---- what a reading call answers
 -- where the line behind the header begins, or that the header is missing

@@ -1,5 +1,8 @@
 -- What the verdict Yes means, that there is one verdict, and that a file is read in one way, as statements. (This project's own.)
 use Rattle.std.specs.Prelude.{◌≡◌, ◌↔◌, ℕ, suc, List, length, Option, None, Result}
+use Rattle.std.specs.List.{All}
+use Rattle.frac_core.specs.Fraction.{Fraction, nought}
+use Rattle.frac_core.specs.Order.{AtMost}
 use Rattle.process_core.specs.Steps.{Process}
 use Rattle.process_core.specs.declared.data.State.{State}
 use Rattle.row_check.specs.declared.data.ReadPath.{ReadPath}
@@ -9,7 +12,7 @@ use Rattle.row_check.specs.declared.data.Verdict.TheVariants.{Yes}
 use Rattle.row_check.specs.Judging.{Judges}
 use Rattle.row_check.specs.Paths.{IsOwnPath, IsNarrowPath, JudgesPath}
 use Rattle.row_check.specs.Rows.{AreReadRows, AreRows, AreNarrowRows, JudgesRows}
-use Rattle.row_check.specs.Forms.{IsPathFile, AreRowFiles, ReadsPath, ReadsStates, ReadsRowsOf}
+use Rattle.row_check.specs.Forms.{IsPathFile, AreRowFiles, AreBounds, ReadsPath, ReadsStates, ReadsRowsOf, ReadsBounds}
 
 -- nothing fails exactly where the path is the model's and nothing passes a bound
 abbrev pub PathYes : Type 0
@@ -50,3 +53,13 @@ StatesReadOnce = (p : Process) (bytes : List ℕ) (r q : Result (List State) ℕ
 
 abbrev pub RowsReadOnce : Type 0
 RowsReadOnce = (ss : List State) (bytes : List ℕ) (r q : Result ReadRows ℕ) → ReadsRowsOf ss bytes r → ReadsRowsOf ss bytes q → r ≡ q
+
+abbrev pub BoundsReadOnce : Type 0
+BoundsReadOnce = (n : ℕ) (bytes : List ℕ) (r q : Result (List Fraction) ℕ) → ReadsBounds n bytes r → ReadsBounds n bytes q → r ≡ q
+
+-- no probability is negative, and no bound
+abbrev pub WeightsNotNegative : Type 0
+WeightsNotNegative = (p : Process) (states rows : List ℕ) (r : ReadRows) → AreRowFiles p states rows r → All (λ x. AtMost nought x.weight) r.rows
+
+abbrev pub BoundsNotNegative : Type 0
+BoundsNotNegative = (n : ℕ) (bytes : List ℕ) (xs : List Fraction) → AreBounds n bytes xs → All (AtMost nought) xs

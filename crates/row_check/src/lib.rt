@@ -2,6 +2,7 @@
 //! The verdict is the first failure in a fixed order; what is judged is defined in `specs/` apart from any loop.
 #![tactic(auto)]
 
+mod bounds_file;
 mod check;
 mod counting;
 mod data;
@@ -16,10 +17,11 @@ mod row_files;
 mod rows;
 mod texts;
 
+pub use bounds_file::read_bounds;
 pub use check::{check_path, check_rows};
 pub use data::{Counts, PathStep, ReadPath, ReadRows, Row, RowsRefused, Verdict, Why};
 pub use laws::{form_laws, verdict_laws};
 pub use path::{judge_path, leads_to};
 pub use path_file::read_path;
 pub use row_files::read_rows;
-pub use rows::judge_rows;
+pub use rows::{judge_rows, run_len};

@@ -283,7 +283,7 @@ fn merged_runs(alloc: Global, own: &[Row]) -> Result<Vec<MergedChoice>, AllocErr
 }
 
 /// How many rows there are of the first row's choice.
-fn run_len(rest: &[Row]) -> usize
+pub fn run_len(rest: &[Row]) -> usize
     requires { 0 < length rest.now }
     ensures within { result ≤ length rest.now }
     ensures some { 0 < result }
