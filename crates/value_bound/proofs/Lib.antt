@@ -1,0 +1,10 @@
+pub mod Reached
+pub mod Strategic
+pub mod Told
+pub mod Once
+pub mod Certified
+pub mod Summed
+pub mod Walked
+pub mod OwnSums
+pub mod OwnReached
+pub mod Named
