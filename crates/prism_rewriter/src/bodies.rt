@@ -1,58 +1,139 @@
-// The bodies of formulas, written out.
+// The bodies of formulas, gone into where their names are met.
 
-ghost use Rattle.std.specs.Prelude.{◌≡◌, ◌<◌, List, ℕ, All, length, map, Some, None, IfOk, OnOk, bytes_eq, if◌then◌else◌};
+ghost use Rattle.std.specs.Prelude.{◌≡◌, ◌<◌, ◌++◌, ◌∷◌, [], List, ℕ, All, length, map, min, take, is_some, ◌-◌, IfOk, OnOk};
 ghost use Rattle.op_trees.specs.Tree.{tree};
 ghost use Rattle.prism_tree.specs.Syntax.{formula_of};
 ghost use Rattle.prism_names.specs.Places.{at_places};
+ghost use Rattle.name_rules.specs.Names.{nothing, put, under};
+ghost use Rattle.prism_rewriter.specs.Entries.{IsEntryFor, IsRanked};
 ghost use Rattle.prism_rewriter.specs.Filling.{bodies_after};
-ghost use Rattle.prism_rewriter.specs.Tables.{body_in};
+ghost use Rattle.prism_rewriter.specs.Tables.{alias_in, body_in, entry_in, last_called};
 
-use indexmap::IndexMap;
-use op_trees::{Bodies, substitute};
-use prism_tree::{PrismExpr, PrismFormula, PrismOp};
+use bridge_io::List;
+use name_rules::NameMap;
+use op_trees::Expr;
+use prism_tree::{PrismExpr, PrismFormula};
 use std::alloc::{AllocError, Global};
 
-/// Expressions by the names that they stand for, as the bodies of formulas.
+/// A formula's body, or where that is the name of another formula alone, the body in the other's entry.
+#[derive(Clone, Copy)]
+pub struct Entry<'a> {
+    pub(crate) name: &'a str,
+    pub(crate) body: &'a PrismExpr,
+    /// A name in the body is that of one of so many formulas, the first in their order, or of none.
+    pub(crate) rank: usize,
+}
+
+impl<'a> Entry<'a> {
+    /// Its rank, if that is below another, else the highest below the other. It always is below: this says so, where nothing
+    /// else does.
+    pub(crate) fn rank_below(&self, rank: usize) -> usize
+        ensures { result ≡ min self.now.rank (rank - 1) }
+    {
+        self.rank.min(rank.saturating_sub(1))
+    }
+}
+
+/// Expressions by the names that they stand for, as the bodies of formulas. No body is written out.
 pub struct BodyTable<'a> {
-    bodies: IndexMap<&'a str, PrismExpr>,
+    pub(crate) entries: List<Entry<'a>>,
+    pub(crate) last: NameMap<'a, usize>,
 }
 
 // Written out, so that it is proved here, and not wherever one is held.
 impl<'a> Drop for BodyTable<'a> {
     fn drop(self) {
-        let BodyTable { bodies } = self;
-        drop(bodies);
-    }
-}
-
-impl<'a> Bodies<PrismOp> for BodyTable<'a> {
-    ghost use Rattle.prism_rewriter.specs.Tables.{body_in};
-
-    ghost bodies = { body_in };
-
-    fn body(&self, name: &str) -> Option<&PrismExpr> {
-        self.bodies.get(name)
+        let BodyTable { entries, last } = self;
+        drop(entries);
+        drop(last);
     }
 }
 
 impl<'a> BodyTable<'a> {
     fn new(alloc: Global) -> BodyTable<'a>
-        ensures { (x : List ℕ) → body_in result x ≡ None }
+        ensures entries { result.entries ≡ [] }
+        ensures last { under result.last ≡ nothing }
     {
         BodyTable {
-            bodies: IndexMap::new(alloc),
+            entries: List::new(alloc),
+            last: NameMap::new(alloc),
         }
     }
 
-    fn insert(&mut self, name: &'a str, body: PrismExpr) -> Result<(), AllocError>
-        ensures { OnOk result
-            ((x : List ℕ) → body_in self.new x ≡ (if bytes_eq name.now x then Some (tree body) else body_in self.old x)) }
+    fn insert(&mut self, more: Entry<'a>) -> Result<(), AllocError>
+        ensures entries { OnOk result (self.new.entries ≡ self.old.entries ++ more.entry ∷ []) }
+        ensures last { OnOk result (under self.new.last ≡ put (under self.old.last) more.entry.name.now (length self.old.entries)) }
     {
-        match self.bodies.insert(name, body) {
-            Ok(_) => Ok(()),
-            Err(_) => Err(AllocError),
+        self.last.put(more.name, self.entries.len())?;
+        self.entries.push(more)
+    }
+
+    /// The entry of a name, if it has one.
+    pub(crate) fn body(&self, name: &str) -> Option<Entry<'a>>
+        ensures entry { result ≡ entry_in self.now (length self.now.entries) name.now }
+        ensures known { is_some result ≡ is_some (body_in self.now name.now) }
+    {
+        self.entry(name, self.entries.len())
+    }
+
+    /// The last entry of a name among the first `rank`.
+    pub(crate) fn entry(&self, name: &str, rank: usize) -> Option<Entry<'a>>
+        ensures { result ≡ entry_in self.now rank name.now }
+    {
+        match self.last.get(name) {
+            Some(place) => {
+                if place < rank {
+                    self.entries.get(place).copied()
+                } else {
+                    last_called(self.entries.as_slice(), rank, name)
+                }
+            }
+            None => None,
         }
     }
+
+    // The entry of a formula that comes behind those of the table.
+    fn entry_of(&self, formula: &'a PrismFormula) -> Entry<'a>
+        requires { IsRanked self.now }
+        ensures { IsEntryFor self.now (formula_of formula.now) result }
+    {
+        let name = formula.name.name.as_str();
+        match self.alias(&formula.body) {
+            Some(entry) => Entry {
+                name,
+                body: entry.body,
+                rank: entry.rank,
+            },
+            None => Entry {
+                name,
+                body: &formula.body,
+                rank: self.entries.len(),
+            },
+        }
+    }
+
+    // The entry of an expression that is a name alone.
+    fn alias(&self, e: &PrismExpr) -> Option<Entry<'a>>
+        ensures { result ≡ alias_in self.now (tree e.now) }
+    {
+        match e {
+            Expr::Name(_, x) => self.body(x.as_str()),
+            _ => None,
+        }
+    }
+}
+
+// The last of the first `count` entries that has this name: where no two have one name, only the table is asked.
+fn last_called<'a>(entries: &[Entry<'a>], count: usize, name: &str) -> Option<Entry<'a>>
+    ensures { result ≡ last_called (take count entries.now) name.now }
+{
+    let mut last = None;
+    for entry in &entries[..count.min(entries.len())] {
+        if entry.name == name {
+            last = Some(*entry);
+        }
+    }
+    last
 }
 
 /// The bodies of the formulas at these places, in each of which the names of those before it are replaced. `Err` is want of
@@ -68,9 +149,8 @@ pub fn written_bodies<'a>(
 {
     let mut table = BodyTable::new(alloc);
     for place in places {
-        let formula = &formulas[*place];
-        let body = substitute(alloc, &formula.body, &table)?;
-        table.insert(formula.name.name.as_str(), body)?;
+        let entry = table.entry_of(&formulas[*place]);
+        table.insert(entry)?;
     }
     Ok(table)
 }
