@@ -31,7 +31,8 @@ int main(int count, char **words) {
         _exit(127);
     }
     wait4(child, &status, 0, &usage);
-    printf("%f %ld %d\\n", seconds(usage.ru_utime) + seconds(usage.ru_stime), usage.ru_maxrss * 1024, WEXITSTATUS(status));
+    printf("%f %ld %d\\n", seconds(usage.ru_utime) + seconds(usage.ru_stime), usage.ru_maxrss * 1024,
+           WIFSIGNALED(status) ? -WTERMSIG(status) : WEXITSTATUS(status));
     return 0;
 }
 """
@@ -58,12 +59,18 @@ def runner():
     return at + "/run"
 
 
+def measured(command, out=os.devnull):
+    """The processor seconds that a command took, the greatest memory that it held, in bytes, and its status; of a signal the number below 0."""
+    told = subprocess.run([runner(), out, *command], stdout=subprocess.PIPE, check=True).stdout.split()
+    return float(told[0]), int(told[1]), int(told[2])
+
+
 def timed(command, status=0, out=os.devnull):
     """The processor seconds that a command took, and the greatest memory that it held, in bytes."""
-    told = subprocess.run([runner(), out, *command], stdout=subprocess.PIPE, check=True).stdout.split()
-    if int(told[2]) != status:
-        sys.exit("%s ended with status %s" % (" ".join(command), told[2].decode()))
-    return float(told[0]), int(told[1])
+    seconds, memory, ended = measured(command, out)
+    if ended != status:
+        sys.exit("%s ended with status %d" % (" ".join(command), ended))
+    return seconds, memory
 
 
 def python(line, name):
