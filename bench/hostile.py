@@ -481,7 +481,7 @@ def row(it, command, sizes):
         size = written(files)
         spent, memory, status = measured(command + words, "out")
         out, growth = os.path.getsize("out"), None
-        if before and before[1] >= LEAST and count > before[0]:
+        if status == it.status and before and before[1] >= LEAST and count > before[0]:
             growth = (spent / before[1]) ** (1 / math.log2(count / before[0]))
         before = count, spent
         print("%-42s %8d %7.2f %8.3f %6s %8.1f %7.1f %9.1f %6d  %s" % (
