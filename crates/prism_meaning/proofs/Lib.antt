@@ -14,3 +14,4 @@ pub mod Once
 pub mod StartLaws
 pub mod Typed
 pub mod DescribedLaws
+pub mod Sharing

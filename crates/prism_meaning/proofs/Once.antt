@@ -19,7 +19,7 @@ after_more view f s xs i x before old new y h e so_far pushed here =
     (sym (map-append f (map s (take i xs)) (s x ∷ [])) ∙ ap (map f) (sym (map-append s (take i xs) (x ∷ [])) ∙ ap (map s) (sym (taken xs i x h e))))
 
 -- ---- of the lists in which some member passes, the members that do
-one_shared : {A : Type 0} (p : A → Bool) (m : List A) → unless_empty (filter p m) ≡ (if list_any p m then filter p m ∷ [] else [])
+pub one_shared : {A : Type 0} (p : A → Bool) (m : List A) → unless_empty (filter p m) ≡ (if list_any p m then filter p m ∷ [] else [])
 one_shared p [] = refl
 one_shared p (x ∷ xs) = by_test (p x) (one_shared p xs)
   where

@@ -1,7 +1,9 @@
 //! Which commands and reward items belong together, found once.
-ghost use Rattle.std.specs.Prelude.{◌≡◌, ◌++◌, IfOk, List, None, Some, map, option_copied};
+ghost use Rattle.std.specs.Prelude.{◌≡◌, ◌++◌, ℕ, IfOk, List as ListOf, None, Some, [], bytes_eq, if◌then◌else◌, map, option_copied};
 ghost use Rattle.std.specs.List.{filter, flat_map};
 ghost use Rattle.basics.specs.Options.{if_some};
+ghost use Rattle.gathering.specs.Lists.{list_under};
+ghost use Rattle.process_core.specs.Instance.{only_if};
 ghost use Rattle.prism_check.specs.Moment.{action_of, adds_of};
 ghost use Rattle.prism_check.specs.Process.{is_for_choices, is_for_states};
 ghost use Rattle.prism_names.specs.Names.{unchanged};
@@ -11,8 +13,8 @@ ghost use Rattle.prism_meaning.specs.Shapes.{acting, action_shape, acts, bodies,
 ghost use Rattle.prism_meaning.specs.Views.{commands_of, items_of, shape_of};
 
 use crate::data::Shape;
-use bridge_io::Text;
-use gathering::{each_once, keep_if};
+use bridge_io::{List, Text};
+use gathering::{NameLists, each_once, keep_if};
 use prism_tree::{ItemOn, PrismCommand, PrismFile, PrismItem, PrismModule, PrismRewards};
 use std::alloc::{AllocError, Global};
 
@@ -50,7 +52,7 @@ fn silent_shape<'a>(
 {
     let rewards = earned(alloc, rewards, None)?;
     let mut lists = Vec::with_capacity(alloc, 1)?;
-    lists.push(commands_with(alloc, own_commands(one), None)?)?;
+    lists.push(silent_commands(alloc, own_commands(one))?)?;
     Ok(Shape {
         label: None,
         rewards,
@@ -67,8 +69,9 @@ fn add_acting<'a>(
         ++ map (action_shape (map rewards_of file.now.rewards) (bodies (map module_of file.now.modules))) (acting (bodies (map module_of file.now.modules)))) }
 {
     let names = acting(alloc, file.modules.as_slice())?;
+    let shared = sharing(alloc, file.modules.as_slice())?;
     for action in names.as_slice() {
-        let shape = action_shape(alloc, file, *action)?;
+        let shape = action_shape(alloc, file, *action, &shared)?;
         all.push(shape)?;
     }
     Ok(())
@@ -78,11 +81,13 @@ fn action_shape<'a>(
     alloc: Global,
     file: &'a PrismFile,
     action: &'a Text,
+    shared: &NameLists<'a, List<&'a PrismCommand>>,
 ) -> Result<Shape<'a>, AllocError>
+    requires { (x : ListOf ℕ) → map commands_of (list_under shared.now x) ≡ sharing x (bodies (map module_of file.now.modules)) }
     ensures { IfOk result (λ g. shape_of g ≡ action_shape (map rewards_of file.now.rewards) (bodies (map module_of file.now.modules)) action.now) }
 {
     let rewards = earned(alloc, file.rewards.as_slice(), Some(action))?;
-    let lists = sharing(alloc, file.modules.as_slice(), action)?;
+    let lists = copied_lists(alloc, shared.get(action.as_str()))?;
     Ok(Shape {
         label: Some(action),
         rewards,
@@ -90,33 +95,125 @@ fn action_shape<'a>(
     })
 }
 
-/// Of the modules that have the action, the commands with it.
+fn copied_lists<'a>(
+    alloc: Global,
+    lists: &[List<&'a PrismCommand>],
+) -> Result<Vec<Vec<&'a PrismCommand>>, AllocError>
+    ensures { IfOk result (λ ls. map (λ l. commands_of l.items) ls.items ≡ map commands_of lists.now) }
+{
+    let mut all = Vec::with_capacity(alloc, lists.len())?;
+    for list in lists {
+        all.push(copied(alloc, list.as_slice())?)?;
+    }
+    Ok(all)
+}
+
+fn copied<'a>(
+    alloc: Global,
+    commands: &[&'a PrismCommand],
+) -> Result<Vec<&'a PrismCommand>, AllocError>
+    ensures { IfOk result (λ cs. cs.items ≡ commands.now) }
+{
+    let mut all = Vec::with_capacity(alloc, commands.len())?;
+    for command in commands {
+        all.push(*command)?;
+    }
+    Ok(all)
+}
+
+/// Under each action, of the modules that have it, the commands with it.
 fn sharing<'a>(
     alloc: Global,
     modules: &'a [PrismModule],
-    action: &Text,
-) -> Result<Vec<Vec<&'a PrismCommand>>, AllocError>
-    ensures { IfOk result (λ ls. map (λ l. commands_of l.items) ls.items ≡ sharing action.now (bodies (map module_of modules.now))) }
+) -> Result<NameLists<'a, List<&'a PrismCommand>>, AllocError>
+    ensures { IfOk result (λ t. (x : ListOf ℕ) → map commands_of (list_under t x) ≡ sharing x (bodies (map module_of modules.now))) }
 {
-    let mut lists = Vec::new(alloc);
+    let mut shared = NameLists::new(alloc);
     for one in modules {
-        let these = commands_with(alloc, own_commands(one), Some(action))?;
-        add_some(&mut lists, these)?;
+        share(alloc, own_commands(one), &mut shared)?;
     }
-    Ok(lists)
+    Ok(shared)
+}
+
+/// Adds the commands of a module, under each action those with it, if there are any.
+fn share<'a>(
+    alloc: Global,
+    commands: &'a [PrismCommand],
+    shared: &mut NameLists<'a, List<&'a PrismCommand>>,
+) -> Result<(), AllocError>
+    ensures { IfOk result (λ u. (x : ListOf ℕ) → map commands_of (list_under shared.new x)
+        ≡ map commands_of (list_under shared.old x) ++ unless_empty (filter (acts (Some x)) (map command_of commands.now))) }
+{
+    let mut own = by_action(alloc, commands)?;
+    for command in commands {
+        share_like(alloc, command, &mut own, shared)?;
+    }
+    Ok(())
+}
+
+/// Moves the commands that have the action of one, if there are any.
+fn share_like<'a>(
+    alloc: Global,
+    command: &'a PrismCommand,
+    own: &mut NameLists<'a, &'a PrismCommand>,
+    shared: &mut NameLists<'a, List<&'a PrismCommand>>,
+) -> Result<(), AllocError>
+    ensures own { IfOk result (λ u. (x : ListOf ℕ) → commands_of (list_under own.new x) ≡ (if acts (Some x) (command_of command.now) then [] else commands_of (list_under own.old x))) }
+    ensures shared { IfOk result (λ u. (x : ListOf ℕ) → map commands_of (list_under shared.new x)
+        ≡ map commands_of (list_under shared.old x) ++ unless_empty (if acts (Some x) (command_of command.now) then commands_of (list_under own.old x) else [])) }
+{
+    match &command.action {
+        None => Ok(()),
+        Some(action) => {
+            let these = own.take(alloc, action.name.as_str());
+            add_some(alloc, action.name.as_str(), these, shared)
+        }
+    }
 }
 
 /// Adds a list that isn't empty.
 fn add_some<'a>(
-    lists: &mut Vec<Vec<&'a PrismCommand>>,
-    these: Vec<&'a PrismCommand>,
+    alloc: Global,
+    action: &'a str,
+    these: List<&'a PrismCommand>,
+    shared: &mut NameLists<'a, List<&'a PrismCommand>>,
 ) -> Result<(), AllocError>
-    ensures { IfOk result (λ u. map (λ l. commands_of l.items) lists.new.items ≡ map (λ l. commands_of l.items) lists.old.items ++ unless_empty (commands_of these.entry.items)) }
+    ensures { IfOk result (λ u. (x : ListOf ℕ) → map commands_of (list_under shared.new x)
+        ≡ map commands_of (list_under shared.old x) ++ unless_empty (if bytes_eq action.now x then commands_of these.entry else [])) }
 {
     if these.len() > 0 {
-        lists.push(these)?;
+        shared.add(alloc, action, these)
+    } else {
+        Ok(())
     }
-    Ok(())
+}
+
+/// Under each action the commands with it.
+fn by_action<'a>(
+    alloc: Global,
+    commands: &'a [PrismCommand],
+) -> Result<NameLists<'a, &'a PrismCommand>, AllocError>
+    ensures { IfOk result (λ t. (x : ListOf ℕ) → commands_of (list_under t x) ≡ filter (acts (Some x)) (map command_of commands.now)) }
+{
+    let mut own = NameLists::new(alloc);
+    for command in commands {
+        add_command(alloc, command, &mut own)?;
+    }
+    Ok(own)
+}
+
+fn add_command<'a>(
+    alloc: Global,
+    command: &'a PrismCommand,
+    own: &mut NameLists<'a, &'a PrismCommand>,
+) -> Result<(), AllocError>
+    ensures { IfOk result (λ u. (x : ListOf ℕ) → commands_of (list_under own.new x)
+        ≡ commands_of (list_under own.old x) ++ only_if (acts (Some x) (command_of command.now)) (command_of command.now)) }
+{
+    match &command.action {
+        None => Ok(()),
+        Some(action) => own.add(alloc, action.name.as_str(), command),
+    }
 }
 
 /// The commands of a module.
@@ -129,32 +226,25 @@ fn own_commands(one: &PrismModule) -> &[PrismCommand]
     }
 }
 
-/// The commands with an action, or without one.
-fn commands_with<'a>(
+/// The commands without action.
+fn silent_commands<'a>(
     alloc: Global,
     commands: &'a [PrismCommand],
-    action: Option<&Text>,
 ) -> Result<Vec<&'a PrismCommand>, AllocError>
-    ensures { IfOk result (λ cs. commands_of cs.items ≡ filter (acts (option_copied action.entry)) (map command_of commands.now)) }
+    ensures { IfOk result (λ cs. commands_of cs.items ≡ filter (acts None) (map command_of commands.now)) }
 {
     let mut these = Vec::new(alloc);
     for command in commands {
-        let wanted = acts(command, action);
+        let wanted = is_silent(command);
         keep_if(&mut these, wanted, command)?;
     }
     Ok(these)
 }
 
-fn acts(command: &PrismCommand, action: Option<&Text>) -> bool
-    ensures { result ≡ acts (option_copied action.entry) (command_of command.now) }
+fn is_silent(command: &PrismCommand) -> bool
+    ensures { result ≡ acts None (command_of command.now) }
 {
-    match action {
-        None => command.action.is_none(),
-        Some(name) => match &command.action {
-            None => false,
-            Some(own) => name.as_str() == own.name.as_str(),
-        },
-    }
+    command.action.is_none()
 }
 
 /// The actions of commands, in order of first occurrence.
