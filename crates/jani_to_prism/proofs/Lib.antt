@@ -1,4 +1,5 @@
 pub mod Kept
+pub mod Named
 mod EntryClasses
 mod GainItems
 mod GivenTo

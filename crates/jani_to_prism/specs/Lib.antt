@@ -1,3 +1,4 @@
+pub mod Names
 pub mod Promise
 pub use Rattle.prism_translation_laws.specs.NameLaws
 pub use Rattle.prism_translation_laws.specs.Lines

@@ -7,7 +7,7 @@ ghost use Rattle.jani_tree.specs.Faults.{FailsFor};
 ghost use Rattle.prism_translation_laws.specs.Lines.{lines};
 ghost use Rattle.prism_translation_laws.specs.Refused.{refused};
 ghost use Rattle.prism_translation_laws.specs.Translated.{translated};
-ghost use Rattle.jani_to_prism.specs.Promise.{IsTranslated};
+ghost use Rattle.jani_to_prism.specs.Promise.{IsPrismOf};
 
 use crate::laws::translated_law;
 use crate::{CheckedPrismText, translate};
@@ -26,7 +26,7 @@ use std::alloc::Global;
 /// result would have more than 200,000 commands or 2,000,000 nodes of expressions, or the locations of an element give a
 /// label more than 1,024 values.
 pub fn to_prism(alloc: Global, checked: &CheckedJani) -> Result<CheckedPrismText, Refused>
-    ensures ok { IfOk result (λ t. (refused (file_of checked.now) ≡ []) × IsTranslated (file_of checked.now) (prism.file_of t.file)) }
+    ensures ok { IfOk result (λ t. (refused (file_of checked.now) ≡ []) × IsPrismOf (file_of checked.now) (prism.file_of t.file)) }
     ensures lines { IfOk result (λ t. t.lines ≡ lines (file_of checked.now)) }
     ensures refused { IfErr result (FailsFor (refused (file_of checked.now))) }
 {
@@ -37,7 +37,7 @@ pub fn to_prism(alloc: Global, checked: &CheckedJani) -> Result<CheckedPrismText
 
 /// What is promised holds of the translation of a judged file: a function that does nothing, whose contract says so.
 fn promised(checked: &CheckedJani)
-    ensures { refused (file_of checked.now) ≡ [] → IsTranslated (file_of checked.now) (translated (file_of checked.now)) }
+    ensures { refused (file_of checked.now) ≡ [] → IsPrismOf (file_of checked.now) (translated (file_of checked.now)) }
 {
     form_law();
     names_law();

@@ -1,4 +1,5 @@
 pub mod Kept
+pub mod Named
 mod Filed
 mod Listed
 mod Places

@@ -6,7 +6,7 @@ ghost use Rattle.prism_print.specs.Same.{bare_file};
 ghost use Rattle.jani_tree.specs.Places as jani;
 ghost use Rattle.jani_tree.specs.Syntax.{file_of};
 ghost use Rattle.jani_automata.specs.Translated.{translated};
-ghost use Rattle.prism_to_jani.specs.Promise.{IsTranslated};
+ghost use Rattle.prism_to_jani.specs.Promise.{IsJaniOf};
 
 use crate::translate;
 use jani_check::CheckedJani;
@@ -18,7 +18,7 @@ use std::alloc::{AllocError, Global};
 /// [docs/TRANSLATION.md](../../../docs/TRANSLATION.md) tells, and it denotes the same process as the file, under every
 /// valuation. `Err` is want of memory; nothing else is refused.
 pub fn to_jani(alloc: Global, checked: &CheckedPrism) -> Result<CheckedJani, AllocError>
-    ensures { IfOk result (λ j. IsTranslated checked.now.file (file_of j)) }
+    ensures { IfOk result (λ j. IsJaniOf checked.now.file (file_of j)) }
 {
     let written = flatten(alloc, checked)?;
     flat_to_jani(alloc, checked, &written)
@@ -31,7 +31,7 @@ pub fn flat_to_jani(
     written: &FlatPrism,
 ) -> Result<CheckedJani, AllocError>
     requires { bare_file written.now ≡ bare_file (flat checked.now.file) }
-    ensures { IfOk result (λ j. IsTranslated checked.now.file (file_of j)) }
+    ensures { IfOk result (λ j. IsJaniOf checked.now.file (file_of j)) }
 {
     promised(checked);
     let file = image_of(alloc, written)?;
@@ -41,7 +41,7 @@ pub fn flat_to_jani(
 
 /// What is promised holds of the translation of a judged file: a function that does nothing, whose contract says so.
 fn promised(checked: &CheckedPrism)
-    ensures { IsTranslated checked.now.file (translated (flat checked.now.file)) }
+    ensures { IsJaniOf checked.now.file (translated (flat checked.now.file)) }
 {
     checked.file();
 }

@@ -86,7 +86,7 @@ module _ (file : File) where
   modules_from f k (a ∷ as_) [] l g = absurd (let no : ⊥ = omega arith in no)
   modules_from f k (a ∷ as_) (e ∷ es) l g = ap₂ (λ x xs. x ∷ xs) g.0 (modules_from f (k + 1) as_ es (omega arith) g.1)
 
-  modules_named : names_of (map module_name new.modules) ≡ map (λ e. e.name) names.modules
+  pub modules_named : names_of (map module_name new.modules) ≡ map (λ e. e.name) names.modules
   modules_named =
       let l = (modules_part file).long in
       let m = length-map file.elements (jani.automaton_called file) in
@@ -101,7 +101,10 @@ module _ (file : File) where
   rewards_from f k (o ∷ os) [] l g = absurd (let no : ⊥ = omega arith in no)
   rewards_from f k (o ∷ os) (e ∷ es) l g = ap₂ (λ x xs. x ∷ xs) g.0 (rewards_from f (k + 1) os es (omega arith) g.1)
 
-  labels_named : names_of (map (λ (l : prism.Label). l.name) new.labels) ≡ map (λ e. e.name) names.labels
+  pub rewards_named : names_of (flat_map (λ (r : prism.Rewards). if_some r.name) new.rewards) ≡ map (λ e. e.name) names.rewards
+  rewards_named = rewards_from (name_at names.rewards) 0 (structures file) names.rewards (rewards_part file).long (agree names.rewards)
+
+  pub labels_named : names_of (map (λ (l : prism.Label). l.name) new.labels) ≡ map (λ e. e.name) names.labels
   labels_named =
       map-map (λ (n : Named). n.name) (λ (l : prism.Label). l.name) new.labels
       ∙ zip_named (λ (l : prism.Label). l.name.name) (λ o e. label file names o e.name) (λ o e. refl) (labels file) names.labels (labels_part file).long
@@ -154,5 +157,5 @@ none_doubled file =
     (append_both (doubled TwiceNamed (given_labels ++ ls)) _ (not_doubled TwiceNamed (given_labels ++ ls) (labels_differ file))
     (append_both (doubled TwiceNamed rs) (flat_map doubled_pairs t.modules)
     (not_doubled TwiceNamed rs
-    (subst Differ (sym (rewards_from file (name_at names.rewards) 0 (structures file) names.rewards (rewards_part file).long (agree names.rewards))) (rewards_part file).distinct))
+    (subst Differ (sym (rewards_named file)) (rewards_part file).distinct))
     (each_empty doubled_pairs t.modules (each_any (λ m. doubled_pairs m ≡ []) (λ el. plain (module_of file names el)) (λ el. refl) (elements file))))))

@@ -131,11 +131,11 @@ module _ (file : File) where
       map-map (λ (y : Named). y.name) (λ (d : prism.Const). d.name) new.constants
       ∙ zip_named (λ (d : prism.Const). d.name.name) (λ d e. constant file names d e.name) (λ d e. refl) file.constants names.constants (constants_part file).long
 
-  variables_named : (xs : List Lasting) → map (λ y. y.name) (map (λ (x : prism.Var). x.name) (map (variable file names) xs)) ≡ map column_named (map (column_of file) xs)
+  pub variables_named : (xs : List Lasting) → map (λ y. y.name) (map (λ (x : prism.Var). x.name) (map (variable file names) xs)) ≡ map column_named (map (column_of file) xs)
   variables_named [] = refl
   variables_named (x ∷ xs) = ap₂ (λ a l. a ∷ l) (sym (variable_name file nowhere nowhere [] x.number)) (variables_named xs)
 
-  module_named : (el : Element) → el.number < n → map (λ y. y.name) (module_vars new (plain (module_of file names el))) ≡ map column_named (module_columns file el)
+  pub module_named : (el : Element) → el.number < n → map (λ y. y.name) (module_vars new (plain (module_of file names el))) ≡ map column_named (module_columns file el)
   module_named el l =
       let xs = only_if (has_several el) (location_variable file names el) in
       let ys = map (variable file names) (at_home file el.number) in
