@@ -1,2 +1,3 @@
 pub mod JaniFiles
+pub mod Once
 pub mod PrismFiles

@@ -12,7 +12,7 @@ use Rattle.name_rules.specs.Least.{IsLeast}
 use Rattle.jani_table.specs.Faults.{faults as shape_faults}
 use Rattle.jani_tree.specs.Syntax.{File}
 use Rattle.jani_tree.specs.Jani.{IsFile}
-use Rattle.jani_check.specs.Faults.{faults}
+use Rattle.jani_check.specs.Faults.{faults as jani_faults}
 
 -- The bytes spell this JSON value and no other, and have no fault of JSON; the value has no fault of shape, and spells this tree
 -- and no other.
@@ -26,7 +26,7 @@ pub record IsJaniRead (bytes : List ℕ) (value : Json) (tree : File) : Type 0 w
 pub record IsFaultlessJani (bytes : List ℕ) (tree : File) : Type 0 where
   pub value : Json
   pub read : IsJaniRead bytes value tree
-  pub sound : faults tree ≡ []
+  pub sound : jani_faults tree ≡ []
 
 -- some tree
 abbrev pub HasNoJaniFault : List ℕ → Type 0
@@ -37,7 +37,7 @@ HasNoJaniFault bytes = (tree : File) × IsFaultlessJani bytes tree
 pub data IsJaniFault (bytes : List ℕ) (f : Fault) : Type 0 where
   of_json : IsLeastOfText bytes f.at f.reason → IsJaniFault bytes f
   of_shape : (value : Json) → IsWhole bytes value → IsLeast (shape_faults F.Model (node value)) f → IsJaniFault bytes f
-  of_model : (value : Json) (tree : File) → IsJaniRead bytes value tree → IsLeast (faults tree) f → IsJaniFault bytes f
+  of_model : (value : Json) (tree : File) → IsJaniRead bytes value tree → IsLeast (jani_faults tree) f → IsJaniFault bytes f
 
 -- want of memory may come at any time
 abbrev pub RefusesJani : List ℕ → Refused → Type 0

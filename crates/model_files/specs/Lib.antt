@@ -1,2 +1,3 @@
 pub mod JaniFile
+pub mod Once
 pub mod PrismFile

@@ -7,13 +7,13 @@ use Rattle.bridge_io.specs.declared.reason.Refused.TheVariants as R
 use Rattle.prism_tree.specs.Syntax.{File}
 use Rattle.prism_parse.specs.Parsed.{IsSpelled, IsLeastFault}
 use Rattle.name_rules.specs.Least.{IsLeast}
-use Rattle.prism_check.specs.Faults.{faults}
+use Rattle.prism_check.specs.Faults.{faults as prism_faults}
 
 -- The bytes have no fault of tokens or grammar, they spell this tree and no other, and the tree has no fault of names, size or
 -- types.
 pub record IsFaultless (bytes : List ℕ) (tree : File) : Type 0 where
   pub read : IsSpelled bytes tree
-  pub sound : faults tree ≡ []
+  pub sound : prism_faults tree ≡ []
 
 -- some tree
 abbrev pub HasNoFault : List ℕ → Type 0
@@ -23,7 +23,7 @@ HasNoFault bytes = (tree : File) × IsFaultless bytes tree
 -- the types of the tree.
 pub data IsPrismFault (bytes : List ℕ) (f : Fault) : Type 0 where
   of_text : IsLeastFault bytes f → IsPrismFault bytes f
-  of_tree : (tree : File) → IsSpelled bytes tree → IsLeast (faults tree) f → IsPrismFault bytes f
+  of_tree : (tree : File) → IsSpelled bytes tree → IsLeast (prism_faults tree) f → IsPrismFault bytes f
 
 -- want of memory may come at any time
 abbrev pub RefusesPrism : List ℕ → Refused → Type 0

@@ -1,6 +1,8 @@
 //! Model files from their bytes: a PRISM or a JANI file without fault, or its least fault.
 #![tactic(auto)]
 
+mod laws;
 mod reading;
 
+pub use laws::one_reading_law;
 pub use reading::{read_jani, read_prism};
