@@ -3,33 +3,53 @@ use Rattle.std.specs.Prelude.{◌≡◌, ℕ, List, [], ◌∷◌, ◌++◌, Res
 use Rattle.bridge_io.specs.declared.reason.Refused.{Refused}
 use Rattle.bridge_io.specs.declared.reason.Refused.TheVariants as R
 use Rattle.prism_tree.specs.Syntax as prism
+use Rattle.decimal_json.specs.declared.tree.Json.{Json}
+use Rattle.decimal_json.specs.Lang.{Mark}
+use Rattle.decimal_json.specs.Faults.{IsJson}
+use Rattle.decimal_json.specs.Proper.{SpellsValue}
+use Rattle.jani_table.specs.declared.table.Form.TheVariants as F
+use Rattle.jani_table.specs.Node.{node}
+use Rattle.jani_table.specs.Faults.{faults as shape_faults}
 use Rattle.jani_tree.specs.Syntax as jani
+use Rattle.jani_tree.specs.Form.{FileShort}
 use Rattle.jani_tree.specs.Places.{bare_file}
 use Rattle.jani_tree.specs.Text.{jani_text}
-use Rattle.jani_tree.specs.Back.{SpellsFile, SpellsAside, SpellsOnly}
-use Rattle.prism_to_jani.specs.Promise.{IsTranslated}
+use Rattle.jani_tree.specs.Back.{IsClean, SpellsFile, SpellsAside, SpellsOnly}
+use Rattle.prism_to_jani.specs.Promise.{IsJaniOf}
 use Rattle.model_files.specs.PrismFile.{IsFaultless, IsPrismFault}
 
--- The text is the canonical one of the tree and a line feed; it spells the tree, places aside, and no other.
+-- The JSON value that the text spells, places aside, has no fault of shape but names of more than 255 bytes: no member that is unknown or
+-- missing, and none of another kind than is asked. Each number of it is in normal form, and no object of it has a key twice. Where no name of the
+-- tree has more than 255 bytes, no value that the text spells has any fault of shape.
+pub record IsShaped (text : List ℕ) (model : jani.File) : Type 0 where
+  pub value : Json
+  pub spelled : SpellsValue text value
+  pub clean : IsClean value
+  pub short : FileShort model → (other : Json) (tokens : List Mark) → IsJson text other tokens → shape_faults F.Model (node other) ≡ []
+
+-- The text is the canonical one of the tree and a line feed; it spells the tree, places aside, and no other, by a value without fault of shape.
 pub record IsText (text : List ℕ) (model : jani.File) : Type 0 where
   pub text_is : text ≡ jani_text model ++ 10 ∷ []
   pub spells : SpellsOnly text model
+  pub shaped : IsShaped text model
 
--- The text spells a JANI tree that the PRISM tree is translated to: it has no fault, it has the shape of a translation, and it
--- means the same process. Each tree that the text spells is the same but for its places, and has all of this too.
-pub record IsWritten (tree : prism.File) (text : List ℕ) (model : jani.File) : Type 0 where
+-- The text spells a JANI tree that the PRISM tree is translated to, by a JSON value without fault of shape: the tree has no fault of
+-- names, types or the profile, it has the shape of a translation, and it means the same process. What may be past a limit is the size. Each
+-- tree that the text spells is the same but for its places, and has all of this too.
+pub record IsJaniText (tree : prism.File) (text : List ℕ) (model : jani.File) : Type 0 where
   pub text_is : text ≡ jani_text model ++ 10 ∷ []
   pub spells : SpellsAside text model
-  pub translated : IsTranslated tree model
-  pub only : (other : jani.File) → SpellsFile text other → (bare_file other ≡ bare_file model) × IsTranslated tree other
+  pub shaped : IsShaped text model
+  pub translated : IsJaniOf tree model
+  pub only : (other : jani.File) → SpellsFile text other → (bare_file other ≡ bare_file model) × IsJaniOf tree other
 
 -- The bytes have no fault and spell one tree, and this is written for it.
-pub record IsTranslation (bytes text : List ℕ) (tree : prism.File) (model : jani.File) : Type 0 where
+pub record IsJaniTranslation (bytes text : List ℕ) (tree : prism.File) (model : jani.File) : Type 0 where
   pub faultless : IsFaultless bytes tree
-  pub written : IsWritten tree text model
+  pub written : IsJaniText tree text model
 
 abbrev pub Translates : List ℕ → List ℕ → Type 0
-Translates bytes text = (tree : prism.File) × (model : jani.File) × IsTranslation bytes text tree model
+Translates bytes text = (tree : prism.File) × (model : jani.File) × IsJaniTranslation bytes text tree model
 
 -- It is written for the bytes, or they are refused at their least fault; want of memory may come at any time.
 abbrev pub TranslatesBytes : List ℕ → Result (List ℕ) Refused → Type 0

@@ -8,7 +8,7 @@ use Rattle.jani_table.specs.Node.{Node}
 use Rattle.jani_tree.specs.Syntax as jani
 use Rattle.jani_tree.specs.Back.{SpellsFile}
 use Rattle.jani_translation_laws.specs.SameMeaning.{MeansTheSame}
-use Rattle.prism_to_jani.specs.Promise.{IsTranslated}
+use Rattle.prism_to_jani.specs.Promise.{IsJaniOf}
 use Rattle.prop_trees.specs.Trees.{PrismProperty}
 use Rattle.prop_check.specs.Read.{AreProperties, IsLeastOf}
 use Rattle.prop_to_jani.specs.ReadBack.{with_properties, IsReadBack}
@@ -20,14 +20,14 @@ use Rattle.model_translation.specs.declared.properties.FilesRefused.TheVariants.
 
 -- The file is what the PRISM file is translated to, with the value of the translated properties, with which they agree.
 abbrev pub IsFileWith : Checked → List PrismProperty → jani.File → Type 0
-IsFileWith c ps full = (model : jani.File) × (value : Node) × (full ≡ with_properties model value) × IsTranslated c.file model × properties.IsTranslated c ps value
+IsFileWith c ps full = (model : jani.File) × (value : Node) × (full ≡ with_properties model value) × IsJaniOf c.file model × properties.IsTranslated c ps value
 
 -- The text spells the JANI file that the PRISM file is translated to, with this value for its properties, and no other. The value is that of the
 -- translated properties, with which they agree; and the file with it means the same process too. In each tree that the text spells these are
 -- the properties that are read, places aside, without a fault but of names of more than 255 bytes.
 pub record IsWrittenWith (c : Checked) (ps : List PrismProperty) (text : List ℕ) (model : jani.File) (value : Node) : Type 0 where
   pub written : IsText text (with_properties model value)
-  pub translated : IsTranslated c.file model
+  pub translated : IsJaniOf c.file model
   pub properties : properties.IsTranslated c ps value
   pub same : MeansTheSame c.file (with_properties model value)
   pub read : (other : jani.File) → SpellsFile text other → IsReadBack c ps other

@@ -1,7 +1,7 @@
 //! From the bytes of a PRISM file to the text of the JANI file that it is translated to.
 ghost use Rattle.std.specs.Prelude.{IfOk};
 ghost use Rattle.jani_tree.specs.Syntax.{File, file_of};
-ghost use Rattle.model_translation.specs.Translation.{IsText, IsWritten, TranslatesBytes};
+ghost use Rattle.model_translation.specs.Translation.{IsText, IsJaniText, TranslatesBytes};
 
 use bridge_io::{List, Refused};
 use decimal_json::line_feed_law;
@@ -27,7 +27,7 @@ pub fn translate(alloc: Global, bytes: &[u8]) -> Result<List<u8>, Refused>
 
 /// The text for a judged file, which is let go once it is translated. `Err` is want of memory.
 fn translated(alloc: Global, checked: CheckedPrism, room: usize) -> Result<List<u8>, AllocError>
-    ensures { IfOk result (λ text. (model : File) × IsWritten checked.file text model) }
+    ensures { IfOk result (λ text. (model : File) × IsJaniText checked.file text model) }
 {
     translated_law();
     let model = to_jani(alloc, &checked)?;
