@@ -5,13 +5,13 @@ use Rattle.process_core.specs.Steps.{Process}
 use Rattle.instance_start.specs.Description.{Description}
 use Rattle.command_words.specs.Words.{Checking}
 use Rattle.model_process.specs.Models.{Describes}
-use Rattle.model_process.specs.Starts.{IsSound, process_for}
+use Rattle.model_process.specs.Starts.{IsStartable, process_for}
 use Rattle.model_process.specs.declared.ending.Ending.{Ending}
 use Rattle.model_process.specs.Claims.{HasVerdict, BreaksForm, JudgesOn, JudgesOnModel, JudgesOnProcess, judged}
 use Rattle.model_process.specs.declared.judging.ClaimRefused.{ClaimRefused}
 use Rattle.model_process.specs.declared.judging.ClaimRefused.TheVariants.{Memory, At}
 
-pub of_started : (d : Description) (c : Checking) (others : List (List ℕ)) (p : Process) (r : Result Ending ClaimRefused) → IsSound d c.given × (p ≡ process_for d c.given) →
+pub of_started : (d : Description) (c : Checking) (others : List (List ℕ)) (p : Process) (r : Result Ending ClaimRefused) → IsStartable d c.given × (p ≡ process_for d c.given) →
     JudgesOnProcess p c.claim others r → JudgesOnModel d c others r
 of_started d c others p (Ok e) h s = judged h.0 s.0 (subst (λ q. HasVerdict q c.claim others s.0) h.1 s.1) s.2
 of_started d c others p (Err (Memory e)) h s = tt

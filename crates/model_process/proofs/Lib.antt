@@ -8,3 +8,4 @@ pub mod NameTexts
 pub mod PathTexts
 pub mod WalkVerdicts
 pub mod AcceptedWalks
+pub mod Once

@@ -10,7 +10,7 @@ use Rattle.instance_start.specs.Started.{IsStarted, named_faults}
 use Rattle.walk_texts.specs.Lines.{fault_lines}
 use Rattle.command_words.specs.Given.{Assignment}
 use Rattle.model_process.specs.Constants.{givens, good_front, wrong_value}
-use Rattle.model_process.specs.Starts.{EndsUnstarted, IsBehind, IsSound, process_for, wide_instance_line, unfit, wide, faulty}
+use Rattle.model_process.specs.Starts.{EndsUnstarted, IsBehind, IsStartable, process_for, wide_instance_line, unfit, wide, faulty}
 use Rattle.model_process.specs.declared.ending.Ending.{Ending}
 use Rattle.model_process.specs.declared.ending.Ending.TheVariants.{Word, Faulty, Excess}
 use Rattle.model_process.proofs.Constants.{all_fit, length-front, misfit_within, wrong_by_front, wrong_by_past}
@@ -58,7 +58,7 @@ module _ (d : Description) (before : ℕ) (given : List Assignment) where
         (subst (λ gs. instance_faults (d.scene (given_by gs)) ≢ []) g.1 h.1.1)
         (made ∙ ap (λ l. Faulty (fault_lines l)) (h.1.2 ∙ ap (λ gs. named_faults d.constants (d.scene (given_by gs))) g.1))
 
-    pub is_started : (p : Process) → IsStarted d (good_front given) p → IsSound d given × (p ≡ process_for d given)
+    pub is_started : (p : Process) → IsStarted d (good_front given) p → IsStartable d given × (p ≡ process_for d given)
     is_started p h =
         let g = fitting h.fits in (
           record {

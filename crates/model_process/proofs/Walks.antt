@@ -12,12 +12,12 @@ use Rattle.model_files.specs.PrismFile.{IsFaultless}
 use Rattle.model_files.specs.JaniFile.{IsFaultlessJani}
 use Rattle.prism_meaning.specs.Described.{prism_description}
 use Rattle.jani_instance.specs.Described.{jani_description}
-use Rattle.model_process.specs.Starts.{IsSound, process_for}
+use Rattle.model_process.specs.Starts.{IsStartable, process_for}
 use Rattle.model_process.specs.Walks.{EndsOnModel, EndsOnBytes, IsReport, ending_of, shown}
 use Rattle.model_process.specs.declared.ending.Ending.{Ending}
 
 -- ---- what is shown of a process that is started
-pub if_shown : {E : Type 0} (d : Description) (w : Walking) (p : Process) (r : Result Ending E) → IsSound d w.given × (p ≡ process_for d w.given) →
+pub if_shown : {E : Type 0} (d : Description) (w : Walking) (p : Process) (r : Result Ending E) → IsStartable d w.given × (p ≡ process_for d w.given) →
     IfOk r (λ e. (report : Report) × IsReport p w.job report × (e ≡ ending_of w.job report)) → IfOk r (EndsOnModel d w)
 if_shown d w p (Ok e) h s = shown h.0 s.0 (subst (λ q. IsReport q w.job s.0) h.1 s.1) s.2
 if_shown d w p (Err x) h s = tt

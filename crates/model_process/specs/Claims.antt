@@ -12,7 +12,7 @@ use Rattle.row_check.specs.Checks.{ChecksPath, ChecksRows}
 use Rattle.row_check.specs.declared.data.Verdict.{Verdict}
 use Rattle.row_check.specs.declared.data.RowsRefused.TheVariants as W
 use Rattle.model_process.specs.Models.{Describes, IsModelFault}
-use Rattle.model_process.specs.Starts.{EndsUnstarted, IsSound, process_for}
+use Rattle.model_process.specs.Starts.{EndsUnstarted, IsStartable, process_for}
 use Rattle.model_process.specs.declared.ending.Ending.{Ending}
 use Rattle.model_process.specs.Verdicts.{verdict_ending}
 use Rattle.model_process.specs.declared.judging.ClaimRefused.{ClaimRefused}
@@ -34,11 +34,11 @@ BreaksForm p claim files i f = ⊥
 -- how it ends on a model: before it is started; or with the verdict
 pub data EndsOnClaim (d : Description) (c : Checking) (others : List (List ℕ)) (e : Ending) : Type 0 where
   unstarted : EndsUnstarted d (words_before_given c) c.given e → EndsOnClaim d c others e
-  judged : IsSound d c.given → (v : Verdict) → HasVerdict (process_for d c.given) c.claim others v → e ≡ verdict_ending c.claim v → EndsOnClaim d c others e
+  judged : IsStartable d c.given → (v : Verdict) → HasVerdict (process_for d c.given) c.claim others v → e ≡ verdict_ending c.claim v → EndsOnClaim d c others e
 
 -- another file breaks its form, where the model starts
 pub record IsOtherFault (d : Description) (c : Checking) (others : List (List ℕ)) (i : ℕ) (f : Fault) : Type 0 where
-  pub sound : IsSound d c.given
+  pub sound : IsStartable d c.given
   pub breaks : BreaksForm (process_for d c.given) c.claim others i f
 
 -- how it ends on the bytes of all files, the model's first

@@ -6,3 +6,4 @@ pub mod Claims
 pub mod Verdicts
 pub mod ReadBack
 pub mod WrittenPaths
+pub mod Once

@@ -29,7 +29,7 @@ abbrev pub process_for : Description → List Assignment → Process
 process_for d given = d.process (given_by (givens given))
 
 -- the values fit, and the instance is within the bound and has no fault
-pub record IsSound (d : Description) (given : List Assignment) : Type 0 where
+pub record IsStartable (d : Description) (given : List Assignment) : Type 0 where
   pub fits : wrong_value d.constants given ≡ None
   pub narrow : is_wide_instance (scene_for d given) ≡ false
   pub faultless : instance_faults (scene_for d given) ≡ []
@@ -44,6 +44,6 @@ pub data EndsUnstarted (d : Description) (before : ℕ) (given : List Assignment
 
 -- it is started, as the process that it describes; or it ends before that; want of memory may come at any time
 abbrev pub Begins : {I : Type 0} → (I → Process) → Description → ℕ → List Assignment → Result I Unstarted → Type 0
-Begins process d before given (Ok i) = IsSound d given × (process i ≡ process_for d given)
+Begins process d before given (Ok i) = IsStartable d given × (process i ≡ process_for d given)
 Begins process d before given (Err (U.Memory e)) = Unit {0}
 Begins process d before given (Err (U.Ended e)) = EndsUnstarted d before given e

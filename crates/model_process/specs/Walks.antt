@@ -11,7 +11,7 @@ use Rattle.walk_texts.specs.Jobs.{IsShown, IsWalkedAlong, IsWalkedBySeed}
 use Rattle.command_words.specs.declared.request.Lang.{Lang}
 use Rattle.command_words.specs.Words.{Job, showing, along, seeded, Walking, words_before}
 use Rattle.model_process.specs.Models.{Describes, IsModelFault}
-use Rattle.model_process.specs.Starts.{EndsUnstarted, IsSound, process_for}
+use Rattle.model_process.specs.Starts.{EndsUnstarted, IsStartable, process_for}
 use Rattle.model_process.specs.declared.ending.Ending.{Ending}
 use Rattle.model_process.specs.declared.ending.Ending.TheVariants.{Done, Stopped, Word, Excess}
 
@@ -38,7 +38,7 @@ ending_of job (R.Excess path line) = Excess path line
 -- how it ends on a model: before it is started; or what is shown of its process
 pub data EndsOnModel (d : Description) (w : Walking) (e : Ending) : Type 0 where
   unstarted : EndsUnstarted d (words_before w) w.given e → EndsOnModel d w e
-  shown : IsSound d w.given → (r : Report) → IsReport (process_for d w.given) w.job r → e ≡ ending_of w.job r → EndsOnModel d w e
+  shown : IsStartable d w.given → (r : Report) → IsReport (process_for d w.given) w.job r → e ≡ ending_of w.job r → EndsOnModel d w e
 
 -- how it ends on the bytes of a file in some language
 abbrev pub EndsOnBytes : Lang → Walking → List ℕ → Ending → Type 0

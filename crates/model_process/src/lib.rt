@@ -11,6 +11,6 @@ mod walking;
 
 pub use ending::Ending;
 pub use judging::{ClaimRefused, judge_claim};
-pub use laws::walk_law;
+pub use laws::{one_end_law, walk_law};
 pub use starting::{Unstarted, begun, good_front, read_flat};
 pub use walking::show_or_walk;
