@@ -7,7 +7,7 @@ use Rattle.model_process.specs.Walks.{EndsOnBytes}
 use Rattle.model_process.specs.declared.ending.Ending.TheVariants as Ends
 use Rattle.model_command.specs.Outcome.{status_of, line_of, text_of, word_line}
 use Rattle.model_process.specs.Claims.{EndsOnFiles}
-use Rattle.model_command.specs.Run.{IsCause, IsNext, IsEnd, IsTaskEnd, IsPair, IsPairEnd, IsWhole, AreWhole, ComesTo, IsReadEnd, IsCarriedOut, EndsWith, IsTold}
+use Rattle.model_command.specs.Run.{IsCause, IsNext, IsEnd, IsTaskEnd, IsPair, IsPairEnd, IsReadWhole, AreWhole, ComesTo, IsReadEnd, IsCarriedOut, EndsWith, EndsWithOrNoMemory, ShelfSides, SinkSides}
 use Rattle.model_command.specs.declared.outcome.Outcome.{Outcome}
 use Rattle.model_command.specs.declared.outcome.Outcome.TheVariants.{Done, Ended, Refused, Words, ReadFault, NoMemory}
 use Rattle.model_command.proofs.Several.{alone, walk_read}
@@ -30,27 +30,27 @@ no_word file properties name k (a ∷ []) h = h
 no_word file properties name k (a ∷ b ∷ []) h = h
 no_word file properties name k (a ∷ b ∷ c ∷ contents) h = h
 
-module _ {S : Type 0} (left : S → Option Lefts) (faults : S → ℕ) (steady : S → List ℕ → Type 0) (words : List (List ℕ)) (old new : S) where
-  module _ {K E : Type 0} (taken : K → Option (List ℕ)) (fails : K → ℕ) (said : E → Option (List ℕ)) (failures : E → ℕ) (out out' : K) (err err' : E) (answer : ℕ) where
-    pub answered : (name : List ℕ) (outcome : Outcome) → IsCause left faults steady words name old new outcome → IsTold taken fails said failures out out' err err' name outcome answer
-        → (n : List ℕ) × (o : Outcome) × IsCause left faults steady words n old new o × EndsWith taken fails said failures out out' err err' n o answer
+module _ (shelf : ShelfSides) (words : List (List ℕ)) where
+  module _ (out err : SinkSides) (answer : ℕ) where
+    pub answered : (name : List ℕ) (outcome : Outcome) → IsCause shelf words name outcome → EndsWithOrNoMemory out err name outcome answer
+        → (n : List ℕ) × (o : Outcome) × IsCause shelf words n o × EndsWith out err n o answer
     answered name outcome why (inl e) = (name, outcome, why, e)
     answered name outcome why (inr e) = (name, NoMemory, inl tt, e)
 
     -- the same of a request
-    pub told_end : (request : Request) (name : List ℕ) (outcome : Outcome) → IsEnd left faults steady request name old new outcome → IsTold taken fails said failures out out' err err' name outcome answer
-        → (n : List ℕ) × (o : Outcome) × IsEnd left faults steady request n old new o × EndsWith taken fails said failures out out' err err' n o answer
+    pub told_end : (request : Request) (name : List ℕ) (outcome : Outcome) → IsEnd shelf request name outcome → EndsWithOrNoMemory out err name outcome answer
+        → (n : List ℕ) × (o : Outcome) × IsEnd shelf request n o × EndsWith out err n o answer
     told_end request name outcome end (inl e) = (name, outcome, end, e)
     told_end request name outcome end (inr e) = (name, NoMemory, tt, e)
 
-    carried : (request : Request) (name : List ℕ) → IsRequest words request → (o : Outcome) → IsReadEnd request name (left old) (left new) o → answer ≡ status_of o →
-        Appends (taken out) (taken out') (text_of o) → Appends (said err) (said err') (line_of name o) →
-        (o : Outcome) × (answer ≡ status_of o) × IsCarriedOut taken said (left old) (left new) out out' err err' words o
+    carried : (request : Request) (name : List ℕ) → IsRequest words request → (o : Outcome) → IsReadEnd request name shelf.left shelf.left_after o → answer ≡ status_of o →
+        Appends out.taken out.taken_after (text_of o) → Appends err.taken err.taken_after (line_of name o) →
+        (o : Outcome) × (answer ≡ status_of o) × IsCarriedOut shelf out err words o
     carried request name form o end status text line = (o, status, (request, end.0, name, form, end.1, end.2, text, line))
 
     -- statuses 0, 1, 7 and 8 come of what is carried out alone
-    pub written : (name : List ℕ) (outcome : Outcome) → IsCause left faults steady words name old new outcome → EndsWith taken fails said failures out out' err err' name outcome answer →
-        IsOfWork answer → (o : Outcome) × (answer ≡ status_of o) × IsCarriedOut taken said (left old) (left new) out out' err err' words o
+    pub written : (name : List ℕ) (outcome : Outcome) → IsCause shelf words name outcome → EndsWith out err name outcome answer →
+        IsOfWork answer → (o : Outcome) × (answer ≡ status_of o) × IsCarriedOut shelf out err words o
     written name (Done text) (inl why) e work = absurd why
     written name (Done text) (inr why) (inl e) work = carried why.0 name why.1 (Done text) why.2 e.0 e.1 e.2
     written name (Ended en) (inl why) e work = absurd why
@@ -64,20 +64,20 @@ module _ {S : Type 0} (left : S → Option Lefts) (faults : S → ℕ) (steady :
 
     -- what status 3 comes of
     abbrev IsOfWords : Type 0
-    IsOfWords = (k : ℕ) × Appends (taken out) (taken out') [] × Appends (said err) (said err') (word_line k)
-        × (IsWrongAt words k ⊎ ((w : Walking) × (bytes : List ℕ) × IsRequest words (walk w) × IsWhole (left old) (left new) w.file bytes × EndsOnBytes w.lang w bytes (Ends.Word k))
-        ⊎ ((c : Checking) × (contents : List (List ℕ)) × IsRequest words (check c) × AreWhole (left old) (left new) (files_of (check c)) contents × EndsOnFiles c contents (Ends.Word k)))
+    IsOfWords = (k : ℕ) × Appends out.taken out.taken_after [] × Appends err.taken err.taken_after (word_line k)
+        × (IsWrongAt words k ⊎ ((w : Walking) × (bytes : List ℕ) × IsRequest words (walk w) × IsReadWhole shelf.left shelf.left_after w.file bytes × EndsOnBytes w.lang w bytes (Ends.Word k))
+        ⊎ ((c : Checking) × (contents : List (List ℕ)) × IsRequest words (check c) × AreWhole shelf.left shelf.left_after (files_of (check c)) contents × EndsOnFiles c contents (Ends.Word k)))
 
-    of_word : (request : Request) (name : List ℕ) (k : ℕ) → IsRequest words request → IsReadEnd request name (left old) (left new) (Ended (Ends.Word k)) → Appends (taken out) (taken out') [] → Appends (said err) (said err') (word_line k) → IsOfWords
-    of_word (on_file task file) name k form end text line = absurd (alone (λ bytes. IsTaskEnd task bytes (Ended (Ends.Word k))) (left old) (left new) file end.0 end.1 end.2.1).2
+    of_word : (request : Request) (name : List ℕ) (k : ℕ) → IsRequest words request → IsReadEnd request name shelf.left shelf.left_after (Ended (Ends.Word k)) → Appends out.taken out.taken_after [] → Appends err.taken err.taken_after (word_line k) → IsOfWords
+    of_word (on_file task file) name k form end text line = absurd (alone (λ bytes. IsTaskEnd task bytes (Ended (Ends.Word k))) shelf.left shelf.left_after file end.0 end.1 end.2.1).2
     of_word (with_properties file properties) name k form end text line = absurd (no_word file properties name k end.0 end.2)
-    of_word (walk w) name k form end text line = let r = (walk_read w name (left old) (left new) (Ended (Ends.Word k)) end).1 in (k, text, line, inr (inl (w, r.0, form, r.1, r.2)))
+    of_word (walk w) name k form end text line = let r = (walk_read w name shelf.left shelf.left_after (Ended (Ends.Word k)) end).1 in (k, text, line, inr (inl (w, r.0, form, r.1, r.2)))
     of_word (check c) name k form end text line = (k, text, line, inr (inr (c, end.0, form, end.1, end.2)))
 
     not_three : (answer n : ℕ) → (n ≡ 0) ⊎ (n ≡ 1) ⊎ (n ≡ 2) ⊎ (n ≡ 4) ⊎ (n ≡ 5) ⊎ (n ≡ 6) ⊎ (n ≡ 7) ⊎ (n ≡ 8) → answer ≡ n → answer ≡ 3 → ⊥
     not_three answer n other e three = grind (arith, other, e, three)
 
-    pub of_words : (name : List ℕ) (outcome : Outcome) → IsCause left faults steady words name old new outcome → EndsWith taken fails said failures out out' err err' name outcome answer → answer ≡ 3 → IsOfWords
+    pub of_words : (name : List ℕ) (outcome : Outcome) → IsCause shelf words name outcome → EndsWith out err name outcome answer → answer ≡ 3 → IsOfWords
     of_words name (Done text) why (inl e) three = absurd (omega (arith, e.0, three))
     of_words name (Ended (Ends.Done text)) why (inl e) three = absurd (omega (arith, e.0, three))
     of_words name (Ended (Ends.No line)) why (inl e) three = absurd (omega (arith, e.0, three))
@@ -95,8 +95,8 @@ module _ {S : Type 0} (left : S → Option Lefts) (faults : S → ℕ) (steady :
     of_words name outcome why (inr (inr e)) three = absurd (omega (arith, e.0, three))
 
     -- what status 4 comes of
-    pub of_read : (name : List ℕ) (outcome : Outcome) → IsCause left faults steady words name old new outcome → EndsWith taken fails said failures out out' err err' name outcome answer → answer ≡ 4 →
-        (request : Request) × (name : List ℕ) × (mid : Option Lefts) × IsRequest words request × ComesTo (left old) mid (files_of request) name × HasFailed (faults old) (faults new) × (steady old name → ⊥)
+    pub of_read : (name : List ℕ) (outcome : Outcome) → IsCause shelf words name outcome → EndsWith out err name outcome answer → answer ≡ 4 →
+        (request : Request) × (name : List ℕ) × (mid : Option Lefts) × IsRequest words request × ComesTo shelf.left mid (files_of request) name × HasFailed shelf.faults shelf.faults_after × (shelf.steady name → ⊥)
     of_read name (Done text) why (inl e) four = absurd (omega (arith, e.0, four))
     of_read name (Ended (Ends.Done text)) why (inl e) four = absurd (omega (arith, e.0, four))
     of_read name (Ended (Ends.No line)) why (inl e) four = absurd (omega (arith, e.0, four))

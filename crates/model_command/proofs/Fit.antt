@@ -11,7 +11,7 @@ use Rattle.command_words.specs.Words.{Request, on_file, IsRequest, OneRequest}
 use Rattle.model_process.specs.declared.ending.Ending.{Ending}
 use Rattle.model_command.specs.Tasks.{IsFit}
 use Rattle.model_command.specs.Outcome.{status_of}
-use Rattle.model_command.specs.Run.{IsCause, IsEnd, IsLongEnd, IsReadEnd}
+use Rattle.model_command.specs.Run.{IsCause, IsEnd, IsLongEnd, IsReadEnd, ShelfSides}
 use Rattle.model_command.specs.declared.outcome.Outcome.{Outcome}
 use Rattle.model_command.specs.declared.outcome.Outcome.TheVariants.{Done, Ended, Refused, Words, ReadFault, NoMemory}
 use Rattle.model_command.proofs.Exact.{least_not_fit, too_long_told, whole_bytes, wrong_not_form}
@@ -33,21 +33,21 @@ module _ (task : Task) (name : List ℕ) (lefts : Lefts) (bytes : List ℕ) (had
       let k = (task_read task name named (Some lefts) after (Refused reason place) r).1 in
       least_not_fit task k.0 k.2.0 k.2.1 (subst (IsFit task) (sym (whole_bytes lefts after name bytes k.0 had k.1)) fit)
 
-module _ {S : Type 0} (left : S → Option Lefts) (faults : S → ℕ) (steady : S → List ℕ → Type 0) (words : List (List ℕ)) (named : List ℕ) (old new : S) (answer : ℕ) (one : OneRequest)
-    (lefts : Lefts) (task : Task) (name bytes : List ℕ) (told : left old ≡ Some lefts) (had : lefts name ≡ Some bytes) (form : IsRequest words (on_file task name)) (fit : IsFit task bytes) (within : length bytes ≤ 16777216) where
-  refusal_kept : (request : Request) (reason : Reason) (place : Place) → IsRequest words request → IsEnd left faults steady request named old new (Refused reason place) → ⊥
+module _ (shelf : ShelfSides) (words : List (List ℕ)) (named : List ℕ) (answer : ℕ) (one : OneRequest)
+    (lefts : Lefts) (task : Task) (name bytes : List ℕ) (told : shelf.left ≡ Some lefts) (had : lefts name ≡ Some bytes) (form : IsRequest words (on_file task name)) (fit : IsFit task bytes) (within : length bytes ≤ 16777216) where
+  refusal_kept : (request : Request) (reason : Reason) (place : Place) → IsRequest words request → IsEnd shelf request named (Refused reason place) → ⊥
   refusal_kept request reason place asked end =
-      let P : Request → Option Lefts → Type 0 = λ r before. IsLongEnd r named before (left new) reason place ⊎ IsReadEnd r named before (left new) (Refused reason place) in
-      let e : P (on_file task name) (Some lefts) = subst (P (on_file task name)) told (subst (λ r. P r (left old)) (one words request (on_file task name) asked form) end) in
-      fit_kept task name lefts bytes had fit within named (left new) reason place e
+      let P : Request → Option Lefts → Type 0 = λ r before. IsLongEnd r named before shelf.left_after reason place ⊎ IsReadEnd r named before shelf.left_after (Refused reason place) in
+      let e : P (on_file task name) (Some lefts) = subst (P (on_file task name)) told (subst (λ r. P r shelf.left) (one words request (on_file task name) asked form) end) in
+      fit_kept task name lefts bytes had fit within named shelf.left_after reason place e
 
-  ended_not : (request : Request) (e : Ending) → IsRequest words request → IsEnd left faults steady request named old new (Ended e) → ⊥
+  ended_not : (request : Request) (e : Ending) → IsRequest words request → IsEnd shelf request named (Ended e) → ⊥
   ended_not request e asked end =
-      let P : Request → Type 0 = λ r. IsReadEnd r named (left old) (left new) (Ended e) in
+      let P : Request → Type 0 = λ r. IsReadEnd r named shelf.left shelf.left_after (Ended e) in
       let d : P (on_file task name) = subst P (one words request (on_file task name) asked form) end in
-      (task_read task name named (left old) (left new) (Ended e) d).1.2
+      (task_read task name named shelf.left shelf.left_after (Ended e) d).1.2
 
-  pub exact_fit : (outcome : Outcome) → IsCause left faults steady words named old new outcome → (answer ≡ status_of outcome) ⊎ (answer ≡ 5) → (answer ≡ 0) ⊎ (answer ≡ 4) ⊎ (answer ≡ 5) ⊎ (answer ≡ 6)
+  pub exact_fit : (outcome : Outcome) → IsCause shelf words named outcome → (answer ≡ status_of outcome) ⊎ (answer ≡ 5) → (answer ≡ 0) ⊎ (answer ≡ 4) ⊎ (answer ≡ 5) ⊎ (answer ≡ 6)
   exact_fit (Done text) cause status = grind (arith, status)
   exact_fit (Ended e) (inl cause) status = absurd cause
   exact_fit (Ended e) (inr cause) status = absurd (ended_not cause.0 e cause.1 cause.2)

@@ -9,7 +9,7 @@ use Rattle.bridge_io.specs.declared.transfer.ReadFail.TheVariants.{Memory, Fault
 use Rattle.command_words.specs.Words.{Request, files_of}
 use Rattle.model_command.specs.Outcome.{halted}
 use Rattle.model_command.specs.Reading.{IsHalt, IsHaltAt}
-use Rattle.model_command.specs.Run.{AreWhole, ComesTo, IsEnd, names_of}
+use Rattle.model_command.specs.Run.{AreWhole, ComesTo, IsEnd, names_of, ShelfSides}
 use Rattle.model_command.specs.declared.reading.Halt.{Halt}
 
 module _ (d : Bor (List ℕ)) where
@@ -33,19 +33,19 @@ module _ (d : Bor (List ℕ)) where
 failed_since : (a b n : ℕ) → a ≤ b → HasFailed b n → HasFailed a n
 failed_since a b n le h = grind (arith, common_steps)
 
-module _ {S : Type 0} (left : S → Option Lefts) (faults : S → ℕ) (steady : S → List ℕ → Type 0) where
-  pub halts_at : (old now new : S) (name : List ℕ) → faults old ≤ faults now → ((other : List ℕ) → steady old other → steady now other) → (fail : ReadFail) → IsTooLong (left now) (left new) name 16777216 fail →
-      (fail ≡ Fault → HasFailed (faults now) (faults new)) → (fail ≡ Fault → steady now name → ⊥) → IsHaltAt left faults steady (left now) name old new fail
-  halts_at old now new name le keeps (Memory e) long fault unsteady = tt
-  halts_at old now new name le keeps Fault long fault unsteady = (failed_since (faults old) (faults now) (faults new) le (fault refl), λ s. unsteady refl (keeps name s))
-  halts_at old now new name le keeps (TooLong place) long fault unsteady = long
+module _ (shelf : ShelfSides) where
+  -- mid, count and steady_now are seen of it before the file of this name
+  pub halts_at : (mid : Option Lefts) (count : ℕ) (steady_now : List ℕ → Type 0) (name : List ℕ) → shelf.faults ≤ count → ((other : List ℕ) → shelf.steady other → steady_now other) →
+      (fail : ReadFail) → IsTooLong mid shelf.left_after name 16777216 fail → (fail ≡ Fault → HasFailed count shelf.faults_after) → (fail ≡ Fault → steady_now name → ⊥) → IsHaltAt shelf mid name fail
+  halts_at mid count steady_now name le keeps (Memory e) long fault unsteady = tt
+  halts_at mid count steady_now name le keeps Fault long fault unsteady = (failed_since shelf.faults count shelf.faults_after le (fault refl), λ s. unsteady refl (keeps name s))
+  halts_at mid count steady_now name le keeps (TooLong place) long fault unsteady = long
 
   -- how a request ends then
-  ends_at : (request : Request) (name : List ℕ) (old new : S) (mid : Option Lefts) → ComesTo (left old) mid (files_of request) name → (fail : ReadFail) → IsHaltAt left faults steady mid name old new fail →
-      IsEnd left faults steady request name old new (halted fail)
-  ends_at request name old new mid comes (Memory e) h = tt
-  ends_at request name old new mid comes Fault h = ((mid, comes), h.0, h.1)
-  ends_at request name old new mid comes (TooLong place) h = inl (refl, (mid, comes, h))
+  ends_at : (request : Request) (name : List ℕ) (mid : Option Lefts) → ComesTo shelf.left mid (files_of request) name → (fail : ReadFail) → IsHaltAt shelf mid name fail → IsEnd shelf request name (halted fail)
+  ends_at request name mid comes (Memory e) h = tt
+  ends_at request name mid comes Fault h = ((mid, comes), h.0, h.1)
+  ends_at request name mid comes (TooLong place) h = inl (refl, (mid, comes, h))
 
-  pub halted_end : (request : Request) (names : List (List ℕ)) (old new : S) (h : Halt) → names ≡ files_of request → IsHalt left faults steady names old new h → IsEnd left faults steady request h.name.now old new (halted h.fail)
-  halted_end request names old new h same k = ends_at request h.name.now old new k.0 (subst (λ ns. ComesTo (left old) k.0 ns h.name.now) same k.1) h.fail k.2
+  pub halted_end : (request : Request) (names : List (List ℕ)) (h : Halt) → names ≡ files_of request → IsHalt shelf names h → IsEnd shelf request h.name.now (halted h.fail)
+  halted_end request names h same k = ends_at request h.name.now k.0 (subst (λ ns. ComesTo shelf.left k.0 ns h.name.now) same k.1) h.fail k.2

@@ -2,6 +2,8 @@ pub mod Causes
 pub mod Exact
 pub mod Fit
 pub mod Halts
+pub mod OneEnding
+pub mod PrismTexts
 pub mod SeveralTold
 pub mod Paired
 pub mod Place

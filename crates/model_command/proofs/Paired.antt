@@ -14,24 +14,24 @@ use Rattle.model_translation.specs.Read.{FaultsOf, of_properties as of_spelled}
 use Rattle.model_translation.specs.Laws.{OneListOfFaults}
 use Rattle.model_translation.specs.WithProperties.{AreFaultless, IsPropertiesFault, TranslatesWith}
 use Rattle.model_command.specs.Outcome.{status_of, text_of, line_of, place_in, refusal_line}
-use Rattle.model_command.specs.Run.{IsPairEnd, IsRefusal}
-use Rattle.model_command.specs.Headline.{AreAccepted, IsTold, long_model, long_properties, of_model, of_properties, IsTranslatedAsTold, IsEndedAsTold, fault_line, too_long}
+use Rattle.model_command.specs.Run.{IsPairEnd, IsRefusedAt}
+use Rattle.model_command.specs.Headline.{AreAccepted, IsFaultOfFiles, long_model, long_properties, of_model, of_properties, IsTranslatedAsTold, IsEndedAsTold, fault_line, too_long}
 use Rattle.model_command.specs.declared.outcome.Outcome.{Outcome}
 use Rattle.model_command.specs.declared.outcome.Outcome.TheVariants.{Done, Ended, Refused, Words, ReadFault, NoMemory}
 use Rattle.model_command.proofs.Exact.{least_not_fit}
 
 -- ---- files without fault have no least one
-no_model_fault : (model second : List ℕ) (f : Fault) → IsPrismFault model f → AreFaultless model second → ⊥
+pub no_model_fault : (model second : List ℕ) (f : Fault) → IsPrismFault model f → AreFaultless model second → ⊥
 no_model_fault model second f fault (tree, ps, ok, read) = least_not_fit ToJani model f fault (tree, ok)
 
-no_properties_fault : OneListOfFaults → (model second : List ℕ) (f : Fault) → IsPropertiesFault model second f → AreFaultless model second → ⊥
+pub no_properties_fault : OneListOfFaults → (model second : List ℕ) (f : Fault) → IsPropertiesFault model second f → AreFaultless model second → ⊥
 no_properties_fault one model second f (tree, ok, least) (other, ps, faultless, read) =
     let same : other ≡ tree = ok.read.only other faultless.read.spells in
     let clean : FaultsOf second tree [] = subst (λ t. FaultsOf second t []) same (subst (FaultsOf second other) read.sound (of_spelled read.written read.spelled)) in
     let none : IsLeast [] f = subst (λ fs. IsLeast fs f) (one second tree least.all [] least.are clean) least.least in
     none.among
 
-translated_faultless : (model second text : List ℕ) → TranslatesWith model second text → AreFaultless model second
+pub translated_faultless : (model second text : List ℕ) → TranslatesWith model second text → AreFaultless model second
 translated_faultless model second text (c, ps, t) = (c.file, ps, t.faultless, t.read)
 
 -- ---- how long a file is
@@ -42,12 +42,12 @@ side n = by_test (nat_lt 16777216 n) refl
     by_test true e = inr (grind (arith, nat_tests, e))
     by_test false e = inl (grind (arith, nat_tests, e))
 
-line_same : (name bytes : List ℕ) (f : Fault) (reason : Reason) (place : Place) → IsRefusal bytes f reason place → refusal_line name place (number_of reason) (name_of reason) ≡ fault_line name bytes f
+line_same : (name bytes : List ℕ) (f : Fault) (reason : Reason) (place : Place) → IsRefusedAt bytes f reason place → refusal_line name place (number_of reason) (name_of reason) ≡ fault_line name bytes f
 line_same name bytes f reason place h =
     ap (λ q. refusal_line name place (number_of q) (name_of q)) h.0 ∙ ap (λ (p : Place). refusal_line name p (number_of f.reason) (name_of f.reason)) h.1
 
 module _ (file properties model second was said : List ℕ) (out err : Option (List ℕ)) (answer : ℕ) where
-  is_refused : (AreAccepted model second → ⊥) → (name bytes : List ℕ) (f : Fault) → IsTold file properties model second name bytes f → answer ≡ 2 → out ≡ Some was → err ≡ Some (said ++ fault_line name bytes f) →
+  is_refused : (AreAccepted model second → ⊥) → (name bytes : List ℕ) (f : Fault) → IsFaultOfFiles file properties model second name bytes f → answer ≡ 2 → out ≡ Some was → err ≡ Some (said ++ fault_line name bytes f) →
       IsTranslatedAsTold file properties model second was said out err answer
   is_refused none name bytes f told two o e = record {
     exactly = (λ zero. absurd (not_both zero), λ acc. absurd (none acc));

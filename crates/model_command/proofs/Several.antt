@@ -10,15 +10,15 @@ use Rattle.bridge_io.specs.declared.reason.Reason.TheVariants.{TooLong}
 use Rattle.bridge_io.specs.declared.place.Place.{Place}
 use Rattle.command_words.specs.declared.request.Task.{Task}
 use Rattle.command_words.specs.Words.{Walking, on_file, walk, AreNamesBehind}
-use Rattle.model_command.specs.Run.{IsWhole, AreWhole, ComesTo, IsAlone, IsPair, IsTaskEnd, IsWalkEnd, IsReadEnd, names_of}
+use Rattle.model_command.specs.Run.{IsReadWhole, AreWhole, ComesTo, IsAlone, IsPair, IsTaskEnd, IsWalkEnd, IsReadEnd, names_of}
 use Rattle.model_command.specs.Headline.{AreHeld, AreShort, IsFirstLong}
 use Rattle.model_command.specs.declared.outcome.Outcome.{Outcome}
 use Rattle.model_command.proofs.Exact.{whole_bytes}
 
 -- ---- one file
-pub alone : (Of : List ℕ → Type 0) (before after : Option Lefts) (name : List ℕ) (contents : List (List ℕ)) → AreWhole before after (name ∷ []) contents → IsAlone Of contents → (bytes : List ℕ) × IsWhole before after name bytes × Of bytes
+pub alone : (Of : List ℕ → Type 0) (before after : Option Lefts) (name : List ℕ) (contents : List (List ℕ)) → AreWhole before after (name ∷ []) contents → IsAlone Of contents → (bytes : List ℕ) × IsReadWhole before after name bytes × Of bytes
 alone Of before after name [] w h = absurd h
-alone Of before after name (b ∷ []) w h = (b, subst (λ m. IsWhole before m name b) (sym w.2) w.1, h)
+alone Of before after name (b ∷ []) w h = (b, subst (λ m. IsReadWhole before m name b) (sym w.2) w.1, h)
 alone Of before after name (b ∷ c ∷ cs) w h = absurd h
 
 pub comes_alone : (before mid : Option Lefts) (name named : List ℕ) → ComesTo before mid (name ∷ []) named → (named ≡ name) × (mid ≡ before)
@@ -31,10 +31,10 @@ comes_alone before mid name named h = by_front h.front h.contents h.among h.read
     by_front (x ∷ y ∷ front) contents e w = absurd cc
 
 -- a task's file, and that of a walk
-pub task_read : (task : Task) (name named : List ℕ) (before after : Option Lefts) (o : Outcome) → IsReadEnd (on_file task name) named before after o → (named ≡ name) × ((bytes : List ℕ) × IsWhole before after name bytes × IsTaskEnd task bytes o)
+pub task_read : (task : Task) (name named : List ℕ) (before after : Option Lefts) (o : Outcome) → IsReadEnd (on_file task name) named before after o → (named ≡ name) × ((bytes : List ℕ) × IsReadWhole before after name bytes × IsTaskEnd task bytes o)
 task_read task name named before after o h = (h.2.0, alone (λ bytes. IsTaskEnd task bytes o) before after name h.0 h.1 h.2.1)
 
-pub walk_read : (w : Walking) (named : List ℕ) (before after : Option Lefts) (o : Outcome) → IsReadEnd (walk w) named before after o → (named ≡ w.file) × ((bytes : List ℕ) × IsWhole before after w.file bytes × IsWalkEnd w bytes o)
+pub walk_read : (w : Walking) (named : List ℕ) (before after : Option Lefts) (o : Outcome) → IsReadEnd (walk w) named before after o → (named ≡ w.file) × ((bytes : List ℕ) × IsReadWhole before after w.file bytes × IsWalkEnd w bytes o)
 walk_read w named before after o h = (h.2.0, alone (λ bytes. IsWalkEnd w bytes o) before after w.file h.0 h.1 h.2.1)
 
 pub long_alone : (name named : List ℕ) (before after : Option Lefts) (reason : Reason) (place : Place) →
@@ -74,9 +74,9 @@ second_named file second (x ∷ []) d same = absurd cc
 second_named file second (x ∷ y ∷ names) d same = let f : y.now ≡ second = cc in f
 
 -- ---- one after another
-pub one_more_whole : (before mid after : Option Lefts) (names : List (List ℕ)) (name : List ℕ) (contents : List (List ℕ)) (bytes : List ℕ) → AreWhole before mid names contents → IsWhole mid after name bytes →
+pub one_more_whole : (before mid after : Option Lefts) (names : List (List ℕ)) (name : List ℕ) (contents : List (List ℕ)) (bytes : List ℕ) → AreWhole before mid names contents → IsReadWhole mid after name bytes →
     AreWhole before after (names ++ name ∷ []) (contents ++ bytes ∷ [])
-one_more_whole before mid after [] name [] bytes w h = (after, subst (λ m. IsWhole m after name bytes) w h, refl)
+one_more_whole before mid after [] name [] bytes w h = (after, subst (λ m. IsReadWhole m after name bytes) w h, refl)
 one_more_whole before mid after [] name (b ∷ contents) bytes w h = absurd w
 one_more_whole before mid after (n ∷ names) name [] bytes w h = absurd w
 one_more_whole before mid after (n ∷ names) name (b ∷ contents) bytes w h = (w.0, w.1, one_more_whole w.0 mid after names name contents bytes w.2 h)
@@ -111,7 +111,7 @@ held_later lefts now n bytes (m ∷ names) (c ∷ contents) t o h = (t.others m 
 
 -- ---- what is read of several files that are told
 module _ (before : List (List ℕ)) (lefts : Lefts) (n c r : List ℕ) (names contents : List (List ℕ)) (apart : AreNamesBehind before (n ∷ names)) (held : AreHeld lefts (n ∷ names) (c ∷ contents)) where
-  first_read : (now : Lefts) → IsWhole (Some lefts) (Some now) n r → (r ≡ c) × AreHeld now names contents
+  first_read : (now : Lefts) → IsReadWhole (Some lefts) (Some now) n r → (r ≡ c) × AreHeld now names contents
   first_read now w = (whole_bytes lefts (Some now) n c r held.0 w, held_later lefts now n r names contents w.takes (others_of before n [] names apart.1) held.1)
 
 pub whole_same : (names before : List (List ℕ)) (lefts : Lefts) (after : Option Lefts) (contents read : List (List ℕ)) → AreNamesBehind before names → AreHeld lefts names contents → AreWhole (Some lefts) after names read → read ≡ contents
@@ -123,7 +123,7 @@ whole_same (n ∷ names) before lefts after (c ∷ contents) [] a h w = absurd w
 whole_same (n ∷ names) before lefts after (c ∷ contents) (r ∷ read) a h w = by_mid (λ now held rest. whole_same names (before ++ n ∷ []) now after contents read a.1 held rest) w.0 w.1 w.2
   where
     by_mid : ((now : Lefts) → AreHeld now names contents → AreWhole (Some now) after names read → read ≡ contents) →
-        (mid : Option Lefts) → IsWhole (Some lefts) mid n r → AreWhole mid after names read → r ∷ read ≡ c ∷ contents
+        (mid : Option Lefts) → IsReadWhole (Some lefts) mid n r → AreWhole mid after names read → r ∷ read ≡ c ∷ contents
     by_mid ih None one rest = absurd one.takes
     by_mid ih (Some now) one rest =
         let f = first_read before lefts n c r names contents a h now one in
@@ -147,7 +147,7 @@ reached (n ∷ front) named back before lefts mid (c ∷ contents) [] a h w = ab
 reached (n ∷ front) named back before lefts mid (c ∷ contents) (r ∷ read) a h w = by_mid (λ now held rest. reached front named back (before ++ n ∷ []) now mid contents read a.1 held rest) w.0 w.1 w.2
   where
     by_mid : ((now : Lefts) → AreHeld now (front ++ named ∷ back) contents → AreWhole (Some now) mid front read → IsReached mid (front ++ named ∷ back) contents named) →
-        (next : Option Lefts) → IsWhole (Some lefts) next n r → AreWhole next mid front read → IsReached mid (n ∷ (front ++ named ∷ back)) (c ∷ contents) named
+        (next : Option Lefts) → IsReadWhole (Some lefts) next n r → AreWhole next mid front read → IsReached mid (n ∷ (front ++ named ∷ back)) (c ∷ contents) named
     by_mid ih None one rest = absurd one.takes
     by_mid ih (Some now) one rest =
         let f = first_read before lefts n c r (front ++ named ∷ back) contents a h now one in

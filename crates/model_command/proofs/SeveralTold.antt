@@ -9,7 +9,7 @@ use Rattle.bridge_io.specs.declared.reason.Reason.{Reason}
 use Rattle.bridge_io.specs.declared.place.Place.{Place}
 use Rattle.command_words.specs.Words.{Request, files_of, AreNamesBehind, IsRequest, OneRequest}
 use Rattle.model_command.specs.Outcome.{status_of, text_of, line_of, refusal_line}
-use Rattle.model_command.specs.Run.{IsCause, IsEndOn, IsLongEnd, IsReadEnd}
+use Rattle.model_command.specs.Run.{IsCause, IsEndOn, IsLongEnd, IsReadEnd, ShelfSides}
 use Rattle.model_command.specs.Headline.{AreHeld, AreShort, IsFirstLong, IsEndedAsTold, fault_line, too_long}
 use Rattle.model_command.specs.declared.outcome.Outcome.{Outcome}
 use Rattle.model_command.specs.declared.outcome.Outcome.TheVariants.{Done, Ended, Refused, Words, ReadFault, NoMemory}
@@ -43,28 +43,28 @@ module _ (request : Request) (lefts : Lefts) (after : Option Lefts) (contents : 
             (status, text ∙ ap Some (append-nil was), line ∙ ap (λ l. Some (said ++ l)) (t.1 ∙ ap₂ (λ n b. fault_line n b too_long) s.0 s.1));
       }
 
-module _ {S : Type 0} (left : S → Option Lefts) (faults : S → ℕ) (steady : S → List ℕ → Type 0) (words : List (List ℕ)) (named : List ℕ) (old new : S) (one : OneRequest) (lefts : Lefts) (told : left old ≡ Some lefts)
+module _ (shelf : ShelfSides) (words : List (List ℕ)) (named : List ℕ) (one : OneRequest) (lefts : Lefts) (told : shelf.left ≡ Some lefts)
     (contents : List (List ℕ)) (was said : List ℕ) (out err : Option (List ℕ)) (answer : ℕ) (no_read : answer ≡ 4 → ⊥) (no_memory : answer ≡ 6 → ⊥)
     (request : Request) (apart : AreNamesBehind [] (files_of request)) (held : AreHeld lefts (files_of request) contents) (form : IsRequest words request) where
-  by_reading : (outcome : Outcome) → IsReadEnd request named (Some lefts) (left new) outcome → answer ≡ status_of outcome → Appends (Some was) out (text_of outcome) → Appends (Some said) err (line_of named outcome) →
+  by_reading : (outcome : Outcome) → IsReadEnd request named (Some lefts) shelf.left_after outcome → answer ≡ status_of outcome → Appends (Some was) out (text_of outcome) → Appends (Some said) err (line_of named outcome) →
       IsEndedAsTold request contents was said out err answer
-  by_reading outcome v status o e = read request lefts (left new) contents was said out err answer apart held named outcome v status (appended was out _ o) (appended said err _ e)
+  by_reading outcome v status o e = read request lefts shelf.left_after contents was said out err answer apart held named outcome v status (appended was out _ o) (appended said err _ e)
 
-  pub ended_of : (outcome : Outcome) → IsCause left faults steady words named old new outcome →
+  pub ended_of : (outcome : Outcome) → IsCause shelf words named outcome →
       answer ≡ status_of outcome → Appends (Some was) out (text_of outcome) → Appends (Some said) err (line_of named outcome) → IsEndedAsTold request contents was said out err answer
   ended_of (Done text) (inl cause) status o e = absurd cause
   ended_of (Done text) (inr cause) status o e =
-      by_reading (Done text) (of_asked words one lefts request (left old) told form (λ r before. IsReadEnd r named before (left new) (Done text)) cause.0 cause.1 cause.2) status o e
+      by_reading (Done text) (of_asked words one lefts request shelf.left told form (λ r before. IsReadEnd r named before shelf.left_after (Done text)) cause.0 cause.1 cause.2) status o e
   ended_of (Ended en) (inl cause) status o e = absurd cause
   ended_of (Ended en) (inr cause) status o e =
-      by_reading (Ended en) (of_asked words one lefts request (left old) told form (λ r before. IsReadEnd r named before (left new) (Ended en)) cause.0 cause.1 cause.2) status o e
+      by_reading (Ended en) (of_asked words one lefts request shelf.left told form (λ r before. IsReadEnd r named before shelf.left_after (Ended en)) cause.0 cause.1 cause.2) status o e
   ended_of (Refused reason place) (inl cause) status o e = absurd cause
   ended_of (Refused reason place) (inr cause) status o e =
-      by_end (of_asked words one lefts request (left old) told form
-      (λ r before. IsLongEnd r named before (left new) reason place ⊎ IsReadEnd r named before (left new) (Refused reason place)) cause.0 cause.1 cause.2)
+      by_end (of_asked words one lefts request shelf.left told form
+      (λ r before. IsLongEnd r named before shelf.left_after reason place ⊎ IsReadEnd r named before shelf.left_after (Refused reason place)) cause.0 cause.1 cause.2)
     where
-      by_end : IsLongEnd request named (Some lefts) (left new) reason place ⊎ IsReadEnd request named (Some lefts) (left new) (Refused reason place) → IsEndedAsTold request contents was said out err answer
-      by_end (inl r) = long request lefts (left new) contents was said out err answer apart held named reason place r status (appended was out [] o) (appended said err _ e)
+      by_end : IsLongEnd request named (Some lefts) shelf.left_after reason place ⊎ IsReadEnd request named (Some lefts) shelf.left_after (Refused reason place) → IsEndedAsTold request contents was said out err answer
+      by_end (inl r) = long request lefts shelf.left_after contents was said out err answer apart held named reason place r status (appended was out [] o) (appended said err _ e)
       by_end (inr r) = by_reading (Refused reason place) r status o e
   ended_of (Words j) (inl cause) status o e = absurd (wrong_not_form words j request cause form)
   ended_of (Words j) (inr cause) status o e = absurd cause.2

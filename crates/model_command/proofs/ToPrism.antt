@@ -13,15 +13,15 @@ use Rattle.jani_tree.specs.Faults.{FailsFor}
 use Rattle.jani_to_prism.specs.Lines.{lines}
 use Rattle.jani_to_prism.specs.Refused.{refused}
 use Rattle.jani_to_prism.specs.NameLaws.{LinesAreComments}
-use Rattle.jani_to_prism.specs.Promise.{IsTranslated, PlacesAside}
+use Rattle.jani_to_prism.specs.Promise.{IsPrismOf, PlacesAside}
 use Rattle.command_words.specs.declared.request.Task.TheVariants.{ToPrism}
 use Rattle.model_files.specs.JaniFile.{IsFaultlessJani, RefusesJani}
 use Rattle.model_command.specs.Tasks.{Judged}
-use Rattle.model_command.specs.ToPrism.{IsWrittenBack, of_file, of_result}
+use Rattle.model_command.specs.ToPrism.{IsPrismText, of_file, of_result}
 
 -- the text of a translation
-pub written : (tree : jani.File) (model : prism.File) (text : List ℕ) → PlacesAside → CommentedSpells → OneTree → LinesAreComments tree → IsTranslated tree model →
-    text ≡ lines_text (lines tree) ++ file_text model → IsWrittenBack tree text model
+pub written : (tree : jani.File) (model : prism.File) (text : List ℕ) → PlacesAside → CommentedSpells → OneTree → LinesAreComments tree → IsPrismOf tree model →
+    text ≡ lines_text (lines tree) ++ file_text model → IsPrismText tree text model
 written tree model text aside behind one comments h e =
     let spelled : SpellsFile text model = subst (λ t. SpellsFile t model) (sym e) (behind (lines tree) model comments h.clean.printable) in
     record {
@@ -35,7 +35,7 @@ written tree model text aside behind one comments h e =
 
 -- what a judged file's text, or the fault of its translation, is of the bytes
 pub judged : (bytes : List ℕ) (tree : jani.File) → IsFaultlessJani bytes tree → (r : Result (List ℕ) Refused) →
-    IfOk r (λ text. (refused tree ≡ []) × ((model : prism.File) × IsWrittenBack tree text model)) → IfErr r (FailsFor (refused tree)) → Judged ToPrism bytes r
+    IfOk r (λ text. (refused tree ≡ []) × ((model : prism.File) × IsPrismText tree text model)) → IfErr r (FailsFor (refused tree)) → Judged ToPrism bytes r
 judged bytes tree read (Ok text) ok err = (tree, ok.1.0, record { translatable = record { faultless = read; accepted = ok.0 }; written = ok.1.1 })
 judged bytes tree read (Err (Memory e)) ok err = tt
 judged bytes tree read (Err (At f)) ok err = of_result tree read err

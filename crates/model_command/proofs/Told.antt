@@ -19,7 +19,7 @@ use Rattle.command_words.specs.declared.request.Task.TheVariants.{ToJani, ToPris
 use Rattle.command_words.specs.Words.{Request, Walking, on_file, walk, IsRequest, OneRequest}
 use Rattle.model_command.specs.Tasks.{Makes, IsFit, IsLeastFor}
 use Rattle.model_command.specs.Outcome.{status_of, text_of, line_of, place_in, refusal_line}
-use Rattle.model_command.specs.Run.{IsCause, IsWhole, IsTaskEnd, IsWalkEnd, IsLongEnd, IsReadEnd, EndsWith}
+use Rattle.model_command.specs.Run.{IsCause, IsReadWhole, IsTaskEnd, IsWalkEnd, IsLongEnd, IsReadEnd, EndsWith, ShelfSides, SinkSides}
 use Rattle.model_command.specs.Headline.{IsAccepted, IsHeadline, IsFault, IsShownAsTold, fault_line, too_long}
 use Rattle.model_command.specs.declared.outcome.Outcome.{Outcome}
 use Rattle.model_command.specs.declared.outcome.Outcome.TheVariants.{Done, Ended, Refused, Words, ReadFault, NoMemory}
@@ -32,7 +32,7 @@ appended xs None more h = absurd h
 appended xs (Some ys) more h = ap Some h
 
 -- what a task is done for is fit for it
-makes_fit : (task : Task) (bytes text : List ℕ) → Makes task bytes text → IsFit task bytes
+pub makes_fit : (task : Task) (bytes text : List ℕ) → Makes task bytes text → IsFit task bytes
 makes_fit ToJani bytes text (tree, model, all) = (tree, all.faultless)
 makes_fit ToPrism bytes text (tree, model, all) = (tree, all.translatable)
 makes_fit ToPrismProps bytes text (tree, ps, all) = (tree, ps, all.holds)
@@ -80,7 +80,7 @@ module _ (task : Task) (lefts : Lefts) (after : Option Lefts) (name bytes : List
   Refusal reason place = (IsAccepted task bytes → ⊥) × ((f : Fault) × IsFault task bytes f × (refusal_line name place (number_of reason) (name_of reason) ≡ fault_line name bytes f))
 
   refusal : (reason : Reason) (place : Place) → ((reason ≡ TooLong) × IsTooLong (Some lefts) after name 16777216 (TooLongAt place))
-      ⊎ ((read : List ℕ) × IsWhole (Some lefts) after name read × IsTaskEnd task read (Refused reason place)) → Refusal reason place
+      ⊎ ((read : List ℕ) × IsReadWhole (Some lefts) after name read × IsTaskEnd task read (Refused reason place)) → Refusal reason place
   refusal reason place (inl r) =
       let t = told_long lefts name bytes had after reason place r in (
         λ acc. let le : length bytes ≤ 16777216 = acc.0 in let gt : 16777216 < length bytes = t.0 in absurd (omega arith),
@@ -104,7 +104,7 @@ module _ (task : Task) (lefts : Lefts) (after : Option Lefts) (name bytes : List
         ),
       )
 
-  done : (text : List ℕ) → (read : List ℕ) × IsWhole (Some lefts) after name read × IsTaskEnd task read (Done text) → IsAccepted task bytes × Makes task bytes text
+  done : (text : List ℕ) → (read : List ℕ) × IsReadWhole (Some lefts) after name read × IsTaskEnd task read (Done text) → IsAccepted task bytes × Makes task bytes text
   done text w =
       let same : w.0 ≡ bytes = whole_bytes lefts after name bytes w.0 had w.1 in
       let all : Makes task bytes text = subst (λ b. Makes task b text) same w.2 in
@@ -131,7 +131,7 @@ module _ (task : Task) (lefts : Lefts) (after : Option Lefts) (name bytes : List
 
 -- ---- one state, and walks
 module _ (w : Walking) (lefts : Lefts) (after : Option Lefts) (bytes was said : List ℕ) (out err : Option (List ℕ)) (answer : ℕ) (had : lefts w.file ≡ Some bytes) where
-  shown : (o : Outcome) → (read : List ℕ) × IsWhole (Some lefts) after w.file read × IsWalkEnd w read o → answer ≡ status_of o → out ≡ Some (was ++ text_of o) → err ≡ Some (said ++ line_of w.file o) → IsShownAsTold w bytes was said out err answer
+  shown : (o : Outcome) → (read : List ℕ) × IsReadWhole (Some lefts) after w.file read × IsWalkEnd w read o → answer ≡ status_of o → out ≡ Some (was ++ text_of o) → err ≡ Some (said ++ line_of w.file o) → IsShownAsTold w bytes was said out err answer
   shown o end status text line =
       let same : end.0 ≡ bytes = whole_bytes lefts after w.file bytes end.0 had end.1 in
       let short : length bytes ≤ 16777216 = subst (λ b. length b ≤ 16777216) same end.1.within in
@@ -159,71 +159,70 @@ of_asked words one lefts asked before told form P request r p = subst (P asked) 
 pub named_so : (said : List ℕ) (err : Option (List ℕ)) (o : Outcome) (named name : List ℕ) → named ≡ name → Appends (Some said) err (line_of named o) → err ≡ Some (said ++ line_of name o)
 named_so said err o named name same e = appended said err _ e ∙ ap (λ n. Some (said ++ line_of n o)) same
 
-module _ {S : Type 0} (left : S → Option Lefts) (faults : S → ℕ) (steady : S → List ℕ → Type 0) (words : List (List ℕ)) (named : List ℕ) (old new : S) (one : OneRequest) (lefts : Lefts) (told : left old ≡ Some lefts)
+module _ (shelf : ShelfSides) (words : List (List ℕ)) (named : List ℕ) (one : OneRequest) (lefts : Lefts) (told : shelf.left ≡ Some lefts)
     (bytes was said : List ℕ) (out err : Option (List ℕ)) (answer : ℕ) (no_read : answer ≡ 4 → ⊥) (no_memory : answer ≡ 6 → ⊥) where
-  pub headline_of : (task : Task) (name : List ℕ) → lefts name ≡ Some bytes → IsRequest words (on_file task name) → (outcome : Outcome) → IsCause left faults steady words named old new outcome →
+  pub headline_of : (task : Task) (name : List ℕ) → lefts name ≡ Some bytes → IsRequest words (on_file task name) → (outcome : Outcome) → IsCause shelf words named outcome →
       answer ≡ status_of outcome → Appends (Some was) out (text_of outcome) → Appends (Some said) err (line_of named outcome) → IsHeadline task bytes name was said out err answer
   headline_of task name had form (Done text) (inl cause) status o e = absurd cause
   headline_of task name had form (Done text) (inr cause) status o e =
-      let w = of_asked words one lefts (on_file task name) (left old) told form (λ r before. IsReadEnd r named before (left new) (Done text)) cause.0 cause.1 cause.2 in
-      is_done task lefts (left new) name bytes had was said out err answer text (done task lefts (left new) name bytes had text (task_read task name named (Some lefts) (left new) (Done text) w).1) status (appended was out text o) (appended said err [] e)
+      let w = of_asked words one lefts (on_file task name) shelf.left told form (λ r before. IsReadEnd r named before shelf.left_after (Done text)) cause.0 cause.1 cause.2 in
+      is_done task lefts shelf.left_after name bytes had was said out err answer text (done task lefts shelf.left_after name bytes had text (task_read task name named (Some lefts) shelf.left_after (Done text) w).1) status (appended was out text o) (appended said err [] e)
   headline_of task name had form (Ended en) (inl cause) status o e = absurd cause
   headline_of task name had form (Ended en) (inr cause) status o e =
-      let w = of_asked words one lefts (on_file task name) (left old) told form (λ r before. IsReadEnd r named before (left new) (Ended en)) cause.0 cause.1 cause.2 in
-      absurd (task_read task name named (Some lefts) (left new) (Ended en) w).1.2
+      let w = of_asked words one lefts (on_file task name) shelf.left told form (λ r before. IsReadEnd r named before shelf.left_after (Ended en)) cause.0 cause.1 cause.2 in
+      absurd (task_read task name named (Some lefts) shelf.left_after (Ended en) w).1.2
   headline_of task name had form (Refused reason place) (inl cause) status o e = absurd cause
   headline_of task name had form (Refused reason place) (inr cause) status o e =
-      by_end (of_asked words one lefts (on_file task name) (left old) told form
-      (λ r before. IsLongEnd r named before (left new) reason place ⊎ IsReadEnd r named before (left new) (Refused reason place)) cause.0 cause.1 cause.2)
+      by_end (of_asked words one lefts (on_file task name) shelf.left told form
+      (λ r before. IsLongEnd r named before shelf.left_after reason place ⊎ IsReadEnd r named before shelf.left_after (Refused reason place)) cause.0 cause.1 cause.2)
     where
-      by_end : IsLongEnd (on_file task name) named (Some lefts) (left new) reason place ⊎ IsReadEnd (on_file task name) named (Some lefts) (left new) (Refused reason place) → IsHeadline task bytes name was said out err answer
+      by_end : IsLongEnd (on_file task name) named (Some lefts) shelf.left_after reason place ⊎ IsReadEnd (on_file task name) named (Some lefts) shelf.left_after (Refused reason place) → IsHeadline task bytes name was said out err answer
       by_end (inl r) =
-          let k = long_alone name named (Some lefts) (left new) reason place r in
-          is_refused task lefts (left new) name bytes had was said out err answer _ (refusal task lefts (left new) name bytes had reason place (inl k.1)) status (appended was out [] o)
+          let k = long_alone name named (Some lefts) shelf.left_after reason place r in
+          is_refused task lefts shelf.left_after name bytes had was said out err answer _ (refusal task lefts shelf.left_after name bytes had reason place (inl k.1)) status (appended was out [] o)
           (named_so said err (Refused reason place) named name k.0 e)
       by_end (inr r) =
-          let k = task_read task name named (Some lefts) (left new) (Refused reason place) r in
-          is_refused task lefts (left new) name bytes had was said out err answer _ (refusal task lefts (left new) name bytes had reason place (inr k.1)) status (appended was out [] o)
+          let k = task_read task name named (Some lefts) shelf.left_after (Refused reason place) r in
+          is_refused task lefts shelf.left_after name bytes had was said out err answer _ (refusal task lefts shelf.left_after name bytes had reason place (inr k.1)) status (appended was out [] o)
           (named_so said err (Refused reason place) named name k.0 e)
   headline_of task name had form (Words j) (inl cause) status o e = absurd (wrong_not_form words j (on_file task name) cause form)
   headline_of task name had form (Words j) (inr cause) status o e = absurd cause.2
   headline_of task name had form ReadFault cause status o e = absurd (no_read status)
   headline_of task name had form NoMemory cause status o e = absurd (no_memory status)
 
-  pub shown_of : (w : Walking) → lefts w.file ≡ Some bytes → IsRequest words (walk w) → (outcome : Outcome) → IsCause left faults steady words named old new outcome →
+  pub shown_of : (w : Walking) → lefts w.file ≡ Some bytes → IsRequest words (walk w) → (outcome : Outcome) → IsCause shelf words named outcome →
       answer ≡ status_of outcome → Appends (Some was) out (text_of outcome) → Appends (Some said) err (line_of named outcome) → IsShownAsTold w bytes was said out err answer
   shown_of w had form (Done text) (inl cause) status o e = absurd cause
   shown_of w had form (Done text) (inr cause) status o e =
-      let v = of_asked words one lefts (walk w) (left old) told form (λ r before. IsReadEnd r named before (left new) (Done text)) cause.0 cause.1 cause.2 in
-      absurd (walk_read w named (Some lefts) (left new) (Done text) v).1.2
+      let v = of_asked words one lefts (walk w) shelf.left told form (λ r before. IsReadEnd r named before shelf.left_after (Done text)) cause.0 cause.1 cause.2 in
+      absurd (walk_read w named (Some lefts) shelf.left_after (Done text) v).1.2
   shown_of w had form (Ended en) (inl cause) status o e = absurd cause
   shown_of w had form (Ended en) (inr cause) status o e =
-      let v = of_asked words one lefts (walk w) (left old) told form (λ r before. IsReadEnd r named before (left new) (Ended en)) cause.0 cause.1 cause.2 in
-      let k = walk_read w named (Some lefts) (left new) (Ended en) v in
-      shown w lefts (left new) bytes was said out err answer had (Ended en) k.1 status (appended was out _ o) (named_so said err (Ended en) named w.file k.0 e)
+      let v = of_asked words one lefts (walk w) shelf.left told form (λ r before. IsReadEnd r named before shelf.left_after (Ended en)) cause.0 cause.1 cause.2 in
+      let k = walk_read w named (Some lefts) shelf.left_after (Ended en) v in
+      shown w lefts shelf.left_after bytes was said out err answer had (Ended en) k.1 status (appended was out _ o) (named_so said err (Ended en) named w.file k.0 e)
   shown_of w had form (Refused reason place) (inl cause) status o e = absurd cause
   shown_of w had form (Refused reason place) (inr cause) status o e =
-      by_end (of_asked words one lefts (walk w) (left old) told form
-      (λ r before. IsLongEnd r named before (left new) reason place ⊎ IsReadEnd r named before (left new) (Refused reason place)) cause.0 cause.1 cause.2)
+      by_end (of_asked words one lefts (walk w) shelf.left told form
+      (λ r before. IsLongEnd r named before shelf.left_after reason place ⊎ IsReadEnd r named before shelf.left_after (Refused reason place)) cause.0 cause.1 cause.2)
     where
-      by_end : IsLongEnd (walk w) named (Some lefts) (left new) reason place ⊎ IsReadEnd (walk w) named (Some lefts) (left new) (Refused reason place) → IsShownAsTold w bytes was said out err answer
+      by_end : IsLongEnd (walk w) named (Some lefts) shelf.left_after reason place ⊎ IsReadEnd (walk w) named (Some lefts) shelf.left_after (Refused reason place) → IsShownAsTold w bytes was said out err answer
       by_end (inl r) =
-          let k = long_alone w.file named (Some lefts) (left new) reason place r in
-          long_shown w lefts (left new) bytes was said out err answer had reason place k.1 status (appended was out [] o) (named_so said err (Refused reason place) named w.file k.0 e)
+          let k = long_alone w.file named (Some lefts) shelf.left_after reason place r in
+          long_shown w lefts shelf.left_after bytes was said out err answer had reason place k.1 status (appended was out [] o) (named_so said err (Refused reason place) named w.file k.0 e)
       by_end (inr r) =
-          let k = walk_read w named (Some lefts) (left new) (Refused reason place) r in
-          shown w lefts (left new) bytes was said out err answer had (Refused reason place) k.1 status (appended was out [] o) (named_so said err (Refused reason place) named w.file k.0 e)
+          let k = walk_read w named (Some lefts) shelf.left_after (Refused reason place) r in
+          shown w lefts shelf.left_after bytes was said out err answer had (Refused reason place) k.1 status (appended was out [] o) (named_so said err (Refused reason place) named w.file k.0 e)
   shown_of w had form (Words j) (inl cause) status o e = absurd (wrong_not_form words j (walk w) cause form)
   shown_of w had form (Words j) (inr cause) status o e = absurd cause.2
   shown_of w had form ReadFault cause status o e = absurd (no_read status)
   shown_of w had form NoMemory cause status o e = absurd (no_memory status)
 
 -- where no write failed, what was written are the texts of the outcome
-module _ {K E : Type 0} (taken : K → Option (List ℕ)) (fails : K → ℕ) (said_by : E → Option (List ℕ)) (failures : E → ℕ) (out out' : K) (err err' : E) (answer : ℕ) (was said : List ℕ)
-    (held : taken out ≡ Some was) (heard : said_by err ≡ Some said) (no_write : answer ≡ 5 → ⊥) where
-  pub written_whole : (named : List ℕ) (outcome : Outcome) → EndsWith taken fails said_by failures out out' err err' named outcome answer →
-      (answer ≡ status_of outcome) × Appends (Some was) (taken out') (text_of outcome) × Appends (Some said) (said_by err') (line_of named outcome)
+module _ (out err : SinkSides) (answer : ℕ) (was said : List ℕ) (held : out.taken ≡ Some was) (heard : err.taken ≡ Some said) (no_write : answer ≡ 5 → ⊥) where
+  pub written_whole : (named : List ℕ) (outcome : Outcome) → EndsWith out err named outcome answer →
+      (answer ≡ status_of outcome) × Appends (Some was) out.taken_after (text_of outcome) × Appends (Some said) err.taken_after (line_of named outcome)
   written_whole named outcome (inl e) =
-      (e.0, subst (λ o. Appends o (taken out') (text_of outcome)) held e.1, subst (λ o. Appends o (said_by err') (line_of named outcome)) heard e.2)
+      (e.0, subst (λ o. Appends o out.taken_after (text_of outcome)) held e.1, subst (λ o. Appends o err.taken_after (line_of named outcome)) heard e.2)
   written_whole named outcome (inr (inl e)) = absurd (no_write e.0)
   written_whole named outcome (inr (inr e)) = absurd (no_write e.0)

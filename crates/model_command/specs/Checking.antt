@@ -15,21 +15,21 @@ prism_line modules commands = codes "ok prism modules " ++ (decimal modules ++ (
 
 -- The bytes have no fault and spell one tree, and the text tells how many modules it has, and how many commands after copies of
 -- modules are written out.
-pub record IsChecked (bytes text : List ℕ) (tree : File) : Type 0 where
+pub record IsCounted (bytes text : List ℕ) (tree : File) : Type 0 where
   pub faultless : IsFaultless bytes tree
   pub told : text ≡ prism_line (length tree.modules) (command_count tree)
 
 abbrev pub Checks : List ℕ → List ℕ → Type 0
-Checks bytes text = (tree : File) × IsChecked bytes text tree
+Checks bytes text = (tree : File) × IsCounted bytes text tree
 
 -- `ok jani elements E edges G`
 abbrev pub jani_line : ℕ → ℕ → List ℕ
 jani_line elements edges = codes "ok jani elements " ++ (decimal elements ++ (codes " edges " ++ (decimal edges ++ 10 ∷ [])))
 
 -- The same for JANI: how many automata take part, and how many edges these have.
-pub record IsCheckedJani (bytes text : List ℕ) (tree : JaniFile) : Type 0 where
+pub record IsCountedJani (bytes text : List ℕ) (tree : JaniFile) : Type 0 where
   pub faultless : IsFaultlessJani bytes tree
   pub told : text ≡ jani_line (length tree.elements) (edge_count tree)
 
 abbrev pub ChecksJani : List ℕ → List ℕ → Type 0
-ChecksJani bytes text = (tree : JaniFile) × IsCheckedJani bytes text tree
+ChecksJani bytes text = (tree : JaniFile) × IsCountedJani bytes text tree

@@ -80,14 +80,14 @@ pub record AreAccepted (model properties : List ℕ) : Type 0 where
 
 -- The fault that is told of files that aren't accepted, of the bytes of one of them under its name: the model is too long; or it isn't, and
 -- the properties are; or neither is, and it is the least fault of the model; or that has none, and it is the least one of the properties.
-pub data IsTold (file properties model second : List ℕ) : List ℕ → List ℕ → Fault → Type 0 where
-  long_model : 16777216 < length model → IsTold file properties model second file model too_long
-  long_properties : length model ≤ 16777216 → 16777216 < length second → IsTold file properties model second properties second too_long
-  of_model : (f : Fault) → length model ≤ 16777216 → length second ≤ 16777216 → IsPrismFault model f → IsTold file properties model second file model f
-  of_properties : (f : Fault) → length model ≤ 16777216 → length second ≤ 16777216 → IsPropertiesFault model second f → IsTold file properties model second properties second f
+pub data IsFaultOfFiles (file properties model second : List ℕ) : List ℕ → List ℕ → Fault → Type 0 where
+  long_model : 16777216 < length model → IsFaultOfFiles file properties model second file model too_long
+  long_properties : length model ≤ 16777216 → 16777216 < length second → IsFaultOfFiles file properties model second properties second too_long
+  of_model : (f : Fault) → length model ≤ 16777216 → length second ≤ 16777216 → IsPrismFault model f → IsFaultOfFiles file properties model second file model f
+  of_properties : (f : Fault) → length model ≤ 16777216 → length second ≤ 16777216 → IsPropertiesFault model second f → IsFaultOfFiles file properties model second properties second f
 
 pub record IsTranslatedAsTold (file properties model second was said : List ℕ) (out err : Option (List ℕ)) (answer : ℕ) : Type 0 where
   pub exactly : (answer ≡ 0) ↔ AreAccepted model second
   pub accepted : answer ≡ 0 → (text : List ℕ) × TranslatesWith model second text × (out ≡ Some (was ++ text)) × (err ≡ Some said)
   pub refused : (AreAccepted model second → ⊥) → (answer ≡ 2) × (out ≡ Some was)
-      × ((name : List ℕ) × (bytes : List ℕ) × (f : Fault) × IsTold file properties model second name bytes f × (err ≡ Some (said ++ fault_line name bytes f)))
+      × ((name : List ℕ) × (bytes : List ℕ) × (f : Fault) × IsFaultOfFiles file properties model second name bytes f × (err ≡ Some (said ++ fault_line name bytes f)))

@@ -1,5 +1,6 @@
 pub mod Checking
 pub mod Headline
+pub mod OneEnding
 pub mod Outcome
 pub mod Run
 pub mod Reading

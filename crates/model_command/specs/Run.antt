@@ -24,8 +24,39 @@ use Rattle.model_command.specs.Outcome.{status_of, line_of, text_of, place_in}
 use Rattle.model_command.specs.declared.outcome.Outcome.{Outcome}
 use Rattle.model_command.specs.declared.outcome.Outcome.TheVariants.{Done, Ended, Refused, Words, ReadFault, NoMemory}
 
+-- ---- what is seen of the shelf and of a sink, before a run and after it
+-- What is left under each name, and how often a read has failed; and of which names no read fails.
+pub record ShelfSides : Type 1 where
+  pub left : Option Lefts
+  pub left_after : Option Lefts
+  pub faults : ℕ
+  pub faults_after : ℕ
+  pub steady : List ℕ → Type 0
+
+-- what was taken, and how often a write has failed
+pub record SinkSides : Type 0 where
+  pub taken : Option (List ℕ)
+  pub taken_after : Option (List ℕ)
+  pub faults : ℕ
+  pub faults_after : ℕ
+
+-- of a shelf that was old and is new, by what is seen of each
+abbrev pub shelf_sides : {S : Type 0} → (S → Option Lefts) → (S → ℕ) → (S → List ℕ → Type 0) → S → S → ShelfSides
+shelf_sides left faults steady old new = record {
+  left = left old;
+  left_after = left new;
+  faults = faults old;
+  faults_after = faults new;
+  steady = steady old;
+}
+
+-- the same of a sink
+abbrev pub sink_sides : {S : Type 0} → (S → Option (List ℕ)) → (S → ℕ) → S → S → SinkSides
+sink_sides taken faults old new = record { taken = taken old; taken_after = taken new; faults = faults old; faults_after = faults new }
+
+-- ---- what is read
 -- The whole file under the name was read: these bytes.
-pub record IsWhole (before after : Option Lefts) (name bytes : List ℕ) : Type 0 where
+pub record IsReadWhole (before after : Option Lefts) (name bytes : List ℕ) : Type 0 where
   pub takes : Takes before after name bytes
   pub spent : IsSpent after name
   pub within : length bytes ≤ 16777216
@@ -37,7 +68,7 @@ names_of names = map (λ s. s.now) names
 -- The whole files under the names were read one after another: these contents.
 abbrev pub AreWhole : Option Lefts → Option Lefts → List (List ℕ) → List (List ℕ) → Type 0
 AreWhole before after [] [] = after ≡ before
-AreWhole before after (name ∷ names) (bytes ∷ contents) = (mid : Option Lefts) × IsWhole before mid name bytes × AreWhole mid after names contents
+AreWhole before after (name ∷ names) (bytes ∷ contents) = (mid : Option Lefts) × IsReadWhole before mid name bytes × AreWhole mid after names contents
 AreWhole before after [] (bytes ∷ contents) = ⊥
 AreWhole before after (name ∷ names) [] = ⊥
 
@@ -49,6 +80,7 @@ pub record ComesTo (before mid : Option Lefts) (names : List (List ℕ)) (name :
   pub contents : List (List ℕ)
   pub read : AreWhole before mid front contents
 
+-- ---- how a request ends
 -- the position behind the words that ask for it
 abbrev pub IsNext : Request → ℕ → Type 0
 IsNext request next = next ≡ word_count request + 1
@@ -63,16 +95,16 @@ IsTaskEnd task bytes ReadFault = ⊥
 IsTaskEnd task bytes NoMemory = Unit {0}
 
 -- it is refused at a fault of these bytes
-abbrev pub IsRefusal : List ℕ → Fault → Reason → Place → Type 0
-IsRefusal bytes f reason place = (reason ≡ f.reason) × (place ≡ place_in bytes f.at)
+abbrev pub IsRefusedAt : List ℕ → Fault → Reason → Place → Type 0
+IsRefusedAt bytes f reason place = (reason ≡ f.reason) × (place ≡ place_in bytes f.at)
 
 -- how the translation of a model with its properties ends, on the bytes of both files: it is refused at the file of this name
 abbrev pub IsPairEnd : List ℕ → List ℕ → List ℕ → List ℕ → List ℕ → Outcome → Type 0
 IsPairEnd file properties model second name (Done text) = TranslatesWith model second text
 IsPairEnd file properties model second name (Ended e) = ⊥
 IsPairEnd file properties model second name (Refused reason place) =
-    ((name ≡ file) × ((f : Fault) × IsPrismFault model f × IsRefusal model f reason place))
-    ⊎ ((name ≡ properties) × ((f : Fault) × IsPropertiesFault model second f × IsRefusal second f reason place))
+    ((name ≡ file) × ((f : Fault) × IsPrismFault model f × IsRefusedAt model f reason place))
+    ⊎ ((name ≡ properties) × ((f : Fault) × IsPropertiesFault model second f × IsRefusedAt second f reason place))
 IsPairEnd file properties model second name (Words k) = ⊥
 IsPairEnd file properties model second name ReadFault = ⊥
 IsPairEnd file properties model second name NoMemory = Unit {0}
@@ -139,19 +171,19 @@ IsLongEnd request name before after reason place =
     (reason ≡ TooLong) × ((mid : Option Lefts) × ComesTo before mid (files_of request) name × IsTooLong mid after name 16777216 (TooLongAt place))
 
 -- its file of this name couldn't be read
-abbrev pub IsFaultEnd : {S : Type 0} → (S → Option Lefts) → (S → ℕ) → (S → List ℕ → Type 0) → Request → List ℕ → S → S → Type 0
-IsFaultEnd left faults steady request name old new =
-    ((mid : Option Lefts) × ComesTo (left old) mid (files_of request) name) × HasFailed (faults old) (faults new) × (steady old name → ⊥)
+abbrev pub IsFaultEnd : ShelfSides → Request → List ℕ → Type 0
+IsFaultEnd shelf request name =
+    ((mid : Option Lefts) × ComesTo shelf.left mid (files_of request) name) × HasFailed shelf.faults shelf.faults_after × (shelf.steady name → ⊥)
 
 -- why a request ends so, and at which of its files
-abbrev pub IsEnd : {S : Type 0} → (S → Option Lefts) → (S → ℕ) → (S → List ℕ → Type 0) → Request → List ℕ → S → S → Outcome → Type 0
-IsEnd left faults steady request name old new (Done text) = IsReadEnd request name (left old) (left new) (Done text)
-IsEnd left faults steady request name old new (Ended e) = IsReadEnd request name (left old) (left new) (Ended e)
-IsEnd left faults steady request name old new (Refused reason place) =
-    IsLongEnd request name (left old) (left new) reason place ⊎ IsReadEnd request name (left old) (left new) (Refused reason place)
-IsEnd left faults steady request name old new (Words k) = ⊥
-IsEnd left faults steady request name old new ReadFault = IsFaultEnd left faults steady request name old new
-IsEnd left faults steady request name old new NoMemory = Unit {0}
+abbrev pub IsEnd : ShelfSides → Request → List ℕ → Outcome → Type 0
+IsEnd shelf request name (Done text) = IsReadEnd request name shelf.left shelf.left_after (Done text)
+IsEnd shelf request name (Ended e) = IsReadEnd request name shelf.left shelf.left_after (Ended e)
+IsEnd shelf request name (Refused reason place) =
+    IsLongEnd request name shelf.left shelf.left_after reason place ⊎ IsReadEnd request name shelf.left shelf.left_after (Refused reason place)
+IsEnd shelf request name (Words k) = ⊥
+IsEnd shelf request name ReadFault = IsFaultEnd shelf request name
+IsEnd shelf request name NoMemory = Unit {0}
 
 -- the words are of no form; want of memory may come at any time
 abbrev pub IsByWords : List (List ℕ) → Outcome → Type 0
@@ -163,34 +195,32 @@ IsByWords words ReadFault = ⊥
 IsByWords words NoMemory = Unit {0}
 
 -- why a run of these words ends so, and at which file: the words are of no form, or ask for something that ends so
-abbrev pub IsCause : {S : Type 0} → (S → Option Lefts) → (S → ℕ) → (S → List ℕ → Type 0) → List (List ℕ) → List ℕ → S → S → Outcome → Type 0
-IsCause left faults steady words name old new o =
-    IsByWords words o ⊎ ((request : Request) × IsRequest words request × IsEnd left faults steady request name old new o)
+abbrev pub IsCause : ShelfSides → List (List ℕ) → List ℕ → Outcome → Type 0
+IsCause shelf words name o = IsByWords words o ⊎ ((request : Request) × IsRequest words request × IsEnd shelf request name o)
+
+-- ---- what is then written
 
 abbrev pub write_fault_line : List ℕ
 write_fault_line = codes "bridge: write fault\n"
 
 -- The texts were written whole, and the status is this one; or a write failed, and the status is 5.
-abbrev pub IsDelivered : {K E : Type 0} → (K → Option (List ℕ)) → (K → ℕ) → (E → Option (List ℕ)) → (E → ℕ) → K → K → E → E → List ℕ → List ℕ → ℕ → ℕ → Type 0
-IsDelivered taken faults said failures out out' err err' text line status answer =
-    ((answer ≡ status) × Appends (taken out) (taken out') text × Appends (said err) (said err') line)
-    ⊎ ((answer ≡ 5) × HasFailed (faults out) (faults out') × AppendsFront (taken out) (taken out') text × AppendsFront (said err) (said err') write_fault_line)
-    ⊎ ((answer ≡ 5) × HasFailed (failures err) (failures err') × Appends (taken out) (taken out') text × AppendsFront (said err) (said err') line)
+abbrev pub IsDelivered : SinkSides → SinkSides → List ℕ → List ℕ → ℕ → ℕ → Type 0
+IsDelivered out err text line status answer =
+    ((answer ≡ status) × Appends out.taken out.taken_after text × Appends err.taken err.taken_after line)
+    ⊎ ((answer ≡ 5) × HasFailed out.faults out.faults_after × AppendsFront out.taken out.taken_after text × AppendsFront err.taken err.taken_after write_fault_line)
+    ⊎ ((answer ≡ 5) × HasFailed err.faults err.faults_after × Appends out.taken out.taken_after text × AppendsFront err.taken err.taken_after line)
 
 -- the same, with the texts and the status of an outcome
-abbrev pub EndsWith : {K E : Type 0} → (K → Option (List ℕ)) → (K → ℕ) → (E → Option (List ℕ)) → (E → ℕ) → K → K → E → E → List ℕ → Outcome → ℕ → Type 0
-EndsWith taken faults said failures out out' err err' name outcome answer =
-    IsDelivered taken faults said failures out out' err err' (text_of outcome) (line_of name outcome) (status_of outcome) answer
+abbrev pub EndsWith : SinkSides → SinkSides → List ℕ → Outcome → ℕ → Type 0
+EndsWith out err name outcome answer = IsDelivered out err (text_of outcome) (line_of name outcome) (status_of outcome) answer
 
 -- the same, or with the texts and the status of want of memory
-abbrev pub IsTold : {K E : Type 0} → (K → Option (List ℕ)) → (K → ℕ) → (E → Option (List ℕ)) → (E → ℕ) → K → K → E → E → List ℕ → Outcome → ℕ → Type 0
-IsTold taken faults said failures out out' err err' name outcome answer =
-    EndsWith taken faults said failures out out' err err' name outcome answer
-    ⊎ EndsWith taken faults said failures out out' err err' name NoMemory answer
+abbrev pub EndsWithOrNoMemory : SinkSides → SinkSides → List ℕ → Outcome → ℕ → Type 0
+EndsWithOrNoMemory out err name outcome answer = EndsWith out err name outcome answer ⊎ EndsWith out err name NoMemory answer
 
 -- ---- statuses by themselves
 -- a request ended so on the whole contents of its files, at the one of this name, and its texts were written
-abbrev pub IsCarriedOut : {K E : Type 0} → (K → Option (List ℕ)) → (E → Option (List ℕ)) → Option Lefts → Option Lefts → K → K → E → E → List (List ℕ) → Outcome → Type 0
-IsCarriedOut taken said before after out out' err err' words o =
-    (request : Request) × (contents : List (List ℕ)) × (name : List ℕ) × IsRequest words request × AreWhole before after (files_of request) contents × IsEndOn request contents name o
-    × Appends (taken out) (taken out') (text_of o) × Appends (said err) (said err') (line_of name o)
+abbrev pub IsCarriedOut : ShelfSides → SinkSides → SinkSides → List (List ℕ) → Outcome → Type 0
+IsCarriedOut shelf out err words o =
+    (request : Request) × (contents : List (List ℕ)) × (name : List ℕ) × IsRequest words request × AreWhole shelf.left shelf.left_after (files_of request) contents
+    × IsEndOn request contents name o × Appends out.taken out.taken_after (text_of o) × Appends err.taken err.taken_after (line_of name o)

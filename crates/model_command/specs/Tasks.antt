@@ -11,12 +11,12 @@ use Rattle.model_files.specs.JaniFile.{HasNoJaniFault, IsJaniFault}
 use Rattle.model_command.specs.Checking.{Checks, ChecksJani}
 use Rattle.model_translation.specs.Translation.{Translates}
 use Rattle.model_translation.specs.JaniProperties.{HasProperties, TranslatesProperties, IsPropertiesRefused}
-use Rattle.model_command.specs.ToPrism.{HasTranslation, TranslatesBack, IsRefusedBack}
+use Rattle.model_command.specs.ToPrism.{HasTranslation, TranslatesToPrism, IsPrismRefused}
 
 -- the text is what the task makes of the bytes
 abbrev pub Makes : Task → List ℕ → List ℕ → Type 0
 Makes ToJani bytes text = Translates bytes text
-Makes ToPrism bytes text = TranslatesBack bytes text
+Makes ToPrism bytes text = TranslatesToPrism bytes text
 Makes ToPrismProps bytes text = TranslatesProperties bytes text
 Makes CheckPrism bytes text = Checks bytes text
 Makes CheckJani bytes text = ChecksJani bytes text
@@ -32,7 +32,7 @@ IsFit CheckJani bytes = HasNoJaniFault bytes
 -- the least fault of all others
 abbrev pub IsLeastFor : Task → List ℕ → Fault → Type 0
 IsLeastFor ToJani bytes f = IsPrismFault bytes f
-IsLeastFor ToPrism bytes f = IsRefusedBack bytes f
+IsLeastFor ToPrism bytes f = IsPrismRefused bytes f
 IsLeastFor ToPrismProps bytes f = IsPropertiesRefused bytes f
 IsLeastFor CheckPrism bytes f = IsPrismFault bytes f
 IsLeastFor CheckJani bytes f = IsJaniFault bytes f

@@ -7,14 +7,14 @@ ghost use Rattle.model_command.specs.Outcome.{halted, status_of, word_line};
 ghost use Rattle.model_process.specs.Walks.{EndsOnBytes, WalksOn};
 ghost use Rattle.model_process.specs.declared.ending.Ending.TheVariants as Ending;
 ghost use Rattle.model_process.specs.Claims.{EndsOnFiles, JudgesOn};
-ghost use Rattle.model_command.specs.Run.{AreWhole, ComesTo, IsCause, IsClaimEnd, IsEnd, IsEndOn, IsNext, IsDelivered, IsTaskEnd, IsTold, IsWalkEnd, IsWhole, EndsWith, IsCarriedOut, names_of, pair_name, pair_outcome};
+ghost use Rattle.model_command.specs.Run.{AreWhole, ComesTo, IsCause, IsClaimEnd, IsEnd, IsEndOn, IsNext, IsDelivered, IsTaskEnd, IsWalkEnd, IsReadWhole, EndsWith, EndsWithOrNoMemory, IsCarriedOut, names_of, pair_name, pair_outcome, shelf_sides, sink_sides};
 ghost use Rattle.model_command.specs.Tasks.{Makes, IsFit, Judged};
 ghost use Rattle.model_command.specs.Headline.{AreHeld, IsHeadline, IsEndedAsTold, IsShownAsTold, IsTranslatedAsTold};
 
 use crate::checking::{count_jani, count_prism};
 use crate::outcome::{Outcome, refusal};
 use crate::reading::read_files;
-use crate::to_prism::translate_back;
+use crate::to_prism::translate_to_prism;
 use bridge_io::{List, ReadFail, Reason, Refused, Shelf, Sink, write_whole};
 use command_words::{Checking, Request, Task, WordsFail, request_in, words_law};
 use model_process::{ClaimRefused, Ending, judge_claim, show_or_walk};
@@ -67,15 +67,16 @@ pub fn run<H: Shelf, K: Sink, E: Sink>(
 ) -> u8
     // What was written are the texts of an outcome that has its cause, unless a write failed.
     ensures outcome { (name : List ℕ) × (outcome : _)
-        × IsCause H.left H.faults H.steady (texts words.now) name shelf.old shelf.new outcome
-        × EndsWith K.taken K.faults E.taken E.faults out.old out.new err.old err.new name outcome result }
+        × IsCause (shelf_sides H.left H.faults H.steady shelf.old shelf.new) (texts words.now) name outcome
+        × EndsWith (sink_sides K.taken K.faults out.old out.new) (sink_sides E.taken E.faults err.old err.new) name outcome result }
 
     // Each status by itself.
     ensures written { (result ≡ 0) ⊎ (result ≡ 1) ⊎ (result ≡ 7) ⊎ (result ≡ 8) → (outcome : _) × (result ≡ status_of outcome)
-        × IsCarriedOut K.taken E.taken (H.left shelf.old) (H.left shelf.new) out.old out.new err.old err.new (texts words.now) outcome }
+        × IsCarriedOut (shelf_sides H.left H.faults H.steady shelf.old shelf.new) (sink_sides K.taken K.faults out.old out.new)
+        (sink_sides E.taken E.faults err.old err.new) (texts words.now) outcome }
     ensures words { result ≡ 3 → (k : ℕ) × Appends (K.taken out.old) (K.taken out.new) [] × Appends (E.taken err.old) (E.taken err.new) (word_line k)
         × (IsWrongAt (texts words.now) k ⊎ ((w : _) × (bytes : List ℕ) × IsRequest (texts words.now) (walk w)
-        × IsWhole (H.left shelf.old) (H.left shelf.new) w.file bytes × EndsOnBytes w.lang w bytes (Ending.Word k))
+        × IsReadWhole (H.left shelf.old) (H.left shelf.new) w.file bytes × EndsOnBytes w.lang w bytes (Ending.Word k))
         ⊎ ((c : _) × (contents : List (List ℕ)) × IsRequest (texts words.now) (check c)
         × AreWhole (H.left shelf.old) (H.left shelf.new) (files_of (check c)) contents × EndsOnFiles c contents (Ending.Word k))) }
     ensures read_fault { result ≡ 4 → (request : _) × (name : List ℕ) × (mid : _) × IsRequest (texts words.now) request
@@ -112,14 +113,14 @@ pub fn run<H: Shelf, K: Sink, E: Sink>(
         → IsTranslatedAsTold file properties model second was said (K.taken out.new) (E.taken err.new) result }
 
     // Likewise where the words ask for a state or a walk: what is answered and written is the end that the file, the constants
-    // and the process that the file describes under these make of it, and no other.
+    // and the process that the file describes under these make of it, and no other (`one_ending`).
     ensures shown { (left : Lefts) (w : _) (bytes was said : List ℕ) → H.left shelf.old ≡ Some left → left w.file ≡ Some bytes
         → K.taken out.old ≡ Some was → E.taken err.old ≡ Some said → IsRequest (texts words.now) (walk w)
         → (result ≡ 4 → ⊥) → (result ≡ 5 → ⊥) → (result ≡ 6 → ⊥)
         → IsShownAsTold w bytes was said (K.taken out.new) (E.taken err.new) result }
 
     // Likewise where the words ask for a claim to be judged: it is the end that the contents of all files, the constants and the
-    // process make of it, and no other.
+    // process make of it, and no other (`one_ending`).
     ensures judged { (left : Lefts) (c : _) (contents : List (List ℕ)) (was said : List ℕ) → H.left shelf.old ≡ Some left
         → AreHeld left (files_of (check c)) contents
         → K.taken out.old ≡ Some was → E.taken err.old ≡ Some said → IsRequest (texts words.now) (check c)
@@ -140,8 +141,8 @@ fn answer<H: Shelf, K: Sink, E: Sink>(
     err: &mut E,
 ) -> u8
     ensures { (name : List ℕ) × (outcome : _)
-        × IsCause H.left H.faults H.steady (texts words.now) name shelf.old shelf.new outcome
-        × EndsWith K.taken K.faults E.taken E.faults out.old out.new err.old err.new name outcome result }
+        × IsCause (shelf_sides H.left H.faults H.steady shelf.old shelf.new) (texts words.now) name outcome
+        × EndsWith (sink_sides K.taken K.faults out.old out.new) (sink_sides E.taken E.faults err.old err.new) name outcome result }
 {
     words_law();
     match request_in(alloc, words) {
@@ -162,8 +163,8 @@ fn carry_out<H: Shelf, K: Sink, E: Sink>(
 ) -> u8
     requires { IsNext (request_of request.now) next }
     ensures { (name : List ℕ) × (outcome : _)
-        × IsEnd H.left H.faults H.steady (request_of request.now) name shelf.old shelf.new outcome
-        × EndsWith K.taken K.faults E.taken E.faults out.old out.new err.old err.new name outcome result }
+        × IsEnd (shelf_sides H.left H.faults H.steady shelf.old shelf.new) (request_of request.now) name outcome
+        × EndsWith (sink_sides K.taken K.faults out.old out.new) (sink_sides E.taken E.faults err.old err.new) name outcome result }
 {
     let Ok(names) = request.files(alloc) else {
         return tell(alloc, "", &Outcome::NoMemory, out, err);
@@ -189,7 +190,7 @@ fn judge<'a, H: Shelf>(
 ) -> End<'a>
     requires next { IsNext (request_of request.now) next }
     requires names { names_of names.now ≡ files_of (request_of request.now) }
-    ensures { IsEnd H.left H.faults H.steady (request_of request.now) result.name.now shelf.old shelf.new result.outcome }
+    ensures { IsEnd (shelf_sides H.left H.faults H.steady shelf.old shelf.new) (request_of request.now) result.name.now result.outcome }
 {
     match read_files(alloc, shelf, names) {
         Ok(files) => end_on(alloc, next, request, names, files.as_slice()),
@@ -352,7 +353,7 @@ fn perform(alloc: Global, task: Task, bytes: &[u8]) -> Result<List<u8>, Refused>
 {
     match task {
         Task::ToJani => translate(alloc, bytes),
-        Task::ToPrism => translate_back(alloc, bytes),
+        Task::ToPrism => translate_to_prism(alloc, bytes),
         Task::ToPrismProps => translate_properties(alloc, bytes),
         Task::CheckPrism => count_prism(alloc, bytes),
         Task::CheckJani => count_jani(alloc, bytes),
@@ -367,7 +368,7 @@ fn tell<K: Sink, E: Sink>(
     out: &mut K,
     err: &mut E,
 ) -> u8
-    ensures { IsTold K.taken K.faults E.taken E.faults out.old out.new err.old err.new name.now outcome.now result }
+    ensures { EndsWithOrNoMemory (sink_sides K.taken K.faults out.old out.new) (sink_sides E.taken E.faults err.old err.new) name.now outcome.now result }
 {
     match outcome.line(alloc, name) {
         Ok(line) => deliver(out, err, outcome.text(), line.as_slice(), outcome.status()),
@@ -377,7 +378,7 @@ fn tell<K: Sink, E: Sink>(
 
 // Writes the texts, and answers the status, or that of a failed write.
 fn deliver<K: Sink, E: Sink>(out: &mut K, err: &mut E, text: &[u8], line: &[u8], status: u8) -> u8
-    ensures { IsDelivered K.taken K.faults E.taken E.faults out.old out.new err.old err.new text.now line.now status result }
+    ensures { IsDelivered (sink_sides K.taken K.faults out.old out.new) (sink_sides E.taken E.faults err.old err.new) text.now line.now status result }
 {
     if write_whole(out, text).is_err() {
         let _ = write_whole(err, b"bridge: write fault\n");

@@ -6,9 +6,11 @@
 
 mod checking;
 mod command;
+mod laws;
 mod outcome;
 mod reading;
 mod to_prism;
 
 pub use command::run;
+pub use laws::one_ending;
 pub use outcome::Outcome;

@@ -1,6 +1,6 @@
 //! Files read whole, one after another.
 ghost use Rattle.std.specs.Prelude.{IfErr, IfOk};
-ghost use Rattle.model_command.specs.Run.{AreWhole, names_of};
+ghost use Rattle.model_command.specs.Run.{AreWhole, names_of, shelf_sides};
 ghost use Rattle.model_command.specs.Reading.{IsHalt};
 
 use bridge_io::{List, ReadFail, Shelf, read_all};
@@ -24,7 +24,7 @@ pub(crate) fn read_files<'a, H: Shelf>(
     names: &[&'a str],
 ) -> Result<List<List<u8>>, Halt<'a>>
     ensures whole { IfOk result (λ files. AreWhole (H.left shelf.old) (H.left shelf.new) (names_of names.now) files) }
-    ensures halts { IfErr result (λ h. IsHalt H.left H.faults H.steady (names_of names.now) shelf.old shelf.new h) }
+    ensures halts { IfErr result (λ h. IsHalt (shelf_sides H.left H.faults H.steady shelf.old shelf.new) (names_of names.now) h) }
 {
     let mut files = List::new(alloc);
     for name in names {

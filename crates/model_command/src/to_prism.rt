@@ -8,7 +8,7 @@ ghost use Rattle.jani_tree.specs.Faults.{FailsFor};
 ghost use Rattle.jani_to_prism.specs.Refused.{refused};
 ghost use Rattle.command_words.specs.declared.request.Task.TheVariants.{ToPrism};
 ghost use Rattle.model_command.specs.Tasks.{Judged};
-ghost use Rattle.model_command.specs.ToPrism.{IsWrittenBack};
+ghost use Rattle.model_command.specs.ToPrism.{IsPrismText};
 
 use bridge_io::{List, Refused, Text};
 use jani_check::CheckedJani;
@@ -20,7 +20,7 @@ use std::alloc::{AllocError, Global};
 
 /// The text of the PRISM file that the JANI file of these bytes is translated to, or the least fault of the bytes, or of the
 /// translation.
-pub(crate) fn translate_back(alloc: Global, bytes: &[u8]) -> Result<List<u8>, Refused>
+pub(crate) fn translate_to_prism(alloc: Global, bytes: &[u8]) -> Result<List<u8>, Refused>
     ensures { Judged ToPrism bytes.now result }
 {
     match read_jani(alloc, bytes) {
@@ -31,7 +31,7 @@ pub(crate) fn translate_back(alloc: Global, bytes: &[u8]) -> Result<List<u8>, Re
 
 /// The text for a judged file, which is let go once it is translated, or the least fault of its translation.
 fn written(alloc: Global, checked: CheckedJani) -> Result<List<u8>, Refused>
-    ensures ok { IfOk result (λ text. (refused (file_of checked) ≡ []) × ((model : prism.File) × IsWrittenBack (file_of checked) text model)) }
+    ensures ok { IfOk result (λ text. (refused (file_of checked) ≡ []) × ((model : prism.File) × IsPrismText (file_of checked) text model)) }
     ensures refused { IfErr result (FailsFor (refused (file_of checked))) }
 {
     translated_law();

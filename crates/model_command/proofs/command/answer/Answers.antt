@@ -3,6 +3,7 @@ use Rattle.std.specs.Prelude.{string_bytes}
 use Rattle.std.proofs.lemmas.List.{length-map}
 use Rattle.command_words.specs.Words.{request_of, texts}
 use Rattle.model_command.specs.declared.outcome.Outcome.TheVariants.{NoMemory, Words}
+use Rattle.model_command.specs.Run.{shelf_sides, sink_sides}
 use Rattle.model_command.proofs.Causes.{answered, behind}
 use Rattle.model_command.proofs.command.answer.Goals as goal
 
@@ -16,10 +17,10 @@ returns-in-Ok g c =
 
 pub returns-in-Err-At : goal.returns-in-Err-At
 returns-in-Err-At g c =
-    answered g.H.Shelf.left g.H.Shelf.faults g.H.Shelf.steady _ _ _ g.K.Sink.taken g.K.Sink.faults g.E.Sink.taken g.E.Sink.faults _ _ _ _ c.tell.result
+    answered (shelf_sides g.H.Shelf.left g.H.Shelf.faults g.H.Shelf.steady c.args.shelf.now c.args.shelf.now) _ (sink_sides g.K.Sink.taken g.K.Sink.faults c.args.out.now c.tell.new.out) (sink_sides g.E.Sink.taken g.E.Sink.faults c.args.err.now c.tell.new.err) c.tell.result
     [] (Words c.in-Err-At.k) (inl (rw c.in-Err-At.field-0-is at c.in-Err-At.ensures)) c.tell.ensures
 
 pub returns-in-Err-Memory : goal.returns-in-Err-Memory
 returns-in-Err-Memory g c =
-    answered g.H.Shelf.left g.H.Shelf.faults g.H.Shelf.steady _ _ _ g.K.Sink.taken g.K.Sink.faults g.E.Sink.taken g.E.Sink.faults _ _ _ _ c.tell-in-Err-Memory.result
+    answered (shelf_sides g.H.Shelf.left g.H.Shelf.faults g.H.Shelf.steady c.args.shelf.now c.args.shelf.now) _ (sink_sides g.K.Sink.taken g.K.Sink.faults c.args.out.now c.tell-in-Err-Memory.new.out) (sink_sides g.E.Sink.taken g.E.Sink.faults c.args.err.now c.tell-in-Err-Memory.new.err) c.tell-in-Err-Memory.result
     [] NoMemory (inl tt) c.tell-in-Err-Memory.ensures

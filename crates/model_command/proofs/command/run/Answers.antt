@@ -1,6 +1,7 @@
 use Rattle.std.proofs.Common.{rules, ◌≡◌, ◌⊎◌, ◌∷◌, []}
 use Rattle.command_words.specs.Words.{with_properties, check}
 use Rattle.model_command.specs.Outcome.{status_of}
+use Rattle.model_command.specs.Run.{shelf_sides, sink_sides}
 use Rattle.model_command.proofs.Causes.{written, of_words, of_read}
 use Rattle.model_command.proofs.Exact.{exact_words}
 use Rattle.model_command.proofs.Fit.{exact_fit}
@@ -11,50 +12,50 @@ use Rattle.model_command.proofs.command.run.Goals as goal
 
 pub returns-clause-written : goal.returns-clause-written
 returns-clause-written g c =
-    written g.H.Shelf.left g.H.Shelf.faults g.H.Shelf.steady _ _ _ g.K.Sink.taken g.K.Sink.faults g.E.Sink.taken g.E.Sink.faults
-    _ _ _ _ c.answer.result c.answer.ensures.0 c.answer.ensures.1 c.answer.ensures.2 c.answer.ensures.3
+    written (shelf_sides g.H.Shelf.left g.H.Shelf.faults g.H.Shelf.steady c.args.shelf.now c.answer.new.shelf) _ (sink_sides g.K.Sink.taken g.K.Sink.faults c.args.out.now c.answer.new.out) (sink_sides g.E.Sink.taken g.E.Sink.faults c.args.err.now c.answer.new.err)
+    c.answer.result c.answer.ensures.0 c.answer.ensures.1 c.answer.ensures.2 c.answer.ensures.3
 
 pub returns-clause-words : goal.returns-clause-words
 returns-clause-words g c =
-    of_words g.H.Shelf.left g.H.Shelf.faults g.H.Shelf.steady _ _ _ g.K.Sink.taken g.K.Sink.faults g.E.Sink.taken g.E.Sink.faults
-    _ _ _ _ c.answer.result c.answer.ensures.0 c.answer.ensures.1 c.answer.ensures.2 c.answer.ensures.3
+    of_words (shelf_sides g.H.Shelf.left g.H.Shelf.faults g.H.Shelf.steady c.args.shelf.now c.answer.new.shelf) _ (sink_sides g.K.Sink.taken g.K.Sink.faults c.args.out.now c.answer.new.out) (sink_sides g.E.Sink.taken g.E.Sink.faults c.args.err.now c.answer.new.err)
+    c.answer.result c.answer.ensures.0 c.answer.ensures.1 c.answer.ensures.2 c.answer.ensures.3
 
 pub returns-clause-read_fault : goal.returns-clause-read_fault
 returns-clause-read_fault g c =
-    of_read g.H.Shelf.left g.H.Shelf.faults g.H.Shelf.steady _ _ _ g.K.Sink.taken g.K.Sink.faults g.E.Sink.taken g.E.Sink.faults
-    _ _ _ _ c.answer.result c.answer.ensures.0 c.answer.ensures.1 c.answer.ensures.2 c.answer.ensures.3
+    of_read (shelf_sides g.H.Shelf.left g.H.Shelf.faults g.H.Shelf.steady c.args.shelf.now c.answer.new.shelf) _ (sink_sides g.K.Sink.taken g.K.Sink.faults c.args.out.now c.answer.new.out) (sink_sides g.E.Sink.taken g.E.Sink.faults c.args.err.now c.answer.new.err)
+    c.answer.result c.answer.ensures.0 c.answer.ensures.1 c.answer.ensures.2 c.answer.ensures.3
 
 pub returns-clause-words_exactly : goal.returns-clause-words_exactly
 returns-clause-words_exactly g c =
     let status : (c.answer.result ≡ status_of c.answer.ensures.1) ⊎ (c.answer.result ≡ 5) = search rules in
-    exact_words g.H.Shelf.left g.H.Shelf.faults g.H.Shelf.steady _ c.answer.ensures.0 _ _ c.answer.result c.answer.ensures.1 c.answer.ensures.2 status
+    exact_words (shelf_sides g.H.Shelf.left g.H.Shelf.faults g.H.Shelf.steady c.args.shelf.now c.answer.new.shelf) _ c.answer.ensures.0 c.answer.result c.answer.ensures.1 c.answer.ensures.2 status
 
 pub returns-clause-accepted : goal.returns-clause-accepted
 returns-clause-accepted g c = λ lefts task name bytes told had form fit within.
     let status : (c.answer.result ≡ status_of c.answer.ensures.1) ⊎ (c.answer.result ≡ 5) = search rules in
-    exact_fit g.H.Shelf.left g.H.Shelf.faults g.H.Shelf.steady _ c.answer.ensures.0 _ _ c.answer.result c.words_law.ensures.one lefts task name bytes told had form fit within c.answer.ensures.1 c.answer.ensures.2 status
+    exact_fit (shelf_sides g.H.Shelf.left g.H.Shelf.faults g.H.Shelf.steady c.args.shelf.now c.answer.new.shelf) _ c.answer.ensures.0 c.answer.result c.words_law.ensures.one lefts task name bytes told had form fit within c.answer.ensures.1 c.answer.ensures.2 status
 
 pub returns-clause-headline : goal.returns-clause-headline
 returns-clause-headline g c = λ left task name bytes was said told had held heard form no_read no_write no_memory.
-    let e = written_whole g.K.Sink.taken g.K.Sink.faults g.E.Sink.taken g.E.Sink.faults _ _ _ _ c.answer.result was said held heard no_write c.answer.ensures.0 c.answer.ensures.1 c.answer.ensures.3 in
-    headline_of g.H.Shelf.left g.H.Shelf.faults g.H.Shelf.steady _ c.answer.ensures.0 _ _ c.words_law.ensures.one left told bytes was said _ _ c.answer.result no_read no_memory
+    let e = written_whole (sink_sides g.K.Sink.taken g.K.Sink.faults c.args.out.now c.answer.new.out) (sink_sides g.E.Sink.taken g.E.Sink.faults c.args.err.now c.answer.new.err) c.answer.result was said held heard no_write c.answer.ensures.0 c.answer.ensures.1 c.answer.ensures.3 in
+    headline_of (shelf_sides g.H.Shelf.left g.H.Shelf.faults g.H.Shelf.steady c.args.shelf.now c.answer.new.shelf) _ c.answer.ensures.0 c.words_law.ensures.one left told bytes was said _ _ c.answer.result no_read no_memory
     task name had form c.answer.ensures.1 c.answer.ensures.2 e.0 e.1 e.2
 
 pub returns-clause-shown : goal.returns-clause-shown
 returns-clause-shown g c = λ left w bytes was said told had held heard form no_read no_write no_memory.
-    let e = written_whole g.K.Sink.taken g.K.Sink.faults g.E.Sink.taken g.E.Sink.faults _ _ _ _ c.answer.result was said held heard no_write c.answer.ensures.0 c.answer.ensures.1 c.answer.ensures.3 in
-    shown_of g.H.Shelf.left g.H.Shelf.faults g.H.Shelf.steady _ c.answer.ensures.0 _ _ c.words_law.ensures.one left told bytes was said _ _ c.answer.result no_read no_memory
+    let e = written_whole (sink_sides g.K.Sink.taken g.K.Sink.faults c.args.out.now c.answer.new.out) (sink_sides g.E.Sink.taken g.E.Sink.faults c.args.err.now c.answer.new.err) c.answer.result was said held heard no_write c.answer.ensures.0 c.answer.ensures.1 c.answer.ensures.3 in
+    shown_of (shelf_sides g.H.Shelf.left g.H.Shelf.faults g.H.Shelf.steady c.args.shelf.now c.answer.new.shelf) _ c.answer.ensures.0 c.words_law.ensures.one left told bytes was said _ _ c.answer.result no_read no_memory
     w had form c.answer.ensures.1 c.answer.ensures.2 e.0 e.1 e.2
 
 pub returns-clause-judged : goal.returns-clause-judged
 returns-clause-judged g c = λ left k contents was said told held kept heard form no_read no_write no_memory.
-    let e = written_whole g.K.Sink.taken g.K.Sink.faults g.E.Sink.taken g.E.Sink.faults _ _ _ _ c.answer.result was said kept heard no_write c.answer.ensures.0 c.answer.ensures.1 c.answer.ensures.3 in
-    ended_of g.H.Shelf.left g.H.Shelf.faults g.H.Shelf.steady _ c.answer.ensures.0 _ _ c.words_law.ensures.one left told contents was said _ _ c.answer.result no_read no_memory
+    let e = written_whole (sink_sides g.K.Sink.taken g.K.Sink.faults c.args.out.now c.answer.new.out) (sink_sides g.E.Sink.taken g.E.Sink.faults c.args.err.now c.answer.new.err) c.answer.result was said kept heard no_write c.answer.ensures.0 c.answer.ensures.1 c.answer.ensures.3 in
+    ended_of (shelf_sides g.H.Shelf.left g.H.Shelf.faults g.H.Shelf.steady c.args.shelf.now c.answer.new.shelf) _ c.answer.ensures.0 c.words_law.ensures.one left told contents was said _ _ c.answer.result no_read no_memory
     (check k) form.names held form c.answer.ensures.1 c.answer.ensures.2 e.0 e.1 e.2
 
 pub returns-clause-with_properties : goal.returns-clause-with_properties
 returns-clause-with_properties g c = λ left file properties model second was said told held held_second kept heard form no_read no_write no_memory.
-    let e = written_whole g.K.Sink.taken g.K.Sink.faults g.E.Sink.taken g.E.Sink.faults _ _ _ _ c.answer.result was said kept heard no_write c.answer.ensures.0 c.answer.ensures.1 c.answer.ensures.3 in
+    let e = written_whole (sink_sides g.K.Sink.taken g.K.Sink.faults c.args.out.now c.answer.new.out) (sink_sides g.E.Sink.taken g.E.Sink.faults c.args.err.now c.answer.new.err) c.answer.result was said kept heard no_write c.answer.ensures.0 c.answer.ensures.1 c.answer.ensures.3 in
     translated_of file properties model second was said _ _ c.answer.result c.one_list_of_faults.ensures no_memory
-    (ended_of g.H.Shelf.left g.H.Shelf.faults g.H.Shelf.steady _ c.answer.ensures.0 _ _ c.words_law.ensures.one left told (model ∷ second ∷ []) was said _ _ c.answer.result no_read no_memory
+    (ended_of (shelf_sides g.H.Shelf.left g.H.Shelf.faults g.H.Shelf.steady c.args.shelf.now c.answer.new.shelf) _ c.answer.ensures.0 c.words_law.ensures.one left told (model ∷ second ∷ []) was said _ _ c.answer.result no_read no_memory
     (with_properties file properties) form.names (held, (held_second, tt)) form c.answer.ensures.1 c.answer.ensures.2 e.0 e.1 e.2)

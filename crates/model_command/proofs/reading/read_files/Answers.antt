@@ -1,6 +1,6 @@
 use Rattle.std.proofs.Common.{arith, ◌+◌, ◌++◌, ◌∷◌, [], ap, sym, subst, take}
 use Rattle.std.specs.Prelude.{Err}
-use Rattle.model_command.specs.Run.{AreWhole, names_of}
+use Rattle.model_command.specs.Run.{AreWhole, names_of, shelf_sides}
 use Rattle.model_command.proofs.Several.{one_more_whole}
 use Rattle.model_command.proofs.Halts.{comes_at, halts_at, one_more_name}
 use Rattle.model_command.proofs.reading.read_files.Goals as goal
@@ -9,7 +9,8 @@ pub returns-in-Err-clause-halts : goal.returns-in-Err-clause-halts
 returns-in-Err-clause-halts g c = (
   g.H.Shelf.left c.loop-name.shelf,
   comes_at _ _ _ c.args.names.now c.loop-name.name-index c.loop-name.files c.loop-name-test.true c.loop-name.invariant.0,
-  halts_at g.H.Shelf.left g.H.Shelf.faults g.H.Shelf.steady c.args.shelf.now c.loop-name.shelf c.read_all.new.shelf _ c.loop-name.invariant.1 c.loop-name.invariant.2 c.in-Err.fail
+  halts_at (shelf_sides g.H.Shelf.left g.H.Shelf.faults g.H.Shelf.steady c.args.shelf.now c.read_all.new.shelf) (g.H.Shelf.left c.loop-name.shelf) (g.H.Shelf.faults c.loop-name.shelf)
+      (g.H.Shelf.steady c.loop-name.shelf) _ c.loop-name.invariant.1 c.loop-name.invariant.2 c.in-Err.fail
       c.in-Err.ensures.too_long (λ e. c.in-Err.ensures.fault (ap Err e)) (λ e. c.in-Err.ensures.not_steady (ap Err e)),
 )
 
