@@ -18,7 +18,7 @@ use Rattle.command_words.specs.Words.{Job, showing, along, seeded, of_path, word
 use Rattle.model_process.specs.declared.ending.Ending.{Ending}
 use Rattle.model_process.specs.declared.ending.Ending.TheVariants.{Done}
 use Rattle.model_process.specs.Models.{Describes}
-use Rattle.model_process.specs.Starts.{EndsUnstarted, unfit, wide, faulty, IsSound, process_for}
+use Rattle.model_process.specs.Starts.{EndsUnstarted, unfit, wide, faulty, IsStartable, process_for}
 use Rattle.model_process.specs.Walks.{IsReport, ending_of, unstarted as begun_not, shown}
 use Rattle.model_process.specs.Claims.{HasVerdict, unstarted, judged}
 use Rattle.model_process.specs.Verdicts.{verdict_ending}
@@ -31,7 +31,7 @@ not_done d n g text (unfit i a e) = cc
 not_done d n g text (wide a b e) = cc
 not_done d n g text (faulty a b m e) = cc
 
-not_unstarted : (d : Description) (n : ℕ) (g : List Assignment) (e : Ending) → IsSound d g → EndsUnstarted d n g e → ⊥
+not_unstarted : (d : Description) (n : ℕ) (g : List Assignment) (e : Ending) → IsStartable d g → EndsUnstarted d n g e → ⊥
 not_unstarted d n g e s (unfit i a f) = let z : ◌≡◌ {A = Option ℕ} (Some i) None = sym a ∙ s.fits in cc
 not_unstarted d n g e s (wide a b f) = let z : true ≡ false = sym b ∙ s.narrow in cc
 not_unstarted d n g e s (faulty a b m f) = m s.faultless

@@ -1,4 +1,4 @@
-// What is written of walks is accepted, and endings are one: functions that do nothing, whose contracts are the laws.
+// Laws of walks and of endings: functions that do nothing, whose contracts are the laws.
 
 ghost use Rattle.model_process.specs.Once.{ClaimEndOrFault, EndOrFault, OneClaimEnd, OneEnd, OneFileFault, OneModelFault};
 ghost use Rattle.model_process.specs.ReadBack.{WalksReadBack};

@@ -18,12 +18,12 @@ use Rattle.prop_check.specs.Laws.{OneListOfFaults}
 use Rattle.jani_props.specs.Faults.{name_faults, structures, type_faults}
 use Rattle.jani_props.specs.Reading.{IsFirst, of_names, of_shape, of_types}
 use Rattle.jani_props.proofs.Only.{one_written}
+use Rattle.prop_to_jani.specs.ReadBack.{with_properties}
 use Rattle.prop_to_jani.specs.ToJani.{to_jani_node}
 use Rattle.jani_translation.specs.Translated.{translated}
 use Rattle.prop_to_prism.specs.ToPrism.{reward_names, to_prism}
 use Rattle.model_files.proofs.Once.{faulty_or_jani, one_jani_fault, one_jani_tree, one_least, one_prism_tree}
 use Rattle.model_translation.specs.JaniProperties.{of_file, of_properties}
-use Rattle.model_translation.specs.WithProperties.{with_properties}
 use Rattle.model_translation.specs.Once.{OnePropertiesFault, OnePropertiesRefused, OnePropertiesText, OneTranslation, OneTranslationWith}
 use Rattle.model_translation.proofs.JaniTexts.{one_jani_text}
 

@@ -8,7 +8,7 @@ use Rattle.jani_tree.specs.Form.{KeysOnce, NormalNode}
 use Rattle.jani_tree.specs.Places.{bare_node}
 use Rattle.jani_check.specs.Faults.{IsChecked}
 use Rattle.jani_check.proofs.Profiled.{places_aside}
-use Rattle.prism_to_jani.specs.Promise.{IsTranslated}
+use Rattle.prism_to_jani.specs.Promise.{IsJaniOf}
 use Rattle.prop_trees.specs.Trees.{PrismProperty}
 use Rattle.prop_to_jani.specs.Laws as properties
 use Rattle.prop_to_jani.specs.ReadBack.{with_properties}
@@ -32,7 +32,7 @@ checked_with f v h normal once = record {
 }
 
 -- the text of the translated file with the value of the translated properties
-pub is_written_with : (c : Checked) (ps : List PrismProperty) (text : List ℕ) (model : jani.File) (value : Node) → IsTranslated c.file model → properties.IsTranslated c ps value →
+pub is_written_with : (c : Checked) (ps : List PrismProperty) (text : List ℕ) (model : jani.File) (value : Node) → IsJaniOf c.file model → properties.IsTranslated c ps value →
     IsText text (with_properties model value) → IsWrittenWith c ps text model value
 is_written_with c ps text model value m p t = record {
   written = t;
