@@ -7,6 +7,7 @@ pub mod Asked
 pub mod CopyParts
 pub mod Rounds
 pub mod LostNames
+pub mod KnownNames
 pub mod Measured
 pub mod PlaceOrder
 pub mod NamesJudged

@@ -6,6 +6,7 @@ pub mod TypeFaults
 pub mod Faults
 pub mod Tables
 pub mod Levels
+pub mod Known
 pub mod Checked
 pub mod Codes
 pub mod Clean

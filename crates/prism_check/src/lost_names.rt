@@ -5,6 +5,7 @@ ghost use Rattle.std.specs.List.{list_any};
 ghost use Rattle.std.specs.Option.{option_map};
 ghost use Rattle.op_trees.specs.Tree.{tree, written_out};
 ghost use Rattle.op_trees.specs.Names.{some_name};
+ghost use Rattle.prism_check.specs.Known.{loses_by};
 ghost use Rattle.prism_check.specs.Levels.{flag_in, level, lost_in, lost_to, used_in};
 ghost use Rattle.prism_check.specs.NameFaults.{some_used};
 ghost use Rattle.prism_check.specs.Tables.{body_in, body_under};
@@ -15,7 +16,7 @@ use crate::demands::Demand;
 use crate::tables::{Formulas, Renaming};
 use name_rules::{NameMap, NameSet};
 use op_trees::Expr;
-use prism_tree::{PrismExpr, PrismFormula};
+use prism_tree::{NamePair, PrismExpr, PrismFormula};
 use std::alloc::{AllocError, Global};
 
 /// What the names of a copy are looked up in.
@@ -39,6 +40,24 @@ impl<'a, 'b> Reading<'a, 'b> {
             Some(new) => self.is_lost_to(new),
             None => self.is_lost_to(name),
         }
+    }
+
+    /// Whether one of these pairs renames what is no formula's name to a formula's name, or to nothing known.
+    pub(crate) fn some_lost(&self, pairs: &[NamePair]) -> bool
+        ensures { result ≡ list_any (loses_by (body_under self.now.formulas.now) (has_name self.now.known.now)) pairs.now }
+    {
+        for pair in pairs {
+            if self.is_lost_by(pair) {
+                return true;
+            }
+        }
+        false
+    }
+
+    fn is_lost_by(&self, pair: &NamePair) -> bool
+        ensures { result ≡ loses_by (body_under self.now.formulas.now) (has_name self.now.known.now) pair.now }
+    {
+        !self.formulas.has(pair.old.name.as_str()) && self.is_lost_to(pair.new.name.as_str())
     }
 
     fn is_lost_to(&self, name: &str) -> bool

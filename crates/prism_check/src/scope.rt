@@ -1,15 +1,17 @@
 // Names that are not declared, of a whole file.
 
-ghost use Rattle.std.specs.Prelude.{◌≡◌, ◌++◌, map, length, not, is_some, IfOk};
+ghost use Rattle.std.specs.Prelude.{◌≡◌, ◌++◌, [], map, length, not, is_some, true, None, IfOk};
 ghost use Rattle.std.specs.List.{flat_map, list_any};
 ghost use Rattle.std.specs.Option.{option_map};
 ghost use Rattle.op_trees.specs.Tree.{written_out};
 ghost use Rattle.prism_tree.specs.Syntax.{copied, file_of, formula_of, module_of};
 ghost use Rattle.prism_flat.specs.Names.{part_of};
 ghost use Rattle.prism_check.specs.Demands.{command_demands, formula_demands, var_demands};
+ghost use Rattle.prism_check.specs.Known.{AreKnown, own_unknown};
 ghost use Rattle.prism_check.specs.Levels.{lost_in};
 ghost use Rattle.prism_check.specs.Views.{demand_by};
 ghost use Rattle.name_rules.specs.Least.{soonest};
+ghost use Rattle.name_rules.specs.Names.{has_name};
 ghost use Rattle.prism_check.specs.NameFaults.{loses_name, some_used, unknown_in, unknown_names};
 ghost use Rattle.prism_check.specs.Tables.{IsScope, body_in, commands_in, module_under, vars_in};
 
@@ -41,11 +43,71 @@ pub(crate) fn judge_unknown_names(
     requires { IsScope scope.now (file_of file.now) }
     ensures { IfOk result (λ best. best ≡ soonest before (unknown_names (file_of file.now))) }
 {
+    let clean = are_known(alloc, file, scope)?;
     let outer = outer_demands(alloc, file)?;
     let in_outer = judge_unknown(&scope.known, &outer, before);
     let bodies = body_demands(alloc, file.formulas.as_slice())?;
     let in_bodies = judge_unknown(&scope.known, &bodies, in_outer);
-    judge_modules(alloc, file, file.modules.as_slice(), scope, in_bodies)
+    judge_modules(
+        alloc,
+        file,
+        file.modules.as_slice(),
+        scope,
+        clean,
+        in_bodies,
+    )
+}
+
+// Whether each name in the bodies of formulas and in what modules contain is known. It is asked for copies alone.
+fn are_known(alloc: Global, file: &PrismFile, scope: &Scope) -> Result<bool, AllocError>
+    requires { IsScope scope.now (file_of file.now) }
+    ensures { IfOk result (λ b. b ≡ true → AreKnown (file_of file.now)) }
+{
+    if !has_copy(file.modules.as_slice()) {
+        return Ok(false);
+    }
+    let bodies = body_demands(alloc, file.formulas.as_slice())?;
+    if judge_unknown(&scope.known, &bodies, None).is_some() {
+        return Ok(false);
+    }
+    contents_known(alloc, file.modules.as_slice(), &scope.known)
+}
+
+fn has_copy(all: &[PrismModule]) -> bool {
+    for entry in all {
+        if matches!(entry, PrismModule::Copied(_)) {
+            return true;
+        }
+    }
+    false
+}
+
+// Whether each name in what these modules contain is known.
+fn contents_known(alloc: Global, all: &[PrismModule], known: &NameSet) -> Result<bool, AllocError>
+    ensures { IfOk result (λ b. b ≡ true → flat_map (own_unknown (has_name known.now)) (map module_of all.now) ≡ []) }
+{
+    for entry in all {
+        if own_unknown(alloc, entry, known)?.is_some() {
+            return Ok(false);
+        }
+    }
+    Ok(true)
+}
+
+fn own_unknown(
+    alloc: Global,
+    entry: &PrismModule,
+    known: &NameSet,
+) -> Result<Option<Fault>, AllocError>
+    ensures { IfOk result (λ best. best ≡ soonest None (own_unknown (has_name known.now) (module_of entry.now))) }
+{
+    match entry {
+        PrismModule::Plain(m) => {
+            let list = contents_demands(alloc, m.vars.as_slice(), m.commands.as_slice())?;
+            Ok(judge_unknown(known, &list, None))
+        }
+        PrismModule::Copied(_) => Ok(None),
+    }
 }
 
 /// The demands of the bodies of formulas.
@@ -65,14 +127,16 @@ fn judge_modules(
     file: &PrismFile,
     all: &[PrismModule],
     scope: &Scope,
+    clean: bool,
     before: Option<Fault>,
 ) -> Result<Option<Fault>, AllocError>
-    requires { IsScope scope.now (file_of file.now) }
+    requires scope { IsScope scope.now (file_of file.now) }
+    requires clean { clean ≡ true → AreKnown (file_of file.now) }
     ensures { IfOk result (λ best. best ≡ soonest before (flat_map (unknown_in (file_of file.now)) (map module_of all.now))) }
 {
     let mut best = before;
     for entry in all {
-        best = judge_module(alloc, file, entry, scope, best)?;
+        best = judge_module(alloc, file, entry, scope, clean, best)?;
     }
     Ok(best)
 }
@@ -82,9 +146,11 @@ fn judge_module(
     file: &PrismFile,
     entry: &PrismModule,
     scope: &Scope,
+    clean: bool,
     before: Option<Fault>,
 ) -> Result<Option<Fault>, AllocError>
-    requires { IsScope scope.now (file_of file.now) }
+    requires scope { IsScope scope.now (file_of file.now) }
+    requires clean { clean ≡ true → AreKnown (file_of file.now) }
     ensures { IfOk result (λ best. best ≡ soonest before (unknown_in (file_of file.now) (module_of entry.now))) }
 {
     match entry {
@@ -94,7 +160,7 @@ fn judge_module(
         }
         PrismModule::Copied(m) => {
             let first = sooner_if(modules_lack(scope, m), m.from.at, Reason::Unknown, before);
-            let loses = copy_loses_name(alloc, file, m, scope)?;
+            let loses = copy_loses_name(alloc, file, m, scope, clean)?;
             Ok(sooner_if(loses, m.name.at, Reason::Unknown, first))
         }
     }
@@ -107,14 +173,17 @@ fn modules_lack(scope: &Scope, m: &CopiedModule) -> bool
     scope.modules.called(m.from.name.as_str()).is_none()
 }
 
-// Whether some name of the copy is lost.
+// Whether some name of the copy is lost. Where all names of the file are known, only a pair can lose one, so that what is copied
+// is gone through only for such pairs.
 fn copy_loses_name(
     alloc: Global,
     file: &PrismFile,
     m: &CopiedModule,
     scope: &Scope,
+    clean: bool,
 ) -> Result<bool, AllocError>
-    requires { IsScope scope.now (file_of file.now) }
+    requires scope { IsScope scope.now (file_of file.now) }
+    requires clean { clean ≡ true → AreKnown (file_of file.now) }
     ensures { IfOk result (λ b. b ≡ loses_name (file_of file.now) (part_of (file_of file.now) (copied m.now))) }
 {
     let from = scope.modules.called(m.from.name.as_str());
@@ -124,7 +193,11 @@ fn copy_loses_name(
         formulas: &scope.formulas,
         renaming: &renaming,
     };
-    let loses = contents_lose_name(alloc, file.formulas.as_slice(), from, &reading);
+    let loses = if clean && !reading.some_lost(m.pairs.as_slice()) {
+        Ok(false)
+    } else {
+        contents_lose_name(alloc, file.formulas.as_slice(), from, &reading)
+    };
     drop(renaming);
     loses
 }
