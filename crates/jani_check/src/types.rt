@@ -5,7 +5,7 @@ ghost use Rattle.name_rules.specs.Least.{soonest};
 ghost use Rattle.jani_tree.specs.Syntax.{file_of};
 ghost use Rattle.jani_check.specs.TypeFaults.{type_faults};
 
-use crate::clashes::Clashes;
+use crate::clashes::judge_clashes;
 use crate::demands::Demand;
 use crate::elements::shared_of;
 use crate::kinds::judge_kind;
@@ -15,7 +15,7 @@ use crate::typing::judge_type_of;
 use crate::writes::judge_repeats;
 use bridge_io::Fault;
 use jani_tree::{JaniAutomaton, JaniFile, JaniVar};
-use name_rules::{Judged, judge_each};
+use name_rules::Judged;
 use std::alloc::Global;
 
 /// The least of a fault that was found before and those of types and of what is assigned.
@@ -25,10 +25,7 @@ pub(crate) fn judge_types(alloc: Global, file: &JaniFile, before: Option<Fault>)
     let global = Things::global(alloc, file)?;
     let typed = judge_phase(alloc, &Types, file, &global, before)?;
     let elements = shared_of(alloc, file, &global)?;
-    let clashes = Clashes {
-        elements: &elements,
-    };
-    judge_each(alloc, &clashes, file.vectors.as_slice(), typed)
+    judge_clashes(alloc, &elements, file.vectors.as_slice(), typed)
 }
 
 // The kinds of variables, the types of expressions, and what is assigned twice.

@@ -22,7 +22,7 @@ returns c =
     let vars = flat_map var_faults f.variables in
     let outside = flat_map (demand_faults (global_thing f)) (outer_demands f) in
     let inside = flat_map (automaton_faults (global_thing f)) f.automata in
-    IfOk-weaker c.judge_each.result
+    IfOk-weaker c.judge_clashes.result
     (λ best. best ≡ soonest b1 (flat_map (clash_by (map names_under c.deref.result.now)) (map vector_of c.as_slice.result.now)))
     (λ best. best ≡ soonest c.args.before (type_faults f))
     (λ best h.
@@ -31,4 +31,4 @@ returns c =
     ∙ ap (λ k. soonest b1 (flat_map k f.vectors)) (clashes_are f)
     ∙ soonest_then c.args.before b1 (file_by var_faults demand_faults (λ things a. repeated_writes a) f) (flat_map (clashing_writes f) f.vectors) c.in_ok-typed.ensures
     ∙ ap (soonest c.args.before) (nested vars outside inside (flat_map (clashing_writes f) f.vectors)))
-    c.judge_each.ensures
+    c.judge_clashes.ensures
