@@ -1,0 +1,22 @@
+-- That the names of files that are read are short: a longer name is a fault of tokens, or of shape.
+use Rattle.std.specs.Prelude.{◌≡◌, ℕ, List, []}
+use Rattle.decimal_json.specs.declared.tree.Json.{Json}
+use Rattle.decimal_json.specs.Lang.{Mark}
+use Rattle.decimal_json.specs.Faults.{IsJson}
+use Rattle.prism_tree.specs.Syntax.{File}
+use Rattle.prism_tree.specs.Faults.{Spells, SyntaxFaults}
+use Rattle.jani_table.specs.declared.table.Form.TheVariants as F
+use Rattle.jani_table.specs.Node.{node}
+use Rattle.jani_table.specs.Faults.{faults as shape_faults}
+use Rattle.jani_tree.specs.Syntax as jani
+use Rattle.jani_tree.specs.Jani.{IsFile}
+use Rattle.jani_tree.specs.Form.{FileShort}
+use Rattle.short_names.specs.ShortNames.{HasShortNames}
+
+-- Each PRISM file that bytes without fault spell has short names.
+abbrev pub PrismNamesAreShort : Type 0
+PrismNamesAreShort = (bytes : List ℕ) (f : File) → SyntaxFaults bytes [] → Spells bytes f → HasShortNames f
+
+-- Each JANI file that a JSON text without fault of shape spells has short names, none of them empty; its literals are in normal form.
+abbrev pub JaniNamesAreShort : Type 0
+JaniNamesAreShort = (bytes : List ℕ) (value : Json) (tokens : List Mark) (f : jani.File) → IsJson bytes value tokens → shape_faults F.Model (node value) ≡ [] → IsFile (node value) f → FileShort f
