@@ -1,3 +1,7 @@
 mod Tokens
 mod PrismFiles
 mod JaniFiles
+mod FlatNames
+mod Entries
+mod Translated
+mod Translations

@@ -1,2 +1,3 @@
 pub mod ShortNames
 pub mod Laws
+pub mod TranslationLaws

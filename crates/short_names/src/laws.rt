@@ -1,5 +1,6 @@
 // Functions that do nothing, whose contracts are the laws.
 ghost use Rattle.short_names.specs.Laws.{JaniNamesAreShort, PrismNamesAreShort};
+ghost use Rattle.short_names.specs.TranslationLaws.{FlatNamesAreShort, TranslatedNamesAreShort};
 
 /// The names of each PRISM file that bytes without fault spell have at most 255 bytes. Nothing is done.
 pub fn prism_names_law()
@@ -9,4 +10,14 @@ pub fn prism_names_law()
 /// The names of each JANI file that a JSON text without fault of shape spells have at most 255 bytes. Nothing is done.
 pub fn jani_names_law()
     ensures { JaniNamesAreShort }
+{}
+
+/// Written out, a PRISM file whose names have at most 255 bytes asks for such names. Nothing is done.
+pub fn flat_names_law()
+    ensures { FlatNamesAreShort }
+{}
+
+/// The names of the JANI translation of such a file have at most 255 bytes, where fewer than 2 ^ 64 are asked for. Nothing is done.
+pub fn translated_names_law()
+    ensures { TranslatedNamesAreShort }
 {}

@@ -3,4 +3,4 @@
 
 mod laws;
 
-pub use laws::{jani_names_law, prism_names_law};
+pub use laws::{flat_names_law, jani_names_law, prism_names_law, translated_names_law};

@@ -1,0 +1,27 @@
+-- That the names of a JANI translation are short, where those of the PRISM file are.
+use Rattle.std.specs.Prelude.{◌≡◌, ◌<◌, ◌^◌, List, length}
+use Rattle.std.specs.List.{AllByRecursion as Each}
+use Rattle.basics.specs.Options.{IfAny}
+use Rattle.prism_tree.specs.Syntax.{File}
+use Rattle.prism_names.specs.Flat.{flat}
+use Rattle.prism_check.specs.Flattened.{IsFlat}
+use Rattle.jani_tree.specs.Syntax as jani
+use Rattle.jani_tree.specs.Places.{bare_file}
+use Rattle.jani_tree.specs.Form.{FileShort}
+use Rattle.name_table.specs.Entries.{Ask}
+use Rattle.name_table.specs.Asks.{asks}
+use Rattle.jani_translation.specs.Translated.{translated}
+use Rattle.short_names.specs.ShortNames.{IsShort, HasShortNames}
+
+-- each old name that is asked for is short
+abbrev pub AsksAreShort : List Ask → Type 0
+AsksAreShort asked = Each (λ a. IfAny IsShort a.1) asked
+
+-- Written out, a file whose names are short asks for short names.
+abbrev pub FlatNamesAreShort : Type 0
+FlatNamesAreShort = (file : File) → HasShortNames file → AsksAreShort (asks (flat file))
+
+-- Such a file without fault, which asks for fewer than 2 ^ 64 names, is translated to one whose names are short, places aside.
+abbrev pub TranslatedNamesAreShort : Type 0
+TranslatedNamesAreShort = (file : File) → IsFlat (flat file) → HasShortNames file → length (asks (flat file)) < 2 ^ 64 → (model : jani.File) →
+    bare_file model ≡ bare_file (translated (flat file)) → FileShort model
