@@ -1,7 +1,7 @@
 -- The new names of short ones are short.
 use Rattle.std.proofs.Common.{◌≡◌, ℕ, ◌<◌, ◌≤◌, ◌^◌, sym, ap, subst, arith, List, [], ◌∷◌, ◌++◌, length, take, Option, Some, slice_get, zero, suc, length-append, codes}
 use Rattle.std.specs.List.{AllByRecursion as Each}
-use Rattle.std.proofs.lemmas.Fmt.{length-decimal-le}
+use Rattle.std.proofs.lemmas.Fmt.{length-decimal-le_wide}
 use Rattle.std.proofs.lemmas.List.{length-take-le}
 use Rattle.std.proofs.lemmas.List.Sums.{count_by-le-length}
 use Rattle.std.proofs.lemmas.Option.{same_Some, slice_get_within}
@@ -23,10 +23,10 @@ use Rattle.jani_translation_laws.proofs.Entries.{entry_name}
 use Rattle.short_names.specs.ShortNames.{IsShort}
 use Rattle.short_names.specs.TranslationLaws.{AsksAreShort}
 
-made_short : (c : NameClass) (n : ℕ) → n < 2 ^ 64 → IsShort (made_name c n)
+made_short : (c : NameClass) (n : ℕ) → n < 2 ^ 66 → IsShort (made_name c n)
 made_short c n h =
     let e = ap length (digits_decimal n (omega (arith, h))) in
-    let l = length-decimal-le 20 n (omega arith) (omega arith) h in
+    let l = length-decimal-le_wide 20 n (omega arith) (omega (arith, h)) (omega (arith, h)) in
     let d : length (digits n) ≤ 20 = omega arith in
     each_class (λ k. IsShort (made_name k n)) (by_prefix (codes "zz_c_") d (omega arith)) (by_prefix (codes "zz_v_") d (omega arith)) (by_prefix (codes "zz_loc_") d (omega arith))
     (by_prefix (codes "zz_m_") d (omega arith)) (by_prefix (codes "zz_a_") d (omega arith)) (by_prefix (codes "zz_l_") d (omega arith)) (by_prefix (codes "zz_r_") d (omega arith))
@@ -35,7 +35,7 @@ made_short c n h =
     by_prefix : (p : List ℕ) → length (digits n) ≤ 20 → length p ≤ 7 → length (p ++ digits n) ≤ 255
     by_prefix p d l = let a = length-append p (digits n) in omega arith
 
-length_by : (es : List Entry) (c : NameClass) (o : Option (List ℕ)) (e : Entry) → length es < 2 ^ 64 → IfAny IsShort o → Comes Jani es c o e → IsShort e.name
+length_by : (es : List Entry) (c : NameClass) (o : Option (List ℕ)) (e : Entry) → length es < 2 ^ 66 → IfAny IsShort o → Comes Jani es c o e → IsShort e.name
 length_by es c o e l s (was_kept x q k h) = subst IsShort (sym (ap (λ (u : Entry). u.name) h)) (subst (IfAny IsShort) q s)
 length_by es c o e l s (was_made h) =
     let n = count_by-le-length (λ (u : Entry). same_class u.class c) es in
@@ -46,7 +46,7 @@ each_here P [] i x h g = absurd cc
 each_here P (y ∷ ys) zero x h g = subst P (same_Some y x g) h.0
 each_here P (y ∷ ys) (suc i) x h g = each_here P ys i x h.1 g
 
-module _ (file : File) (few : length (asks file) < 2 ^ 64) (short : AsksAreShort (asks file)) where
+module _ (file : File) (few : length (asks file) < 2 ^ 66) (short : AsksAreShort (asks file)) where
   length_of : (i : ℕ) (e : Entry) → slice_get (entries file) i ≡ Some e → IsShort e.name
   length_of i e h =
       let p = placed Jani (asks file) i e h in

@@ -4,4 +4,5 @@ mod JaniFiles
 mod FlatNames
 mod Entries
 mod Translated
+mod Counted
 mod Translations

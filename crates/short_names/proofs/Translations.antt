@@ -5,12 +5,13 @@ use Rattle.jani_tree.specs.Form.{IsShortName}
 use Rattle.jani_tree.proofs.BareForm.{form_too}
 use Rattle.jani_translation.specs.Translated.{translated}
 use Rattle.short_names.specs.TranslationLaws.{TranslatedNamesAreShort}
+use Rattle.short_names.proofs.Counted.{few_asks}
 use Rattle.short_names.proofs.FlatNames.{flat_names}
 use Rattle.short_names.proofs.Entries.{short_entries}
 use Rattle.short_names.proofs.Translated.{named_as}
 
 pub translated_names : TranslatedNamesAreShort
-translated_names file is_flat short few model same =
-    let es = short_entries (flat file) few (flat_names file short) in
+translated_names file is_flat short model same held =
+    let es = short_entries (flat file) (few_asks (flat file) model same held) (flat_names file short) in
     form_too IsShortName (translated (flat file)) model (sym same)
     (named_as IsShortName (flat file) es (record { some = tt; short = omega arith }) (record { some = tt; short = omega arith }) (record { some = tt; short = omega arith }) is_flat)

@@ -21,7 +21,14 @@ AsksAreShort asked = Each (λ a. IfAny IsShort a.1) asked
 abbrev pub FlatNamesAreShort : Type 0
 FlatNamesAreShort = (file : File) → HasShortNames file → AsksAreShort (asks (flat file))
 
--- Such a file without fault, which asks for fewer than 2 ^ 64 names, is translated to one whose names are short, places aside.
+-- Each list of what has a name of its own has fewer than 2 ^ 64 members, as each list has that the program holds.
+pub record IsHeld (f : jani.File) : Type 0 where
+  pub actions : length f.actions < 2 ^ 64
+  pub constants : length f.constants < 2 ^ 64
+  pub variables : length f.variables < 2 ^ 64
+  pub automata : length f.automata < 2 ^ 64
+
+-- Such a file without fault is translated to one whose names are short, places aside.
 abbrev pub TranslatedNamesAreShort : Type 0
-TranslatedNamesAreShort = (file : File) → IsFlat (flat file) → HasShortNames file → length (asks (flat file)) < 2 ^ 64 → (model : jani.File) →
-    bare_file model ≡ bare_file (translated (flat file)) → FileShort model
+TranslatedNamesAreShort = (file : File) → IsFlat (flat file) → HasShortNames file → (model : jani.File) → bare_file model ≡ bare_file (translated (flat file)) → IsHeld model →
+    FileShort model

@@ -17,7 +17,7 @@ pub fn flat_names_law()
     ensures { FlatNamesAreShort }
 {}
 
-/// The names of the JANI translation of such a file have at most 255 bytes, where fewer than 2 ^ 64 are asked for. Nothing is done.
+/// The names of the JANI translation of such a file without fault have at most 255 bytes. Nothing is done.
 pub fn translated_names_law()
     ensures { TranslatedNamesAreShort }
 {}
