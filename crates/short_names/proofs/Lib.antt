@@ -1,6 +1,7 @@
 mod Tokens
 mod PrismFiles
 mod JaniFiles
+mod Properties
 mod FlatNames
 mod Entries
 mod Translated

@@ -25,7 +25,7 @@ faultless_accepted bytes ts f r =
     let F : List Lexeme → Type 0 = λ u. Each IsAccepted u in
     subst F (one_list bytes c.0 ts c.1 r) (each_accepted c.0 c.2)
 
-within : (n m : ℕ) → cond (nat_lt n m) (Some TooLong) None ≡ None → m ≤ n
+pub within : (n m : ℕ) → cond (nat_lt n m) (Some TooLong) None ≡ None → m ≤ n
 within n m h = go (nat_lt n m) refl h
   where
     go : (b : Bool) → nat_lt n m ≡ b → cond b (Some TooLong) None ≡ None → m ≤ n
@@ -44,7 +44,7 @@ but_last_within n (b ∷ []) h = omega arith
 but_last_within zero (b ∷ c ∷ v) h = absurd (omega (arith, h))
 but_last_within (suc n) (b ∷ c ∷ v) h = let s = but_last_within n (c ∷ v) (omega (arith, h)) in omega (arith, s)
 
-unquoted_within : (w : List ℕ) → length w ≤ 257 → IsShort (unquoted w)
+pub unquoted_within : (w : List ℕ) → length w ≤ 257 → IsShort (unquoted w)
 unquoted_within [] h = omega arith
 unquoted_within (b ∷ v) h = but_last_within 255 v (omega (arith, h))
 

@@ -3,4 +3,6 @@
 
 mod laws;
 
-pub use laws::{flat_names_law, jani_names_law, prism_names_law, translated_names_law};
+pub use laws::{
+    flat_names_law, jani_names_law, prism_names_law, property_names_law, translated_names_law,
+};
