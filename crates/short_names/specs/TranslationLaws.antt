@@ -4,7 +4,7 @@ use Rattle.std.specs.List.{AllByRecursion as Each}
 use Rattle.basics.specs.Options.{IfAny}
 use Rattle.prism_tree.specs.Syntax.{File}
 use Rattle.prism_names.specs.Flat.{flat}
-use Rattle.prism_check.specs.Flattened.{IsFlat}
+use Rattle.prism_check.specs.Checked.{Checked, IsChecked}
 use Rattle.jani_tree.specs.Syntax as jani
 use Rattle.jani_tree.specs.Places.{bare_file}
 use Rattle.jani_tree.specs.Form.{FileShort}
@@ -30,5 +30,5 @@ pub record IsHeld (f : jani.File) : Type 0 where
 
 -- Such a file without fault is translated to one whose names are short, places aside.
 abbrev pub TranslatedNamesAreShort : Type 0
-TranslatedNamesAreShort = (file : File) → IsFlat (flat file) → HasShortNames file → (model : jani.File) → bare_file model ≡ bare_file (translated (flat file)) → IsHeld model →
+TranslatedNamesAreShort = (c : Checked) → IsChecked c → HasShortNames c.file → (model : jani.File) → bare_file model ≡ bare_file (translated (flat c.file)) → IsHeld model →
     FileShort model
