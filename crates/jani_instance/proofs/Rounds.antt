@@ -58,7 +58,7 @@ below_node o p a b h w = record {
     by_part (inl k) = or_left (is_wide_value p) b (wide_value o p h k)
     by_part (inr k) = or_right (is_wide_value p) b (w k)
 
-below_known : (o p : Option Value) → ((v : Value) → o ≡ Some v → p ≡ Some v) → Below (known o) (known p)
+pub below_known : (o p : Option Value) → ((v : Value) → o ≡ Some v → p ≡ Some v) → Below (known o) (known p)
 below_known o p h = record { value = h; wide = wide_value o p h }
 
 module _ {O : Type 0} (m : Meaning O) where
@@ -133,7 +133,7 @@ below_see : (e : Expression) (old new : List ℕ → Seen) → ((x : List ℕ) �
 unfolding see
 below_see e old new h = below_seen jani_meaning e old new h
 
-below_constant : (given : Option Value) (e : Option Expression) (old new : List ℕ → Seen) → ((x : List ℕ) → Below (old x) (new x)) → Below (constant_seen given old e) (constant_seen given new e)
+pub below_constant : (given : Option Value) (e : Option Expression) (old new : List ℕ → Seen) → ((x : List ℕ) → Below (old x) (new x)) → Below (constant_seen given old e) (constant_seen given new e)
 below_constant given None old new h = below_self (known given)
 below_constant given (Some e) old new h = below_see e old new h
 
@@ -146,7 +146,7 @@ value_later : (h : Option Value) (t : List (Option Value)) (o : Option ℕ) → 
 value_later h t None = refl
 value_later h t (Some k) = refl
 
-found_value : (G : ready.Name → Const → Option Value) (x : ready.Name) (cs : List Const) →
+pub found_value : (G : ready.Name → Const → Option Value) (x : ready.Name) (cs : List Const) →
     value_from (map (λ c. G c.name.name c) cs) (position (λ c. is_called x c.name) cs) ≡ found (G x) (find (λ c. is_called x c.name) cs)
 found_value G x [] = refl
 found_value G x (c ∷ cs) =
@@ -159,11 +159,11 @@ found_value G x (c ∷ cs) =
     by_test true e ih = ap (λ y. G y c) ((bytes_eq-Decides c.name.name x).0 e)
     by_test false e ih = value_later (G c.name.name c) (map (λ d. G d.name.name d) cs) (position (λ d. is_called x d.name) cs) ∙ ih
 
-found_is : (given : Option Value) (names : ready.Name → Seen) (o : Option Const) → found (λ c. (constant_seen given names c.value).value) o ≡ constant_value given names o
+pub found_is : (given : Option Value) (names : ready.Name → Seen) (o : Option Const) → found (λ c. (constant_seen given names c.value).value) o ≡ constant_value given names o
 found_is given names None = refl
 found_is given names (Some c) = refl
 
-no_values : {X : Type 0} (cs : List X) (o : Option ℕ) → value_from (map (λ c. None) cs) o ≡ None
+pub no_values : {X : Type 0} (cs : List X) (o : Option ℕ) → value_from (map (λ c. None) cs) o ≡ None
 no_values cs None = refl
 no_values [] (Some k) = refl
 no_values (c ∷ cs) (Some zero) = refl
@@ -184,7 +184,7 @@ narrow_values (s ∷ ss) h =
     neither true c h = absurd cc
     neither false c h = (refl, h)
 
-any_below : {X : Type 0} (f g : X → Seen) → ((x : X) → Below (f x) (g x)) → (xs : List X) → list_any (λ s. s.wide) (map f xs) ≡ true → list_any (λ s. s.wide) (map g xs) ≡ true
+pub any_below : {X : Type 0} (f g : X → Seen) → ((x : X) → Below (f x) (g x)) → (xs : List X) → list_any (λ s. s.wide) (map f xs) ≡ true → list_any (λ s. s.wide) (map g xs) ≡ true
 any_below f g h [] e = absurd cc
 any_below f g h (x ∷ xs) e = by_part (either (f x).wide (list_any (λ s. s.wide) (map f xs)) e) (any_below f g h xs)
   where
@@ -215,11 +215,11 @@ module _ (file : File) (v : Valuation) where
         ∙ ap (λ m. constant_within file v m x) (let d : suc n ≡ n + 1 = omega arith in d);
   }
 
-  value_stays : (given : Option Value) (old new : List ℕ → Seen) → ((x : List ℕ) → Below (old x) (new x)) → (o : Option Const) (w : Value) → constant_value given old o ≡ Some w → constant_value given new o ≡ Some w
+  pub value_stays : (given : Option Value) (old new : List ℕ → Seen) → ((x : List ℕ) → Below (old x) (new x)) → (o : Option Const) (w : Value) → constant_value given old o ≡ Some w → constant_value given new o ≡ Some w
   value_stays given old new h None w e = absurd cc
   value_stays given old new h (Some c) w e = (below_constant given c.value old new h).value w e
 
-  stays : (n : ℕ) (x : ready.Name) (w : Value) → constant_within file v n x ≡ Some w → constant_within file v (suc n) x ≡ Some w
+  pub stays : (n : ℕ) (x : ready.Name) (w : Value) → constant_within file v n x ≡ Some w → constant_within file v (suc n) x ≡ Some w
   stays zero x w e = absurd cc
   stays (suc n) x w e =
       value_stays (v x) (λ y. known (constant_within file v n y)) (λ y. known (constant_within file v (suc n) y))

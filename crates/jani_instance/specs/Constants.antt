@@ -1,5 +1,5 @@
 -- Tables of the values of constants, and what a table more comes out as (jani-model specification, version 1: "Constants").
-use Rattle.std.specs.Prelude.{◌≡◌, List, map, true, Option, Some, None}
+use Rattle.std.specs.Prelude.{◌≡◌, ℕ, List, map, true, Option, Some, None}
 use Rattle.std.specs.List.{list_any, position}
 use Rattle.std.specs.Option.{option_map}
 use Rattle.op_trees.specs.Seen.{Seen, known_names}
@@ -8,7 +8,7 @@ use Rattle.process_core.specs.Ready.{Name}
 use Rattle.process_core.specs.Instance.{Valuation}
 use Rattle.jani_tree.specs.Syntax.{Const, File}
 use Rattle.op_trees.specs.Names.{is_called}
-use Rattle.jani_meaning.specs.Scene.{constant, constant_seen, scene}
+use Rattle.jani_meaning.specs.Scene.{constant, constant_seen, constant_within, scene}
 use Rattle.instance_start.specs.declared.data.Place.{Place}
 use Rattle.instance_start.specs.declared.data.Place.TheVariants.{Constant}
 use Rattle.jani_instance.specs.Built.{value_from}
@@ -27,6 +27,10 @@ first_table cs = map (λ c. None) cs
 -- what is seen of the constants, where those in their expressions have the values of a table
 abbrev pub round_of : List Const → Valuation → List (Option Value) → List Seen
 round_of cs v table = map (λ c. constant_seen (v c.name.name) (names_by cs table) c.value) cs
+
+-- each value in a table is that of a constant whose expression leads through fewer than n others
+abbrev pub AreWithin : File → Valuation → ℕ → List (Option Value) → Type 0
+AreWithin file v n table = (x : Name) (w : Value) → value_from table (position (λ c. is_called x c.name) file.constants) ≡ Some w → constant_within file v n x ≡ Some w
 
 -- the table of all constants; or none, where a constant is wide
 abbrev pub Tabled : File → Valuation → Option (List (Option Value)) → Type 0

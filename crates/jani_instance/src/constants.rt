@@ -1,8 +1,8 @@
 //! The values of the constants.
-ghost use Rattle.std.specs.Prelude.{◌≡◌, ℕ, List, IfOk, IsTrue, Some, map};
+ghost use Rattle.std.specs.Prelude.{◌≡◌, ◌+◌, ℕ, List, IfOk, IsTrue, Some, length, map};
 ghost use Rattle.std.specs.List.{list_any};
 ghost use Rattle.std.specs.Option.{option_map};
-ghost use Rattle.op_trees.specs.Seen.{known};
+ghost use Rattle.op_trees.specs.Seen.{known, known_names};
 ghost use Rattle.op_trees.specs.Tree.{tree};
 ghost use Rattle.name_rules.specs.Names.{under};
 ghost use Rattle.state_choices.specs.Trimmed.{computed};
@@ -10,20 +10,131 @@ ghost use Rattle.state_choices.specs.Views.{seen_of};
 ghost use Rattle.jani_tree.specs.Syntax.{const_of, file_of};
 ghost use Rattle.jani_meaning.specs.Scene.{constant_seen};
 ghost use Rattle.instance_start.specs.Given.{given_by};
-ghost use Rattle.jani_instance.specs.Constants.{Tabled, constant_place, first_table, round_of};
-ghost use Rattle.jani_instance.specs.Views.{seen_in};
+ghost use Rattle.jani_instance.specs.Constants.{AreWithin, Tabled, constant_place, first_table, round_of};
+ghost use Rattle.jani_instance.specs.Views.{seen_in, values_by};
 
 use crate::run::{Run, value_of};
 use instance_start::{Place, equal_values, given_value, is_wide};
 use jani_tree::{JaniConst, JaniFile};
-use name_rules::NameMap;
+use name_rules::{Declaration, NameMap, add_names, judge_circles};
 use op_trees::{EvalFail, Value};
 use process_core::Given;
 use std::alloc::{AllocError, Global};
 
 /// The values of the constants, none for one that is undefined; or none at all where something is wide. Constants stand in any
-/// order, so all are looked at in turns until nothing changes.
+/// order: they are taken so that each stands behind those that it uses, and where that doesn't settle them, in turns.
 pub(crate) fn constant_table(
+    alloc: Global,
+    file: &JaniFile,
+    given: &[Given],
+    places: &NameMap<Place>,
+) -> Result<Option<Vec<Option<Value>>>, AllocError>
+    requires { (x : List ℕ) → under places.now x ≡ constant_place (map const_of file.now.constants) x }
+    ensures { IfOk result (λ table. Tabled (file_of file.now) (given_by given.now) (option_map (λ t. t.items) table)) }
+{
+    let constants = file.constants.as_slice();
+    let order = constant_order(alloc, constants)?;
+    let table = ordered_table(alloc, file, given, places, order.as_slice())?;
+    let found = constant_values(alloc, constants, given, places, table.as_slice())?;
+    if has_wide(found.as_slice()) {
+        return Ok(None);
+    }
+    let next = values(alloc, found.as_slice())?;
+    if same(table.as_slice(), next.as_slice()) {
+        return Ok(Some(table));
+    }
+    table_in_turns(alloc, file, given, places)
+}
+
+/// Places of the constants, each behind those that it uses. Nothing but time rests on it.
+fn constant_order(alloc: Global, constants: &[JaniConst]) -> Result<Vec<usize>, AllocError> {
+    let all = declarations(alloc, constants)?;
+    let circles = judge_circles(alloc, &all, None)?;
+    Ok(circles.turns)
+}
+
+/// The constants with the names that they use.
+fn declarations<'a>(
+    alloc: Global,
+    constants: &'a [JaniConst],
+) -> Result<Vec<Declaration<'a>>, AllocError> {
+    let mut all = Vec::with_capacity(alloc, constants.len())?;
+    for constant in constants {
+        let uses = uses_of(alloc, constant)?;
+        all.push(Declaration {
+            name: constant.name.name.as_str(),
+            at: constant.name.at,
+            uses,
+        })?;
+    }
+    Ok(all)
+}
+
+fn uses_of<'a>(alloc: Global, constant: &'a JaniConst) -> Result<Vec<&'a str>, AllocError> {
+    let mut uses = Vec::new(alloc);
+    if let Some(value) = &constant.value {
+        add_names(value, &mut uses)?;
+    }
+    Ok(uses)
+}
+
+/// Values of constants, of those that are taken one after another in an order.
+fn ordered_table(
+    alloc: Global,
+    file: &JaniFile,
+    given: &[Given],
+    places: &NameMap<Place>,
+    order: &[usize],
+) -> Result<Vec<Option<Value>>, AllocError>
+    requires { (x : List ℕ) → under places.now x ≡ constant_place (map const_of file.now.constants) x }
+    ensures { IfOk result (λ t. AreWithin (file_of file.now) (given_by given.now) (length file.now.constants) t.items) }
+{
+    let constants = file.constants.as_slice();
+    let mut table = first_table(alloc, constants)?;
+    for k in 0..constants.len() {
+        let i = order.get(k).copied().unwrap_or(k);
+        take_turn(file, given, places, i, &mut table);
+    }
+    Ok(table)
+}
+
+/// Puts the value of one more constant into a table.
+fn take_turn(
+    file: &JaniFile,
+    given: &[Given],
+    places: &NameMap<Place>,
+    i: usize,
+    table: &mut Vec<Option<Value>>,
+)
+    requires { (x : List ℕ) → under places.now x ≡ constant_place (map const_of file.now.constants) x }
+    ensures { (n : ℕ) → AreWithin (file_of file.now) (given_by given.now) n table.old.items → AreWithin (file_of file.now) (given_by given.now) (n + 1) table.new.items }
+{
+    let constants = file.constants.as_slice();
+    if i >= constants.len() || i >= table.len() {
+        return;
+    }
+    let value = next_value(&constants[i], given, places, table.as_slice());
+    table[i] = value;
+}
+
+fn next_value(
+    constant: &JaniConst,
+    given: &[Given],
+    places: &NameMap<Place>,
+    table: &[Option<Value>],
+) -> Option<Value>
+    ensures { result ≡ (seen_of (computed (constant_seen (given_by given.now constant.now.name.name) (known_names (values_by places.now table.now)) (option_map tree constant.now.value)))).value }
+{
+    let run = Run {
+        places,
+        constants: table,
+    };
+    let value: Result<Value, EvalFail> = constant_value(constant, given, &run);
+    value_in(&value)
+}
+
+/// The same in turns: all are looked at until nothing changes.
+fn table_in_turns(
     alloc: Global,
     file: &JaniFile,
     given: &[Given],

@@ -1,11 +1,10 @@
 //! The elements of a file with their automata, and its variables.
 ghost use Rattle.std.specs.Prelude.{◌≡◌, ◌++◌, ◌+◌, ◌<◌, ◌^◌, List, ℕ, IfOk, OnOk, Some, None, is_none, length, map};
-ghost use Rattle.std.specs.List.{filter, find, position};
+ghost use Rattle.std.specs.List.{filter, position};
 ghost use Rattle.std.specs.Option.{option_map, option_or};
 ghost use Rattle.name_rules.specs.Names.{under};
 ghost use Rattle.process_core.specs.Instance.{numbered};
 ghost use Rattle.jani_tree.specs.Syntax.{automaton_of, const_of, edge_of, file_of, location_of, var_of};
-ghost use Rattle.op_trees.specs.Names.{is_called};
 ghost use Rattle.jani_meaning.specs.Elements.{elements, is_global, is_label, is_lasting, is_own, is_owner, is_structure, owned_by};
 ghost use Rattle.instance_start.specs.declared.data.Place.TheVariants.{Variable};
 ghost use Rattle.jani_instance.specs.Constants.{constant_place};
@@ -13,6 +12,7 @@ ghost use Rattle.jani_instance.specs.Parts.{automaton_among, automaton_at, owned
 
 use bridge_io::Named;
 use instance_start::Place;
+use jani_check::automata_by_name;
 use jani_tree::{JaniAutomaton, JaniConst, JaniEdge, JaniFile, JaniKind, JaniLocation, JaniVar};
 use name_rules::NameMap;
 use std::alloc::{AllocError, Global};
@@ -45,24 +45,13 @@ fn parts_among<'a>(
 ) -> Result<Vec<Part<'a>>, AllocError>
     ensures { IfOk result (λ ps. map automaton_at ps.items ≡ map (automaton_among (map automaton_of automata.entry.now)) names.entry.now) }
 {
+    let by_name = automata_by_name(alloc, automata)?;
     let mut all = Vec::with_capacity(alloc, names.len())?;
     for name in names {
-        let automaton = automaton_called(automata, name.name.as_str());
+        let automaton = by_name.get(name.name.as_str());
         all.push(Part { name, automaton })?;
     }
     Ok(all)
-}
-
-/// The first automaton of this name.
-fn automaton_called<'a>(automata: &'a [JaniAutomaton], name: &str) -> Option<&'a JaniAutomaton>
-    ensures { option_map (λ a. automaton_of a.now) result ≡ find (λ a. is_called name.now a.name) (map automaton_of automata.entry.now) }
-{
-    for automaton in automata {
-        if automaton.name.name.as_str() == name {
-            return Some(automaton);
-        }
-    }
-    None
 }
 
 /// The element's own variables.
