@@ -4,6 +4,7 @@ pub mod Whole
 pub mod Texts
 pub mod StateMarks
 pub mod Rounds
+pub mod Owning
 pub mod Tables
 pub mod Placed
 pub mod Typed

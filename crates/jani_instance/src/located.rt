@@ -1,19 +1,19 @@
 //! The elements: where their own names stand, and their edges by the locations that they start at and by their actions.
-ghost use Rattle.std.specs.Prelude.{◌≡◌, ◌+◌, ◌-◌, ◌++◌, ◌<◌, ℕ, IfOk, OnOk, length, map};
+ghost use Rattle.std.specs.Prelude.{◌≡◌, ◌+◌, ◌-◌, ◌++◌, ◌<◌, List, ℕ, IfOk, OnOk, length, map};
 ghost use Rattle.std.specs.List.{filter, range_with_len};
 ghost use Rattle.process_core.specs.Instance.{only_if};
 ghost use Rattle.gathering.specs.Lists.{list_for};
 ghost use Rattle.jani_tree.specs.Syntax as syntax;
 ghost use Rattle.jani_tree.specs.Syntax.{file_of};
-ghost use Rattle.jani_instance.specs.Built.{IsNamedElementOf};
+ghost use Rattle.jani_instance.specs.Built.{IsNamedElementOf, own_place};
 ghost use Rattle.jani_instance.specs.Actions.{AreNamedElementsOf, AreNumbered, IsBasis, IsNumbered, acts_as, actions_of, is_silent, lent_edge, located_among, located_at, number_in, starts_at};
-ghost use Rattle.jani_instance.specs.Parts.{automaton_at};
+ghost use Rattle.jani_instance.specs.Parts.{automaton_at, place_under};
 ghost use Rattle.jani_instance.specs.Shapes.{edge_by, edge_of, located_of};
 
 use crate::acting::{ActionTable, Basis, Numbers, number_of};
 use crate::build::{Site, edge, location_in};
 use crate::data::{Edge, Located, NamedElement};
-use crate::parts::{Part, edges, locations, own_places};
+use crate::parts::{Part, Placed, by_owner, edges, locations, own_places};
 use gathering::NumberLists;
 use instance_start::Place;
 use jani_tree::{JaniEdge, JaniExpr};
@@ -28,9 +28,24 @@ pub(crate) fn elements<'s, 'a>(
     requires { IsBasis basis.now }
     ensures { IfOk result (λ es. AreNamedElementsOf (file_of basis.now.file.now) es.items) }
 {
+    let owned = by_owner(alloc, basis.lasting, basis.parts.len())?;
+    each_element(alloc, basis, &owned)
+}
+
+/// The same by the own variables of each.
+fn each_element<'s, 'a>(
+    alloc: Global,
+    basis: &Basis<'s, 'a>,
+    owned: &NumberLists<Placed<'a>>,
+) -> Result<Vec<NamedElement<'a>>, AllocError>
+    requires basis { IsBasis basis.now }
+    requires owned { (i : ℕ) (x : List ℕ) → place_under x (list_for owned.now i) ≡ own_place (file_of basis.now.file.now) i x }
+    ensures { IfOk result (λ es. AreNamedElementsOf (file_of basis.now.file.now) es.items) }
+{
     let mut all = Vec::with_capacity(alloc, basis.parts.len())?;
     for (i, part) in basis.parts.iter().enumerate() {
-        all.push(element(alloc, basis, i, *part, &basis.actions[i])?)?;
+        let these = owned.get(i);
+        all.push(element(alloc, basis, i, *part, &basis.actions[i], these)?)?;
     }
     Ok(all)
 }
@@ -42,12 +57,14 @@ fn element<'s, 'a>(
     i: usize,
     part: Part<'a>,
     numbers: &'s Numbers<'a>,
+    these: &[Placed<'a>],
 ) -> Result<NamedElement<'a>, AllocError>
     requires basis { IsBasis basis.now }
     requires numbers { IsNumbered (automaton_at part) numbers.now }
+    requires own { (x : List ℕ) → place_under x these.now ≡ own_place (file_of basis.now.file.now) i x }
     ensures { IfOk result (λ e. IsNamedElementOf (file_of basis.now.file.now) (actions_of (automaton_at part.entry)) i (automaton_at part.entry) e) }
 {
-    let own = own_places(alloc, basis.lasting, i, basis.parts.len())?;
+    let own = own_places(alloc, these)?;
     let site = site_of(basis, i, part, &own, numbers);
     let locations = all_located(alloc, edges(part), &numbers.actions, site)?;
     Ok(NamedElement { own, locations })

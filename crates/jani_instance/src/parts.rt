@@ -1,16 +1,18 @@
 //! The elements of a file with their automata, and its variables.
-ghost use Rattle.std.specs.Prelude.{◌≡◌, ◌++◌, ◌+◌, ◌<◌, ◌^◌, List, ℕ, IfOk, OnOk, Some, None, is_none, length, map};
+ghost use Rattle.std.specs.Prelude.{◌≡◌, ◌++◌, ◌+◌, ◌<◌, ◌^◌, List, ℕ, IfOk, OnOk, Some, None, bytes_eq, is_none, length, map, if◌then◌else◌};
 ghost use Rattle.std.specs.List.{filter, position};
 ghost use Rattle.std.specs.Option.{option_map, option_or};
 ghost use Rattle.name_rules.specs.Names.{under};
+ghost use Rattle.gathering.specs.Lists.{list_for};
 ghost use Rattle.process_core.specs.Instance.{numbered};
 ghost use Rattle.jani_tree.specs.Syntax.{automaton_of, const_of, edge_of, file_of, location_of, var_of};
 ghost use Rattle.jani_meaning.specs.Elements.{elements, is_global, is_label, is_lasting, is_own, is_owner, is_structure, owned_by};
 ghost use Rattle.instance_start.specs.declared.data.Place.TheVariants.{Variable};
 ghost use Rattle.jani_instance.specs.Constants.{constant_place};
-ghost use Rattle.jani_instance.specs.Parts.{automaton_among, automaton_at, owned_at};
+ghost use Rattle.jani_instance.specs.Parts.{automaton_among, automaton_at, owned_at, place_under};
 
 use bridge_io::Named;
+use gathering::NumberLists;
 use instance_start::Place;
 use jani_check::automata_by_name;
 use jani_tree::{JaniAutomaton, JaniConst, JaniEdge, JaniFile, JaniKind, JaniLocation, JaniVar};
@@ -171,23 +173,68 @@ fn is_structure(o: Owned) -> bool
 
 // ---- where names stand
 
-/// The element's own variables: which columns they are.
-pub(crate) fn own_places<'a>(
+/// Where a name stands.
+#[derive(Clone, Copy)]
+pub(crate) struct Placed<'a> {
+    pub(crate) name: &'a str,
+    pub(crate) place: Place,
+}
+
+/// The own variables of each element: which columns they are.
+pub(crate) fn by_owner<'a>(
     alloc: Global,
     lasting: &[Owned<'a>],
-    i: usize,
     first: usize,
-) -> Result<NameMap<'a, Place>, AllocError>
+) -> Result<NumberLists<Placed<'a>>, AllocError>
     requires { first + length lasting.now < 2 ^ 64 }
-    ensures { IfOk result (λ m. (x : List ℕ) → under m x ≡ option_map (λ k. Variable (first + k)) (position (is_own i x) (map owned_at lasting.now))) }
+    ensures { IfOk result (λ b. (i : ℕ) (x : List ℕ) → place_under x (list_for b i) ≡ option_map (λ k. Variable (first + k)) (position (is_own i x) (map owned_at lasting.now))) }
+{
+    let mut all = NumberLists::new(alloc);
+    for (k, o) in lasting.iter().enumerate() {
+        add_own(alloc, &mut all, *o, Place::Variable(first + k))?;
+    }
+    Ok(all)
+}
+
+/// A variable besides, if an element owns it.
+fn add_own<'a>(
+    alloc: Global,
+    all: &mut NumberLists<Placed<'a>>,
+    o: Owned<'a>,
+    place: Place,
+) -> Result<(), AllocError>
+    ensures { OnOk result
+        ((i : ℕ) (x : List ℕ) → place_under x (list_for all.new i) ≡ option_or (place_under x (list_for all.old i)) (if is_own i x (owned_at o.entry) then Some place else None)) }
+{
+    match o.owner {
+        Some(i) => {
+            let name = o.var.name.name.as_str();
+            all.add(alloc, i, Placed { name, place })?;
+            Ok(())
+        }
+        None => Ok(()),
+    }
+}
+
+/// The element's own variables by their names.
+pub(crate) fn own_places<'a>(
+    alloc: Global,
+    these: &[Placed<'a>],
+) -> Result<NameMap<'a, Place>, AllocError>
+    ensures { IfOk result (λ m. (x : List ℕ) → under m x ≡ place_under x these.now) }
 {
     let mut places = NameMap::new(alloc);
-    for (k, o) in lasting.iter().enumerate() {
-        if is_owner(i, o.owner) {
-            places.put_first(o.var.name.name.as_str(), Place::Variable(first + k))?;
-        }
+    for j in 0..these.len() {
+        put_own(&mut places, &these[j])?;
     }
     Ok(places)
+}
+
+fn put_own<'a>(places: &mut NameMap<'a, Place>, one: &Placed<'a>) -> Result<(), AllocError>
+    ensures { OnOk result ((x : List ℕ) → under places.new x ≡ option_or (under places.old x) (if bytes_eq one.now.name.now x then Some one.now.place else None)) }
+{
+    places.put_first(one.name, one.place)?;
+    Ok(())
 }
 
 pub(crate) fn is_owner(i: usize, owner: Option<usize>) -> bool

@@ -1,28 +1,13 @@
-use Rattle.std.proofs.Common.{◌∙◌, ◌+◌, ◌&&◌, ap, sym}
-use Rattle.std.specs.Prelude.{ℕ, bytes_eq}
-use Rattle.name_rules.specs.Names.{put_first, under}
-use Rattle.instance_start.specs.declared.data.Place.TheVariants.{Variable}
-use Rattle.jani_meaning.specs.Elements.{is_own}
-use Rattle.jani_instance.specs.Parts.{owned_at}
-use Rattle.jani_instance.proofs.Placed.{placed_more, placed_none}
+use Rattle.std.proofs.Common.{ap}
+use Rattle.std.proofs.lemmas.List.{get_or_default}
+use Rattle.std.specs.Option.{option_or}
+use Rattle.jani_instance.specs.Parts.{place_under}
+use Rattle.jani_instance.proofs.Owning.{place_next}
 use Rattle.jani_instance.proofs.parts.own_places.Goals as goal
-use Rattle.jani_instance.proofs.parts.own_places.Goals.{then-is_owner+in_ok-put_first, else-is_owner}
 
-pub loop-k-init : goal.loop-k-init
-loop-k-init c = λ x. ap (λ f. f x) c.new-places.ensures
+pub loop-j-init : goal.loop-j-init
+loop-j-init c = λ x. ap (λ f. option_or (f x) (place_under x c.args.these.now)) c.new-places.ensures
 
-pub loop-k-preserved : goal.loop-k-preserved
-loop-k-preserved c =
-    let o = c.index-lasting-k.result in
-    let F = λ (n : ℕ). Variable (c.args.first + n) in
-    λ x. elim c.if-is_owner.branch [
-      | then-is_owner+in_ok-put_first w ↦
-          ap (λ m. under m x) w.places-is
-          ∙ placed_more F (is_own c.args.i x) owned_at c.args.lasting.now c.loop-k.k o (under c.loop-k.places x) _ (bytes_eq o.var.now.name.name x) c.loop-k-test.true c.index-lasting-k.is (c.loop-k.invariant x)
-          (ap (λ f. f x) w.in_ok-put_first.ensures ∙ ap (λ n. put_first (under c.loop-k.places) n (F c.loop-k.k) x) w.as_str.ensures)
-          (ap (λ b. b && bytes_eq o.var.now.name.name x) (sym c.is_owner.ensures ∙ w.if-is_owner.true))
-      | else-is_owner w ↦
-          ap (λ m. under m x) w.places-is
-          ∙ placed_none F (is_own c.args.i x) owned_at c.args.lasting.now c.loop-k.k o (under c.loop-k.places x) c.loop-k-test.true c.index-lasting-k.is (c.loop-k.invariant x)
-          (ap (λ b. b && bytes_eq o.var.now.name.name x) (sym c.is_owner.ensures ∙ w.if-is_owner.false))
-    ]
+pub loop-j-preserved : goal.loop-j-preserved
+loop-j-preserved c = λ x.
+    place_next x c.args.these.now c.loop-j.j _ _ _ _ c.loop-j-test.true (get_or_default c.args.these.now c.loop-j.j _ _ c.loop-j-test.true) (c.in_ok-put_own.ensures x) (c.loop-j.invariant x)

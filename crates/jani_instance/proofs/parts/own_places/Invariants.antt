@@ -1,11 +1,8 @@
-use Rattle.std.proofs.Common.{◌≡◌, ◌+◌, List, ℕ, map, take}
-use Rattle.std.specs.List.{position}
-use Rattle.std.specs.Option.{option_map}
+use Rattle.std.proofs.Common.{◌≡◌, List, ℕ, drop}
+use Rattle.std.specs.Option.{option_or}
 use Rattle.name_rules.specs.Names.{under}
-use Rattle.instance_start.specs.declared.data.Place.TheVariants.{Variable}
-use Rattle.jani_instance.specs.Parts.{owned_at}
-use Rattle.jani_meaning.specs.Elements.{is_own}
+use Rattle.jani_instance.specs.Parts.{place_under}
 use Rattle.jani_instance.proofs.parts.own_places.Given as goal
 
-abbrev pub invariant-loop-k : goal.invariant-loop-k
-invariant-loop-k l = (x : List ℕ) → under l.places x ≡ option_map (λ n. Variable (l.first + n)) (position (is_own l.i x) (map owned_at (take l.k l.lasting)))
+abbrev pub invariant-loop-j : goal.invariant-loop-j
+invariant-loop-j l = (x : List ℕ) → option_or (under l.places x) (place_under x (drop l.j l.these)) ≡ place_under x l.these

@@ -5,7 +5,7 @@ use Rattle.jani_meaning.specs.Elements.{elements}
 use Rattle.jani_instance.specs.Actions.{actions_of}
 use Rattle.jani_instance.specs.Built.{IsNamedElementOf}
 use Rattle.jani_instance.specs.declared.data.NamedElement.{NamedElement}
-use Rattle.jani_instance.proofs.located.elements.Given as goal
+use Rattle.jani_instance.proofs.located.each_element.Given as goal
 
 abbrev pub invariant-loop-i : goal.invariant-loop-i
 invariant-loop-i l =
