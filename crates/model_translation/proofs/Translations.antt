@@ -10,31 +10,32 @@ use Rattle.jani_table.specs.Node.{node}
 use Rattle.jani_tree.specs.Syntax as jani
 use Rattle.jani_tree.specs.Canonical.{file_node}
 use Rattle.jani_tree.specs.Back.{IsWritable, TextSpells}
+use Rattle.jani_tree.specs.Form.{FileShort}
 use Rattle.jani_tree.specs.Text.{jani_text, SpellsNode}
 use Rattle.jani_tree.proofs.Back.{clean_value, reads_back}
 use Rattle.prism_to_jani.specs.Promise.{IsJaniOf, PlacesAside}
 use Rattle.model_translation.specs.Translation.{IsShaped, IsText, IsJaniText}
 
--- what spells the canonical value of a tree has no fault of shape
-shaped : (f : jani.File) (x : Json) (text : List ℕ) → IsWritable f → node x ≡ file_node f → SpellsValue text x → IsShaped text f
-shaped f x text ready e s =
+-- what spells the canonical value of a tree whose names are short has no fault of shape
+shaped : (f : jani.File) (x : Json) (text : List ℕ) → IsWritable f → FileShort f → node x ≡ file_node f → SpellsValue text x → IsShaped text
+shaped f x text ready names e s =
     record {
       value = x;
       spelled = s;
       clean = clean_value f x e ready;
-      short = λ names other tokens j.
+      faultless = λ other tokens j.
           let one : other ≡ s.0 = (one_value text other s.0 tokens s.1 j s.2).0 in
           (reads_back f x other ready names e (ap bare one ∙ s.3)).shape;
     }
 
--- a text with its line feed
-pub text_is : (f : jani.File) (text : List ℕ) → TextSpells → LineFeedBehind → IsWritable f → text ≡ jani_text f → SpellsNode text (file_node f) → IsText (text ++ 10 ∷ []) f
-text_is f text spells behind ready t s =
+-- the text of a tree whose names are short, with its line feed
+pub text_is : (f : jani.File) (text : List ℕ) → TextSpells → LineFeedBehind → IsWritable f → FileShort f → text ≡ jani_text f → SpellsNode text (file_node f) → IsText (text ++ 10 ∷ []) f
+text_is f text spells behind ready names t s =
     let there : SpellsValue (text ++ 10 ∷ []) s.0 = (s.2.0, s.2.1, behind text s.2.0 s.2.1 s.2.2, s.2.3) in
     record {
       text_is = ap (λ u. u ++ 10 ∷ []) t;
       spells = spells f s.0 (text ++ 10 ∷ []) ready.types s.1 there;
-      shaped = shaped f s.0 (text ++ 10 ∷ []) ready s.1 there;
+      shaped = shaped f s.0 (text ++ 10 ∷ []) ready names s.1 there;
     }
 
 -- the text of a translation

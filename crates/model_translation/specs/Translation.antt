@@ -11,27 +11,26 @@ use Rattle.jani_table.specs.declared.table.Form.TheVariants as F
 use Rattle.jani_table.specs.Node.{node}
 use Rattle.jani_table.specs.Faults.{faults as shape_faults}
 use Rattle.jani_tree.specs.Syntax as jani
-use Rattle.jani_tree.specs.Form.{FileShort}
 use Rattle.jani_tree.specs.Places.{bare_file}
 use Rattle.jani_tree.specs.Text.{jani_text}
 use Rattle.jani_tree.specs.Back.{IsClean, SpellsFile, SpellsAside, SpellsOnly}
 use Rattle.prism_to_jani.specs.Promise.{IsJaniOf}
 use Rattle.model_files.specs.PrismFile.{IsFaultless, IsPrismFault}
 
--- The JSON value that the text spells, places aside, has no fault of shape but names of more than 255 bytes: no member that is unknown or
--- missing, and none of another kind than is asked. Each number of it is in normal form, and no object of it has a key twice. Where no name of the
--- tree has more than 255 bytes, no value that the text spells has any fault of shape.
-pub record IsShaped (text : List ℕ) (model : jani.File) : Type 0 where
+-- No JSON value that the text spells has any fault of shape: no member that is unknown or missing, none of another kind than is asked, and no
+-- name of more than 255 bytes; the value of its properties may be any. Of the value that it spells, places aside, each number is in normal form,
+-- and no object has a key twice.
+pub record IsShaped (text : List ℕ) : Type 0 where
   pub value : Json
   pub spelled : SpellsValue text value
   pub clean : IsClean value
-  pub short : FileShort model → (other : Json) (tokens : List Mark) → IsJson text other tokens → shape_faults F.Model (node other) ≡ []
+  pub faultless : (other : Json) (tokens : List Mark) → IsJson text other tokens → shape_faults F.Model (node other) ≡ []
 
 -- The text is the canonical one of the tree and a line feed; it spells the tree, places aside, and no other, by a value without fault of shape.
 pub record IsText (text : List ℕ) (model : jani.File) : Type 0 where
   pub text_is : text ≡ jani_text model ++ 10 ∷ []
   pub spells : SpellsOnly text model
-  pub shaped : IsShaped text model
+  pub shaped : IsShaped text
 
 -- The text spells a JANI tree that the PRISM tree is translated to, by a JSON value without fault of shape: the tree has no fault of
 -- names, types or the profile, it has the shape of a translation, and it means the same process. What may be past a limit is the size. Each
@@ -39,7 +38,7 @@ pub record IsText (text : List ℕ) (model : jani.File) : Type 0 where
 pub record IsJaniText (tree : prism.File) (text : List ℕ) (model : jani.File) : Type 0 where
   pub text_is : text ≡ jani_text model ++ 10 ∷ []
   pub spells : SpellsAside text model
-  pub shaped : IsShaped text model
+  pub shaped : IsShaped text
   pub translated : IsJaniOf tree model
   pub only : (other : jani.File) → SpellsFile text other → (bare_file other ≡ bare_file model) × IsJaniOf tree other
 

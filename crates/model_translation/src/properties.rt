@@ -9,9 +9,10 @@ ghost use Rattle.prop_trees.specs.Form.{AreOfPrism};
 ghost use Rattle.prop_trees.specs.Syntax.{property_of};
 ghost use Rattle.prop_to_jani.specs.Laws as of_properties;
 ghost use Rattle.prop_to_jani.specs.ReadBack.{with_properties};
+ghost use Rattle.short_names.specs.ShortNames.{HasShortNames};
 ghost use Rattle.model_translation.specs.WithProperties.{IsFileWith, IsWrittenWith, TranslatesFiles};
 
-use crate::translation::{room_for, text_of};
+use crate::translation::{held, room_for, text_of};
 use bridge_io::{Fault, List, Refused};
 use decimal_json::Json;
 use jani_check::CheckedJani;
@@ -21,6 +22,7 @@ use prism_to_jani::flat_to_jani;
 use prop_check::read_props;
 use prop_to_jani::flat_props_to_jani;
 use prop_trees::Property;
+use short_names::{prism_names_law, translated_names_law};
 use std::alloc::{AllocError, Global};
 
 /// Why a model and its properties aren't translated.
@@ -54,6 +56,7 @@ pub fn translate_with_properties(
 ) -> Result<List<u8>, FilesRefused>
     ensures { TranslatesFiles model.now properties.now result }
 {
+    prism_names_law();
     let checked = match read_prism(alloc, model) {
         Ok(checked) => checked,
         Err(Refused::At(fault)) => return Err(FilesRefused::Model(fault)),
@@ -69,17 +72,21 @@ pub fn translate_with_properties(
     Ok(text)
 }
 
-// The text for a judged file and its properties, which are let go once they are translated. `Err` is want of memory.
+// The text for a judged file whose names are short, and its properties, which are let go once they are translated. `Err` is want of memory.
 fn written(
     alloc: Global,
     checked: CheckedPrism,
     props: List<Property>,
     room: usize,
 ) -> Result<List<u8>, AllocError>
-    requires { AreOfPrism checked.file (map property_of props) }
+    requires names { HasShortNames checked.file }
+    requires props { AreOfPrism checked.file (map property_of props) }
     ensures { IfOk result (λ text. (model : File) × (value : Node) × IsWrittenWith checked (map property_of props) text model value) }
 {
+    translated_names_law();
     let full = file_with(alloc, &checked, props)?;
+    checked.file();
+    held(&full);
     drop(checked);
     text_of(alloc, room, &full)
 }

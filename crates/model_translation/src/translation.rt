@@ -1,6 +1,9 @@
 //! From the bytes of a PRISM file to the text of the JANI file that it is translated to.
 ghost use Rattle.std.specs.Prelude.{IfOk};
+ghost use Rattle.jani_tree.specs.Form.{FileShort};
 ghost use Rattle.jani_tree.specs.Syntax.{File, file_of};
+ghost use Rattle.short_names.specs.ShortNames.{HasShortNames};
+ghost use Rattle.short_names.specs.TranslationLaws.{IsHeld};
 ghost use Rattle.model_translation.specs.Translation.{IsText, IsJaniText, TranslatesBytes};
 
 use bridge_io::{List, Refused};
@@ -10,6 +13,7 @@ use jani_tree::{write_jani, written_law};
 use model_files::read_prism;
 use prism_check::CheckedPrism;
 use prism_to_jani::{to_jani, translated_law};
+use short_names::{prism_names_law, translated_names_law};
 use std::alloc::{AllocError, Global};
 
 /// The canonical text of the JANI file that the PRISM file of these bytes is translated to, and a line feed; that file has no fault and
@@ -17,6 +21,7 @@ use std::alloc::{AllocError, Global};
 pub fn translate(alloc: Global, bytes: &[u8]) -> Result<List<u8>, Refused>
     ensures { TranslatesBytes bytes.now result }
 {
+    prism_names_law();
     let checked = match read_prism(alloc, bytes) {
         Ok(checked) => checked,
         Err(refused) => return Err(refused),
@@ -25,14 +30,29 @@ pub fn translate(alloc: Global, bytes: &[u8]) -> Result<List<u8>, Refused>
     Ok(text)
 }
 
-/// The text for a judged file, which is let go once it is translated. `Err` is want of memory.
+/// The text for a judged file whose names are short, which is let go once it is translated. `Err` is want of memory.
 fn translated(alloc: Global, checked: CheckedPrism, room: usize) -> Result<List<u8>, AllocError>
+    requires { HasShortNames checked.file }
     ensures { IfOk result (λ text. (model : File) × IsJaniText checked.file text model) }
 {
     translated_law();
+    translated_names_law();
     let model = to_jani(alloc, &checked)?;
+    checked.file();
+    held(&model);
     drop(checked);
     text_of(alloc, room, &model)
+}
+
+/// Each list of a file that the program holds has fewer than 2 ^ 64 members. Nothing is done but that they are counted.
+pub(crate) fn held(model: &CheckedJani)
+    ensures { IsHeld (file_of model.now) }
+{
+    let file = model.file();
+    let _actions = file.actions.len();
+    let _constants = file.constants.len();
+    let _variables = file.variables.len();
+    let _automata = file.automata.len();
 }
 
 /// How many bytes the text of a file takes at most, by and large, where what it is translated from takes so many.
@@ -40,12 +60,14 @@ pub(crate) fn room_for(length: usize) -> usize {
     length.saturating_mul(6)
 }
 
-/// The canonical text of a file of the profile, and a line feed; so many bytes are set aside for it at first. `Err` is want of memory.
+/// The canonical text of a file of the profile whose names are short, and a line feed; so many bytes are set aside for it at first. `Err` is
+/// want of memory.
 pub(crate) fn text_of(
     alloc: Global,
     room: usize,
     model: &CheckedJani,
 ) -> Result<List<u8>, AllocError>
+    requires { FileShort (file_of model.now) }
     ensures { IfOk result (λ text. IsText text (file_of model.now)) }
 {
     writable_law();

@@ -16,5 +16,5 @@ returns c =
     subst (λ (f : File). SpellsNode c.in_ok-text.text (file_node f)) same (c.in_ok-text.ensures.value (subst IsWritable (sym same) ready)) in
     let whole : c.push.new.self ≡ c.in_ok-text.text ++ 10 ∷ [] = search rules in
     subst (λ t. IsText t (file_of c.args.model.now)) (sym whole)
-    (text_is (file_of c.args.model.now) c.in_ok-text.text c.written_law.ensures.spells c.line_feed_law.ensures ready (c.in_ok-text.ensures.text ∙ ap jani_text same)
+    (text_is (file_of c.args.model.now) c.in_ok-text.text c.written_law.ensures.spells c.line_feed_law.ensures ready c.requires (c.in_ok-text.ensures.text ∙ ap jani_text same)
     value)
