@@ -9,7 +9,7 @@ use Rattle.command_words.specs.Given.{HasGiven, AreGiven, AreApart}
 use Rattle.command_words.specs.Words.{Begins, IsWrong, IsNameBehind, IsStateWord, AnswersWords}
 use Rattle.command_words.specs.declared.request.WordsFail.{WordsFail}
 use Rattle.command_words.specs.declared.request.WordsFail.TheVariants.{Memory, At}
-use Rattle.command_words.specs.Fronts.{Then, One, IsLangWord, IsFileName, IsPairsWord, IsSeedWord, IsStepsWord, GivenForm, SeedForm, WayForm, FromForm, WalkForm, StateForm, PathForm, RowsForm, HeadForm, IsHeadWrong, IsStateWrong, IsNameWrong}
+use Rattle.command_words.specs.Fronts.{Then, One, IsLangWord, IsFileName, IsPairsWord, IsSeedWord, IsStepsWord, GivenForm, SeedForm, WayForm, FromForm, WalkForm, StateForm, PathForm, RowsForm, LabelForm, BoundsForm, HeadForm, IsHeadWrong, IsStateWrong, IsNameWrong}
 use Rattle.command_words.specs.declared.request.Lang.TheVariants.{Jani}
 use Rattle.command_words.proofs.Wrong.{wrong_end, wrong_first, wrong_behind, then_begins, then_next, then_end, then_first, one_begins, one_next, one_end, one_first}
 
@@ -160,6 +160,26 @@ last_begins file states = one_begins (IsNameBehind (file ∷ states ∷ [])) Has
 pub rows_begins : (file : List ℕ) → Begins (RowsForm file) []
 rows_begins file =
     then_begins (IsNameBehind (file ∷ [])) (λ states. One (IsNameBehind (file ∷ states ∷ [])) HasGiven) (102 ∷ file) (second_name file) (last_begins file (102 ∷ file))
+
+fourth_name : (file states rows : List ℕ) → IsNameBehind (file ∷ states ∷ rows ∷ []) (102 ∷ (file ++ (states ++ rows)))
+fourth_name file states rows =
+    let n = length-append file (states ++ rows) in
+    let m = length-append states rows in
+    ((λ e. cc), (longer (102 ∷ (file ++ (states ++ rows))) file (omega (arith, n, m)), (longer (102 ∷ (file ++ (states ++ rows))) states (omega (arith, n, m)), (longer (102 ∷ (file ++ (states ++ rows))) rows (omega (arith, n, m)), tt))))
+
+pub bounds_word_begins : (file states rows : List ℕ) → Begins (One (IsNameBehind (file ∷ states ∷ rows ∷ [])) HasGiven) []
+bounds_word_begins file states rows = one_begins (IsNameBehind (file ∷ states ∷ rows ∷ [])) HasGiven (102 ∷ (file ++ (states ++ rows))) (fourth_name file states rows) given_begins
+
+pub label_begins : (file states rows : List ℕ) → Begins (LabelForm (file ∷ states ∷ rows ∷ [])) []
+label_begins file states rows = one_begins (IsNameBehind []) (One (IsNameBehind (file ∷ states ∷ rows ∷ [])) HasGiven) (codes "f") ((λ e. cc), tt) (bounds_word_begins file states rows)
+
+pub behind_states_begins : (file states : List ℕ) → Begins (Then (IsNameBehind (file ∷ states ∷ [])) (λ rows. LabelForm (file ∷ states ∷ rows ∷ []))) []
+behind_states_begins file states =
+    then_begins (IsNameBehind (file ∷ states ∷ [])) (λ rows. LabelForm (file ∷ states ∷ rows ∷ [])) (102 ∷ (file ++ states)) (third_name file states) (label_begins file states (102 ∷ (file ++ states)))
+
+pub bounds_begins : (file : List ℕ) → Begins (BoundsForm file) []
+bounds_begins file =
+    then_begins (IsNameBehind (file ∷ [])) (λ states. Then (IsNameBehind (file ∷ states ∷ [])) (λ rows. LabelForm (file ∷ states ∷ rows ∷ []))) (102 ∷ file) (second_name file) (behind_states_begins file (102 ∷ file))
 
 module _ (before : List (List ℕ)) (Rest : List ℕ → List (List ℕ) → Type 0) (begins : Begins (Then (IsNameBehind before) Rest) []) where
   pub wrong_name : (ws : List (List ℕ)) → IsNameWrong before ws → IsWrong (Then (IsNameBehind before) Rest) ws 1

@@ -11,7 +11,7 @@ use Rattle.process_texts.specs.declared.given.GivenText.{GivenText}
 use Rattle.process_texts.specs.declared.given.GivenText.TheVariants.{Good, Past, NoForm}
 use Rattle.command_words.specs.Numbers.{IsSmall, numbers_of, pairs_text}
 use Rattle.command_words.specs.Given.{Assignment, IsAssignment, IsGivenText}
-use Rattle.command_words.specs.Words.{Job, showing, along, seeded, Walking, Claim, of_path, of_rows, Checking, on_file, with_properties, walk, check, claim_files, claim_verb, IsCheck, AreWithProperties, verb_of, lang_word, from_words, job_verb, job_words, IsJob, IsWalk, OneRequest, WordsCount}
+use Rattle.command_words.specs.Words.{Job, showing, along, seeded, Walking, Claim, of_path, of_rows, of_bounds, Checking, on_file, with_properties, walk, check, claim_words, claim_verb, IsCheck, AreWithProperties, verb_of, lang_word, from_words, job_verb, job_words, IsJob, IsWalk, OneRequest, WordsCount}
 use Rattle.command_words.specs.declared.request.Lang.{Lang}
 use Rattle.command_words.specs.declared.request.Lang.TheVariants.{Prism, Jani}
 use Rattle.command_words.specs.declared.request.Task.{Task}
@@ -158,11 +158,11 @@ task_walk words CheckPrism f w e h = not_walk _ _ w (differ _ _ refl) (differ _ 
 task_walk words CheckJani f w e h = not_walk _ _ w (differ _ _ refl) (differ _ _ refl) (subst (λ ws. IsWalk ws w) e h)
 
 task_check : (words : List (List ℕ)) (t : Task) (f : List ℕ) (c : Checking) → words ≡ verb_of t ++ f ∷ [] → IsCheck words c → ⊥
-task_check words ToJani f c e h = not_check _ _ c (differ _ _ refl) (differ _ _ refl) (subst (λ ws. IsCheck ws c) e h)
-task_check words ToPrism f c e h = not_check _ _ c (differ _ _ refl) (differ _ _ refl) (subst (λ ws. IsCheck ws c) e h)
-task_check words ToPrismProps f c e h = not_check _ _ c (differ _ _ refl) (differ _ _ refl) (subst (λ ws. IsCheck ws c) e h)
-task_check words CheckPrism f c e h = not_check _ _ c (differ _ _ refl) (differ _ _ refl) (subst (λ ws. IsCheck ws c) e h)
-task_check words CheckJani f c e h = not_check _ _ c (differ _ _ refl) (differ _ _ refl) (subst (λ ws. IsCheck ws c) e h)
+task_check words ToJani f c e h = not_check _ _ c (differ _ _ refl) (differ _ _ refl) (differ _ _ refl) (subst (λ ws. IsCheck ws c) e h)
+task_check words ToPrism f c e h = not_check _ _ c (differ _ _ refl) (differ _ _ refl) (differ _ _ refl) (subst (λ ws. IsCheck ws c) e h)
+task_check words ToPrismProps f c e h = not_check _ _ c (differ _ _ refl) (differ _ _ refl) (differ _ _ refl) (subst (λ ws. IsCheck ws c) e h)
+task_check words CheckPrism f c e h = not_check _ _ c (differ _ _ refl) (differ _ _ refl) (differ _ _ refl) (subst (λ ws. IsCheck ws c) e h)
+task_check words CheckJani f c e h = not_check _ _ c (differ _ _ refl) (differ _ _ refl) (differ _ _ refl) (subst (λ ws. IsCheck ws c) e h)
 
 task_properties : (words : List (List ℕ)) (t : Task) (f g p : List ℕ) → words ≡ verb_of t ++ f ∷ [] → AreWithProperties words g p → ⊥
 task_properties words ToJani f g p e h = let d = tails _ _ _ _ (tails _ _ _ _ (sym e ∙ h.words_are)) in cc
@@ -175,7 +175,7 @@ walk_properties : (words : List (List ℕ)) (w : Walking) (f p : List ℕ) → I
 walk_properties words w f p h k = not_walk _ _ w (differ _ _ refl) (differ _ _ refl) (subst (λ ws. IsWalk ws w) k.words_are h)
 
 check_properties : (words : List (List ℕ)) (c : Checking) (f p : List ℕ) → IsCheck words c → AreWithProperties words f p → ⊥
-check_properties words c f p h k = not_check _ _ c (differ _ _ refl) (differ _ _ refl) (subst (λ ws. IsCheck ws c) k.words_are h)
+check_properties words c f p h k = not_check _ _ c (differ _ _ refl) (differ _ _ refl) (differ _ _ refl) (subst (λ ws. IsCheck ws c) k.words_are h)
 
 walk_check : (words : List (List ℕ)) (w : Walking) (c : Checking) → IsWalk words w → IsCheck words c → ⊥
 walk_check words w c h k = by_claim c.claim (heads _ _ _ _ (sym h.words_are ∙ k.words_are))
@@ -188,13 +188,26 @@ walk_check words w c h k = by_claim c.claim (heads _ _ _ _ (sym h.words_are ∙ 
     by_claim : (m : Claim) → job_verb w.job ≡ claim_verb m → ⊥
     by_claim (of_path p) e = by_job _ w.job (differ _ _ refl) (differ _ _ refl) e
     by_claim (of_rows s r) e = by_job _ w.job (differ _ _ refl) (differ _ _ refl) e
+    by_claim (of_bounds s r n b) e = by_job _ w.job (differ _ _ refl) (differ _ _ refl) e
 
-same_claim : (m n : Claim) (xs ys : List (List ℕ)) → claim_verb m ≡ claim_verb n → claim_files m ++ xs ≡ claim_files n ++ ys → (m ≡ n) × (xs ≡ ys)
+same_bounds : (s t r u n m b d : List ℕ) → s ≡ t → r ≡ u → n ≡ m → b ≡ d → of_bounds s r n b ≡ of_bounds t u m d
+same_bounds s t r u n m b d e f g h = cc
+
+same_claim : (m n : Claim) (xs ys : List (List ℕ)) → claim_verb m ≡ claim_verb n → claim_words m ++ xs ≡ claim_words n ++ ys → (m ≡ n) × (xs ≡ ys)
 same_claim (of_path p) (of_path q) xs ys v e = (ap of_path (heads _ _ _ _ e), tails _ _ _ _ e)
 same_claim (of_path p) (of_rows s r) xs ys v e = absurd (differ _ _ refl v)
 same_claim (of_rows s r) (of_path p) xs ys v e = absurd (differ _ _ refl v)
 same_claim (of_rows s r) (of_rows t u) xs ys v e =
     let f = tails _ _ _ _ e in (ap₂ of_rows (heads _ _ _ _ e) (heads _ _ _ _ f), tails _ _ _ _ f)
+same_claim (of_path p) (of_bounds s r n b) xs ys v e = absurd (differ _ _ refl v)
+same_claim (of_rows s r) (of_bounds t u n b) xs ys v e = absurd (differ _ _ refl v)
+same_claim (of_bounds s r n b) (of_path p) xs ys v e = absurd (differ _ _ refl v)
+same_claim (of_bounds s r n b) (of_rows t u) xs ys v e = absurd (differ _ _ refl v)
+same_claim (of_bounds s r n b) (of_bounds t u m d) xs ys v e =
+    let f = tails _ _ _ _ e in
+    let g = tails _ _ _ _ f in
+    let h = tails _ _ _ _ g in
+    (same_bounds s t r u n m b d (heads _ _ _ _ e) (heads _ _ _ _ f) (heads _ _ _ _ g) (heads _ _ _ _ h), tails _ _ _ _ h)
 
 same_walking : (l m : Lang) (f g : List ℕ) (i j : Job) (xs ys : List Assignment) → l ≡ m → f ≡ g → i ≡ j → xs ≡ ys
     → ◌≡◌ {A = Walking} (record { lang = l; file = f; job = i; given = xs }) (record { lang = m; file = g; job = j; given = ys })

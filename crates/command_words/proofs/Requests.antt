@@ -6,13 +6,13 @@ use Rattle.std.specs.Fmt.{decimal}
 use Rattle.std.specs.List.{AllByRecursion}
 use Rattle.command_words.specs.Numbers.{IsSmall, pairs_text}
 use Rattle.command_words.specs.Given.{Assignment, HasGiven, AreGiven}
-use Rattle.command_words.specs.Words.{texts, Begins, IsWrong, Job, showing, along, seeded, Walking, Claim, of_path, of_rows, Checking, on_file, with_properties, walk, check, IsNameBehind, AreNamesBehind, claim_files, claim_verb, HasFileWord, verb_of, lang_word, IsStateWord, IsFrom, from_words, job_verb, job_words, IsJob, IsWalk, IsCheck, HasForm, job_count}
-use Rattle.command_words.specs.Fronts.{Then, One, IsNameWrong, IsFileName, IsPairsWord, IsSeedWord, IsStepsWord, GivenForm, SeedForm, WayForm, WalkForm, StateForm, PathForm, RowsForm, HeadForm, ShowForm, SimulateForm}
+use Rattle.command_words.specs.Words.{texts, Begins, IsWrong, Job, showing, along, seeded, Walking, Claim, of_path, of_rows, of_bounds, Checking, on_file, with_properties, walk, check, IsNameBehind, AreNamesBehind, claim_files, claim_words, claim_verb, IsClaim, HasFileWord, verb_of, lang_word, IsStateWord, IsFrom, from_words, job_verb, job_words, IsJob, IsWalk, IsCheck, HasForm, job_count}
+use Rattle.command_words.specs.Fronts.{Then, One, IsNameWrong, IsFileName, IsPairsWord, IsSeedWord, IsStepsWord, GivenForm, SeedForm, WayForm, WalkForm, StateForm, PathForm, RowsForm, LabelForm, BoundsForm, HeadForm, ShowForm, SimulateForm}
 use Rattle.command_words.specs.declared.request.Lang.{Lang}
 use Rattle.command_words.specs.declared.request.Task.{Task}
 use Rattle.command_words.specs.declared.request.Task.TheVariants.{ToJani, ToPrism, ToPrismProps, CheckPrism, CheckJani}
 use Rattle.command_words.proofs.Wrong.{wrong_end, wrong_first, wrong_same, wrong_behind, wrong_next, then_begins, then_end, then_first, then_next, one_next}
-use Rattle.command_words.proofs.Forms.{differ, way_given, way_seed, walk_from, walk_way, behind_head, state_begins, walk_begins, path_begins, rows_begins}
+use Rattle.command_words.proofs.Forms.{differ, way_given, way_seed, walk_from, walk_way, behind_head, state_begins, walk_begins, path_begins, rows_begins, bounds_begins}
 
 pub heads : (x y : List ℕ) (xs ys : List (List ℕ)) → x ∷ xs ≡ y ∷ ys → x ≡ y
 heads x y xs ys e = cc
@@ -29,12 +29,13 @@ not_walk v vs w a b h = by_job w.job (heads _ _ _ _ h.words_are)
     by_job (along f ps) e = b e
     by_job (seeded f n k) e = b e
 
-pub not_check : (v : List ℕ) (vs : List (List ℕ)) (c : Checking) → v ≢ codes "check-path" → v ≢ codes "check-rows" → IsCheck (v ∷ vs) c → ⊥
-not_check v vs c a b h = by_claim c.claim (heads _ _ _ _ h.words_are)
+pub not_check : (v : List ℕ) (vs : List (List ℕ)) (c : Checking) → v ≢ codes "check-path" → v ≢ codes "check-rows" → v ≢ codes "check-bound" → IsCheck (v ∷ vs) c → ⊥
+not_check v vs c a b d h = by_claim c.claim (heads _ _ _ _ h.words_are)
   where
     by_claim : (m : Claim) → v ≡ claim_verb m → ⊥
     by_claim (of_path path) e = a e
     by_claim (of_rows states rows) e = b e
+    by_claim (of_bounds states rows label bounds) e = d e
 
 pub not_task : (v : List ℕ) (vs : List (List ℕ)) (task : Task) (name : List ℕ) → v ≢ codes "to-jani" → v ≢ codes "to-prism" → v ≢ codes "to-prism-props" → v ≢ codes "check" → v ∷ vs ≡ verb_of task ++ name ∷ [] → ⊥
 not_task v vs ToJani name a b p c e = a (heads _ _ _ _ e)
@@ -91,7 +92,7 @@ to_jani_words ws (on_file CheckPrism name, f) = absurd (differ _ _ refl (heads _
 to_jani_words ws (on_file CheckJani name, f) = absurd (differ _ _ refl (heads _ _ _ _ f.1))
 to_jani_words ws (with_properties f p, h) = subst (Then IsFileName PropertiesForm) (sym (tails _ _ _ _ h.words_are)) (h.names.0.0, inr (h.names.1.0, refl))
 to_jani_words ws (walk w, h) = absurd (not_walk _ ws w (differ _ _ refl) (differ _ _ refl) h)
-to_jani_words ws (check c, h) = absurd (not_check _ ws c (differ _ _ refl) (differ _ _ refl) h)
+to_jani_words ws (check c, h) = absurd (not_check _ ws c (differ _ _ refl) (differ _ _ refl) (differ _ _ refl) h)
 
 behind_to_jani_words : (ws : List (List ℕ)) (k : ℕ) → IsWrong (Then IsFileName PropertiesForm) ws k → IsWrong ToJaniForm ws k
 behind_to_jani_words ws k e = wrong_same (Then IsFileName PropertiesForm) ToJaniForm ws k to_jani_form to_jani_words e
@@ -146,7 +147,7 @@ to_prism_file ws (on_file CheckPrism name, f) = absurd (differ _ _ refl (heads _
 to_prism_file ws (on_file CheckJani name, f) = absurd (differ _ _ refl (heads _ _ _ _ f.1))
 to_prism_file ws (with_properties f p, h) = absurd (differ _ _ refl (heads _ _ _ _ h.words_are))
 to_prism_file ws (walk w, h) = absurd (not_walk _ ws w (differ _ _ refl) (differ _ _ refl) h)
-to_prism_file ws (check c, h) = absurd (not_check _ ws c (differ _ _ refl) (differ _ _ refl) h)
+to_prism_file ws (check c, h) = absurd (not_check _ ws c (differ _ _ refl) (differ _ _ refl) (differ _ _ refl) h)
 
 pub behind_to_prism : (ws : List (List ℕ)) (k : ℕ) → IsWrong HasFileWord ws k → IsWrong HasForm (codes "to-prism" ∷ ws) (k + 1)
 behind_to_prism ws k e = wrong_behind HasFileWord HasForm (codes "to-prism") ws k to_prism_form to_prism_file e
@@ -163,7 +164,7 @@ to_prism_props_file ws (on_file CheckPrism name, f) = absurd (differ _ _ refl (h
 to_prism_props_file ws (on_file CheckJani name, f) = absurd (differ _ _ refl (heads _ _ _ _ f.1))
 to_prism_props_file ws (with_properties f p, h) = absurd (differ _ _ refl (heads _ _ _ _ h.words_are))
 to_prism_props_file ws (walk w, h) = absurd (not_walk _ ws w (differ _ _ refl) (differ _ _ refl) h)
-to_prism_props_file ws (check c, h) = absurd (not_check _ ws c (differ _ _ refl) (differ _ _ refl) h)
+to_prism_props_file ws (check c, h) = absurd (not_check _ ws c (differ _ _ refl) (differ _ _ refl) (differ _ _ refl) h)
 
 pub behind_to_prism_props : (ws : List (List ℕ)) (k : ℕ) → IsWrong HasFileWord ws k → IsWrong HasForm (codes "to-prism-props" ∷ ws) (k + 1)
 behind_to_prism_props ws k e = wrong_behind HasFileWord HasForm (codes "to-prism-props") ws k to_prism_props_form to_prism_props_file e
@@ -183,7 +184,7 @@ prism_file ws (on_file CheckPrism name, f) = (name, (f.0, tails _ _ _ _ (tails _
 prism_file ws (on_file CheckJani name, f) = absurd (differ _ _ refl (heads _ _ _ _ (tails _ _ _ _ f.1)))
 prism_file ws (with_properties f p, h) = absurd (differ _ _ refl (heads _ _ _ _ h.words_are))
 prism_file ws (walk w, h) = absurd (not_walk _ _ w (differ _ _ refl) (differ _ _ refl) h)
-prism_file ws (check c, h) = absurd (not_check _ _ c (differ _ _ refl) (differ _ _ refl) h)
+prism_file ws (check c, h) = absurd (not_check _ _ c (differ _ _ refl) (differ _ _ refl) (differ _ _ refl) h)
 
 jani_form : (ws : List (List ℕ)) → HasFileWord ws → CheckForm (codes "jani" ∷ ws)
 jani_form ws f = (on_file CheckJani f.0, (f.1.0, ap (λ v. codes "check" ∷ codes "jani" ∷ v) f.1.1))
@@ -196,7 +197,7 @@ jani_file ws (on_file CheckPrism name, f) = absurd (differ _ _ refl (heads _ _ _
 jani_file ws (on_file CheckJani name, f) = (name, (f.0, tails _ _ _ _ (tails _ _ _ _ f.1)))
 jani_file ws (with_properties f p, h) = absurd (differ _ _ refl (heads _ _ _ _ h.words_are))
 jani_file ws (walk w, h) = absurd (not_walk _ _ w (differ _ _ refl) (differ _ _ refl) h)
-jani_file ws (check c, h) = absurd (not_check _ _ c (differ _ _ refl) (differ _ _ refl) h)
+jani_file ws (check c, h) = absurd (not_check _ _ c (differ _ _ refl) (differ _ _ refl) (differ _ _ refl) h)
 
 pub behind_jani : (ws : List (List ℕ)) (k : ℕ) → IsWrong HasFileWord ws k → IsWrong CheckForm (codes "jani" ∷ ws) (k + 1)
 behind_jani ws k e = wrong_behind HasFileWord CheckForm (codes "jani") ws k jani_form jani_file e
@@ -218,7 +219,7 @@ not_check_end (on_file CheckPrism name, f) = let e = tails _ _ _ _ f.1 in cc
 not_check_end (on_file CheckJani name, f) = let e = tails _ _ _ _ f.1 in cc
 not_check_end (with_properties f p, h) = differ _ _ refl (heads _ _ _ _ h.words_are)
 not_check_end (walk w, h) = not_walk _ _ w (differ _ _ refl) (differ _ _ refl) h
-not_check_end (check c, h) = not_check _ _ c (differ _ _ refl) (differ _ _ refl) h
+not_check_end (check c, h) = not_check _ _ c (differ _ _ refl) (differ _ _ refl) (differ _ _ refl) h
 
 pub no_language : IsWrong CheckForm [] 1
 no_language = wrong_end CheckForm check_begins not_check_end
@@ -231,7 +232,7 @@ language lang (more, (on_file CheckPrism name, f)) = inl (heads _ _ _ _ (tails _
 language lang (more, (on_file CheckJani name, f)) = inr (heads _ _ _ _ (tails _ _ _ _ f.1))
 language lang (more, (with_properties f p, h)) = absurd (differ _ _ refl (heads _ _ _ _ h.words_are))
 language lang (more, (walk w, h)) = absurd (not_walk _ _ w (differ _ _ refl) (differ _ _ refl) h)
-language lang (more, (check c, h)) = absurd (not_check _ _ c (differ _ _ refl) (differ _ _ refl) h)
+language lang (more, (check c, h)) = absurd (not_check _ _ c (differ _ _ refl) (differ _ _ refl) (differ _ _ refl) h)
 
 pub other_language : (lang : List ℕ) (ws : List (List ℕ)) → lang ≢ codes "prism" → lang ≢ codes "jani" → IsWrong CheckForm (lang ∷ ws) 1
 other_language lang ws a b = wrong_first CheckForm lang ws check_begins (λ begins. neither (language lang begins))
@@ -260,7 +261,7 @@ show_rest : (ws : List (List ℕ)) → HasForm (codes "show" ∷ ws) → ShowFor
 show_rest ws (on_file task name, f) = absurd (not_task _ ws task name (differ _ _ refl) (differ _ _ refl) (differ _ _ refl) (differ _ _ refl) f.1)
 show_rest ws (with_properties f p, h) = absurd (differ _ _ refl (heads _ _ _ _ h.words_are))
 show_rest ws (walk w, h) = show_parts ws h.rest w.lang w.file w.job w.given h.file h.job h.given h.words_are
-show_rest ws (check c, h) = absurd (not_check _ ws c (differ _ _ refl) (differ _ _ refl) h)
+show_rest ws (check c, h) = absurd (not_check _ ws c (differ _ _ refl) (differ _ _ refl) (differ _ _ refl) h)
 
 pub behind_show : (ws : List (List ℕ)) (k : ℕ) → IsWrong ShowForm ws k → IsWrong HasForm (codes "show" ∷ ws) (k + 1)
 behind_show ws k e = wrong_behind ShowForm HasForm (codes "show") ws k show_form show_rest e
@@ -340,19 +341,19 @@ simulate_rest ws (on_file task name, f) = absurd (not_task _ ws task name (diffe
 simulate_rest ws (with_properties f p, h) = absurd (differ _ _ refl (heads _ _ _ _ h.words_are))
 simulate_rest ws (walk w, h) =
     subst SimulateForm (sym (tails _ _ _ _ h.words_are)) ((w.lang, refl), (h.file, walk_rest h.rest w.job (sym (heads _ _ _ _ h.words_are)) h.job (w.given, h.given)))
-simulate_rest ws (check c, h) = absurd (not_check _ ws c (differ _ _ refl) (differ _ _ refl) h)
+simulate_rest ws (check c, h) = absurd (not_check _ ws c (differ _ _ refl) (differ _ _ refl) (differ _ _ refl) h)
 
 pub behind_simulate : (ws : List (List ℕ)) (k : ℕ) → IsWrong SimulateForm ws k → IsWrong HasForm (codes "simulate" ∷ ws) (k + 1)
 behind_simulate ws k e = wrong_behind SimulateForm HasForm (codes "simulate") ws k simulate_form simulate_rest e
 
--- ---- behind `check-path` and `check-rows`
+-- ---- behind `check-path`, `check-rows` and `check-bound`
 path_form : (ws : List (List ℕ)) → HeadForm PathForm ws → HasForm (codes "check-path" ∷ ws)
 path_form [] h = absurd h
 path_form (l ∷ []) h = absurd h.1
 path_form (l ∷ f ∷ []) h = absurd h.1.1
 path_form (l ∷ f ∷ p ∷ ws) h = (
   check (record { lang = h.0.0; file = f; claim = of_path p; given = h.1.1.1.0 }),
-  record { names = ((h.1.0, tt), (h.1.1.0, tt)); rest = ws; words_are = ap (λ v. codes "check-path" ∷ v ∷ f ∷ p ∷ ws) h.0.1; given = h.1.1.1.1 },
+  record { names = ((h.1.0, tt), (h.1.1.0, tt)); claim = tt; rest = ws; words_are = ap (λ v. codes "check-path" ∷ v ∷ f ∷ p ∷ ws) h.0.1; given = h.1.1.1.1 },
 )
 
 rows_form : (ws : List (List ℕ)) → HeadForm RowsForm ws → HasForm (codes "check-rows" ∷ ws)
@@ -362,17 +363,42 @@ rows_form (l ∷ f ∷ []) h = absurd h.1.1
 rows_form (l ∷ f ∷ s ∷ []) h = absurd h.1.1.1
 rows_form (l ∷ f ∷ s ∷ r ∷ ws) h = (
   check (record { lang = h.0.0; file = f; claim = of_rows s r; given = h.1.1.1.1.0 }),
-  record { names = ((h.1.0, tt), (h.1.1.0, (h.1.1.1.0, tt))); rest = ws; words_are = ap (λ v. codes "check-rows" ∷ v ∷ f ∷ s ∷ r ∷ ws) h.0.1; given = h.1.1.1.1.1 },
+  record { names = ((h.1.0, tt), (h.1.1.0, (h.1.1.1.0, tt))); claim = tt; rest = ws; words_are = ap (λ v. codes "check-rows" ∷ v ∷ f ∷ s ∷ r ∷ ws) h.0.1; given = h.1.1.1.1.1 },
+)
+
+bounds_form : (ws : List (List ℕ)) → HeadForm BoundsForm ws → HasForm (codes "check-bound" ∷ ws)
+bounds_form [] h = absurd h
+bounds_form (l ∷ []) h = absurd h.1
+bounds_form (l ∷ f ∷ []) h = absurd h.1.1
+bounds_form (l ∷ f ∷ s ∷ []) h = absurd h.1.1.1
+bounds_form (l ∷ f ∷ s ∷ r ∷ []) h = absurd h.1.1.1.1
+bounds_form (l ∷ f ∷ s ∷ r ∷ a ∷ []) h = absurd h.1.1.1.1.1
+bounds_form (l ∷ f ∷ s ∷ r ∷ a ∷ b ∷ ws) h = (
+  check (record { lang = h.0.0; file = f; claim = of_bounds s r a b; given = h.1.1.1.1.1.1.0 }),
+  record {
+    names = ((h.1.0, tt), (h.1.1.0, (h.1.1.1.0, (h.1.1.1.1.1.0, tt))));
+    claim = h.1.1.1.1.0.0;
+    rest = ws;
+    words_are = ap (λ v. codes "check-bound" ∷ v ∷ f ∷ s ∷ r ∷ a ∷ b ∷ ws) h.0.1;
+    given = h.1.1.1.1.1.1.1;
+  },
 )
 
 module _ (ws rest : List (List ℕ)) (l : Lang) (f : List ℕ) (given : List Assignment) (g : AreGiven rest given) where
-  path_parts : (m : Claim) → AreNamesBehind [] (f ∷ claim_files m) → codes "check-path" ∷ ws ≡ claim_verb m ∷ lang_word l ∷ f ∷ (claim_files m ++ rest) → HeadForm PathForm ws
+  path_parts : (m : Claim) → AreNamesBehind [] (f ∷ claim_files m) → codes "check-path" ∷ ws ≡ claim_verb m ∷ lang_word l ∷ f ∷ (claim_words m ++ rest) → HeadForm PathForm ws
   path_parts (of_path p) a e = subst (HeadForm PathForm) (sym (tails _ _ _ _ e)) ((l, refl), (a.0.0, (a.1.0, (given, g))))
   path_parts (of_rows s r) a e = absurd (differ _ _ refl (heads _ _ _ _ e))
+  path_parts (of_bounds s r n b) a e = absurd (differ _ _ refl (heads _ _ _ _ e))
 
-  rows_parts : (m : Claim) → AreNamesBehind [] (f ∷ claim_files m) → codes "check-rows" ∷ ws ≡ claim_verb m ∷ lang_word l ∷ f ∷ (claim_files m ++ rest) → HeadForm RowsForm ws
+  rows_parts : (m : Claim) → AreNamesBehind [] (f ∷ claim_files m) → codes "check-rows" ∷ ws ≡ claim_verb m ∷ lang_word l ∷ f ∷ (claim_words m ++ rest) → HeadForm RowsForm ws
   rows_parts (of_path p) a e = absurd (differ _ _ refl (heads _ _ _ _ e))
   rows_parts (of_rows s r) a e = subst (HeadForm RowsForm) (sym (tails _ _ _ _ e)) ((l, refl), (a.0.0, (a.1.0, (a.1.1.0, (given, g)))))
+  rows_parts (of_bounds s r n b) a e = absurd (differ _ _ refl (heads _ _ _ _ e))
+
+  bounds_parts : (m : Claim) → AreNamesBehind [] (f ∷ claim_files m) → IsClaim m → codes "check-bound" ∷ ws ≡ claim_verb m ∷ lang_word l ∷ f ∷ (claim_words m ++ rest) → HeadForm BoundsForm ws
+  bounds_parts (of_path p) a i e = absurd (differ _ _ refl (heads _ _ _ _ e))
+  bounds_parts (of_rows s r) a i e = absurd (differ _ _ refl (heads _ _ _ _ e))
+  bounds_parts (of_bounds s r n b) a i e = subst (HeadForm BoundsForm) (sym (tails _ _ _ _ e)) ((l, refl), (a.0.0, (a.1.0, (a.1.1.0, ((i, tt), (a.1.1.1.0, (given, g)))))))
 
 path_rest : (ws : List (List ℕ)) → HasForm (codes "check-path" ∷ ws) → HeadForm PathForm ws
 path_rest ws (on_file task name, f) = absurd (not_task _ ws task name (differ _ _ refl) (differ _ _ refl) (differ _ _ refl) (differ _ _ refl) f.1)
@@ -386,11 +412,20 @@ rows_rest ws (with_properties f p, h) = absurd (differ _ _ refl (heads _ _ _ _ h
 rows_rest ws (walk w, h) = absurd (not_walk _ ws w (differ _ _ refl) (differ _ _ refl) h)
 rows_rest ws (check c, h) = rows_parts ws h.rest c.lang c.file c.given h.given c.claim h.names h.words_are
 
+bounds_rest : (ws : List (List ℕ)) → HasForm (codes "check-bound" ∷ ws) → HeadForm BoundsForm ws
+bounds_rest ws (on_file task name, f) = absurd (not_task _ ws task name (differ _ _ refl) (differ _ _ refl) (differ _ _ refl) (differ _ _ refl) f.1)
+bounds_rest ws (with_properties f p, h) = absurd (differ _ _ refl (heads _ _ _ _ h.words_are))
+bounds_rest ws (walk w, h) = absurd (not_walk _ ws w (differ _ _ refl) (differ _ _ refl) h)
+bounds_rest ws (check c, h) = bounds_parts ws h.rest c.lang c.file c.given h.given c.claim h.names h.claim h.words_are
+
 pub behind_path : (ws : List (List ℕ)) (k : ℕ) → IsWrong (HeadForm PathForm) ws k → IsWrong HasForm (codes "check-path" ∷ ws) (k + 1)
 behind_path ws k e = wrong_behind (HeadForm PathForm) HasForm (codes "check-path") ws k path_form path_rest e
 
 pub behind_rows : (ws : List (List ℕ)) (k : ℕ) → IsWrong (HeadForm RowsForm) ws k → IsWrong HasForm (codes "check-rows" ∷ ws) (k + 1)
 behind_rows ws k e = wrong_behind (HeadForm RowsForm) HasForm (codes "check-rows") ws k rows_form rows_rest e
+
+pub behind_bounds : (ws : List (List ℕ)) (k : ℕ) → IsWrong (HeadForm BoundsForm) ws k → IsWrong HasForm (codes "check-bound" ∷ ws) (k + 1)
+behind_bounds ws k e = wrong_behind (HeadForm BoundsForm) HasForm (codes "check-bound") ws k bounds_form bounds_rest e
 
 -- ---- the first word
 form_begins : Begins HasForm []
@@ -410,12 +445,12 @@ pub no_verb : IsWrong HasForm [] 1
 no_verb = wrong_end HasForm form_begins not_form_end
 
 module _ (v : List ℕ) (ws : List (List ℕ)) (a : v ≢ codes "to-jani") (b : v ≢ codes "to-prism") (p : v ≢ codes "to-prism-props") (c : v ≢ codes "check") (d : v ≢ codes "show") (e : v ≢ codes "simulate")
-    (f : v ≢ codes "check-path") (g : v ≢ codes "check-rows") where
+    (f : v ≢ codes "check-path") (g : v ≢ codes "check-rows") (i : v ≢ codes "check-bound") where
   not_begun : Begins HasForm (v ∷ []) → ⊥
   not_begun (more, (on_file task name, h)) = not_task v more task name a b p c h.1
   not_begun (more, (with_properties file second, h)) = a (heads _ _ _ _ h.words_are)
   not_begun (more, (walk w, h)) = not_walk v more w d e h
-  not_begun (more, (check m, h)) = not_check v more m f g h
+  not_begun (more, (check m, h)) = not_check v more m f g i h
 
   pub other_verb : IsWrong HasForm (v ∷ ws) 1
   other_verb = wrong_first HasForm v ws form_begins not_begun
@@ -469,25 +504,32 @@ wrong_given ws rest l f j k n a b e c h =
 
 -- ---- behind a claim
 module _ (rest : List (List ℕ)) (k : ℕ) (h : IsWrong HasGiven rest k) (l : Lang) (f : List ℕ) where
-  claim_wrong : (m : Claim) → AreNamesBehind [] (f ∷ claim_files m) → IsWrong HasForm (claim_verb m ∷ lang_word l ∷ f ∷ (claim_files m ++ rest)) ((3 + length (claim_files m)) + k)
-  claim_wrong (of_path p) a =
+  claim_wrong : (m : Claim) → AreNamesBehind [] (f ∷ claim_files m) → IsClaim m → IsWrong HasForm (claim_verb m ∷ lang_word l ∷ f ∷ (claim_words m ++ rest)) ((3 + length (claim_words m)) + k)
+  claim_wrong (of_path p) a c =
       more HasForm _ _ _ (let e : k + 1 + 2 + 1 ≡ (3 + 1) + k = omega arith in e)
       (behind_path _ _ (behind_head PathForm (path_begins (codes "f")) (lang_word l) f _ _ (l, refl) a.0.0 (one_next (IsNameBehind (f ∷ [])) HasGiven p rest k a.1.0 h)))
-  claim_wrong (of_rows s r) a =
+  claim_wrong (of_rows s r) a c =
       more HasForm _ _ _ (let e : k + 1 + 1 + 2 + 1 ≡ (3 + 2) + k = omega arith in e)
       (behind_rows _ _ (behind_head RowsForm (rows_begins (codes "f")) (lang_word l) f _ _ (l, refl) a.0.0
       (then_next (IsNameBehind (f ∷ [])) (λ states. One (IsNameBehind (f ∷ states ∷ [])) HasGiven) s _ (k + 1) a.1.0 (one_next (IsNameBehind (f ∷ s ∷ [])) HasGiven r rest k a.1.1.0 h))))
+  claim_wrong (of_bounds s r n b) a c =
+      more HasForm _ _ _ (let e : k + 1 + 1 + 1 + 1 + 2 + 1 ≡ (3 + 4) + k = omega arith in e)
+      (behind_bounds _ _ (behind_head BoundsForm (bounds_begins (codes "f")) (lang_word l) f _ _ (l, refl) a.0.0
+      (then_next (IsNameBehind (f ∷ [])) (λ states. Then (IsNameBehind (f ∷ states ∷ [])) (λ rows. LabelForm (f ∷ states ∷ rows ∷ []))) s _ (k + 1 + 1 + 1) a.1.0
+      (then_next (IsNameBehind (f ∷ s ∷ [])) (λ rows. LabelForm (f ∷ s ∷ rows ∷ [])) r _ (k + 1 + 1) a.1.1.0
+      (one_next (IsNameBehind []) (One (IsNameBehind (f ∷ s ∷ r ∷ [])) HasGiven) n _ (k + 1) (c, tt) (one_next (IsNameBehind (f ∷ s ∷ r ∷ [])) HasGiven b rest k a.1.1.1.0 h))))))
 
-length-files : (m : Claim) (rest : List (List ℕ)) → length (claim_files m ++ rest) ≡ length (claim_files m) + length rest
-length-files (of_path p) rest = omega arith
-length-files (of_rows s r) rest = omega arith
+length-words : (m : Claim) (rest : List (List ℕ)) → length (claim_words m ++ rest) ≡ length (claim_words m) + length rest
+length-words (of_path p) rest = omega arith
+length-words (of_rows s r) rest = omega arith
+length-words (of_bounds s r n b) rest = omega arith
 
-pub length-claim : (ws : List (List ℕ)) (v l f : List ℕ) (m : Claim) (rest : List (List ℕ)) → ws ≡ v ∷ l ∷ f ∷ (claim_files m ++ rest) → length ws ≡ (3 + length (claim_files m)) + length rest
-length-claim ws v l f m rest e = let a = ap length e in let b = length-files m rest in omega (arith, a, b)
+pub length-claim : (ws : List (List ℕ)) (v l f : List ℕ) (m : Claim) (rest : List (List ℕ)) → ws ≡ v ∷ l ∷ f ∷ (claim_words m ++ rest) → length ws ≡ (3 + length (claim_words m)) + length rest
+length-claim ws v l f m rest e = let a = ap length e in let b = length-words m rest in omega (arith, a, b)
 
 -- behind the front of words, at so many
-pub wrong_given_claim : (ws rest : List (List ℕ)) (l : Lang) (f : List ℕ) (m : Claim) (k n : ℕ) → AreNamesBehind [] (f ∷ claim_files m) → ws ≡ claim_verb m ∷ lang_word l ∷ f ∷ (claim_files m ++ rest)
+pub wrong_given_claim : (ws rest : List (List ℕ)) (l : Lang) (f : List ℕ) (m : Claim) (k n : ℕ) → AreNamesBehind [] (f ∷ claim_files m) → IsClaim m → ws ≡ claim_verb m ∷ lang_word l ∷ f ∷ (claim_words m ++ rest)
     → n + length rest ≡ length ws → IsWrong HasGiven rest k → IsWrong HasForm ws (n + k)
-wrong_given_claim ws rest l f m k n a e c h =
+wrong_given_claim ws rest l f m k n a i e c h =
     let d = length-claim ws (claim_verb m) (lang_word l) f m rest e in
-    more HasForm ws ((3 + length (claim_files m)) + k) (n + k) (omega (arith, c, d)) (subst (λ vs. IsWrong HasForm vs ((3 + length (claim_files m)) + k)) (sym e) (claim_wrong rest k h l f m a))
+    more HasForm ws ((3 + length (claim_words m)) + k) (n + k) (omega (arith, c, d)) (subst (λ vs. IsWrong HasForm vs ((3 + length (claim_words m)) + k)) (sym e) (claim_wrong rest k h l f m a i))

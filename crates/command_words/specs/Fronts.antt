@@ -2,7 +2,7 @@
 use Rattle.std.specs.Prelude.{◌≡◌, ◌≢◌, ◌⊎◌, ℕ, ◌^◌, ◌-◌, List, [], ◌∷◌, ◌++◌, codes, Option, Some, None}
 use Rattle.command_words.specs.Numbers.{IsNumber, IsPairs}
 use Rattle.command_words.specs.Given.{HasGiven}
-use Rattle.command_words.specs.Words.{texts, IsStateWord, IsFrom, IsJob, job_of, job_verb, job_words, lang_word, from_words, IsNameBehind, AreNamesBehind, claim_of, claim_verb, claim_files}
+use Rattle.command_words.specs.Words.{texts, IsStateWord, IsFrom, IsJob, job_of, job_verb, job_words, lang_word, from_words, IsNameBehind, AreNamesBehind, claim_of, claim_verb, claim_files, claim_words, IsClaim}
 use Rattle.command_words.specs.declared.request.Lang.{Lang}
 use Rattle.command_words.specs.declared.fronts.Head.{Head}
 use Rattle.command_words.specs.declared.fronts.StateFront.{StateFront}
@@ -69,6 +69,13 @@ PathForm file ws = One (IsNameBehind (file ∷ [])) HasGiven ws
 abbrev pub RowsForm : List ℕ → List (List ℕ) → Type 0
 RowsForm file ws = Then (IsNameBehind (file ∷ [])) (λ states. One (IsNameBehind (file ∷ states ∷ [])) HasGiven) ws
 
+-- behind `check-bound LANG FILE`, and behind the words of files before LABEL
+abbrev pub LabelForm : List (List ℕ) → List (List ℕ) → Type 0
+LabelForm before ws = One (IsNameBehind []) (One (IsNameBehind before) HasGiven) ws
+
+abbrev pub BoundsForm : List ℕ → List (List ℕ) → Type 0
+BoundsForm file ws = Then (IsNameBehind (file ∷ [])) (λ states. Then (IsNameBehind (file ∷ states ∷ [])) (λ rows. LabelForm (file ∷ states ∷ rows ∷ []))) ws
+
 -- behind the first word: a language, the word of a file, and then others that it has a say in
 abbrev pub HeadForm : (List ℕ → List (List ℕ) → Type 0) → List (List ℕ) → Type 0
 HeadForm Rest ws = One IsLangWord (Then IsFileName Rest) ws
@@ -132,7 +139,8 @@ ReadsName before ws None = IsNameWrong before ws
 -- A claim about the process of a file, and what stands behind it.
 pub record IsClaimFront (ws : List (List ℕ)) (c : ClaimFront) : Type 0 where
   pub names : AreNamesBehind [] (c.file.now ∷ claim_files (claim_of c.claim))
-  pub words_are : ws ≡ claim_verb (claim_of c.claim) ∷ lang_word c.lang ∷ c.file.now ∷ (claim_files (claim_of c.claim) ++ texts c.rest.now)
+  pub claim : IsClaim (claim_of c.claim)
+  pub words_are : ws ≡ claim_verb (claim_of c.claim) ∷ lang_word c.lang ∷ c.file.now ∷ (claim_words (claim_of c.claim) ++ texts c.rest.now)
 
 -- all words before those of the constants, and what stands behind them
 pub record IsStart (ws : List (List ℕ)) (s : Start) : Type 0 where

@@ -51,10 +51,12 @@ pub record Walking : Type 0 where
   pub job : Job
   pub given : List Assignment
 
--- what another file says of a process: this one is a path of it; or these two are its states and its rows
+-- what other files say of a process: this one is a path of it; or these two are its states and its rows; or, over these two,
+-- the last has bounds on the probability of reaching the label of this name
 pub data Claim : Type 0 where
   of_path : (path : List ℕ) → Claim
   of_rows : (states rows : List ℕ) → Claim
+  of_bounds : (states rows label bounds : List ℕ) → Claim
 
 pub record Checking : Type 0 where
   pub lang : Lang
@@ -72,6 +74,7 @@ pub data Request : Type 0 where
 abbrev pub claim_files : Claim → List (List ℕ)
 claim_files (of_path path) = path ∷ []
 claim_files (of_rows states rows) = states ∷ rows ∷ []
+claim_files (of_bounds states rows label bounds) = states ∷ rows ∷ bounds ∷ []
 
 -- the file of the model
 abbrev pub file_of : Request → List ℕ
@@ -163,16 +166,30 @@ pub record IsWalk (words : List (List ℕ)) (w : Walking) : Type 0 where
   pub words_are : words ≡ front_words w ++ rest
   pub given : AreGiven rest w.given
 
--- ---- the forms with further files: `check-path LANG FILE PATH`, `check-rows LANG FILE STATES ROWS`; then any number of words
--- NAME=VALUE
+-- ---- the forms with further files: `check-path LANG FILE PATH`, `check-rows LANG FILE STATES ROWS`, `check-bound LANG FILE STATES
+-- ROWS LABEL BOUNDS`; then any number of words NAME=VALUE
 abbrev pub claim_verb : Claim → List ℕ
 claim_verb (of_path path) = codes "check-path"
 claim_verb (of_rows states rows) = codes "check-rows"
+claim_verb (of_bounds states rows label bounds) = codes "check-bound"
+
+-- the words behind that of the model's file
+abbrev pub claim_words : Claim → List (List ℕ)
+claim_words (of_path path) = path ∷ []
+claim_words (of_rows states rows) = states ∷ rows ∷ []
+claim_words (of_bounds states rows label bounds) = states ∷ rows ∷ label ∷ bounds ∷ []
+
+-- a label isn't empty; it may be any other word
+abbrev pub IsClaim : Claim → Type 0
+IsClaim (of_path path) = Unit {0}
+IsClaim (of_rows states rows) = Unit {0}
+IsClaim (of_bounds states rows label bounds) = label ≢ []
 
 pub record IsCheck (words : List (List ℕ)) (c : Checking) : Type 0 where
   pub names : AreNamesBehind [] (c.file ∷ claim_files c.claim)
+  pub claim : IsClaim c.claim
   pub rest : List (List ℕ)
-  pub words_are : words ≡ claim_verb c.claim ∷ lang_word c.lang ∷ c.file ∷ (claim_files c.claim ++ rest)
+  pub words_are : words ≡ claim_verb c.claim ∷ lang_word c.lang ∷ c.file ∷ (claim_words c.claim ++ rest)
   pub given : AreGiven rest c.given
 
 -- ---- all forms
@@ -201,7 +218,7 @@ abbrev pub words_before : Walking → ℕ
 words_before w = 3 + job_count w.job
 
 abbrev pub words_before_given : Checking → ℕ
-words_before_given c = 3 + length (claim_files c.claim)
+words_before_given c = 3 + length (claim_words c.claim)
 
 -- how many words ask for it
 abbrev pub word_count : Request → ℕ
@@ -229,6 +246,7 @@ walking_of w = record { lang = w.lang; file = w.file.now; job = job_of w.job; gi
 abbrev pub claim_of : code_claim.Claim → Claim
 claim_of (code_claim_case.Path path) = of_path path.now
 claim_of (code_claim_case.Rows states rows) = of_rows states.now rows.now
+claim_of (code_claim_case.Bounds states rows label bounds) = of_bounds states.now rows.now label.now bounds.now
 
 abbrev pub checking_of : code_checking.Checking → Checking
 checking_of c = record { lang = c.lang; file = c.file.now; claim = claim_of c.claim; given = assignments_of c.given }

@@ -1,9 +1,9 @@
-// The words before those of the constants, behind `check-path` and `check-rows`.
+// The words before those of the constants, behind `check-path`, `check-rows` and `check-bound`.
 
 ghost use Rattle.std.specs.Prelude.{◌≢◌, ◌∷◌, MatchBool, MatchResult, codes, map};
 ghost use Rattle.std.specs.List.{AllByRecursion};
 ghost use Rattle.command_words.specs.Words.{IsWrong, texts};
-ghost use Rattle.command_words.specs.Fronts.{HeadForm, IsClaimFront, PathForm, ReadsName, RowsForm};
+ghost use Rattle.command_words.specs.Fronts.{BoundsForm, HeadForm, IsClaimFront, PathForm, ReadsName, RowsForm};
 
 use crate::fronts::head_in;
 use crate::request::{Claim, Lang};
@@ -55,6 +55,34 @@ pub(crate) fn rows_in(words: &[String]) -> Result<ClaimFront<'_>, usize>
         file: head.file,
         claim: Claim::Rows(states.name, rows.name),
         rest: rows.rest,
+    })
+}
+
+/// The same of the form `LANG FILE STATES ROWS LABEL BOUNDS ..`.
+pub(crate) fn bounds_in(words: &[String]) -> Result<ClaimFront<'_>, usize>
+    ensures { MatchResult result (IsClaimFront (codes "check-bound" ∷ texts words.now)) (λ k. IsWrong (HeadForm BoundsForm) (texts words.now) k) }
+{
+    let head = match head_in(words) {
+        Ok(head) => head,
+        Err(k) => return Err(k),
+    };
+    let Some(states) = name_in(head.rest, &[head.file]) else {
+        return Err(3);
+    };
+    let Some(rows) = name_in(states.rest, &[head.file, states.name]) else {
+        return Err(4);
+    };
+    let Some(label) = name_in(rows.rest, &[]) else {
+        return Err(5);
+    };
+    let Some(bounds) = name_in(label.rest, &[head.file, states.name, rows.name]) else {
+        return Err(6);
+    };
+    Ok(ClaimFront {
+        lang: head.lang,
+        file: head.file,
+        claim: Claim::Bounds(states.name, rows.name, label.name, bounds.name),
+        rest: bounds.rest,
     })
 }
 

@@ -71,6 +71,9 @@ pub enum Claim<'a> {
     Path(&'a str),
     /// `check-rows LANG FILE STATES ROWS`: the files of these words are its states and its rows.
     Rows(&'a str, &'a str),
+    /// `check-bound LANG FILE STATES ROWS LABEL BOUNDS`: over the states and the rows that the files of the first two words hold,
+    /// that of the last has bounds on the probability of reaching the label of this name.
+    Bounds(&'a str, &'a str, &'a str, &'a str),
 }
 
 /// A claim about the process of a file under given constants, which is to be judged.
@@ -114,6 +117,9 @@ impl<'a> Request<'a> {
                 Claim::Path(path) => Vec::from_slice(alloc, &[checking.file, path]),
                 Claim::Rows(states, rows) => {
                     Vec::from_slice(alloc, &[checking.file, states, rows])
+                }
+                Claim::Bounds(states, rows, _, bounds) => {
+                    Vec::from_slice(alloc, &[checking.file, states, rows, bounds])
                 }
             },
         };

@@ -3,7 +3,7 @@ ghost use Rattle.std.specs.Prelude.{◌∷◌, MatchResult, codes};
 ghost use Rattle.command_words.specs.Words.{AnswersWords, HasFileWord, HasForm, IsFileWord, IsRequest, IsWrong, on_file, request_of, texts};
 ghost use Rattle.command_words.specs.Fronts.{IsClaimFront, IsStart, ShowForm, SimulateForm};
 
-use crate::claims::{ClaimFront, name_in, path_in, rows_in};
+use crate::claims::{ClaimFront, bounds_in, name_in, path_in, rows_in};
 use crate::fronts::{Front, head_in, state_in, walk_in};
 use crate::given::assignments_in;
 use crate::request::{Checking, Job, Lang, Request, Task, Walking, WordsFail};
@@ -48,6 +48,10 @@ pub fn request_in(alloc: Global, words: &[String]) -> Result<Request<'_>, WordsF
             Err(k) => Err(WordsFail::At(k + 1)),
         },
         "check-rows" => match rows_in(rest) {
+            Ok(front) => claim_with_given(alloc, words, front),
+            Err(k) => Err(WordsFail::At(k + 1)),
+        },
+        "check-bound" => match bounds_in(rest) {
             Ok(front) => claim_with_given(alloc, words, front),
             Err(k) => Err(WordsFail::At(k + 1)),
         },

@@ -8,7 +8,7 @@ use Rattle.command_words.proofs.words.claim_with_given.Goals as goal
 pub returns-in-Err-At : goal.returns-in-Err-At
 returns-in-Err-At c =
     wrong_given_claim (texts c.args.words.now) (texts c.args.front.rest.now) c.args.front.lang c.args.front.file.now (claim_of c.args.front.claim) c.in-Err-At.k
-    (length c.args.words.now - length c.args.front.rest.now) c.requires.names c.requires.words_are
+    (length c.args.words.now - length c.args.front.rest.now) c.requires.names c.requires.claim c.requires.words_are
     (let e = length-claim (texts c.args.words.now) _ _ _ (claim_of c.args.front.claim) (texts c.args.front.rest.now) c.requires.words_are in
     omega (arith, e, length-map c.args.words.now string_bytes, length-map c.args.front.rest.now string_bytes))
     (rw c.in-Err-At.field-0-is at c.in-Err-At.ensures)

@@ -4,9 +4,9 @@ use Rattle.std.specs.Prelude.{String}
 use Rattle.std.specs.Global.{Global}
 use Rattle.std.specs.Prelude.{string_bytes, codes}
 use Rattle.command_words.specs.Words.{HasFileWord, HasForm, IsWrong, texts}
-use Rattle.command_words.specs.Fronts.{HeadForm, PathForm, RowsForm, ShowForm, SimulateForm}
+use Rattle.command_words.specs.Fronts.{HeadForm, PathForm, RowsForm, BoundsForm, ShowForm, SimulateForm}
 use Rattle.command_words.proofs.Wrong.{read_none, read_first}
-use Rattle.command_words.proofs.Requests.{no_verb, other_verb, behind_to_jani, behind_to_prism, behind_to_prism_props, behind_check, behind_show, behind_simulate, behind_path, behind_rows}
+use Rattle.command_words.proofs.Requests.{no_verb, other_verb, behind_to_jani, behind_to_prism, behind_to_prism_props, behind_check, behind_show, behind_simulate, behind_path, behind_rows, behind_bounds}
 use Rattle.command_words.proofs.words.request_in.Goals as goal
 
 -- a position among the words behind the first is one of all words
@@ -58,6 +58,11 @@ returns-in-Err-rows_in c =
     let eq : string_bytes c.verb-item.result ≡ codes "check-rows" = search rules in
     read_first HasForm _ _ c.verb-item.result _ c.in-len1-up.len_at_least c.verb-item.is eq (behind_rows _ _ c.in-Err-rows_in.ensures)
 
+pub returns-in-Err-bounds_in : goal.returns-in-Err-bounds_in
+returns-in-Err-bounds_in c =
+    let eq : string_bytes c.verb-item.result ≡ codes "check-bound" = search rules in
+    read_first HasForm _ _ c.verb-item.result _ c.in-len1-up.len_at_least c.verb-item.is eq (behind_bounds _ _ c.in-Err-bounds_in.ensures)
+
 pub returns-in_default-as_str : goal.returns-in_default-as_str
 returns-in_default-as_str c =
     let not_to_jani : string_bytes c.verb-item.result ≢ codes "to-jani" = search rules in
@@ -68,7 +73,8 @@ returns-in_default-as_str c =
     let not_simulate : string_bytes c.verb-item.result ≢ codes "simulate" = search rules in
     let not_path : string_bytes c.verb-item.result ≢ codes "check-path" = search rules in
     let not_rows : string_bytes c.verb-item.result ≢ codes "check-rows" = search rules in
-    read_first HasForm 1 _ c.verb-item.result _ c.in-len1-up.len_at_least c.verb-item.is refl (other_verb _ _ not_to_jani not_to_prism not_props not_check not_show not_simulate not_path not_rows)
+    let not_bound : string_bytes c.verb-item.result ≢ codes "check-bound" = search rules in
+    read_first HasForm 1 _ c.verb-item.result _ c.in-len1-up.len_at_least c.verb-item.is refl (other_verb _ _ not_to_jani not_to_prism not_props not_check not_show not_simulate not_path not_rows not_bound)
 
 pub overflow_add-result : goal.overflow_add-result
 overflow_add-result c = let h = behind_first (λ ws. HasForm (codes "to-jani" ∷ ws)) c.args.words.now c.in-Err.k c.in-len1-up.len_at_least c.in-Err.ensures in omega arith
@@ -90,6 +96,9 @@ overflow_add-result-in-Err-path_in c = let h = behind_first (HeadForm PathForm) 
 
 pub overflow_add-result-in-Err-rows_in : goal.overflow_add-result-in-Err-rows_in
 overflow_add-result-in-Err-rows_in c = let h = behind_first (HeadForm RowsForm) c.args.words.now c.in-Err-rows_in.k c.in-len1-up.len_at_least c.in-Err-rows_in.ensures in omega arith
+
+pub overflow_add-result-in-Err-bounds_in : goal.overflow_add-result-in-Err-bounds_in
+overflow_add-result-in-Err-bounds_in c = let h = behind_first (HeadForm BoundsForm) c.args.words.now c.in-Err-bounds_in.k c.in-len1-up.len_at_least c.in-Err-bounds_in.ensures in omega arith
 
 pub overflow_add-result-in-Err-At : goal.overflow_add-result-in-Err-At
 overflow_add-result-in-Err-At c = let h = behind_first SimulateForm c.args.words.now c.in-Err-At.k c.in-len1-up.len_at_least (rw c.in-Err-At.field-0-is at c.in-Err-At.ensures) in let e = c.in-Err-At.k-is in omega arith
