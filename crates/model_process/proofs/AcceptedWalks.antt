@@ -20,6 +20,8 @@ use Rattle.model_process.specs.declared.ending.Ending.TheVariants.{Done}
 use Rattle.model_process.specs.Models.{Describes}
 use Rattle.model_process.specs.Starts.{EndsUnstarted, unfit, wide, faulty, IsStartable, process_for}
 use Rattle.model_process.specs.Walks.{IsReport, ending_of, unstarted as begun_not, shown}
+use Rattle.model_process.specs.declared.finding.Finding.{Finding}
+use Rattle.model_process.specs.declared.finding.Finding.TheVariants.{Judged, Bounds, NoLabel}
 use Rattle.model_process.specs.Claims.{HasVerdict, unstarted, judged}
 use Rattle.model_process.specs.Verdicts.{verdict_ending}
 use Rattle.model_process.specs.WrittenPaths.{IsWalk, WalksAreAccepted}
@@ -58,12 +60,18 @@ module _ (one : OneStateText) (back : StateReadsBack) (yes : PathIsYes) where
   job_yes p first text (seeded from seed steps) R.NoStart k h e v c = absurd cc
   job_yes p first text (seeded from seed steps) (R.Excess t l) k h e v c = absurd cc
 
+  found_yes : (p : Process) → ((f : Values) → p.first ≡ Some f → p.has_wide_initial f ≡ false) → (text path : List ℕ) (j : Job) (r : Report) → IsWalk j → IsReport p j r → Done text ≡ ending_of j r →
+      (v : Finding) → HasVerdict p (of_path path) (text ∷ []) v → v ≡ Judged Yes
+  found_yes p first text path j r k h e (Judged v) c = ap Judged (job_yes p first text j r k h e v c)
+  found_yes p first text path j r k h e (Bounds v) c = absurd c
+  found_yes p first text path j r k h e NoLabel c = absurd c
+
   pub walks_accepted : WalksAreAccepted
   walks_accepted bytes text path d w c e h ask (begun_not u) claim = absurd (not_done d (words_before w) w.given text u)
   walks_accepted bytes text path d w c e h ask (shown s r report f) (unstarted u) =
       absurd (not_unstarted d (words_before_given c) w.given e s (subst (λ g. EndsUnstarted d (words_before_given c) g e) ask.constants u))
   walks_accepted bytes text path d w c e h ask (shown s r report f) (judged t v has g) =
-      let verdict : ChecksPath (process_for d w.given) text (Ok v) =
+      let verdict : HasVerdict (process_for d w.given) (of_path path) (text ∷ []) v =
       subst (λ x. HasVerdict (process_for d x) (of_path path) (text ∷ []) v) ask.constants (subst (λ x. HasVerdict (process_for d c.given) x (text ∷ []) v) ask.claim has) in
-      let is : v ≡ Yes = job_yes (process_for d w.given) (λ x i. never_wide w.lang bytes d h w.given x) text w.job r ask.walk report f v verdict in
+      let is : v ≡ Judged Yes = found_yes (process_for d w.given) (λ x i. never_wide w.lang bytes d h w.given x) text path w.job r ask.walk report f v verdict in
       g ∙ ap (verdict_ending c.claim) is

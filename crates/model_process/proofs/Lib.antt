@@ -3,9 +3,12 @@ pub mod Starts
 pub mod Walks
 pub mod Files
 pub mod Judged
+pub mod Within
 pub mod StateTexts
 pub mod NameTexts
 pub mod PathTexts
 pub mod WalkVerdicts
 pub mod AcceptedWalks
+pub mod BoundsOnce
 pub mod Once
+pub mod Certified

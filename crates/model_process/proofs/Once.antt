@@ -19,7 +19,7 @@ use Rattle.walk_texts.specs.declared.report.Report.{Report}
 use Rattle.command_words.specs.declared.request.Lang.{Lang}
 use Rattle.command_words.specs.declared.request.Lang.TheVariants.{Prism, Jani}
 use Rattle.command_words.specs.Given.{Assignment}
-use Rattle.command_words.specs.Words.{Checking, Claim, of_path, of_rows, Job, showing, along, seeded, Walking}
+use Rattle.command_words.specs.Words.{Checking, Claim, of_path, of_rows, of_bounds, Job, showing, along, seeded, Walking}
 use Rattle.prism_meaning.specs.Described.{prism_description}
 use Rattle.jani_instance.specs.Described.{jani_description}
 use Rattle.model_files.proofs.Once.{faulty_or_jani, faulty_or_prism, one_jani_fault, one_jani_tree, one_prism_fault, one_prism_tree, same_parts}
@@ -30,7 +30,11 @@ use Rattle.model_process.specs.Walks.{EndsOnModel, ending_of, IsReport, unstarte
 use Rattle.model_process.specs.Claims.{BreaksForm, EndsOnClaim, HasVerdict, unstarted as claim_unstarted, judged}
 use Rattle.model_process.specs.Verdicts.{verdict_ending}
 use Rattle.model_process.specs.Once.{ClaimEndOrFault, EndOrFault, OneClaimEnd, OneEnd, OneFileFault, OneModelFault}
+use Rattle.value_bound.specs.Laws.{OneAnswer}
 use Rattle.model_process.specs.declared.ending.Ending.{Ending}
+use Rattle.model_process.specs.declared.finding.Finding.{Finding}
+use Rattle.model_process.specs.declared.finding.Finding.TheVariants.{Judged, Bounds, NoLabel}
+use Rattle.model_process.proofs.BoundsOnce.{finding_or_break, one_finding, one_place}
 use Rattle.model_process.specs.declared.ending.Ending.TheVariants.{Word}
 
 -- ---- the file of the model
@@ -118,25 +122,38 @@ err_same x y e = cc
 not_ok : {A E : Type 0} (x : A) (y : E) → ◌≡◌ {A = Result A E} (Ok x) (Err y) → ⊥
 not_ok x y e = cc
 
-module _ (path_once : PathOnce) (rows_once : RowsOnce) (path_read : PathReadOnce) (states_read : StatesReadOnce) (rows_read : RowsReadOnce) where
+module _ (path_once : PathOnce) (rows_once : RowsOnce) (path_read : PathReadOnce) (states_read : StatesReadOnce) (rows_read : RowsReadOnce) (bounds_once : OneAnswer) where
   one_path : (p : Process) (file : List ℕ) (a b : ReadPath) → ReadsPath p file (Ok a) → ReadsPath p file (Ok b) → b ≡ a
   one_path p file a b h k = ok_same b a (path_read p file (Ok b) (Ok a) k h)
 
   one_states : (p : Process) (file : List ℕ) (a b : List State) → ReadsStates p file (Ok a) → ReadsStates p file (Ok b) → b ≡ a
   one_states p file a b h k = ok_same b a (states_read p file (Ok b) (Ok a) k h)
 
-  one_verdict : (p : Process) (claim : Claim) (files : List (List ℕ)) (v w : Verdict) → HasVerdict p claim files v → HasVerdict p claim files w → v ≡ w
+  one_verdict : (p : Process) (claim : Claim) (files : List (List ℕ)) (v w : Finding) → HasVerdict p claim files v → HasVerdict p claim files w → v ≡ w
   one_verdict p (of_path path) [] v w h k = absurd h
-  one_verdict p (of_path path) (file ∷ []) v w (a, h, i) (b, k, j) =
-      one_judged (JudgesPath p a) (path_once p a) v w i (subst (λ x. Judges (JudgesPath p x) w) (one_path p file a b h k) j)
+  one_verdict p (of_path path) (file ∷ []) (Judged v) (Judged w) (a, h, i) (b, k, j) =
+      ap Judged (one_judged (JudgesPath p a) (path_once p a) v w i (subst (λ x. Judges (JudgesPath p x) w) (one_path p file a b h k) j))
+  one_verdict p (of_path path) (file ∷ []) (Judged v) (Bounds w) h k = absurd k
+  one_verdict p (of_path path) (file ∷ []) (Judged v) NoLabel h k = absurd k
+  one_verdict p (of_path path) (file ∷ []) (Bounds v) w h k = absurd h
+  one_verdict p (of_path path) (file ∷ []) NoLabel w h k = absurd h
   one_verdict p (of_path path) (file ∷ other ∷ files) v w h k = absurd h
   one_verdict p (of_rows states rows) [] v w h k = absurd h
   one_verdict p (of_rows states rows) (first ∷ []) v w h k = absurd h
-  one_verdict p (of_rows states rows) (first ∷ second ∷ []) v w (a, h, i) (b, k, j) =
+  one_verdict p (of_rows states rows) (first ∷ second ∷ []) (Judged v) (Judged w) (a, h, i) (b, k, j) =
       let listed : b.states ≡ a.states = one_states p first a.states b.states h.0 k.0 in
       let same : b ≡ a = ok_same b a (rows_read a.states second (Ok b) (Ok a) (subst (λ ss. ReadsRowsOf ss second (Ok b)) listed k.1) h.1) in
-      one_judged (JudgesRows p a) (rows_once p a) v w i (subst (λ x. Judges (JudgesRows p x) w) same j)
+      ap Judged (one_judged (JudgesRows p a) (rows_once p a) v w i (subst (λ x. Judges (JudgesRows p x) w) same j))
+  one_verdict p (of_rows states rows) (first ∷ second ∷ []) (Judged v) (Bounds w) h k = absurd k
+  one_verdict p (of_rows states rows) (first ∷ second ∷ []) (Judged v) NoLabel h k = absurd k
+  one_verdict p (of_rows states rows) (first ∷ second ∷ []) (Bounds v) w h k = absurd h
+  one_verdict p (of_rows states rows) (first ∷ second ∷ []) NoLabel w h k = absurd h
   one_verdict p (of_rows states rows) (first ∷ second ∷ third ∷ files) v w h k = absurd h
+  one_verdict p (of_bounds states rows name bounds) [] v w h k = absurd h
+  one_verdict p (of_bounds states rows name bounds) (first ∷ []) v w h k = absurd h
+  one_verdict p (of_bounds states rows name bounds) (first ∷ second ∷ []) v w h k = absurd h
+  one_verdict p (of_bounds states rows name bounds) (first ∷ second ∷ third ∷ []) v w h k = one_finding bounds_once p states rows name bounds first second third v w h k
+  one_verdict p (of_bounds states rows name bounds) (first ∷ second ∷ third ∷ fourth ∷ files) v w h k = absurd h
 
   one_break : (p : Process) (claim : Claim) (files : List (List ℕ)) (i j : ℕ) (f g : Fault) → BreaksForm p claim files i f → BreaksForm p claim files j g → (i ≡ j) × (f ≡ g)
   one_break p (of_path path) [] i j f g h k = absurd h
@@ -157,20 +174,34 @@ module _ (path_once : PathOnce) (rows_once : RowsOnce) (path_read : PathReadOnce
   one_break p (of_rows states rows) (first ∷ second ∷ []) (suc zero) (suc (suc j)) f g h k = absurd k
   one_break p (of_rows states rows) (first ∷ second ∷ []) (suc (suc i)) j f g h k = absurd h
   one_break p (of_rows states rows) (first ∷ second ∷ third ∷ files) i j f g h k = absurd h
+  one_break p (of_bounds states rows name bounds) [] i j f g h k = absurd h
+  one_break p (of_bounds states rows name bounds) (first ∷ []) i j f g h k = absurd h
+  one_break p (of_bounds states rows name bounds) (first ∷ second ∷ []) i j f g h k = absurd h
+  one_break p (of_bounds states rows name bounds) (first ∷ second ∷ third ∷ []) i j f g h k = one_place bounds_once p states rows name bounds first second third i j f g h k
+  one_break p (of_bounds states rows name bounds) (first ∷ second ∷ third ∷ fourth ∷ files) i j f g h k = absurd h
 
-  verdict_or_break : (p : Process) (claim : Claim) (files : List (List ℕ)) (v : Verdict) (i : ℕ) (f : Fault) → HasVerdict p claim files v → BreaksForm p claim files i f → ⊥
+  verdict_or_break : (p : Process) (claim : Claim) (files : List (List ℕ)) (v : Finding) (i : ℕ) (f : Fault) → HasVerdict p claim files v → BreaksForm p claim files i f → ⊥
   verdict_or_break p (of_path path) [] v i f h k = h
-  verdict_or_break p (of_path path) (file ∷ []) v zero f (a, h, j) k = not_ok a f.at (path_read p file (Ok a) (Err f.at) h k.1)
-  verdict_or_break p (of_path path) (file ∷ []) v (suc i) f h k = k
+  verdict_or_break p (of_path path) (file ∷ []) (Judged v) zero f (a, h, j) k = not_ok a f.at (path_read p file (Ok a) (Err f.at) h k.1)
+  verdict_or_break p (of_path path) (file ∷ []) (Judged v) (suc i) f h k = k
+  verdict_or_break p (of_path path) (file ∷ []) (Bounds v) i f h k = h
+  verdict_or_break p (of_path path) (file ∷ []) NoLabel i f h k = h
   verdict_or_break p (of_path path) (file ∷ other ∷ files) v i f h k = h
   verdict_or_break p (of_rows states rows) [] v i f h k = h
   verdict_or_break p (of_rows states rows) (first ∷ []) v i f h k = h
-  verdict_or_break p (of_rows states rows) (first ∷ second ∷ []) v zero f (a, h, j) k = not_ok a.states f.at (states_read p first (Ok a.states) (Err f.at) h.0 k.1)
-  verdict_or_break p (of_rows states rows) (first ∷ second ∷ []) v (suc zero) f (a, h, j) (k, (ss, s, r)) =
+  verdict_or_break p (of_rows states rows) (first ∷ second ∷ []) (Judged v) zero f (a, h, j) k = not_ok a.states f.at (states_read p first (Ok a.states) (Err f.at) h.0 k.1)
+  verdict_or_break p (of_rows states rows) (first ∷ second ∷ []) (Judged v) (suc zero) f (a, h, j) (k, (ss, s, r)) =
       let listed : ss ≡ a.states = one_states p first a.states ss h.0 s in
       not_ok a f.at (rows_read a.states second (Ok a) (Err f.at) h.1 (subst (λ x. ReadsRowsOf x second (Err f.at)) listed r))
-  verdict_or_break p (of_rows states rows) (first ∷ second ∷ []) v (suc (suc i)) f h k = k
+  verdict_or_break p (of_rows states rows) (first ∷ second ∷ []) (Judged v) (suc (suc i)) f h k = k
+  verdict_or_break p (of_rows states rows) (first ∷ second ∷ []) (Bounds v) i f h k = h
+  verdict_or_break p (of_rows states rows) (first ∷ second ∷ []) NoLabel i f h k = h
   verdict_or_break p (of_rows states rows) (first ∷ second ∷ third ∷ files) v i f h k = h
+  verdict_or_break p (of_bounds states rows name bounds) [] v i f h k = h
+  verdict_or_break p (of_bounds states rows name bounds) (first ∷ []) v i f h k = h
+  verdict_or_break p (of_bounds states rows name bounds) (first ∷ second ∷ []) v i f h k = h
+  verdict_or_break p (of_bounds states rows name bounds) (first ∷ second ∷ third ∷ []) v i f h k = finding_or_break bounds_once p states rows name bounds first second third v i f h k
+  verdict_or_break p (of_bounds states rows name bounds) (first ∷ second ∷ third ∷ fourth ∷ files) v i f h k = h
 
   one_on_claim : (d : Description) (c : Checking) (others : List (List ℕ)) (e g : Ending) → EndsOnClaim d c others e → EndsOnClaim d c others g → e ≡ g
   one_on_claim d c others e g (claim_unstarted h) (claim_unstarted k) = one_unstarted d _ c.given e g h k

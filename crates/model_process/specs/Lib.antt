@@ -3,6 +3,7 @@ pub mod Models
 pub mod Starts
 pub mod Walks
 pub mod Claims
+pub mod Certified
 pub mod Verdicts
 pub mod ReadBack
 pub mod WrittenPaths

@@ -1,7 +1,8 @@
 //! Claims judged.
-ghost use Rattle.std.specs.Prelude.{◌≡◌, ◌+◌, ◌∷◌, ℕ, List, length};
+ghost use Rattle.std.specs.Prelude.{◌≡◌, ◌+◌, ◌∷◌, ◌<◌, ℕ, List, Some, length};
+ghost use Rattle.value_bound.specs.Labels.{label_named};
 ghost use Rattle.jani_tree.specs.Syntax as jani;
-ghost use Rattle.command_words.specs.Words.{checking_of, claim_files, claim_of, files_of, check, words_before_given};
+ghost use Rattle.command_words.specs.Words.{of_bounds, checking_of, claim_files, claim_of, files_of, check, words_before_given};
 ghost use Rattle.command_words.specs.declared.request.Lang.TheVariants.{Prism, Jani};
 ghost use Rattle.instance_start.specs.Description.{Description};
 ghost use Rattle.prism_meaning.specs.Described.{prism_description};
@@ -10,6 +11,7 @@ ghost use Rattle.model_process.specs.Starts.{Begins, IsBehind};
 ghost use Rattle.model_process.specs.Claims.{JudgesOn, JudgesOnModel, JudgesOnProcess, Tells, at_file};
 
 use crate::ending::Ending;
+use crate::finding::Finding;
 use crate::lines::verdict_ending;
 use crate::starting::{Unstarted, begun, good_front, read_flat};
 use bridge_io::{Fault, List, Refused};
@@ -20,8 +22,9 @@ use model_files::read_jani;
 use prism_check::FlatPrism;
 use prism_meaning::{described_law, start_prism};
 use process_core::Steps;
-use row_check::{RowsRefused, Verdict, check_path, check_rows};
+use row_check::{RowsRefused, check_path, check_rows};
 use std::alloc::{AllocError, Global};
+use value_bound::{BoundRefused, check_bound, label_named};
 
 /// Why there is no verdict on a claim.
 #[derive(Drop)]
@@ -170,11 +173,11 @@ fn judged<S: Steps>(
     ensures { (model : List ℕ) (others : List (List ℕ)) → files.now ≡ model ∷ others
         → JudgesOnProcess (S.process process.now) (claim_of claim.entry) others result }
 {
-    let verdict = match verdict_on(alloc, claim, files, process) {
-        Ok(verdict) => verdict,
+    let finding = match verdict_on(alloc, claim, files, process) {
+        Ok(finding) => finding,
         Err(refused) => return Err(refused),
     };
-    let ending = verdict_ending(alloc, claim, verdict)?;
+    let ending = verdict_ending(alloc, claim, finding)?;
     Ok(ending)
 }
 
@@ -184,24 +187,59 @@ fn verdict_on<S: Steps>(
     claim: Claim,
     files: &[List<u8>],
     process: &S,
-) -> Result<Verdict, ClaimRefused>
+) -> Result<Finding, ClaimRefused>
     requires { length files.now ≡ 1 + length (claim_files (claim_of claim)) }
     ensures { (model : List ℕ) (others : List (List ℕ)) → files.now ≡ model ∷ others
         → Tells (S.process process.now) (claim_of claim.entry) others result }
 {
     match claim {
         Claim::Path(_) => match check_path(alloc, process, files[1].as_slice()) {
-            Ok(verdict) => Ok(verdict),
+            Ok(verdict) => Ok(Finding::Judged(verdict)),
             Err(refused) => Err(at_file(1, refused)),
         },
         Claim::Rows(_, _) => {
             match check_rows(alloc, process, files[1].as_slice(), files[2].as_slice()) {
-                Ok(verdict) => Ok(verdict),
+                Ok(verdict) => Ok(Finding::Judged(verdict)),
                 Err(RowsRefused::States(fault)) => Err(ClaimRefused::At(1, fault)),
                 Err(RowsRefused::Rows(fault)) => Err(ClaimRefused::At(2, fault)),
                 Err(RowsRefused::Memory(e)) => Err(ClaimRefused::Memory(e)),
             }
         }
+        Claim::Bounds(_, _, name, _) => {
+            let label = label_named(alloc, process, name)?;
+            match label {
+                Some(label) => bounds_on(alloc, label, files, process),
+                None => Ok(Finding::NoLabel),
+            }
+        }
+    }
+}
+
+/// The verdict on the bounds that the last of the files has for the label of this number.
+fn bounds_on<S: Steps>(
+    alloc: Global,
+    label: usize,
+    files: &[List<u8>],
+    process: &S,
+) -> Result<Finding, ClaimRefused>
+    requires files { length files.now ≡ 4 }
+    requires label { label < (S.process process.now).labels }
+    ensures { (states rows name bounds : List ℕ) → (model : List ℕ) (others : List (List ℕ)) → files.now ≡ model ∷ others
+        → label_named (S.process process.now) name ≡ Some label → Tells (S.process process.now) (of_bounds states rows name bounds) others result }
+{
+    match check_bound(
+        alloc,
+        process,
+        files[1].as_slice(),
+        files[2].as_slice(),
+        label,
+        files[3].as_slice(),
+    ) {
+        Ok(verdict) => Ok(Finding::Bounds(verdict)),
+        Err(BoundRefused::States(fault)) => Err(ClaimRefused::At(1, fault)),
+        Err(BoundRefused::Rows(fault)) => Err(ClaimRefused::At(2, fault)),
+        Err(BoundRefused::Bounds(fault)) => Err(ClaimRefused::At(3, fault)),
+        Err(BoundRefused::Memory(e)) => Err(ClaimRefused::Memory(e)),
     }
 }
 

@@ -1,8 +1,9 @@
-//! What the words `show`, `simulate`, `check-path` and `check-rows` ask for, from the bytes of the files: one state of a model, walks
-//! through it, and claims about its process.
+//! What the words `show`, `simulate`, `check-path`, `check-rows` and `check-bound` ask for, from the bytes of the files: one
+//! state of a model, walks through it, and claims about its process.
 #![tactic(auto)]
 
 mod ending;
+mod finding;
 mod judging;
 mod laws;
 mod lines;
@@ -11,6 +12,6 @@ mod walking;
 
 pub use ending::Ending;
 pub use judging::{ClaimRefused, judge_claim};
-pub use laws::{one_end_law, walk_law};
+pub use laws::{certified_law, one_end_law, walk_law};
 pub use starting::{Unstarted, begun, good_front, read_flat};
 pub use walking::show_or_walk;

@@ -1,22 +1,60 @@
 //! What is written of a verdict.
-ghost use Rattle.std.specs.Prelude.{◌≡◌, [], IfOk, codes, string_bytes};
+ghost use Rattle.std.specs.Prelude.{◌≡◌, ◌++◌, [], IfOk, codes, string_bytes};
+ghost use Rattle.std.specs.Fmt.{decimal};
 ghost use Rattle.command_words.specs.Words.{claim_of};
-ghost use Rattle.model_process.specs.Verdicts.{no_line, passed_line, place_word, verdict_ending};
+ghost use Rattle.model_process.specs.Verdicts.{bounds_ending, judged_ending, no_line, passed_line, place_word, verdict_ending};
 ghost use Rattle.model_process.specs.declared.ending.Ending.TheVariants.{Done, Excess, No};
 
 use crate::ending::Ending;
+use crate::finding::Finding;
 use bridge_io::{List, Text};
 use command_words::Claim;
 use row_check::{Verdict, Why};
 use std::alloc::{AllocError, Global};
+use value_bound::BoundVerdict;
 
 /// How it ends with a verdict on a claim.
 pub(crate) fn verdict_ending(
     alloc: Global,
     claim: Claim,
-    verdict: Verdict,
+    finding: Finding,
 ) -> Result<Ending, AllocError>
-    ensures { IfOk result (λ e. e ≡ verdict_ending (claim_of claim.entry) verdict) }
+    ensures { IfOk result (λ e. e ≡ verdict_ending (claim_of claim.entry) finding) }
+{
+    match finding {
+        Finding::Judged(verdict) => judged_ending(alloc, claim, verdict),
+        Finding::Bounds(verdict) => bounds_ending(alloc, claim, verdict),
+        Finding::NoLabel => Ok(Ending::Word(LABEL_WORD)),
+    }
+}
+
+// The position of LABEL in `check-bound LANG FILE STATES ROWS LABEL ..`.
+const LABEL_WORD: usize = 6;
+
+// It ends so with a verdict on bounds.
+fn bounds_ending(alloc: Global, claim: Claim, verdict: BoundVerdict) -> Result<Ending, AllocError>
+    ensures { IfOk result (λ e. e ≡ bounds_ending (claim_of claim.entry) verdict) }
+{
+    match verdict {
+        BoundVerdict::Yes => yes_ending(alloc),
+        BoundVerdict::Rows(verdict) => judged_ending(alloc, claim, verdict),
+        BoundVerdict::Undefined(i) => no_state(alloc, i, "undefined"),
+        BoundVerdict::Over(i) => no_state(alloc, i, "bound"),
+        BoundVerdict::Wide(i) => passed(alloc, "wide", claim, i),
+    }
+}
+
+// `no state I WHY`
+fn no_state(alloc: Global, i: usize, why: &str) -> Result<Ending, AllocError>
+    ensures { IfOk result (λ e. e ≡ No (codes "no state " ++ (decimal i ++ (codes " " ++ (why.now ++ codes "\n"))))) }
+{
+    let line = format!(in alloc; "no state {i} {why}\n")?;
+    Ok(Ending::No(List::from_vec(line.into_bytes())))
+}
+
+// It ends so with a verdict on a path or on rows.
+fn judged_ending(alloc: Global, claim: Claim, verdict: Verdict) -> Result<Ending, AllocError>
+    ensures { IfOk result (λ e. e ≡ judged_ending (claim_of claim.entry) verdict) }
 {
     match verdict {
         Verdict::Yes => yes_ending(alloc),
@@ -78,5 +116,6 @@ fn place_word(claim: Claim) -> &'static str
     match claim {
         Claim::Path(_) => "step",
         Claim::Rows(_, _) => "state",
+        Claim::Bounds(_, _, _, _) => "state",
     }
 }

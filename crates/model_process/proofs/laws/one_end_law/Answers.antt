@@ -12,12 +12,12 @@ returns-clause-either c = end_or_fault
 
 pub returns-clause-claim : goal.returns-clause-claim
 returns-clause-claim c =
-    one_claim_end c.verdict_laws.ensures.one_path c.verdict_laws.ensures.one_rows c.form_laws.ensures.one_path c.form_laws.ensures.one_states c.form_laws.ensures.one_rows
+    one_claim_end c.verdict_laws.ensures.one_path c.verdict_laws.ensures.one_rows c.form_laws.ensures.one_path c.form_laws.ensures.one_states c.form_laws.ensures.one_rows c.bound_laws.ensures.answer
 
 pub returns-clause-file_fault : goal.returns-clause-file_fault
 returns-clause-file_fault c =
-    one_file_fault c.verdict_laws.ensures.one_path c.verdict_laws.ensures.one_rows c.form_laws.ensures.one_path c.form_laws.ensures.one_states c.form_laws.ensures.one_rows c.one_syntax.ensures
+    one_file_fault c.verdict_laws.ensures.one_path c.verdict_laws.ensures.one_rows c.form_laws.ensures.one_path c.form_laws.ensures.one_states c.form_laws.ensures.one_rows c.bound_laws.ensures.answer c.one_syntax.ensures
 
 pub returns-clause-claim_either : goal.returns-clause-claim_either
 returns-clause-claim_either c =
-    claim_end_or_fault c.verdict_laws.ensures.one_path c.verdict_laws.ensures.one_rows c.form_laws.ensures.one_path c.form_laws.ensures.one_states c.form_laws.ensures.one_rows
+    claim_end_or_fault c.verdict_laws.ensures.one_path c.verdict_laws.ensures.one_rows c.form_laws.ensures.one_path c.form_laws.ensures.one_states c.form_laws.ensures.one_rows c.bound_laws.ensures.answer
