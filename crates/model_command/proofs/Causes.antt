@@ -1,5 +1,5 @@
 -- From how a request ends to why a run does, and what each status comes of.
-use Rattle.std.proofs.Common.{arith, ◌≡◌, ◌⊎◌, ◌∙◌, refl, ap, subst, ℕ, ◌+◌, List, [], ◌∷◌, length, Option, inl, inr}
+use Rattle.std.proofs.Common.{arith, ◌≡◌, ◌⊎◌, ◌∙◌, refl, ap, ℕ, ◌+◌, List, [], ◌∷◌, length, Option, inl, inr}
 use Rattle.std.specs.Io.KnownBytes.{Appends}
 use Rattle.bridge_io.specs.Outside.{HasFailed, Lefts}
 use Rattle.command_words.specs.Words.{Request, Walking, Checking, WordsCount, on_file, with_properties, walk, check, files_of, IsRequest, IsWrongAt}

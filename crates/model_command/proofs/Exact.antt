@@ -1,22 +1,19 @@
 -- Which outcome comes where.
-use Rattle.std.proofs.Common.{arith, ◌≡◌, ◌⊎◌, ◌∙◌, sym, ap, subst, ℕ, ◌+◌, ◌≤◌, List, [], ◌++◌, length, drop, Option, Some, None, inl, inr}
+use Rattle.std.proofs.Common.{arith, ◌≡◌, ◌⊎◌, ◌∙◌, sym, ap, subst, ℕ, ◌≤◌, List, [], ◌++◌, length, drop, Option, Some, None, inl, inr}
 use Rattle.std.proofs.lemmas.List.{take-append-drop, append-nil}
 use Rattle.std.proofs.Common.{length-append, IsSome}
 use Rattle.std.specs.Io.KnownBytes.{prepend_known}
 use Rattle.bridge_io.specs.Outside.{Lefts}
 use Rattle.bridge_io.specs.declared.reason.Fault.{Fault}
-use Rattle.bridge_io.specs.declared.reason.Reason.{Reason}
-use Rattle.bridge_io.specs.declared.place.Place.{Place}
 use Rattle.name_rules.proofs.Plain.{no_least}
 use Rattle.command_words.specs.declared.request.Task.{Task}
 use Rattle.command_words.specs.declared.request.Task.TheVariants.{ToJani, ToPrism, ToPrismProps, CheckPrism, CheckJani}
 use Rattle.command_words.specs.Words.{Request, IsRequest, HasForm, IsWrongAt}
-use Rattle.model_process.specs.declared.ending.Ending.{Ending}
 use Rattle.jani_tree.specs.Syntax.{File as JaniFile}
 use Rattle.model_files.proofs.Once.{faulty_or_jani, faulty_or_prism, one_jani_tree}
 use Rattle.jani_to_prism.specs.Refused.{refused}
 use Rattle.prop_trees.specs.Trees.{JaniProperty}
-use Rattle.model_translation.specs.Reading.{AreRead, IsFirst}
+use Rattle.model_translation.specs.Reading.{AreRead}
 use Rattle.model_translation.proofs.Only.{no_first_fault}
 use Rattle.model_translation.specs.JaniProperties.{HoldsProperties, IsPropertiesRefused, of_file as of_jani_file, of_properties}
 use Rattle.model_command.specs.ToPrism.{IsTranslatable, IsPrismRefused, of_file, of_result}

@@ -1,5 +1,5 @@
 -- Where a file is fit for its task, and the run says so.
-use Rattle.std.proofs.Common.{arith, ◌≡◌, ◌⊎◌, sym, ap, subst, ℕ, ◌+◌, ◌≤◌, List, [], length, Option, Some, None, inl, inr}
+use Rattle.std.proofs.Common.{arith, ◌≡◌, ◌⊎◌, sym, subst, ℕ, ◌+◌, ◌≤◌, List, length, Option, Some, None, inl, inr}
 use Rattle.bridge_io.specs.Outside.{Lefts}
 use Rattle.bridge_io.specs.ReadFail.{IsTooLong}
 use Rattle.bridge_io.specs.declared.transfer.ReadFail.TheVariants.{TooLong as TooLongAt}

@@ -1,8 +1,8 @@
 -- Files are read one after another until one can't be.
-use Rattle.std.proofs.Common.{arith, ◌≡◌, ◌∙◌, refl, ap, subst, ℕ, zero, suc, ◌+◌, ◌<◌, ◌≤◌, List, [], ◌∷◌, ◌++◌, length, take, drop, slice_index_or, Option, Some, None, inl, inr}
+use Rattle.std.proofs.Common.{arith, ◌≡◌, ◌∙◌, refl, ap, subst, ℕ, zero, suc, ◌+◌, ◌<◌, ◌≤◌, List, [], ◌∷◌, ◌++◌, length, take, drop, slice_index_or, Option, inl}
 use Rattle.std.proofs.lemmas.Grind.{common_steps}
 use Rattle.std.specs.Borrow.{Bor}
-use Rattle.bridge_io.specs.Outside.{HasFailed, Lefts, next_count}
+use Rattle.bridge_io.specs.Outside.{HasFailed, Lefts}
 use Rattle.bridge_io.specs.ReadFail.{IsTooLong}
 use Rattle.bridge_io.specs.declared.transfer.ReadFail.{ReadFail}
 use Rattle.bridge_io.specs.declared.transfer.ReadFail.TheVariants.{Memory, Fault, TooLong}

@@ -11,3 +11,5 @@ pub mod Several
 pub mod ToPrism
 pub mod Told
 pub mod Tasked
+pub mod CertifiedBounds
+pub mod ClaimEnds

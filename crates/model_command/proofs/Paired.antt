@@ -1,5 +1,5 @@
 -- What a run answers and writes where a model is translated with its properties and all is told.
-use Rattle.std.proofs.Common.{arith, ◌≡◌, ◌⊎◌, ◌∙◌, refl, sym, ap, ap₂, subst, ℕ, ◌+◌, ◌<◌, ◌≤◌, List, [], ◌∷◌, ◌++◌, length, append-nil, Option, Some, inl, inr, Bool, true, false}
+use Rattle.std.proofs.Common.{arith, ◌≡◌, ◌⊎◌, ◌∙◌, refl, ap, subst, ℕ, ◌<◌, ◌≤◌, List, [], ◌∷◌, ◌++◌, length, append-nil, Option, Some, inl, inr, Bool, true, false}
 use Rattle.std.proofs.lemmas.Bool.Decides.{nat_tests}
 use Rattle.std.specs.Prelude.{nat_lt}
 use Rattle.bridge_io.specs.Reason.{number_of, name_of}
@@ -13,7 +13,7 @@ use Rattle.model_files.specs.PrismFile.{IsPrismFault}
 use Rattle.model_translation.specs.Read.{FaultsOf, of_properties as of_spelled}
 use Rattle.model_translation.specs.Laws.{OneListOfFaults}
 use Rattle.model_translation.specs.WithProperties.{AreFaultless, IsPropertiesFault, TranslatesWith}
-use Rattle.model_command.specs.Outcome.{status_of, text_of, line_of, place_in, refusal_line}
+use Rattle.model_command.specs.Outcome.{status_of, text_of, line_of, refusal_line}
 use Rattle.model_command.specs.Run.{IsPairEnd, IsRefusedAt}
 use Rattle.model_command.specs.Headline.{AreAccepted, IsFaultOfFiles, long_model, long_properties, of_model, of_properties, IsTranslatedAsTold, IsEndedAsTold, fault_line, too_long}
 use Rattle.model_command.specs.declared.outcome.Outcome.{Outcome}

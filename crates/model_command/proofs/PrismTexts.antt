@@ -9,7 +9,7 @@ use Rattle.prism_tree.specs.declared.syntax.ItemOn.{ItemOn}
 use Rattle.prism_tree.specs.declared.syntax.ItemOn.TheVariants.{InState, Silent, Action}
 use Rattle.prism_tree.specs.declared.syntax.NamePair.{NamePair}
 use Rattle.prism_tree.specs.Syntax.{Expression, Const, Range, Var, Formula, Label, Write, Branch, Command, Body, Module, plain, copied, Item, Rewards, File}
-use Rattle.prism_print.specs.Same.{bare_const, bare_range, bare_var, bare_formula, bare_label, bare_write, bare_branch, bare_command, bare_body, bare_pair, bare_copy, bare_module, bare_on, bare_item, bare_rewards, bare_file}
+use Rattle.prism_print.specs.Same.{bare_const, bare_range, bare_var, bare_formula, bare_label, bare_write, bare_branch, bare_command, bare_body, bare_pair, bare_module, bare_on, bare_item, bare_rewards, bare_file}
 use Rattle.prism_print.specs.Text.{operator_text, is_function, is_node, enclosed, expression_text, behind, listed, const_text, range_text, var_text, formula_text, label_text, write_text, update_text, weight_text, branch_text, action_text, command_text, before_commands, body_text, pair_text, module_text, on_text, item_text, title_text, rewards_text, file_text, type_text}
 
 -- ---- expressions

@@ -1,5 +1,5 @@
 -- What a run answers and writes where several files are read and all is told.
-use Rattle.std.proofs.Common.{◌≡◌, ◌⊎◌, ◌∙◌, sym, ap, ap₂, subst, ℕ, ◌<◌, List, [], ◌∷◌, ◌++◌, length, append-nil, Option, Some, inl, inr}
+use Rattle.std.proofs.Common.{◌≡◌, ◌⊎◌, ◌∙◌, sym, ap, ap₂, subst, ℕ, List, [], ◌++◌, append-nil, Option, Some, inl, inr}
 use Rattle.std.specs.Io.KnownBytes.{Appends}
 use Rattle.bridge_io.specs.Outside.{Lefts}
 use Rattle.bridge_io.specs.ReadFail.{IsTooLong}

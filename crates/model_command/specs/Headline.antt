@@ -1,6 +1,6 @@
 -- What a run on a told file answers and writes.
 -- (This project's own rule.)
-use Rattle.std.specs.Prelude.{◌≡◌, ◌⊎◌, ◌↔◌, ℕ, ◌<◌, ◌≤◌, List, [], ◌∷◌, ◌++◌, length, Option, Some}
+use Rattle.std.specs.Prelude.{◌≡◌, ◌⊎◌, ◌↔◌, ℕ, ◌<◌, ◌≤◌, List, ◌∷◌, ◌++◌, length, Option, Some}
 use Rattle.std.specs.List.{AllZip, AllByRecursion}
 use Rattle.bridge_io.specs.Outside.{Lefts}
 use Rattle.bridge_io.specs.Reason.{number_of, name_of}

@@ -6,6 +6,7 @@ ghost use Rattle.command_words.specs.Words.{Walking, texts, on_file, with_proper
 ghost use Rattle.model_command.specs.Outcome.{halted, status_of, word_line};
 ghost use Rattle.model_process.specs.Walks.{EndsOnBytes, WalksOn};
 ghost use Rattle.model_process.specs.declared.ending.Ending.TheVariants as Ending;
+ghost use Rattle.model_process.specs.Certified.{Certifies};
 ghost use Rattle.model_process.specs.Claims.{EndsOnFiles, JudgesOn};
 ghost use Rattle.model_command.specs.Run.{AreWhole, ComesTo, IsCause, IsClaimEnd, IsEnd, IsEndOn, IsNext, IsDelivered, IsTaskEnd, IsWalkEnd, IsReadWhole, EndsWith, EndsWithOrNoMemory, IsCarriedOut, names_of, pair_name, pair_outcome, shelf_sides, sink_sides};
 ghost use Rattle.model_command.specs.Tasks.{Makes, IsFit, Judged};
@@ -17,7 +18,7 @@ use crate::reading::read_files;
 use crate::to_prism::translate_to_prism;
 use bridge_io::{List, ReadFail, Reason, Refused, Shelf, Sink, write_whole};
 use command_words::{Checking, Request, Task, WordsFail, request_in, words_law};
-use model_process::{ClaimRefused, Ending, judge_claim, show_or_walk};
+use model_process::{ClaimRefused, Ending, certified_law, judge_claim, show_or_walk};
 use model_translation::{
     FilesRefused, one_list_of_faults, translate, translate_properties, translate_with_properties,
 };
@@ -41,6 +42,7 @@ const WRITE_FAULT: u8 = 5;
 /// | `simulate LANG FILE seed N STEPS NAME=VALUE ..` | a path of so many steps, drawn by the words of the generator Pcg64 after this seed; or up to a state without choices |
 /// | `check-path LANG FILE PATH NAME=VALUE ..` | `yes`: PATH holds a path of the model |
 /// | `check-rows LANG FILE STATES ROWS NAME=VALUE ..` | `yes`: STATES holds states of the model, each once and an initial one among them, and ROWS their choices, which lead to no others |
+/// | `check-bound LANG FILE STATES ROWS LABEL BOUNDS NAME=VALUE ..` | `yes`: so they do, and no way to choose reaches the label LABEL from a listed state with more probability than BOUNDS gives it |
 ///
 /// LANG is `prism` or `jani`. A walk starts at the model's first state; with `from STATE` before `given` or `seed`, at that one.
 ///
@@ -49,8 +51,8 @@ const WRITE_FAULT: u8 = 5;
 /// | 0 | the file has no fault, and was translated, checked, shown or walked to the end; or what is claimed of its model is right | the text | nothing |
 /// | 1 | a walk came to a choice that has no distribution, to a number that there is no choice or branch for, or to a branch of probability 0 | the path so far | `bridge: stopped at step K: WHY` |
 /// | 1 | what is claimed of the model isn't right | `no` and why | nothing |
-/// | 2 | a file is longer than 16,777,216 bytes; or a PRISM file has a fault of its tokens, its grammar, its names, its size or its types; or a JANI file has a fault of its JSON, its shape, its names, its types or the profile; or a JANI file to be translated has none and its translation would write a variable where PRISM forbids it, or be too large; or a line breaks the form of PATH, of STATES or of ROWS | nothing | `FILE:LINE:COLUMN: reason NO Name`, with the word of that file |
-/// | 3 | the words are of no form; or a value is given for no open constant of the model, or is none of its type, or past the bound; or an open constant isn't given; or STATE is no state of the model, or no initial one where a walk starts | nothing | `bridge: word K`, K being the first word with which no form goes on, or that doesn't fit, or the one that is missing |
+/// | 2 | a file is longer than 16,777,216 bytes; or a PRISM file has a fault of its tokens, its grammar, its names, its size or its types; or a JANI file has a fault of its JSON, its shape, its names, its types or the profile; or a JANI file to be translated has none and its translation would write a variable where PRISM forbids it, or be too large; or a line breaks the form of PATH, of STATES, of ROWS or of BOUNDS | nothing | `FILE:LINE:COLUMN: reason NO Name`, with the word of that file |
+/// | 3 | the words are of no form; or a value is given for no open constant of the model, or is none of its type, or past the bound; or an open constant isn't given; or STATE is no state of the model, or no initial one where a walk starts; or LABEL is no label of the model | nothing | `bridge: word K`, K being the first word with which no form goes on, or that doesn't fit, or the one that is missing |
 /// | 4 | a read failed | nothing | `bridge: read fault FILE`, with the word of that file |
 /// | 5 | a write failed | a front of the text | a front of `bridge: write fault`, or of the line, where `err` failed |
 /// | 6 | memory ran out | nothing | `bridge: no memory` |
@@ -126,9 +128,15 @@ pub fn run<H: Shelf, K: Sink, E: Sink>(
         → K.taken out.old ≡ Some was → E.taken err.old ≡ Some said → IsRequest (texts words.now) (check c)
         → (result ≡ 4 → ⊥) → (result ≡ 5 → ⊥) → (result ≡ 6 → ⊥)
         → IsEndedAsTold (check c) contents was said (K.taken out.new) (E.taken err.new) result }
+
+    // For any shelf and any sinks: where a claim on bounds is right, the files hold rows of the process that the model's file describes under the
+    // constants, and no way to choose reaches the label from a listed state with more probability than its bound, in any number of steps.
+    ensures certified { (c : _) → IsRequest (texts words.now) (check c) → result ≡ 0 → (contents : List (List ℕ))
+        × AreWhole (H.left shelf.old) (H.left shelf.new) (files_of (check c)) contents × Certifies c contents }
 {
     words_law();
     one_list_of_faults();
+    certified_law();
     answer(alloc, words, shelf, out, err)
 }
 

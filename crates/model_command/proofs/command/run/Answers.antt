@@ -3,6 +3,7 @@ use Rattle.command_words.specs.Words.{with_properties, check}
 use Rattle.model_command.specs.Outcome.{status_of}
 use Rattle.model_command.specs.Run.{shelf_sides, sink_sides}
 use Rattle.model_command.proofs.Causes.{written, of_words, of_read}
+use Rattle.model_command.proofs.CertifiedBounds.{certified_of, status_zero}
 use Rattle.model_command.proofs.Exact.{exact_words}
 use Rattle.model_command.proofs.Fit.{exact_fit}
 use Rattle.model_command.proofs.Paired.{translated_of}
@@ -59,3 +60,9 @@ returns-clause-with_properties g c = λ left file properties model second was sa
     translated_of file properties model second was said _ _ c.answer.result c.one_list_of_faults.ensures no_memory
     (ended_of (shelf_sides g.H.Shelf.left g.H.Shelf.faults g.H.Shelf.steady c.args.shelf.now c.answer.new.shelf) _ c.answer.ensures.0 c.words_law.ensures.one left told (model ∷ second ∷ []) was said _ _ c.answer.result no_read no_memory
     (with_properties file properties) form.names (held, (held_second, tt)) form c.answer.ensures.1 c.answer.ensures.2 e.0 e.1 e.2)
+
+pub returns-clause-certified : goal.returns-clause-certified
+returns-clause-certified g c = λ k form zero.
+    let status : (c.answer.result ≡ status_of c.answer.ensures.1) ⊎ (c.answer.result ≡ 5) = search rules in
+    certified_of (shelf_sides g.H.Shelf.left g.H.Shelf.faults g.H.Shelf.steady c.args.shelf.now c.answer.new.shelf) _ c.words_law.ensures.one c.certified_law.ensures k form c.answer.ensures.0
+    c.answer.ensures.1 c.answer.ensures.2 (status_zero c.answer.result (status_of c.answer.ensures.1) status zero)
