@@ -1,12 +1,13 @@
 #!/usr/bin/env python3
-"""Times `bridge check-rows`, beside CPython reading the same files.
+"""Times `bridge check-rows` and `check-bound`, beside CPython reading the same files.
 
     bench/rows.py [--program crates/bridge/out/bridge] [--runs 3]
 
 A chain of 200,000 states with 199,999 rows; a million rows, four branches to each of 250 choices of 1,000 states; and one state that
 has 60,000 choices, all of them equal, or each with a probability of its own. What is to be reached: at most 5 microseconds a row in the
 first two, a growth of at most 2.2 for each doubling, and less than a second for the last, reading its model aside. The reader in Python
-splits the lines, numbers the states by a dictionary, and makes a fraction of each probability.
+splits the lines, numbers the states by a dictionary, and makes a fraction of each probability. And a million rows of 200,000 states with a
+bound for each of these: at most twice the time of `check-rows` on the same files.
 """
 
 import os
@@ -57,6 +58,17 @@ def branches(choices, states=1000):
     return count
 
 
+def bounded(count):
+    """So many states, each with two choices of five branches together, and a bound for each of them."""
+    branches = ((0, 0, "0.5"), (0, 1, "0.5"), (1, 2, "0.2"), (1, 3, "0.4"), (1, 4, "0.4"))
+    commands = "".join("  [] true -> %s;\n" % " + ".join("%s : (x'=%d)" % (weight, to) for number, to, weight in branches if number == choice) for choice in (0, 1))
+    written("f", "mdp\nmodule m\n  x : [0..%d] init 0;\n%sendmodule\nlabel \"four\" = x=4;\n" % (count - 1, commands))
+    written("s", "(x)\n" + "".join("%d:(%d)\n" % (k, k) for k in range(count)))
+    written("r", "%d %d %d\n" % (count, 2 * count, 5 * count) + "".join("%d %d %d %s\n" % (k, *branch) for k in range(count) for branch in branches))
+    written("b", "".join("%d:1\n" % k for k in range(count)))
+    return 5 * count
+
+
 def one_state(count, weight):
     """Two states, the first of them with so many choices of two branches, the n-th with the probability `weight(n)`."""
     commands = "".join("  [] x=0 -> %s : (x'=1) + 1-%s : true;\n" % (weight(n), weight(n)) for n in range(count))
@@ -85,6 +97,11 @@ def main():
                 print("%-9s %8d rows  %.2f us a row  growth %4s  memory %.1fx the files  reading in Python %.2f" % (
                     kind, rows, seconds / rows * 1e6, growth(seconds, before), memory / length, plain / rows * 1e6), flush=True)
                 before = seconds
+        rows = bounded(200000)
+        rows_alone, with_bounds = best(check), best([program, "check-bound", "prism", "f", "s", "r", "four", "b"])
+        print("bounds    %8d rows  %.2f us a row  %.2f times check-rows (%.2f us a row)  memory %.1fx the files" % (
+            rows, with_bounds[0] / rows * 1e6, with_bounds[0] / rows_alone[0], rows_alone[0] / rows * 1e6,
+            with_bounds[1] / sum(os.path.getsize(name) for name in "fsrb")), flush=True)
         for kind, weight in (("equal", lambda n: "1/2"), ("different", lambda n: "%d/%d" % (n + 1, 100000))):
             one_state(60000, weight)
             seconds = best(check)[0]

@@ -14,10 +14,11 @@ _bridge() {
     to-prism | to-prism-props) files=2 ;;
     check-path) files=4 ;;
     check-rows) files=5 ;;
+    check-bound) files=7 ;;
   esac
   COMPREPLY=()
   if [ "$place" -eq 1 ]; then
-    mapfile -t COMPREPLY < <(compgen -W "to-jani to-prism to-prism-props check show simulate check-path check-rows" -- "$cur")
+    mapfile -t COMPREPLY < <(compgen -W "to-jani to-prism to-prism-props check show simulate check-path check-rows check-bound" -- "$cur")
   elif [ "$place" -eq 2 ] && [[ $command != to-* ]]; then
     mapfile -t COMPREPLY < <(compgen -W "prism jani" -- "$cur")
   elif [ "$place" -le "$files" ]; then
