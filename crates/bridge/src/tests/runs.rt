@@ -3,11 +3,79 @@ use bridge_io::{MemoryShelf, MemorySink};
 use model_command::run;
 use std::alloc::{AllocError, Global};
 
-const MODEL: &[u8] =
-    b"mdp\nmodule M\n  x : [0..2] init 0;\n  [] x=0 -> (x'=1);\n  [] x=1 -> (x'=2);\nendmodule\n";
+// Two processes and a lock.
+const LOCK: &[u8] =
+    b"// two processes, one lock\nmdp\nconst int K = 2;\nglobal lock : [0..1] init 0;\nformula crit = (p1=2 ? 1 : 0) + (p2=2 ? 1 : 0);\nmodule proc1\n  p1 : [0..2] init 0;\n  n1 : [0..K];\n  [] p1=0 -> 0.9 : (p1'=1) + 0.1 : true;\n  [] p1=1 & lock=0 -> (p1'=2) & (lock'=1);\n  [] p1=2 & n1<K -> (p1'=0) & (n1'=n1+1) & (lock'=0);\n  [done] n1=K -> true;\nendmodule\nmodule proc2 = proc1 [p1=p2, p2=p1, n1=n2] endmodule\nlabel \"mutex\" = crit<=1;\nrewards \"work\"\n  p1=2 | p2=2 : 1;\nendrewards\nrewards \"rounds\"\n  [done] true : 1;\nendrewards\n";
 
-const TRANSLATION: &[u8] =
-    b"{\"jani-version\":1,\"name\":\"model\",\"type\":\"mdp\",\"features\":[\"derived-operators\",\"state-exit-rewards\"],\"actions\":[],\"constants\":[],\"variables\":[{\"name\":\"x\",\"type\":{\"kind\":\"bounded\",\"base\":\"int\",\"lower-bound\":0,\"upper-bound\":2},\"initial-value\":0}],\"properties\":[],\"automata\":[{\"name\":\"M\",\"locations\":[{\"name\":\"loc\"}],\"initial-locations\":[\"loc\"],\"edges\":[{\"location\":\"loc\",\"guard\":{\"exp\":{\"op\":\"=\",\"left\":\"x\",\"right\":0}},\"destinations\":[{\"location\":\"loc\",\"assignments\":[{\"ref\":\"x\",\"value\":1}]}]},{\"location\":\"loc\",\"guard\":{\"exp\":{\"op\":\"=\",\"left\":\"x\",\"right\":1}},\"destinations\":[{\"location\":\"loc\",\"assignments\":[{\"ref\":\"x\",\"value\":2}]}]}]}],\"system\":{\"elements\":[{\"automaton\":\"M\"}],\"syncs\":[]}}\n";
+// Vectors that are split by rewards.
+const SPLIT: &[u8] =
+    b"{\"jani-version\":1,\"name\":\"m\",\"type\":\"mdp\",\n\"actions\":[{\"name\":\"go\"},{\"name\":\"ok\"},{\"name\":\"never\"},{\"name\":\"step\"}],\n\"variables\":[{\"name\":\"x\",\"type\":{\"kind\":\"bounded\",\"base\":\"int\",\"lower-bound\":0,\"upper-bound\":2},\n \"initial-value\":0},{\"name\":\"r\",\"type\":\"real\",\"transient\":true,\"initial-value\":0}],\n\"automata\":[{\"name\":\"D\",\"locations\":[{\"name\":\"idle\"},{\"name\":\"busy\"}],\"initial-locations\":[\"idle\"],\"edges\":[\n {\"location\":\"idle\",\"action\":\"go\",\"guard\":{\"exp\":{\"op\":\"<\",\"left\":\"x\",\"right\":2}},\"destinations\":[{\"location\":\n \"busy\",\"assignments\":[{\"ref\":\"x\",\"value\":{\"op\":\"+\",\"left\":\"x\",\"right\":1}},{\"ref\":\"r\",\"value\":1}]}]},\n {\"location\":\"idle\",\"action\":\"go\",\"destinations\":[{\"location\":\"busy\",\"assignments\":[{\"ref\":\"r\",\"value\":2}]}]},\n {\"location\":\"busy\",\"destinations\":[{\"location\":\"idle\"}]}]},\n {\"name\":\"B\",\"locations\":[{\"name\":\"l\"}],\"initial-locations\":[\"l\"],\"edges\":[\n {\"location\":\"l\",\"action\":\"ok\",\"destinations\":[{\"location\":\"l\"}]}]}],\n\"system\":{\"elements\":[{\"automaton\":\"D\"},{\"automaton\":\"B\"}],\"syncs\":[{\"synchronise\":[\"go\",\"ok\"],\n \"result\":\"step\"},{\"synchronise\":[\"go\",null],\"result\":\"step\"},{\"synchronise\":[\"go\",\"never\"]}]}}";
+
+// A choice between a coin and a step that is sure.
+const COIN: &[u8] =
+    b"mdp\nmodule M\n  x : [0..2] init 0;\n  [a] x=0 -> 1/4 : (x'=1) + 3/4 : (x'=2);\n  [] x=0 -> (x'=2);\n  [] x>0 -> true;\nendmodule\n";
+
+// A JANI file with a property.
+const WITH_PROPERTY: &[u8] =
+    b"{\"jani-version\":1,\"name\":\"m\",\"type\":\"mdp\",\"properties\":[{\"name\":\"p\",\"expression\":{\"op\":\"filter\",\"fun\":\"min\",\"values\":{\"op\":\"Pmax\",\"exp\":{\"op\":\"F\",\"exp\":true}},\"states\":{\"op\":\"initial\"}}}],\n\"variables\":[{\"name\":\"x\",\"type\":{\"kind\":\"bounded\",\"base\":\"int\",\"lower-bound\":0,\"upper-bound\":2},\"initial-value\":0}],\n\"automata\":[{\"name\":\"M\",\"locations\":[{\"name\":\"l\"}],\"initial-locations\":[\"l\"],\"edges\":[]}],\n\"system\":{\"elements\":[{\"automaton\":\"M\"}]}}\n";
+
+// A command, the files that it names, in the order of their words, and the status that it ends with.
+#[derive(Clone, Copy)]
+struct Command {
+    words: &'static [&'static str],
+    files: &'static [(&'static str, &'static [u8])],
+    status: u8,
+}
+
+const COMMANDS: [Command; 8] = [
+    Command {
+        words: &["to-jani", "f"],
+        files: &[("f", LOCK)],
+        status: 0,
+    },
+    Command {
+        words: &["to-jani", "f", "q"],
+        files: &[("f", LOCK), ("q", b"Pmax=? [ F \"mutex\" ]\n")],
+        status: 0,
+    },
+    Command {
+        words: &["to-prism", "f"],
+        files: &[("f", SPLIT)],
+        status: 0,
+    },
+    Command {
+        words: &["to-prism-props", "f"],
+        files: &[("f", WITH_PROPERTY)],
+        status: 0,
+    },
+    Command {
+        words: &["show", "jani", "f", "(0,0,0)"],
+        files: &[("f", SPLIT)],
+        status: 0,
+    },
+    Command {
+        words: &["simulate", "prism", "f", "given", "0,0,9,9"],
+        files: &[("f", LOCK)],
+        status: 1,
+    },
+    Command {
+        words: &["check-path", "prism", "f", "p"],
+        files: &[("f", COIN), ("p", b"(x)\n(0)\na (1)\n- (0)\n")],
+        status: 1,
+    },
+    Command {
+        words: &["check-rows", "prism", "f", "s", "r"],
+        files: &[
+            ("f", COIN),
+            ("s", b"(x)\n0:(0)\n1:(1)\n2:(2)\n"),
+            (
+                "r",
+                b"3 4 5\n0 0 1 0.25 a\n0 0 2 0.75 a\n0 1 2 1\n1 0 1 1\n2 0 2 1\n",
+            ),
+        ],
+        status: 0,
+    },
+];
 
 // The shelf, the output and the errors of a run.
 #[derive(Drop)]
@@ -31,25 +99,22 @@ const NEVER: Failing = Failing {
     tell: 0,
 };
 
-// The errors are taken three bytes a call.
-fn failing_devices(alloc: Global, file: &[u8], failing: Failing) -> Result<Devices, AllocError> {
-    Ok(Devices {
-        shelf: shelf_with(alloc, file, failing.read)?,
-        out: sink_with(alloc, 100, failing.write)?,
-        err: sink_with(alloc, 3, failing.tell)?,
-    })
-}
-
-// A shelf with a file, under the name f.
-fn shelf_with(alloc: Global, file: &[u8], read: u64) -> Result<MemoryShelf, AllocError> {
+// A shelf with these files.
+fn shelf_with(
+    alloc: Global,
+    files: &[(&str, &[u8])],
+    read: u64,
+) -> Result<MemoryShelf, AllocError> {
     let mut shelf = MemoryShelf::new(alloc);
-    shelf.put("f", file)?;
+    for (name, file) in files {
+        shelf.put(name, file)?;
+    }
     shelf.fail_call(read)?;
     Ok(shelf)
 }
 
 fn sink_with(alloc: Global, most: usize, call: u64) -> Result<MemorySink, AllocError> {
-    let mut sink = MemorySink::new(alloc, most.max(1), 2_000)?;
+    let mut sink = MemorySink::new(alloc, most.max(1), 10_000)?;
     sink.fail_call(call)?;
     Ok(sink)
 }
@@ -62,25 +127,19 @@ fn words(alloc: Global, texts: &[&str]) -> Result<Vec<String>, AllocError> {
     Ok(words)
 }
 
-// The status, how many bytes of the translation were written, and what was told.
-#[derive(Clone, Copy)]
-struct End {
-    status: u8,
-    written: usize,
-    told: &'static [u8],
-}
-
-fn is_end(status: u8, devices: &Devices, end: End) -> bool {
-    let front = end.written.min(TRANSLATION.len());
-    status == end.status
-        && devices.out.taken() == &TRANSLATION[..front]
-        && devices.err.taken() == end.told
-}
-
-// Whether a run of `to-jani f` over a file ends so.
-fn ends(alloc: Global, file: &[u8], failing: Failing, end: End) -> Result<bool, AllocError> {
-    let mut devices = failing_devices(alloc, file, failing)?;
-    let words = words(alloc, &["to-jani", "f"])?;
+// The status of a run over these files, and its devices. The output is taken a hundred bytes a call, the errors three.
+fn ended(
+    alloc: Global,
+    texts: &[&str],
+    files: &[(&str, &[u8])],
+    failing: Failing,
+) -> Result<(u8, Devices), AllocError> {
+    let words = words(alloc, texts)?;
+    let mut devices = Devices {
+        shelf: shelf_with(alloc, files, failing.read)?,
+        out: sink_with(alloc, 100, failing.write)?,
+        err: sink_with(alloc, 3, failing.tell)?,
+    };
     let status = run(
         alloc,
         &words,
@@ -88,70 +147,150 @@ fn ends(alloc: Global, file: &[u8], failing: Failing, end: End) -> Result<bool, 
         &mut devices.out,
         &mut devices.err,
     );
-    Ok(is_end(status, &devices, end))
+    Ok((status, devices))
+}
+
+// Whether a run in which this read of the file of this name fails says so, and writes nothing.
+fn tells_the_file(
+    alloc: Global,
+    command: Command,
+    name: &str,
+    read: u64,
+) -> Result<bool, AllocError> {
+    let told = format!(in alloc; "bridge: read fault {name}\n")?;
+    let (status, devices) = ended(
+        alloc,
+        command.words,
+        command.files,
+        Failing { read, ..NEVER },
+    )?;
+    Ok(
+        status == 4
+            && devices.out.taken().is_empty()
+            && devices.err.taken() == told.as_str().as_bytes(),
+    )
+}
+
+// Whether a run of a command ends as it does, if no read fails, up to this one.
+fn meets_no_read(alloc: Global, command: Command, read: u64) -> Result<bool, AllocError> {
+    let (status, _) = ended(
+        alloc,
+        command.words,
+        command.files,
+        Failing { read, ..NEVER },
+    )?;
+    Ok(status == command.status)
 }
 
 #[test]
-fn each_read_may_fail(rt: HostRuntime) -> Result<(), AllocError> {
+fn each_read_may_fail(rt: HostRuntime) {
+    for command in COMMANDS {
+        // A piece of each file, and a call that gives none.
+        let mut read = 0u64;
+        for (name, _) in command.files {
+            for _ in 0..2u8 {
+                read = read.saturating_add(1);
+                let right = tells_the_file(rt.alloc(), command, name, read);
+                assert!(rt; matches!(right, Ok(true)), "{read}");
+            }
+        }
+        let right = meets_no_read(rt.alloc(), command, read.saturating_add(1));
+        assert!(rt; matches!(right, Ok(true)), "{read}");
+    }
+}
+
+#[test]
+fn a_later_piece_may_fail(rt: HostRuntime) -> Result<(), AllocError> {
     let mut file = Vec::new(rt.alloc());
     file.resize(10_000, b' ')?;
-    file.extend_from_slice(MODEL)?;
+    file.extend_from_slice(COIN)?;
     // Three pieces of 4,096 bytes, and a call that gives none.
     for read in 1..6u64 {
-        let end = End {
-            status: if read < 5 { 4 } else { 0 },
-            written: if read < 5 { 0 } else { TRANSLATION.len() },
-            told: if read < 5 {
-                b"bridge: read fault f\n"
+        let (status, devices) = ended(
+            rt.alloc(),
+            &["to-jani", "f"],
+            &[("f", &file)],
+            Failing { read, ..NEVER },
+        )?;
+        let none = devices.out.taken().is_empty();
+        assert!(rt;
+            if read < 5 {
+                status == 4 && none
             } else {
-                b""
+                status == 0 && !none
             },
-        };
-        let right = ends(rt.alloc(), &file, Failing { read, ..NEVER }, end);
-        assert!(rt; matches!(right, Ok(true)), "{read}");
+            "{read}"
+        );
     }
     Ok(())
 }
 
+// Whether a run in which this write fails has written the front of the whole text that stands before it, and says so; or, where the text
+// ends before it, the whole.
+fn writes_a_front(
+    alloc: Global,
+    command: Command,
+    whole: &[u8],
+    write: u64,
+    written: usize,
+) -> Result<bool, AllocError> {
+    let (status, devices) = ended(
+        alloc,
+        command.words,
+        command.files,
+        Failing { write, ..NEVER },
+    )?;
+    let fails = written < whole.len();
+    let front = written.min(whole.len());
+    let told = devices.err.taken() == b"bridge: write fault\n".as_slice();
+    Ok(
+        devices.out.taken() == &whole[..front]
+            && status == (if fails { 5 } else { command.status })
+            && (told || !fails),
+    )
+}
+
+// Whether each write of a command fails so.
+fn writes_fronts(alloc: Global, command: Command) -> Result<bool, AllocError> {
+    let (_, devices) = ended(alloc, command.words, command.files, NEVER)?;
+    let whole = devices.out.taken();
+    let mut written = 0usize;
+    for write in 1..50u64 {
+        if !writes_a_front(alloc, command, whole, write, written)? {
+            return Ok(false);
+        }
+        written = written.saturating_add(100);
+    }
+    Ok(whole.len() < written)
+}
+
 #[test]
 fn each_write_may_fail(rt: HostRuntime) {
-    let mut written = 0usize;
-    for write in 1..9u64 {
-        let whole = written >= TRANSLATION.len();
-        let end = End {
-            status: if whole { 0 } else { 5 },
-            written,
-            told: if whole { b"" } else { b"bridge: write fault\n" },
-        };
-        let right = ends(rt.alloc(), MODEL, Failing { write, ..NEVER }, end);
-        assert!(rt; matches!(right, Ok(true)), "{write}");
-        written = written.saturating_add(100);
+    for command in COMMANDS {
+        let right = writes_fronts(rt.alloc(), command);
+        assert!(rt; matches!(right, Ok(true)));
     }
 }
 
 #[test]
-fn what_is_told_may_be_cut_short(rt: HostRuntime) {
+fn what_is_told_may_be_cut_short(rt: HostRuntime) -> Result<(), AllocError> {
     let rows: [(&[u8], u64, u64, &'static [u8]); 3] = [
-        (MODEL, 1, 1, b""),
+        (COIN, 1, 1, b""),
         (b"mdp", 0, 1, b""),
         (b"mdp", 0, 2, b"f:1"),
     ];
     for (file, write, tell, told) in rows {
-        let end = End {
-            status: 5,
-            written: 0,
-            told,
+        let failing = Failing {
+            write,
+            tell,
+            ..NEVER
         };
-        let right = ends(
-            rt.alloc(),
-            file,
-            Failing {
-                write,
-                tell,
-                ..NEVER
-            },
-            end,
+        let (status, devices) = ended(rt.alloc(), &["to-jani", "f"], &[("f", file)], failing)?;
+        let none = devices.out.taken().is_empty();
+        assert!(rt;
+            status == 5 && none && devices.err.taken() == told,
+            "{tell}"
         );
-        assert!(rt; matches!(right, Ok(true)), "{tell}");
     }
+    Ok(())
 }
