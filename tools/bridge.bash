@@ -1,9 +1,14 @@
 # Completion for bash of the words of `bridge`:  source tools/bridge.bash
-# It offers commands, languages, files, and the constants that a PRISM model leaves open.
+# It offers commands, languages, files, and of a PRISM model the labels and the constants that it leaves open.
 
 # The constants of a PRISM file that have no expression, as NAME=.
 _bridge_constants() {
   sed -n 's,//.*,,; s/^[[:space:]]*const[[:space:]]\{1,\}\(int\|double\|bool\)\{0,1\}[[:space:]]*\([A-Za-z_][A-Za-z0-9_]*\)[[:space:]]*;.*/\2=/p' "$1" 2>/dev/null
+}
+
+# The labels of a PRISM file.
+_bridge_labels() {
+  sed -n 's,//.*,,; s/.*label[[:space:]]*"\([A-Za-z_][A-Za-z0-9_]*\)".*/\1/p' "$1" 2>/dev/null
 }
 
 _bridge() {
@@ -21,6 +26,8 @@ _bridge() {
     mapfile -t COMPREPLY < <(compgen -W "to-jani to-prism to-prism-props check show simulate check-path check-rows check-bound" -- "$cur")
   elif [ "$place" -eq 2 ] && [[ $command != to-* ]]; then
     mapfile -t COMPREPLY < <(compgen -W "prism jani" -- "$cur")
+  elif [ "$place" -eq 6 ] && [ "$command" = check-bound ]; then
+    mapfile -t COMPREPLY < <(compgen -W "$(_bridge_labels "${COMP_WORDS[3]}")" -- "$cur")
   elif [ "$place" -le "$files" ]; then
     mapfile -t COMPREPLY < <(compgen -f -- "$cur")
   elif [ "$place" -eq 4 ] && [ "$command" = simulate ]; then
