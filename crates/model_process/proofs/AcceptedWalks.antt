@@ -1,77 +1,80 @@
 -- Where a walk comes to its end, what is written of it is accepted.
-use Rattle.std.proofs.Common.{◌≡◌, ℕ, List, [], ◌∷◌, true, false, Option, Some, None, Ok, refl, sym, ap, subst, ◌∙◌}
+use Rattle.std.proofs.Common.{◌≡◌, ℕ, List, [], ◌∷◌, false, Some, Ok, refl, sym, subst}
 use Rattle.process_core.specs.Ready.{Values}
 use Rattle.process_core.specs.Steps.{Process}
-use Rattle.process_texts.specs.Laws.{OneStateText, StateReadsBack}
-use Rattle.row_check.specs.declared.data.Verdict.{Verdict}
+use Rattle.process_texts.specs.Laws.{StateReadsBack}
+use Rattle.prism_print.specs.Laws.{SpelledIsPrintable}
 use Rattle.row_check.specs.declared.data.Verdict.TheVariants.{Yes}
 use Rattle.row_check.specs.Checks.{ChecksPath}
-use Rattle.row_check.specs.Laws.{PathIsYes}
+use Rattle.row_check.specs.Laws.{PathYes}
 use Rattle.walk_texts.specs.Jobs.{IsWalkAlong, IsWalkBySeed}
 use Rattle.walk_texts.specs.declared.report.Report.{Report}
 use Rattle.walk_texts.specs.declared.report.Report.TheVariants as R
 use Rattle.instance_start.specs.Description.{Description}
+use Rattle.prism_meaning.specs.Described.{DescribedAlike}
+use Rattle.short_names.specs.Laws.{JaniLabelsAreTexts, JaniNamesAreShort, PrismNamesAreShort}
 use Rattle.command_words.specs.declared.request.Lang.{Lang}
 use Rattle.command_words.specs.declared.request.Lang.TheVariants.{Prism, Jani}
 use Rattle.command_words.specs.Given.{Assignment}
-use Rattle.command_words.specs.Words.{Job, showing, along, seeded, of_path, words_before, words_before_given}
-use Rattle.model_process.specs.declared.ending.Ending.{Ending}
+use Rattle.command_words.specs.Words.{Job, showing, along, seeded, Claim, words_before}
 use Rattle.model_process.specs.declared.ending.Ending.TheVariants.{Done}
+use Rattle.model_process.specs.declared.finding.Finding.TheVariants.{Judged}
 use Rattle.model_process.specs.Models.{Describes}
+use Rattle.model_process.specs.Once.{ClaimEndOrFault, OneClaimEnd}
 use Rattle.model_process.specs.Starts.{EndsUnstarted, unfit, wide, faulty, IsStartable, process_for}
 use Rattle.model_process.specs.Walks.{IsReport, ending_of, unstarted as begun_not, shown}
-use Rattle.model_process.specs.declared.finding.Finding.{Finding}
-use Rattle.model_process.specs.declared.finding.Finding.TheVariants.{Judged, Bounds, NoLabel}
-use Rattle.model_process.specs.Claims.{HasVerdict, unstarted, judged}
-use Rattle.model_process.specs.Verdicts.{verdict_ending}
-use Rattle.model_process.specs.WrittenPaths.{IsWalk, WalksAreAccepted}
-use Rattle.model_process.proofs.WalkVerdicts.{along_takes, seeded_takes, walked_yes}
+use Rattle.model_process.specs.Claims.{HasVerdict, judged}
+use Rattle.model_process.specs.WrittenPaths.{IsWalk, WalksEndWithYes, WalksAreNotRefused, WalksAreAccepted}
+use Rattle.model_process.proofs.JaniProcess.{jani_readable}
+use Rattle.model_process.proofs.PrismProcess.{prism_readable}
+use Rattle.model_process.proofs.ReadableProcess.{IsReadableProcess}
+use Rattle.model_process.proofs.WalkVerdicts.{along_takes, seeded_takes, walked_checks}
 
--- ---- an end before the start
+-- an end before the start
 not_done : (d : Description) (n : ℕ) (g : List Assignment) (text : List ℕ) → EndsUnstarted d n g (Done text) → ⊥
 not_done d n g text (unfit i a e) = cc
 not_done d n g text (wide a b e) = cc
 not_done d n g text (faulty a b m e) = cc
 
-not_unstarted : (d : Description) (n : ℕ) (g : List Assignment) (e : Ending) → IsStartable d g → EndsUnstarted d n g e → ⊥
-not_unstarted d n g e s (unfit i a f) = let z : ◌≡◌ {A = Option ℕ} (Some i) None = sym a ∙ s.fits in cc
-not_unstarted d n g e s (wide a b f) = let z : true ≡ false = sym b ∙ s.narrow in cc
-not_unstarted d n g e s (faulty a b m f) = m s.faultless
-
--- ---- the test of the first state is never wide
+-- the test of the first state is never wide
 never_wide : (lang : Lang) (bytes : List ℕ) (d : Description) → Describes lang bytes d → (g : List Assignment) (s : Values) → (process_for d g).has_wide_initial s ≡ false
 never_wide Prism bytes d h g s = subst (λ x. (process_for x g).has_wide_initial s ≡ false) (sym h.2) refl
 never_wide Jani bytes d h g s = subst (λ x. (process_for x g).has_wide_initial s ≡ false) (sym h.2) refl
 
-module _ (one : OneStateText) (back : StateReadsBack) (yes : PathIsYes) where
-  job_yes : (p : Process) → ((f : Values) → p.first ≡ Some f → p.has_wide_initial f ≡ false) → (text : List ℕ) (j : Job) (r : Report) → IsWalk j → IsReport p j r → Done text ≡ ending_of j r →
-      (v : Verdict) → ChecksPath p text (Ok v) → v ≡ Yes
-  job_yes p first text (showing state) r k h e v c = absurd k
-  job_yes p first text (along from pairs) (R.Done t) k h e v c =
-      let same : text ≡ t = cc in
-      walked_yes one back yes p first (IsWalkAlong p pairs) (along_takes p pairs) from t h v (subst (λ u. ChecksPath p u (Ok v)) same c)
-  job_yes p first text (along from pairs) (R.Stopped t l) k h e v c = absurd cc
-  job_yes p first text (along from pairs) R.NoStart k h e v c = absurd cc
-  job_yes p first text (along from pairs) (R.Excess t l) k h e v c = absurd cc
-  job_yes p first text (seeded from seed steps) (R.Done t) k h e v c =
-      let same : text ≡ t = cc in
-      walked_yes one back yes p first (IsWalkBySeed p seed steps) (seeded_takes p seed steps) from t h v (subst (λ u. ChecksPath p u (Ok v)) same c)
-  job_yes p first text (seeded from seed steps) (R.Stopped t l) k h e v c = absurd cc
-  job_yes p first text (seeded from seed steps) R.NoStart k h e v c = absurd cc
-  job_yes p first text (seeded from seed steps) (R.Excess t l) k h e v c = absurd cc
+module _ (printable : SpelledIsPrintable) (prism_short : PrismNamesAreShort) (alike : DescribedAlike) (jani_short : JaniNamesAreShort) (texts : JaniLabelsAreTexts) where
+  readable : (lang : Lang) (bytes : List ℕ) (d : Description) → Describes lang bytes d → (g : List Assignment) → IsStartable d g → IsReadableProcess (process_for d g)
+  readable Prism bytes d (tree, ok, e) g s =
+      subst (λ x. IsReadableProcess (process_for x g)) (sym e) (prism_readable printable alike bytes tree ok prism_short g (subst (λ x. IsStartable x g) e s))
+  readable Jani bytes d (tree, ok, e) g s =
+      subst (λ x. IsReadableProcess (process_for x g)) (sym e) (jani_readable jani_short bytes tree ok texts g (subst (λ x. IsStartable x g) e s))
 
-  found_yes : (p : Process) → ((f : Values) → p.first ≡ Some f → p.has_wide_initial f ≡ false) → (text path : List ℕ) (j : Job) (r : Report) → IsWalk j → IsReport p j r → Done text ≡ ending_of j r →
-      (v : Finding) → HasVerdict p (of_path path) (text ∷ []) v → v ≡ Judged Yes
-  found_yes p first text path j r k h e (Judged v) c = ap Judged (job_yes p first text j r k h e v c)
-  found_yes p first text path j r k h e (Bounds v) c = absurd c
-  found_yes p first text path j r k h e NoLabel c = absurd c
+  module _ (back : StateReadsBack) (right : PathYes) where
+    job_checks : (p : Process) → IsReadableProcess p → ((f : Values) → p.first ≡ Some f → p.has_wide_initial f ≡ false) → (text : List ℕ) (j : Job) (r : Report) → IsWalk j → IsReport p j r → Done text ≡ ending_of j r →
+        ChecksPath p text (Ok Yes)
+    job_checks p k first text (showing state) r i h e = absurd i
+    job_checks p k first text (along from pairs) (R.Done t) i h e =
+        subst (λ u. ChecksPath p u (Ok Yes)) (let same : t ≡ text = cc in same) (walked_checks back right p k first (IsWalkAlong p pairs) (along_takes p pairs) from t h)
+    job_checks p k first text (along from pairs) (R.Stopped t l) i h e = absurd cc
+    job_checks p k first text (along from pairs) R.NoStart i h e = absurd cc
+    job_checks p k first text (along from pairs) (R.Excess t l) i h e = absurd cc
+    job_checks p k first text (seeded from seed steps) (R.Done t) i h e =
+        subst (λ u. ChecksPath p u (Ok Yes)) (let same : t ≡ text = cc in same) (walked_checks back right p k first (IsWalkBySeed p seed steps) (seeded_takes p seed steps) from t h)
+    job_checks p k first text (seeded from seed steps) (R.Stopped t l) i h e = absurd cc
+    job_checks p k first text (seeded from seed steps) R.NoStart i h e = absurd cc
+    job_checks p k first text (seeded from seed steps) (R.Excess t l) i h e = absurd cc
 
-  pub walks_accepted : WalksAreAccepted
-  walks_accepted bytes text path d w c e h ask (begun_not u) claim = absurd (not_done d (words_before w) w.given text u)
-  walks_accepted bytes text path d w c e h ask (shown s r report f) (unstarted u) =
-      absurd (not_unstarted d (words_before_given c) w.given e s (subst (λ g. EndsUnstarted d (words_before_given c) g e) ask.constants u))
-  walks_accepted bytes text path d w c e h ask (shown s r report f) (judged t v has g) =
-      let verdict : HasVerdict (process_for d w.given) (of_path path) (text ∷ []) v =
-      subst (λ x. HasVerdict (process_for d x) (of_path path) (text ∷ []) v) ask.constants (subst (λ x. HasVerdict (process_for d c.given) x (text ∷ []) v) ask.claim has) in
-      let is : v ≡ Judged Yes = found_yes (process_for d w.given) (λ x i. never_wide w.lang bytes d h w.given x) text path w.job r ask.walk report f v verdict in
-      g ∙ ap (verdict_ending c.claim) is
+    pub walks_end_with_yes : WalksEndWithYes
+    walks_end_with_yes bytes text path w c ask (d, h, begun_not u) = absurd (not_done d (words_before w) w.given text u)
+    walks_end_with_yes bytes text path w c ask (d, h, shown s r report e) =
+        let p = process_for d w.given in
+        let checks = job_checks p (readable w.lang bytes d h w.given s) (λ x i. never_wide w.lang bytes d h w.given x) text w.job r ask.walk report e in
+        let verdict : HasVerdict (process_for d c.given) c.claim (text ∷ []) (Judged Yes) =
+        subst (λ g. HasVerdict (process_for d g) c.claim (text ∷ []) (Judged Yes)) (sym ask.constants) (subst (λ (x : Claim). HasVerdict p x (text ∷ []) (Judged Yes)) (sym ask.claim) checks) in
+        (d, subst (λ l. Describes l bytes d) (sym ask.language) h, judged (subst (IsStartable d) (sym ask.constants) s) (Judged Yes) verdict refl)
+
+    pub walks_are_not_refused : ClaimEndOrFault → WalksAreNotRefused
+    walks_are_not_refused either bytes text path w c i f ask h k = either c (bytes ∷ text ∷ []) _ i f (walks_end_with_yes bytes text path w c ask h) k
+
+    pub walks_accepted : OneClaimEnd → WalksAreAccepted
+    walks_accepted one bytes text path d w c e h ask ends claim =
+        one c (bytes ∷ text ∷ []) e _ (d, subst (λ l. Describes l bytes d) (sym ask.language) h, claim) (walks_end_with_yes bytes text path w c ask (d, h, ends))

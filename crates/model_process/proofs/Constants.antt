@@ -2,6 +2,7 @@
 use Rattle.std.proofs.Common.{arith, ◌≡◌, ◌∙◌, refl, sym, ap, ap₂, subst, ℕ, suc, ◌+◌, ◌<◌, ◌≤◌, List, [], ◌∷◌, length, Bool, true, false, not, Some, None}
 use Rattle.std.specs.Prelude.{◌++◌, ◌||◌, if◌then◌else◌}
 use Rattle.std.specs.List.{list_any, position_or_len}
+use Rattle.basics.specs.Booleans.{first_false, second_false}
 use Rattle.basics.specs.Members.{none_at_end}
 use Rattle.process_core.specs.declared.data.Given.{Given}
 use Rattle.process_texts.specs.declared.given.GivenText.{GivenText}
@@ -174,3 +175,23 @@ misfit_within cs gs i e = by_cases (list_any (λ g. not (fits cs g)) gs) (list_a
     by_cases true m e = let same : position_or_len (λ g. not (fits cs g)) gs ≡ i = cc in let h = position_within (λ g. not (fits cs g)) gs in omega (arith, same, h)
     by_cases false true e = let same : length gs ≡ i = cc in omega (arith, same)
     by_cases false false e = absurd cc
+
+-- where no value is wrong, none is past the bound, and all fit
+pub none_wrong : (cs : List Constant) (values : List Assignment) → wrong_value cs values ≡ None → misfit cs (givens values) ≡ None
+none_wrong cs values h = by_cases (list_any (is_unfit cs) values) (list_any (is_missing (givens values)) cs) refl refl h
+  where
+    all_taken : (values : List Assignment) → list_any (is_unfit cs) values ≡ false → list_any (λ g. not (fits cs g)) (givens values) ≡ false
+    all_taken [] e = refl
+    all_taken (a ∷ values) e = by_value a.value (first_false (is_unfit_value cs a.name a.value) _ e) (all_taken values (second_false (is_unfit_value cs a.name a.value) _ e))
+      where
+        by_value : (v : GivenText) → is_unfit_value cs a.name v ≡ false → list_any (λ g. not (fits cs g)) (givens values) ≡ false → list_any (λ g. not (fits cs g)) (given_as a.name v ++ givens values) ≡ false
+        by_value (Good v) k ih = ap₂ (λ b c. b || c) k ih
+        by_value Past k ih = ih
+        by_value NoForm k ih = ih
+
+    by_cases : (a m : Bool) → list_any (is_unfit cs) values ≡ a → list_any (is_missing (givens values)) cs ≡ m →
+        (if a then Some (position_or_len (is_unfit cs) values) else (if m then Some (length values) else None)) ≡ None → misfit cs (givens values) ≡ None
+    by_cases true m e f k = absurd cc
+    by_cases false true e f k = absurd cc
+    by_cases false false e f k =
+        ap₂ (λ b c. if b then Some (position_or_len (λ g. not (fits cs g)) (givens values)) else (if c then Some (length (givens values)) else None)) (all_taken values e) f

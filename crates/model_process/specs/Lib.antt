@@ -7,4 +7,5 @@ pub mod Certified
 pub mod Verdicts
 pub mod ReadBack
 pub mod WrittenPaths
+pub mod Lawful
 pub mod Once

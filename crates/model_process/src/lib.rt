@@ -12,6 +12,6 @@ mod walking;
 
 pub use ending::Ending;
 pub use judging::{ClaimRefused, judge_claim};
-pub use laws::{certified_law, one_end_law, walk_law};
+pub use laws::{certified_law, one_end_law, process_law, walk_law};
 pub use starting::{Unstarted, begun, good_front, read_flat};
 pub use walking::show_or_walk;

@@ -1,6 +1,8 @@
 mod Tokens
 mod PrismFiles
 mod JaniFiles
+mod JsonTexts
+mod JaniLabels
 mod Properties
 mod FlatNames
 mod Entries

@@ -1,6 +1,8 @@
--- That the names of files that are read are short: a longer name is a fault of tokens, or of shape.
-use Rattle.std.specs.Prelude.{◌≡◌, ℕ, List, []}
+-- That the names of files that are read are short: a longer name is a fault of tokens, or of shape; and that labels are texts, as all that
+-- stands in JSON (RFC 8259, section 8.1).
+use Rattle.std.specs.Prelude.{◌≡◌, ℕ, true, List, []}
 use Rattle.std.specs.List.{AllByRecursion as Each}
+use Rattle.std.specs.Str.{is_utf8}
 use Rattle.basics.specs.Options.{IfAny}
 use Rattle.decimal_json.specs.declared.tree.Json.{Json}
 use Rattle.decimal_json.specs.Lang.{Mark}
@@ -24,6 +26,14 @@ PrismNamesAreShort = (bytes : List ℕ) (f : File) → SyntaxFaults bytes [] →
 -- Each JANI file that a JSON text without fault of shape spells has short names, none of them empty; its literals are in normal form.
 abbrev pub JaniNamesAreShort : Type 0
 JaniNamesAreShort = (bytes : List ℕ) (value : Json) (tokens : List Mark) (f : jani.File) → IsJson bytes value tokens → shape_faults F.Model (node value) ≡ [] → IsFile (node value) f → FileShort f
+
+-- the result of a synchronisation vector, if it has one, is UTF-8
+abbrev pub HasTextLabel : jani.Vector → Type 0
+HasTextLabel v = IfAny (λ n. is_utf8 n.name ≡ true) v.result
+
+-- So it is of each vector of each JANI file that a JSON text spells: these are the labels of its choices.
+abbrev pub JaniLabelsAreTexts : Type 0
+JaniLabelsAreTexts = (bytes : List ℕ) (value : Json) (tokens : List Mark) (f : jani.File) → IsJson bytes value tokens → IsFile (node value) f → Each HasTextLabel f.vectors
 
 -- a property's name, if it has one, is short
 abbrev pub HasShortTitle : WrittenProperty → Type 0

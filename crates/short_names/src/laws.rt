@@ -1,5 +1,5 @@
 // Functions that do nothing, whose contracts are the laws.
-ghost use Rattle.short_names.specs.Laws.{JaniNamesAreShort, PrismNamesAreShort, PropertyNamesAreShort};
+ghost use Rattle.short_names.specs.Laws.{JaniLabelsAreTexts, JaniNamesAreShort, PrismNamesAreShort, PropertyNamesAreShort};
 ghost use Rattle.short_names.specs.TranslationLaws.{FlatNamesAreShort, TranslatedNamesAreShort};
 
 /// The names of each PRISM file that bytes without fault spell have at most 255 bytes. Nothing is done.
@@ -10,6 +10,11 @@ pub fn prism_names_law()
 /// The names of each JANI file that a JSON text without fault of shape spells have at most 255 bytes. Nothing is done.
 pub fn jani_names_law()
     ensures { JaniNamesAreShort }
+{}
+
+/// The labels of the synchronisation vectors of each JANI file that a JSON text spells are UTF-8. Nothing is done.
+pub fn jani_labels_law()
+    ensures { JaniLabelsAreTexts }
 {}
 
 /// The names of the properties that bytes without fault spell as a PRISM properties file have at most 255 bytes. Nothing is done.
