@@ -1,26 +1,13 @@
--- Instances of models that mean the same are the same by a map.
-use Rattle.std.proofs.Common.{◌≡◌, List, [], ◌∷◌, map, length, Bool, true, IsTrue, Option, refl, sym, ap, ap₂, ◌∙◌, subst, subst₂}
+-- Processes that are the same by maps of states and labels are so by others that agree.
+use Rattle.std.proofs.Common.{◌≡◌, List, [], ◌∷◌, map, length, Bool, IsTrue, Option, refl, sym, ap, ap₂, ◌∙◌, subst, subst₂}
 use Rattle.std.specs.List.{All}
 use Rattle.std.proofs.lemmas.List.Elements.{All-head, All-tail}
 use Rattle.frac_core.specs.Fraction.{Fraction}
 use Rattle.process_core.specs.Process.{Branch, Outcome, Good, Bad, Choice, EquallyOften, branch_image, outcome_image, choice_image}
 use Rattle.process_core.specs.Distribution.{IsProper}
 use Rattle.process_core.specs.Ready.{Values, Name}
-use Rattle.carry_maps.specs.Maps.{jani_state, jani_label, has_pair, IsMap}
-use Rattle.carry_maps.specs.Instances.{InstancesAreSame, MapsAgree, SameByOthers, StartedAreSame}
-
-pub instances_are_same : InstancesAreSame
-instances_are_same d e p q label state same h k =
-    let there : (s : Values) → IsTrue (p.is_state s) → IsTrue (d.is_state s) = λ s i. sym (h.states s) ∙ i in
-    let onto : (s : Values) → IsTrue (p.is_state s) → IsTrue (q.is_state (state s)) = λ s i. k.states (state s) ∙ same.into s (there s i) in
-    record {
-      into = onto;
-      one = λ s t i j f. same.one s t (there s i) (there t j) f;
-      onto = λ u i. let r = same.onto u (sym (k.states u) ∙ i) in (r.0, h.states r.0 ∙ r.1, r.2);
-      initial = λ s i. h.initial s i ∙ same.initial s (there s i) ∙ sym (k.initial (state s) (onto s i));
-      marks = λ s i. h.marks s i ∙ same.marks s (there s i) ∙ sym (k.marks (state s) (onto s i));
-      choices = λ s i. subst₂ (λ a b. EquallyOften (map (choice_image label state) a) b) (sym (h.choices s i)) (sym (k.choices (state s) (onto s i))) (same.choices s (there s i));
-    }
+use Rattle.carry_maps.specs.Maps.{jani_state, jani_label}
+use Rattle.carry_maps.specs.Instances.{SameByOthers, SameByItsMap}
 
 -- ---- other maps
 module _ (is_state : Values → Bool) (label other : Option Name → Option Name) (state to : Values → Values) (states : (s : Values) → IsTrue (is_state s) → to s ≡ state s) where
@@ -58,16 +45,9 @@ same_by_others p q label other state to lawful agree same = record {
       (ap q.choices (sym (agree.states s i))) (same.choices s i);
 }
 
-pub started_are_same : StartedAreSame
-started_are_same m d e p j label state same map_of lawful h k =
-    let there : (s : Values) → IsTrue (p.is_state s) → IsTrue (d.is_state s) = λ s i. sym (h.states s) ∙ i in
-    let width : length e.columns ≡ length j.columns = ap length (sym k.columns) in
-    let agree : MapsAgree p label (jani_label m.labels) state (jani_state m (length j.columns)) = record {
-      states = λ s i. subst (λ n. jani_state m n s ≡ state s) width (map_of.agree.states s (there s i));
-      labels = λ s i. subst (All (λ c. jani_label m.labels c.label ≡ label c.label)) (sym (h.choices s i)) (map_of.agree.labels s (there s i));
-    } in
-    record {
-      columns = subst₂ (IsMap m) (ap length (sym h.columns)) width map_of.columns;
-      same = same_by_others p j label (jani_label m.labels) state (jani_state m (length j.columns)) lawful agree (instances_are_same d e p j label state same h k);
-      labels = λ s i. subst (All (λ c. has_pair m.labels c.label ≡ true)) (sym (h.choices s i)) (map_of.labels s (there s i));
-    }
+pub same_by_its_map : SameByItsMap
+same_by_its_map m d e label state same map_of lawful = record {
+  columns = map_of.columns;
+  same = same_by_others d e label (jani_label m.labels) state (jani_state m (length e.columns)) lawful map_of.agree same;
+  labels = map_of.labels;
+}

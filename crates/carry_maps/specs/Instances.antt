@@ -1,16 +1,11 @@
--- Instances of models that mean the same are the same by a map: the laws, as statements. (This project's own rule.)
+-- A model and its translation are the same by the map that the translation gives: the laws, as statements. (This project's own rule.)
 use Rattle.std.specs.Prelude.{◌≡◌, length, true, IsTrue, Option}
 use Rattle.std.specs.List.{All}
 use Rattle.process_core.specs.Process.{SameAt}
 use Rattle.process_core.specs.Ready.{Values, Name}
-use Rattle.process_core.specs.Steps.{Process, IsProcess, IsInstance, seen_by}
+use Rattle.process_core.specs.Steps.{Process, IsProcess, seen_by}
 use Rattle.carry_maps.specs.declared.map.CarryMap.{CarryMap}
 use Rattle.carry_maps.specs.Maps.{jani_state, jani_label, has_pair, IsMap, AreSameBy}
-
--- the instances of two processes that are the same are the same
-abbrev pub InstancesAreSame : Type 0
-InstancesAreSame = (d e p q : Process) (label : Option Name → Option Name) (state : Values → Values) →
-    SameAt (seen_by d) (seen_by e) label state → IsInstance d p → IsInstance e q → SameAt (seen_by p) (seen_by q) label state
 
 -- these maps agree with the first at the states of the process, and at the labels of their choices
 pub record MapsAgree (p : Process) (label other : Option Name → Option Name) (state to : Values → Values) : Type 0 where
@@ -27,7 +22,7 @@ pub record IsMapOf (m : CarryMap) (d e : Process) (label : Option Name → Optio
   pub agree : MapsAgree d label (jani_label m.labels) state (jani_state m (length e.columns))
   pub labels : (s : Values) → IsTrue (d.is_state s) → All (λ c. has_pair m.labels c.label ≡ true) (d.choices s)
 
--- Then whatever is started as these two is the same by the map.
-abbrev pub StartedAreSame : Type 0
-StartedAreSame = (m : CarryMap) (d e p j : Process) (label : Option Name → Option Name) (state : Values → Values) →
-    SameAt (seen_by d) (seen_by e) label state → IsMapOf m d e label state → IsProcess p → IsInstance d p → IsInstance e j → AreSameBy m p j
+-- Then the two are the same by the map.
+abbrev pub SameByItsMap : Type 0
+SameByItsMap = (m : CarryMap) (d e : Process) (label : Option Name → Option Name) (state : Values → Values) →
+    SameAt (seen_by d) (seen_by e) label state → IsMapOf m d e label state → IsProcess d → AreSameBy m d e

@@ -1,11 +1,10 @@
 // Laws of maps: functions that do nothing, whose contracts are the laws.
 
-ghost use Rattle.carry_maps.specs.Instances.{InstancesAreSame, SameByOthers, StartedAreSame};
+ghost use Rattle.carry_maps.specs.Instances.{SameByItsMap, SameByOthers};
 
-/// The instances of two processes that are the same are the same, also by other maps that agree at their states and labels; and so what is
-/// started as two models that mean the same is the same by the map that a translation gives.
-pub fn instance_laws()
-    ensures instances { InstancesAreSame }
+/// Two processes that are the same by maps of states and labels are so by others that agree with these at their states and labels; and so a
+/// model and its translation are the same by the map that the translation gives.
+pub fn map_laws()
     ensures others { SameByOthers }
-    ensures started { StartedAreSame }
+    ensures same { SameByItsMap }
 {}

@@ -5,5 +5,5 @@
 mod laws;
 mod map;
 
-pub use laws::instance_laws;
+pub use laws::map_laws;
 pub use map::{CarryMap, Column, LabelPair};
