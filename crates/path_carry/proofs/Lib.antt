@@ -1,0 +1,12 @@
+pub mod Images
+pub mod Pairs
+pub mod Columns
+pub mod Walked
+pub mod Accepted
+pub mod Visible
+pub mod Lines
+pub mod Whole
+pub mod Loops
+pub mod Written
+pub mod Firsts
+pub mod Places
