@@ -1,10 +1,13 @@
 -- One step further in the loops over columns, lines and steps.
-use Rattle.std.proofs.Common.{◌≡◌, ℕ, ◌+◌, ◌<◌, ◌≤◌, ◌&&◌, List, [], ◌∷◌, ◌++◌, map, length, Bool, false, if◌then◌else◌, Option, Some, None, get_or, slice_set, drop, take, replicate, refl, sym, ap, ap₂, ◌∙◌, subst, arith, append_assoc}
+use Rattle.std.proofs.Common.{◌≡◌, ℕ, ◌+◌, ◌<◌, ◌≤◌, ◌&&◌, List, [], ◌∷◌, ◌++◌, map, length, Bool, false, if◌then◌else◌, Option, Some, None, Err, get_or, slice_set, drop, take, replicate, refl, sym, ap, ap₂, ◌∙◌, subst, arith, append_assoc}
 use Rattle.std.specs.List.{All}
 use Rattle.std.proofs.lemmas.List.{length-map, drop_all, drop-map, get_or-map, get_or_default, take_more, map-append}
 use Rattle.basics.specs.Lists.{drop_item}
 use Rattle.op_trees.specs.declared.tree.Value.{Value}
-use Rattle.process_core.specs.Bounds.{Excess}
+use Rattle.process_core.specs.Answers.{FailsBy}
+use Rattle.process_core.specs.Bounds.{Excess, IsWide, IsTooMany}
+use Rattle.process_core.specs.declared.data.StepFail.{StepFail}
+use Rattle.process_core.specs.declared.data.StepFail.TheVariants as S
 use Rattle.process_core.specs.Ready.{Values, Name}
 use Rattle.process_core.specs.Steps.{Process}
 use Rattle.process_core.specs.declared.data.State.{State}
@@ -14,6 +17,8 @@ use Rattle.carry_maps.specs.declared.map.Column.{Column}
 use Rattle.carry_maps.specs.declared.map.LabelPair.{LabelPair}
 use Rattle.carry_maps.specs.declared.map.CarryMap.{CarryMap}
 use Rattle.path_carry.specs.declared.data.Carried.{Carried}
+use Rattle.path_carry.specs.declared.data.Carried.TheVariants as C
+use Rattle.path_carry.specs.Chosen.{Chooses, fail_at}
 use Rattle.carry_maps.specs.Maps.{column_number, column_numbers, candidates}
 use Rattle.path_carry.specs.Carried.{lost_step, chosen, chosen_labels, first_excess, excess_at}
 use Rattle.path_carry.specs.Texts.{step_line, step_lines}
@@ -110,6 +115,11 @@ module _ (p : Process) (ps : List LabelPair) (k : ℕ) (ss : List State) (ls : L
 
   pub excess_ends : (all : Option Carried) (x : Excess) (c : Carried) → p.excess s.values ≡ Some x → excess_at k (Some x) (first_excess p (k + 1) (drop (k + 1) ss) (drop (k + 1) ls)) ≡ Some c → first_excess p k (drop k ss) (drop k ls) ≡ all → all ≡ Some c
   excess_ends all x c e f h = sym h ∙ excess_here ∙ ap (λ y. excess_at k y (first_excess p (k + 1) (drop (k + 1) ss) (drop (k + 1) ls))) e ∙ f
+
+  pub fails_here : (f : StepFail) → FailsBy (p.excess s.values) f → first_excess p k (drop k ss) (drop k ls) ≡ first_excess p 0 ss ls → Chooses p ps ss ls (Err (fail_at k f))
+  fails_here (S.Memory e) h i = tt
+  fails_here S.Wide h i = excess_ends _ IsWide (C.Wide k) h refl i
+  fails_here S.TooMany h i = excess_ends _ IsTooMany (C.TooMany k) h refl i
 
 pub chosen_end : (p : Process) (ps : List LabelPair) (k : ℕ) (ss : List State) (ls : List (Option Name)) → length ls ≤ k → chosen_labels p ps (drop k ss) (drop k ls) ≡ []
 chosen_end p ps k ss ls l = ap (chosen_labels p ps (drop k ss)) (drop_all k ls l) ∙ none (drop k ss)

@@ -8,7 +8,7 @@ ghost use Rattle.process_core.specs.Ready.{same_label};
 ghost use Rattle.process_core.specs.Seen.{seen_choice};
 ghost use Rattle.process_core.specs.Paths.{leads_to};
 ghost use Rattle.path_carry.specs.Carried.{chosen};
-ghost use Rattle.path_carry.specs.Chosen.{Chooses};
+ghost use Rattle.path_carry.specs.Chosen.{Chooses, fail_at};
 ghost use Rattle.path_carry.specs.Index.{IsIndex};
 ghost use Rattle.carry_maps.specs.Maps.{candidates};
 
@@ -19,12 +19,36 @@ use process_core::{Choice, State, StepFail, Steps, copy_label};
 use row_check::leads_to;
 use std::alloc::{AllocError, Global};
 
-/// The labels of steps; or the number of the first state from which a step is taken at which something passes a bound.
+/// Why steps have no labels.
 #[derive(Drop)]
-pub(crate) enum Labelling {
-    Labels(List<Option<Text>>),
+pub(crate) enum LabelsFail {
+    /// Want of memory.
+    Memory(AllocError),
+    /// At the state after so many steps a value that is needed passes the bound of fractions.
     Wide(usize),
+    /// The state after so many steps has more choices or branches than are given.
     TooMany(usize),
+}
+
+impl From<AllocError> for LabelsFail {
+    ghost use Rattle.path_carry.specs.declared.choosing.LabelsFail.TheVariants.{Memory};
+
+    ghost from_gives = { λ e r. r ≡ Memory e };
+
+    fn from(e: AllocError) -> LabelsFail {
+        LabelsFail::Memory(e)
+    }
+}
+
+/// A failure at the state after so many steps.
+fn fail_at(k: usize, fail: StepFail) -> LabelsFail
+    ensures { result ≡ fail_at k fail }
+{
+    match fail {
+        StepFail::Memory(e) => LabelsFail::Memory(e),
+        StepFail::Wide => LabelsFail::Wide(k),
+        StepFail::TooMany => LabelsFail::TooMany(k),
+    }
 }
 
 /// The first good choice whose label is a candidate and that leads to the state.
@@ -86,27 +110,25 @@ fn step_label<T: Steps>(
     }
 }
 
-/// The labels of steps along states.
+/// The labels of steps along states, or at which state from which a step is taken something passes a bound first.
 pub(crate) fn chosen_labels<T: Steps>(
     alloc: Global,
     prism: &T,
     index: &LabelIndex,
     states: &[State],
     labels: &[Option<Text>],
-) -> Result<Labelling, AllocError>
+) -> Result<List<Option<Text>>, LabelsFail>
     requires index { IsIndex index.now }
     requires lengths { length states.now ≡ suc (length labels.now) }
     requires states { All (λ s. IsTrue ((T.process prism.now).is_state s.values)) states.now }
-    ensures { IfOk result (Chooses (T.process prism.now) index.now.pairs.now states.now labels.now) }
+    ensures { Chooses (T.process prism.now) index.now.pairs.now states.now labels.now result }
 {
     let mut new = List::new(alloc);
     for (k, label) in labels.iter().enumerate() {
         match step_label(alloc, prism, index, &states[k], label, &states[k + 1]) {
             Ok(label) => new.push(label)?,
-            Err(StepFail::Wide) => return Ok(Labelling::Wide(k)),
-            Err(StepFail::TooMany) => return Ok(Labelling::TooMany(k)),
-            Err(StepFail::Memory(e)) => return Err(e),
+            Err(fail) => return Err(fail_at(k, fail)),
         }
     }
-    Ok(Labelling::Labels(new))
+    Ok(new)
 }

@@ -12,11 +12,23 @@ use name_rules::NameMap;
 use std::alloc::{AllocError, Global};
 
 /// Pairs, with the places of the first of each action and of the first of each label.
-#[derive(Drop)]
 pub(crate) struct LabelIndex<'a> {
     pub(crate) pairs: &'a [LabelPair],
     by_action: NameMap<'a, usize>,
     by_label: NameMap<'a, usize>,
+}
+
+// Written out, so that it is proved here, and not where one is held.
+impl<'a> Drop for LabelIndex<'a> {
+    fn drop(self) {
+        let LabelIndex {
+            pairs: _,
+            by_action,
+            by_label,
+        } = self;
+        drop(by_action);
+        drop(by_label);
+    }
 }
 
 /// The index of pairs, no two of one action. `Err` is want of memory.

@@ -10,7 +10,7 @@ ghost use Rattle.carry_maps.specs.Maps.{AreSameBy, column_numbers};
 ghost use Rattle.path_carry.specs.Texts.{IsShort};
 ghost use Rattle.path_carry.specs.Written.{IsReadable};
 
-use crate::choosing::{Labelling, chosen_labels};
+use crate::choosing::{LabelsFail, chosen_labels};
 use crate::data::Carried;
 use crate::index::{LabelIndex, index_of};
 use crate::labels::{ToJani, ToPrism, jani_labels};
@@ -62,7 +62,7 @@ fn indexed_to_jani<S: Steps, T: Steps>(
         Some(k) => Ok(Carried::No(k)),
         None => {
             let new = jani_path(alloc, map, index, jani.columns(), path)?;
-            let text = path_text(alloc, jani, &new)?;
+            let text = path_text(alloc, jani, new.states.as_slice(), new.labels.as_slice())?;
             Ok(Carried::Path(text))
         }
     }
@@ -127,7 +127,7 @@ fn indexed_to_prism<S: Steps, T: Steps>(
         Some(k) => Ok(Carried::No(k)),
         None => {
             let states = prism_states(alloc, map, jani.columns(), path)?;
-            along(alloc, prism, map, index, states, path)
+            along(alloc, prism, map, index, states.as_slice(), path)
         }
     }
 }
@@ -138,32 +138,25 @@ fn along<T: Steps>(
     prism: &T,
     map: &CarryMap,
     index: &LabelIndex,
-    states: List<State>,
+    states: &[State],
     path: &ReadPath,
 ) -> Result<Carried, AllocError>
     requires index { IsIndex index.now }
     requires pairs { index.now.pairs.now ≡ map.now.labels }
     requires whole { length path.now.states ≡ suc (length path.now.labels) }
-    requires carried { states ≡ prism_states map.now path.now.states }
-    requires states { All (λ s. IsTrue ((T.process prism.now).is_state s.values)) states }
+    requires carried { states.now ≡ prism_states map.now path.now.states }
+    requires states { All (λ s. IsTrue ((T.process prism.now).is_state s.values)) states.now }
     requires names { Each (λ p. IsShort p.prism) map.now.labels }
     ensures carried { IfOk result (GoesAlong (T.process prism.now) map.now path.now) }
     ensures back { IfOk result (IsReadable (prism_path (T.process prism.now) map.now path.now).labels) }
 {
-    let chosen = chosen_labels(
-        alloc,
-        prism,
-        index,
-        states.as_slice(),
-        path.labels.as_slice(),
-    )?;
-    match chosen {
-        Labelling::Labels(labels) => {
-            let new = ReadPath { states, labels };
-            let text = path_text(alloc, prism, &new)?;
+    match chosen_labels(alloc, prism, index, states, path.labels.as_slice()) {
+        Ok(labels) => {
+            let text = path_text(alloc, prism, states, labels.as_slice())?;
             Ok(Carried::Path(text))
         }
-        Labelling::Wide(k) => Ok(Carried::Wide(k)),
-        Labelling::TooMany(k) => Ok(Carried::TooMany(k)),
+        Err(LabelsFail::Wide(k)) => Ok(Carried::Wide(k)),
+        Err(LabelsFail::TooMany(k)) => Ok(Carried::TooMany(k)),
+        Err(LabelsFail::Memory(e)) => Err(e),
     }
 }

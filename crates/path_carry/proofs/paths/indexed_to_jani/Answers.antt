@@ -22,5 +22,5 @@ jani_path-requires-clause-lengths g c =
 pub returns-in_ok-text-in-None-clause-back : goal.returns-in_ok-text-in-None-clause-back
 returns-in_ok-text-in-None-clause-back g c =
     let m = c.args.map.now in
-    let e = ap (λ (q : ReadPath). q.labels) c.in_ok-new-in-None.ensures in
+    let e = c.as_slice-in-None.ensures ∙ ap (λ (q : ReadPath). q.labels) c.in_ok-new-in-None.ensures in
     subst AreReadable e (c.in_ok-text-in-None.ensures.back (subst (All (λ l. IfSome l IsShort)) (sym e) (All-from_recursion (λ l. IfSome l IsShort) _ (jani_labels_short m.labels c.requires.names c.args.path.now.labels))))

@@ -15,7 +15,7 @@ along-requires-clause-states g c =
     let m = c.args.map.now in
     let path = c.args.path.now in
     let none : lost_line j.is_state (has_candidate m.labels) path ≡ None = ap (λ ps. lost_line j.is_state (has_candidate ps) path) (sym c.requires.pairs) ∙ sym c.in-None.ensures in
-    subst (All (λ (s : State). IsTrue (p.is_state s.values))) (sym c.in_ok-states-in-None.ensures)
+    subst (All (λ (s : State). IsTrue (p.is_state s.values))) (sym (c.as_slice.ensures ∙ c.in_ok-states-in-None.ensures))
     (All-from_recursion (λ (s : State). IsTrue (p.is_state s.values)) _
     (states_carried m p j (g.met.T.Steps.lawful c.args.prism.now) c.requires.same path.states (none_is_lost j.is_state (has_candidate m.labels) path c.requires.whole none).states))
 
