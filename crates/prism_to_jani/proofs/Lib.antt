@@ -4,3 +4,8 @@ mod Filed
 mod Listed
 mod Places
 mod Statements
+mod Counted
+mod Labels
+mod Lasting
+mod Mapped
+mod Pairs

@@ -3,3 +3,4 @@ pub mod Promise
 pub use Rattle.jani_translation_laws.specs.SameMeaning
 pub mod Filed
 pub mod Statements
+pub mod Maps

@@ -3,6 +3,7 @@
 //! has no fault and means the same are the laws of jani_translation_laws.
 #![tactic(auto)]
 
+mod carry;
 mod composition;
 mod laws;
 mod naming;
@@ -10,6 +11,7 @@ mod syncs;
 mod translating;
 mod translation;
 
-pub use laws::translated_law;
+pub use carry::{carry_map, flat_carry_map};
+pub use laws::{carry_law, translated_law};
 pub use translating::{flat_to_jani, to_jani};
 pub use translation::translate;

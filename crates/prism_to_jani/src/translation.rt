@@ -58,7 +58,7 @@ fn file_with_actions(
 }
 
 /// The variables of the file.
-fn file_variables(alloc: Global, file: &PrismFile) -> Result<Vec<&PrismVar>, AllocError>
+pub(crate) fn file_variables(alloc: Global, file: &PrismFile) -> Result<Vec<&PrismVar>, AllocError>
     ensures { IfOk result (λ xs. AreVariables xs.items file.now) }
 {
     let vars = variables(alloc, file)?;
@@ -66,7 +66,7 @@ fn file_variables(alloc: Global, file: &PrismFile) -> Result<Vec<&PrismVar>, All
 }
 
 /// The actions of the file.
-fn file_actions(alloc: Global, file: &PrismFile) -> Result<Vec<&Text>, AllocError>
+pub(crate) fn file_actions(alloc: Global, file: &PrismFile) -> Result<Vec<&Text>, AllocError>
     ensures { IfOk result (λ xs. AreActions xs.items file.now) }
 {
     let acts = actions(alloc, file)?;
@@ -74,7 +74,7 @@ fn file_actions(alloc: Global, file: &PrismFile) -> Result<Vec<&Text>, AllocErro
 }
 
 /// The table of the entries of the file, where these are its variables and its actions.
-fn file_table(
+pub(crate) fn file_table(
     alloc: Global,
     file: &PrismFile,
     vars: &Vec<&PrismVar>,
@@ -106,7 +106,7 @@ fn file_with(
 }
 
 /// The new names of the file, where these are its entries.
-fn file_names<'a>(
+pub(crate) fn file_names<'a>(
     alloc: Global,
     file: &'a PrismFile,
     vars: &Vec<&'a PrismVar>,
