@@ -1,5 +1,5 @@
 //! From the bytes of a PRISM file and those of a properties file to the text of a JANI file with properties.
-ghost use Rattle.std.specs.Prelude.{◌≡◌, ℕ, List, IfOk, map};
+ghost use Rattle.std.specs.Prelude.{◌≡◌, ◌<◌, ◌^◌, ℕ, List, IfOk, length, map};
 ghost use Rattle.prism_names.specs.Flat.{flat};
 ghost use Rattle.prism_print.specs.Same.{bare_file};
 ghost use Rattle.jani_table.specs.Node.{Node, node};
@@ -10,7 +10,7 @@ ghost use Rattle.prop_trees.specs.Syntax.{property_of};
 ghost use Rattle.prop_to_jani.specs.Laws as of_properties;
 ghost use Rattle.prop_to_jani.specs.ReadBack.{with_properties};
 ghost use Rattle.short_names.specs.ShortNames.{HasShortNames};
-ghost use Rattle.model_translation.specs.WithProperties.{IsFileWith, IsWrittenWith, TranslatesFiles};
+ghost use Rattle.model_translation.specs.WithProperties.{HaveShortNames, IsFileWith, IsWrittenWith, TranslatesFiles};
 
 use crate::translation::{held, room_for, text_of};
 use bridge_io::{Fault, List, Refused};
@@ -22,7 +22,9 @@ use prism_to_jani::flat_to_jani;
 use prop_check::read_props;
 use prop_to_jani::flat_props_to_jani;
 use prop_trees::Property;
-use short_names::{prism_names_law, translated_names_law};
+use short_names::{
+    few_asks_law, flat_names_law, prism_names_law, property_names_law, translated_names_law,
+};
 use std::alloc::{AllocError, Global};
 
 /// Why a model and its properties aren't translated.
@@ -57,6 +59,7 @@ pub fn translate_with_properties(
     ensures { TranslatesFiles model.now properties.now result }
 {
     prism_names_law();
+    property_names_law();
     let checked = match read_prism(alloc, model) {
         Ok(checked) => checked,
         Err(Refused::At(fault)) => return Err(FilesRefused::Model(fault)),
@@ -72,7 +75,8 @@ pub fn translate_with_properties(
     Ok(text)
 }
 
-// The text for a judged file whose names are short, and its properties, which are let go once they are translated. `Err` is want of memory.
+// The text for a judged file and its properties, whose names are short; the properties are let go once they are translated. `Err` is want of
+// memory.
 fn written(
     alloc: Global,
     checked: CheckedPrism,
@@ -80,15 +84,26 @@ fn written(
     room: usize,
 ) -> Result<List<u8>, AllocError>
     requires names { HasShortNames checked.file }
+    requires titles { HaveShortNames (map property_of props) }
     requires props { AreOfPrism checked.file (map property_of props) }
     ensures { IfOk result (λ text. (model : File) × (value : Node) × IsWrittenWith checked (map property_of props) text model value) }
 {
     translated_names_law();
+    flat_names_law();
+    few_asks_law();
+    counted(&props);
     let full = file_with(alloc, &checked, props)?;
     checked.file();
     held(&full);
     drop(checked);
     text_of(alloc, room, &full)
+}
+
+// A list that the program holds has fewer than 2 ^ 64 members. Nothing is done but that they are counted.
+fn counted(props: &List<Property>)
+    ensures { length (map property_of props.now) < 2 ^ 64 }
+{
+    let _count = props.len();
 }
 
 // The file with its properties. `Err` is want of memory.

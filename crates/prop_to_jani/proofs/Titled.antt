@@ -4,7 +4,7 @@ use Rattle.std.specs.Prelude.{bytes_eq}
 use Rattle.std.specs.List.{AllByRecursion as Each, AllZip, IsDistinct, zip}
 use Rattle.std.specs.Option.{option_map}
 use Rattle.std.proofs.lemmas.Bool.Decides.{nat_tests}
-use Rattle.std.proofs.lemmas.Fmt.{length-decimal-le}
+use Rattle.std.proofs.lemmas.Fmt.{length-decimal-le_wide}
 use Rattle.std.proofs.lemmas.List.{length-take-le}
 use Rattle.std.proofs.lemmas.List.Sums.{count_by-le-length}
 use Rattle.std.proofs.lemmas.Option.{same_Some, slice_get_within}
@@ -59,10 +59,10 @@ each_here P [] i x h g = absurd cc
 each_here P (y ∷ ys) zero x h g = subst P (same_Some y x g) h.0
 each_here P (y ∷ ys) (suc i) x h g = each_here P ys i x h.1 g
 
-made_short : (c : NameClass) (n : ℕ) → n < 2 ^ 64 → length (made_name c n) ≤ 255
+made_short : (c : NameClass) (n : ℕ) → n < 10 ^ 20 → length (made_name c n) ≤ 255
 made_short c n h =
     let e = ap length (digits_decimal n (omega (arith, h))) in
-    let l = length-decimal-le 20 n (omega arith) (omega arith) h in
+    let l = length-decimal-le_wide 20 n (omega arith) h (omega (arith, h)) in
     let d : length (digits n) ≤ 20 = omega arith in
     each_class (λ k. length (made_name k n) ≤ 255) (by_prefix (codes "zz_c_") d (omega arith)) (by_prefix (codes "zz_v_") d (omega arith)) (by_prefix (codes "zz_loc_") d (omega arith))
     (by_prefix (codes "zz_m_") d (omega arith)) (by_prefix (codes "zz_a_") d (omega arith)) (by_prefix (codes "zz_l_") d (omega arith)) (by_prefix (codes "zz_r_") d (omega arith))
@@ -71,7 +71,7 @@ made_short c n h =
     by_prefix : (p : Name) → length (digits n) ≤ 20 → length p ≤ 7 → length (p ++ digits n) ≤ 255
     by_prefix p d l = let a = length-append p (digits n) in omega arith
 
-length_by : (es : List Entry) (c : NameClass) (o : Option (List ℕ)) (e : Entry) → length es < 2 ^ 64 → IfAny (λ x. length x ≤ 255) o → Comes Jani es c o e → length e.name ≤ 255
+length_by : (es : List Entry) (c : NameClass) (o : Option (List ℕ)) (e : Entry) → length es < 10 ^ 20 → IfAny (λ x. length x ≤ 255) o → Comes Jani es c o e → length e.name ≤ 255
 length_by es c o e l s (was_kept x q k h) = subst (λ y. length y ≤ 255) (sym (ap (λ (u : Entry). u.name) h)) (subst (IfAny (λ x. length x ≤ 255)) q s)
 length_by es c o e l s (was_made h) =
     let n = count_by-le-length (λ (u : Entry). same_class u.class c) es in

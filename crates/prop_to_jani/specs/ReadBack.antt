@@ -39,9 +39,9 @@ with_properties f v = record {
 abbrev pub bare_property : JaniProperty → JaniProperty
 bare_property p = record { name = p.name; ask = ask_with bare (λ i. i) p.ask; path = path_with bare p.path }
 
--- Fewer than 2 ^ 64 names are asked for, and no old name has more than 255 bytes.
+-- Fewer than 10 ^ 20 names are asked for, so that a number of one has at most twenty digits, and no old name has more than 255 bytes.
 pub record AreShort (asked : List Ask) : Type 0 where
-  pub few : length asked < 2 ^ 64
+  pub few : length asked < 10 ^ 20
   pub names : Each (λ a. IfAny (λ x. length x ≤ 255) a.1) asked
 
 -- ---- what is read
@@ -59,7 +59,14 @@ pub record IsReadBack (c : Checked) (ps : List PrismProperty) (file : jani.File)
   pub sound : AreSound file properties
   pub read : shape_faults file ≡ [] → AreRead file properties
 
--- So it is with each file without fault that is, places aside, the translation of a judged model with the value of its translated properties.
+-- There is no such fault: these properties are read.
+pub record IsReadWhole (c : Checked) (ps : List PrismProperty) (file : jani.File) : Type 0 where
+  pub back : IsReadBack c ps file
+  pub shaped : shape_faults file ≡ []
+  pub read : AreRead file back.properties
+
+-- The first of both holds of each file without fault that is, places aside, the translation of a judged model with the value of its translated
+-- properties.
 abbrev pub TranslatedReadBack : Type 0
 TranslatedReadBack = (c : Checked) → IsChecked c → (ps : List PrismProperty) → AreOfPrism c.file ps → (file : jani.File) → judged.IsChecked file →
     bare_file file ≡ bare_file (with_properties (translated (flat c.file)) (to_jani_node c.file ps)) → IsReadBack c ps file

@@ -28,6 +28,10 @@ pub record IsHeld (f : jani.File) : Type 0 where
   pub variables : length f.variables < 2 ^ 64
   pub automata : length f.automata < 2 ^ 64
 
+-- How many names a file asks for shows what it is translated to: fewer than 2 ^ 66, where the lists of that are such, places aside.
+abbrev pub AsksAreFew : Type 0
+AsksAreFew = (file : File) (model : jani.File) → bare_file model ≡ bare_file (translated file) → IsHeld model → length (asks file) < 2 ^ 66
+
 -- Such a file without fault is translated to one whose names are short, places aside.
 abbrev pub TranslatedNamesAreShort : Type 0
 TranslatedNamesAreShort = (c : Checked) → IsChecked c → HasShortNames c.file → (model : jani.File) → bare_file model ≡ bare_file (translated (flat c.file)) → IsHeld model →

@@ -1,6 +1,6 @@
 // Functions that do nothing, whose contracts are the laws.
 ghost use Rattle.short_names.specs.Laws.{JaniLabelsAreTexts, JaniNamesAreShort, PrismNamesAreShort, PropertyNamesAreShort};
-ghost use Rattle.short_names.specs.TranslationLaws.{FlatNamesAreShort, TranslatedNamesAreShort};
+ghost use Rattle.short_names.specs.TranslationLaws.{AsksAreFew, FlatNamesAreShort, TranslatedNamesAreShort};
 
 /// The names of each PRISM file that bytes without fault spell have at most 255 bytes. Nothing is done.
 pub fn prism_names_law()
@@ -25,6 +25,12 @@ pub fn property_names_law()
 /// Written out, a PRISM file whose names have at most 255 bytes asks for such names. Nothing is done.
 pub fn flat_names_law()
     ensures { FlatNamesAreShort }
+{}
+
+/// A PRISM file asks for fewer than 2 ^ 66 names, where each list of a file that it is translated to has fewer than 2 ^ 64 members. Nothing is
+/// done.
+pub fn few_asks_law()
+    ensures { AsksAreFew }
 {}
 
 /// The names of the JANI translation of such a file without fault have at most 255 bytes. Nothing is done.

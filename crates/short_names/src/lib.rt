@@ -4,6 +4,6 @@
 mod laws;
 
 pub use laws::{
-    flat_names_law, jani_labels_law, jani_names_law, prism_names_law, property_names_law,
-    translated_names_law,
+    few_asks_law, flat_names_law, jani_labels_law, jani_names_law, prism_names_law,
+    property_names_law, translated_names_law,
 };
