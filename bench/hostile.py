@@ -108,6 +108,12 @@ def formulas_that_name_a_large_one(n):
     return prism("formula g = %s;\n" % "+".join(["x"] * 250) + each(n, "formula f@ = g;\n"))
 
 
+@kind("to-jani f q")
+def formulas_that_name_a_large_one_beside_properties(n):
+    """The same, with a property that uses the last of them."""
+    return dict(formulas_that_name_a_large_one(n), q="Pmax=? [ F f%d>0 ]\n" % (n - 1))
+
+
 @kind("check prism f", status=2)
 def chain_into_a_lost_name(n):
     """Formulas of which each is the next one; a copy renames the constant at their end into what there is none of."""
@@ -262,11 +268,26 @@ def formulas_that_double_used_shown(n):
     return formulas_that_double_used(n)
 
 
+@kind("to-jani f q", counts=[60, 120, 240, 480, 960, 1900])
+def formulas_that_double_used_by_a_property(n):
+    name, doublings = "x" * 255, int(math.log2(n * 500))
+    model = prism(doubled(doublings).replace(" x;", " %s;" % name), "module M %s : [0..1]; endmodule\n" % name)
+    return dict(model, q="Pmax=? [ F f%d>0 ]\n" % doublings)
+
+
 @kind("to-jani f", counts=[125, 250, 500, 1000, 2000, 3900])
 def formula_of_long_names(n):
     """Labels that use a formula of 500 nodes over a name of 255 bytes."""
     name = "x" * 255
     return prism("formula g = %s;\n" % "+".join([name] * 250) + each(n, 'label "l@" = g>@;\n'), "module M %s : [0..1]; endmodule\n" % name)
+
+
+@kind("to-jani f q", counts=[125, 250, 500, 1000, 2000, 3900])
+def formula_of_long_names_in_properties(n):
+    """Properties that use a formula of 500 nodes over a name of 255 bytes."""
+    name = "x" * 255
+    model = prism("formula g = %s;\n" % "+".join([name] * 250), "module M %s : [0..1]; endmodule\n" % name)
+    return dict(model, q=each(n, "Pmax=? [ F g>@ ]\n"))
 
 
 @kind("to-jani f q", most=480000)

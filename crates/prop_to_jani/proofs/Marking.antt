@@ -1,33 +1,44 @@
--- The bodies of formulas with their names marked, one after another.
-use Rattle.std.specs.Prelude.{◌≡◌, ℕ, ◌+◌, ◌<◌, List, map, length, get_or, take, Option, Some, bytes_eq, if◌then◌else◌}
-use Rattle.std.specs.Option.{option_map}
-use Rattle.std.proofs.Common.{refl, sym, ap, ◌∙◌}
-use Rattle.basics.specs.Options.{option_map-if}
-use Rattle.op_trees.specs.Tree.{tree, renamed, substituted}
-use Rattle.process_core.specs.Ready.{Name}
-use Rattle.prism_tree.specs.declared.syntax.PrismFormula.{PrismFormula}
-use Rattle.prism_tree.specs.Syntax.{Expression, formula_of}
-use Rattle.prism_names.specs.Places.{at_places}
-use Rattle.prism_flat.specs.Filling.{bodies_after}
-use Rattle.prism_flat.proofs.Steps.{body_more}
-use Rattle.prop_to_jani.specs.declared.bodies.FormulaBodies.{FormulaBodies}
-use Rattle.prop_trees.specs.Names.{marked}
-use Rattle.prop_to_jani.specs.Code.{formula_in, body_in}
-use Rattle.prop_to_jani.proofs.Renaming.{substituted-renamed}
+-- The body of a name in a property: the formula's, its names marked.
+use Rattle.std.specs.Prelude.{◌≡◌, ℕ, nat_eq, [], ◌∷◌, Bool, true, false, Some, None, if◌then◌else◌}
+use Rattle.std.proofs.Common.{refl, sym, ap, ◌∙◌, arith}
+use Rattle.std.proofs.Math.Path.{fun_ext}
+use Rattle.std.proofs.lemmas.Bool.Decides.{nat_tests}
+use Rattle.op_trees.specs.Tree.{Name as At, renamed, replaced}
+use Rattle.prism_tree.specs.Syntax.{Expression}
+use Rattle.prism_flat.specs.ConstantLaws.{renamed_unchanged}
+use Rattle.prism_rewriter.specs.declared.bodies.BodyTable.{BodyTable}
+use Rattle.prism_rewriter.specs.Tables.{body_in}
+use Rattle.prop_trees.specs.Trees.{Name}
+use Rattle.prop_trees.specs.Names.{marked, Meant, of_model, is_initial, is_deadlock, nothing, built_in, meant}
+use Rattle.prop_to_jani.specs.Code.{body_meant_in, marked_body_in, model_part}
+use Rattle.prop_to_jani.proofs.Renaming.{replaced_renamed}
+use Rattle.prop_to_jani.proofs.Stripped.{built_in_none}
 
--- one body more
-pub marked_more : (fs : List PrismFormula) (places : List ℕ) (i : ℕ) (f : PrismFormula) (old new : FormulaBodies) (body : Expression) →
-    i < length places → get_or places i 0 < length fs → f ≡ get_or fs (get_or places i 0) f →
-    ((x : Name) → formula_in old x ≡ option_map (renamed marked) (bodies_after (at_places (map formula_of fs) (take i places)) x)) →
-    body ≡ substituted (body_in old) (renamed marked (tree f.body)) →
-    ((x : Name) → formula_in new x ≡ (if bytes_eq f.name.name x then Some body else formula_in old x)) →
-    (x : Name) → formula_in new x ≡ option_map (renamed marked) (bodies_after (at_places (map formula_of fs) (take (i + 1) places)) x)
-marked_more fs places i f old new body h w e so_far written added x =
-    let before : Name → Option Expression = bodies_after (at_places (map formula_of fs) (take i places)) in
-    let next : Name → Option Expression = λ y. if bytes_eq f.name.name y then Some (substituted before (tree f.body)) else before y in
-    let whole : body ≡ renamed marked (substituted before (tree f.body)) = written ∙ substituted-renamed marked (body_in old) before so_far (tree f.body) in
-    added x
-    ∙ ap (λ b. if bytes_eq f.name.name x then Some b else formula_in old x) whole
-    ∙ ap (λ o. if bytes_eq f.name.name x then Some (renamed marked (substituted before (tree f.body))) else o) (so_far x)
-    ∙ sym (option_map-if (renamed marked) (bytes_eq f.name.name x) (substituted before (tree f.body)) (before x))
-    ∙ ap (option_map (renamed marked)) (body_more fs places i f before next (substituted before (tree f.body)) h w e (λ y. refl) refl (λ y. refl) x)
+-- the name of the model that a name is, with its point
+model_marked : (x y : Name) → model_part (meant x) ≡ Some y → x ≡ marked y
+model_marked [] y h = absurd cc
+model_marked (b ∷ x) y h = by_test (nat_eq b 46) refl h
+  where
+    by_test : (t : Bool) → nat_eq b 46 ≡ t → model_part (if t then of_model x else built_in (b ∷ x)) ≡ Some y → (b ∷ x) ≡ marked y
+    by_test true e i = let s : b ≡ 46 = grind (arith, nat_tests, e) in let r : x ≡ y = cc in ap (λ n. n ∷ x) s ∙ ap marked r
+    by_test false e i = absurd (let n = built_in_none (b ∷ x) in cc)
+
+pub model_body : (t : BodyTable) (at : ℕ) (x y : Name) → model_part (meant x) ≡ Some y →
+    renamed marked (replaced (At at y) (body_in t y)) ≡ replaced (At at x) (marked_body_in t x)
+model_body t at x y h =
+    sym (replaced_renamed marked at y (body_in t y))
+    ∙ sym (ap (λ z. replaced (At at z) (marked_body_in t z)) (model_marked x y h))
+
+-- another name has no body
+pub no_body : (t : BodyTable) (at : ℕ) (x : Name) → model_part (meant x) ≡ None → At at x ≡ replaced (At at x) (marked_body_in t x)
+no_body t at x h = ap (replaced (At at x)) (by_meant (meant x) h)
+  where
+    by_meant : (m : Meant) → model_part m ≡ None → None ≡ body_meant_in t m
+    by_meant (of_model y) k = absurd cc
+    by_meant is_initial k = refl
+    by_meant is_deadlock k = refl
+    by_meant nothing k = refl
+
+-- names that become themselves
+pub renamed_same : (new : Name → Name) → ((x : Name) → new x ≡ x) → (e : Expression) → renamed new e ≡ e
+renamed_same new h e = ap (λ (f : Name → Name). renamed f e) (fun_ext h) ∙ renamed_unchanged e

@@ -8,7 +8,7 @@ module _ {O : Type 0} (new : List ℕ → List ℕ) where
   abbrev pub HasBodyOf : (List ℕ → Option (Tree O)) → (List ℕ → Option (Tree O)) → List ℕ → Type 0
   HasBodyOf bodies olds x = bodies (new x) ≡ option_map (renamed new) (olds x)
 
-  replaced_renamed : (at : ℕ) (x : List ℕ) (o : Option (Tree O)) → replaced (Name at (new x)) (option_map (renamed new) o) ≡ renamed new (replaced (Name at x) o)
+  pub replaced_renamed : (at : ℕ) (x : List ℕ) (o : Option (Tree O)) → replaced (Name at (new x)) (option_map (renamed new) o) ≡ renamed new (replaced (Name at x) o)
   replaced_renamed at x None = refl
   replaced_renamed at x (Some b) = refl
 

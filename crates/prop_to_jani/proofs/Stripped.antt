@@ -7,7 +7,7 @@ use Rattle.prop_trees.specs.Trees.{Name}
 use Rattle.prop_trees.specs.Names.{of_model, is_initial, is_deadlock, nothing, built_in, meant, initial_name, deadlock_name}
 use Rattle.prop_to_jani.specs.Code.{model_part}
 
-built_in_none : (x : Name) → model_part (built_in x) ≡ None
+pub built_in_none : (x : Name) → model_part (built_in x) ≡ None
 built_in_none x = by_test (bytes_eq x initial_name) (bytes_eq x deadlock_name)
   where
     by_test : (b c : Bool) → model_part (if b then is_initial else if c then is_deadlock else nothing) ≡ None

@@ -13,11 +13,12 @@ use Rattle.prism_names.specs.Order as plain
 use Rattle.prism_names.specs.Order.{place_in, IsOrder}
 use Rattle.prism_names.specs.Places.{at_places, formula_names, IsPlaceOrder, places_order}
 use Rattle.prism_names.specs.WrittenOut.{written_out_settled, substituted_agree_on}
-use Rattle.prism_flat.specs.Filling.{bodies_after, bodies_whole}
-use Rattle.prop_to_jani.specs.declared.bodies.FormulaBodies.{FormulaBodies}
+use Rattle.prism_rewriter.specs.declared.bodies.BodyTable.{BodyTable}
+use Rattle.prism_rewriter.specs.Filling.{bodies_after, bodies_whole}
+use Rattle.prism_rewriter.specs.Tables.{body_in}
 use Rattle.prop_trees.specs.Names.{marked, Meant, of_model, is_initial, is_deadlock, nothing, meant}
 use Rattle.prop_to_jani.specs.ToJani.{body_meant, body_of, whole}
-use Rattle.prop_to_jani.specs.Code.{formula_in, body_meant_in, body_in}
+use Rattle.prop_to_jani.specs.Code.{body_meant_in, marked_body_in}
 use Rattle.prop_to_jani.proofs.Renaming.{written_out-renamed}
 
 module _ (file : File) (order : List Name) (ordered : IsOrder file order) where
@@ -81,20 +82,20 @@ module _ (file : File) (order : List Name) (ordered : IsOrder file order) where
 pub whole_marked : (file : File) (e : Expression) → whole file (renamed marked e) ≡ renamed marked (plain.whole file e)
 whole_marked file e = written_out-renamed marked (body_of file) (formula_body file) (λ x. refl) (length file.formulas) e
 
-module _ (file : File) (places : List ℕ) (placed : IsPlaceOrder file places) (table : FormulaBodies)
-    (filled : (x : Name) → formula_in table x ≡ option_map (renamed marked) (bodies_after (at_places file.formulas places) x)) where
+module _ (file : File) (places : List ℕ) (placed : IsPlaceOrder file places) (table : BodyTable)
+    (filled : (x : Name) → body_in table x ≡ bodies_after (at_places file.formulas places) x) where
   marked_body : (o : Option Expression) → option_map (renamed marked) (option_map (plain.whole file) o) ≡ option_map (whole file) (option_map (renamed marked) o)
   marked_body None = refl
   marked_body (Some b) = ap Some (sym (whole_marked file b))
 
   body_is : (m : Meant) → body_meant_in table m ≡ option_map (whole file) (body_meant file m)
-  body_is (of_model y) = filled y ∙ ap (option_map (renamed marked)) (bodies_whole file places placed y) ∙ marked_body (formula_body file y)
+  body_is (of_model y) = ap (option_map (renamed marked)) (filled y ∙ bodies_whole file places placed y) ∙ marked_body (formula_body file y)
   body_is is_initial = refl
   body_is is_deadlock = refl
   body_is nothing = refl
 
   -- the bodies in the table write an expression out
-  pub whole_by_table : (e : Expression) → substituted (body_in table) e ≡ whole file e
+  pub whole_by_table : (e : Expression) → substituted (marked_body_in table) e ≡ whole file e
   whole_by_table e =
-      substituted_agree_on (body_in table) (λ x. option_map (whole file) (body_of file x)) e (names_all _ (λ x. body_is (meant x)) e)
+      substituted_agree_on (marked_body_in table) (λ x. option_map (whole file) (body_of file x)) e (names_all _ (λ x. body_is (meant x)) e)
       ∙ fills file (formula_names (at_places file.formulas places)) (places_order file places placed) e

@@ -3,10 +3,9 @@ use Rattle.std.specs.Prelude.{◌≡◌, ℕ, List, [], ◌∷◌, map, Option, 
 use Rattle.std.specs.Borrow.{Bor}
 use Rattle.std.specs.Option.{option_map}
 use Rattle.std.specs.Str.{is_utf8}
-use Rattle.indexmap.specs.IndexMap.{get_by}
 use Rattle.bridge_io.specs.declared.reason.Named.{Named}
 use Rattle.op_trees.specs.Rebuilt.{Node, TruthNode, NumberNode, NameNode, OneNode, TwoNode, ThreeNode}
-use Rattle.op_trees.specs.Tree.{Truth, Number, Name as At, One, Two, Three, tree, substituted}
+use Rattle.op_trees.specs.Tree.{Truth, Number, Name as At, One, Two, Three, renamed, replaced, substituted}
 use Rattle.prism_tree.specs.declared.operator.PrismOp.{PrismOp}
 use Rattle.prism_tree.specs.Syntax.{Expression, File}
 use Rattle.prism_tree.specs.Grammar.{unquoted}
@@ -14,6 +13,8 @@ use Rattle.prism_names.specs.Flat.{flat}
 use Rattle.std.specs.List.{AllByRecursion as Each}
 use Rattle.prism_print.specs.Printable.{IsPrintableLabel}
 use Rattle.prism_print.specs.Same.{bare_file}
+use Rattle.prism_rewriter.specs.declared.bodies.BodyTable.{BodyTable}
+use Rattle.prism_rewriter.specs.Tables.{body_in}
 use Rattle.jani_table.specs.Node as json
 use Rattle.jani_tree.specs.Syntax as jani
 use Rattle.name_table.specs.declared.entry.Entry.{Entry}
@@ -25,7 +26,6 @@ use Rattle.prop_trees.specs.Trees.{Name, PrismProperty, JaniProperty, ask_with, 
 use Rattle.prop_trees.specs.Names.{marked, Meant, of_model, is_initial, is_deadlock, nothing, meant}
 use Rattle.prop_grammar.specs.Property.{Ask, Path}
 use Rattle.prop_trees.specs.JaniText.{key, bound_member, property_node}
-use Rattle.prop_to_jani.specs.declared.bodies.FormulaBodies.{FormulaBodies}
 use Rattle.prop_to_jani.specs.declared.expressions.Translator.{Translator}
 use Rattle.prop_to_jani.specs.declared.names.PropertyNames.{PropertyNames}
 
@@ -80,22 +80,27 @@ marked_node (OneNode at o a) = One at o a
 marked_node (TwoNode at o a b) = Two at o a b
 marked_node (ThreeNode at o a b c) = Three at o a b c
 
--- the body of a formula in a table
-abbrev pub formula_in : FormulaBodies → Name → Option Expression
-formula_in t y = option_map tree (get_by (λ k. bytes_eq y k.now) t.bodies)
-
-abbrev pub body_meant_in : FormulaBodies → Meant → Option Expression
-body_meant_in t (of_model y) = formula_in t y
+abbrev pub body_meant_in : BodyTable → Meant → Option Expression
+body_meant_in t (of_model y) = option_map (renamed marked) (body_in t y)
 body_meant_in t is_initial = None
 body_meant_in t is_deadlock = None
 body_meant_in t nothing = None
 
--- the body of a name in a property
-abbrev pub body_in : FormulaBodies → Name → Option Expression
-body_in t x = body_meant_in t (meant x)
+-- the body of a name in a property: that of the formula in a table, its names marked
+abbrev pub marked_body_in : BodyTable → Name → Option Expression
+marked_body_in t x = body_meant_in t (meant x)
+
+-- one node, whose name is replaced by its body
+abbrev pub written_node : BodyTable → Node PrismOp PrismOp → Expression
+written_node t (TruthNode at b) = Truth at b
+written_node t (NumberNode at d) = Number at d
+written_node t (NameNode at x) = replaced (At at x) (marked_body_in t x)
+written_node t (OneNode at o a) = One at o a
+written_node t (TwoNode at o a b) = Two at o a b
+written_node t (ThreeNode at o a b c) = Three at o a b c
 
 abbrev pub translated_by : Translator → Expression → jani.Expression
-translated_by t e = image (name_in t.names.now) (substituted (body_in t.bodies.now) e)
+translated_by t e = image (name_in t.names.now) (substituted (marked_body_in t.bodies.now) e)
 
 -- ---- properties
 

@@ -1,93 +1,103 @@
-// The bodies of a model's formulas in properties: written out, and their names marked as those of the model.
+// The formulas of a model in the expressions of properties: their bodies are written out where their names are met, and the names in
+// these are marked as those of the model.
 
-ghost use Rattle.std.specs.Prelude.{◌≡◌, ◌<◌, List, ℕ, All, length, map, Some, None, IfOk, OnOk, bytes_eq, if◌then◌else◌};
-ghost use Rattle.std.specs.Option.{option_map};
-ghost use Rattle.op_trees.specs.Tree.{renamed, substituted, tree};
-ghost use Rattle.prism_tree.specs.Syntax.{formula_of};
-ghost use Rattle.prism_names.specs.Places.{at_places};
-ghost use Rattle.prism_flat.specs.Filling.{bodies_after};
+ghost use Rattle.std.specs.Prelude.{◌≡◌, IfOk};
+ghost use Rattle.op_trees.specs.Tree.{Name, renamed, replaced, substituted, tree};
+ghost use Rattle.prism_rewriter.specs.Tables.{body_in};
 ghost use Rattle.prop_trees.specs.Names.{marked};
-ghost use Rattle.prop_to_jani.specs.Code.{body_in, formula_in};
+ghost use Rattle.prop_to_jani.specs.Code.{marked_body_in};
 
 use crate::names::model_name;
-use indexmap::IndexMap;
-use op_trees::{Bodies, Expr, OpMap, Shape, map_ops, substitute};
-use prism_tree::{PrismExpr, PrismFormula, PrismOp};
+use bridge_io::Text;
+use op_trees::{Expr, OpMap, Shape, map_ops};
+use prism_rewriter::{BodyTable, Renaming, Rewriter};
+use prism_tree::{PrismExpr, PrismOp};
 use prop_trees::marked;
 use std::alloc::{AllocError, Global};
 
-/// The bodies of formulas by their names. In an expression of a property a formula's name has a point before it.
-pub(crate) struct FormulaBodies<'a> {
-    bodies: IndexMap<&'a str, PrismExpr>,
-}
-
-// Written out, so that it is proved here, and not wherever one is held.
-impl<'a> Drop for FormulaBodies<'a> {
-    fn drop(self) {
-        let FormulaBodies { bodies } = self;
-        drop(bodies);
-    }
-}
-
-impl<'a> Bodies<PrismOp> for FormulaBodies<'a> {
-    ghost use Rattle.prop_to_jani.specs.Code.{body_in};
-
-    ghost bodies = { body_in };
-
-    fn body(&self, name: &str) -> Option<&PrismExpr> {
-        self.bodies.get(model_name(name)?)
-    }
-}
-
-impl<'a> FormulaBodies<'a> {
-    fn new(alloc: Global) -> FormulaBodies<'a>
-        ensures { (x : List ℕ) → formula_in result x ≡ None }
-    {
-        FormulaBodies {
-            bodies: IndexMap::new(alloc),
-        }
-    }
-
-    fn insert(&mut self, name: &'a str, body: PrismExpr) -> Result<(), AllocError>
-        ensures { OnOk result
-            ((x : List ℕ) → formula_in self.new x ≡ (if bytes_eq name.now x then Some (tree body) else formula_in self.old x)) }
-    {
-        match self.bodies.insert(name, body) {
-            Ok(_) => Ok(()),
-            Err(_) => Err(AllocError),
-        }
-    }
-
-    /// The bodies of the formulas at these places, in each of which the names of those before it are replaced.
-    pub(crate) fn of(
-        alloc: Global,
-        formulas: &'a [PrismFormula],
-        places: &[usize],
-    ) -> Result<FormulaBodies<'a>, AllocError>
-        requires { All (λ i. i < length formulas.now) places.now }
-        ensures { IfOk result (λ table. (x : List ℕ) →
-            formula_in table x ≡ option_map (renamed marked) (bodies_after (at_places (map formula_of formulas.now) places.now) x)) }
-    {
-        let mut table = FormulaBodies::new(alloc);
-        for place in places {
-            let formula = &formulas[*place];
-            let body = written_body(alloc, &formula.body, &table)?;
-            table.insert(formula.name.name.as_str(), body)?;
-        }
-        Ok(table)
-    }
-}
-
-/// A body with its names marked, in which those that have bodies are replaced.
-fn written_body(
+/// An expression of a property with the formulas of the model written out. A formula's name has a point before it there, and so have
+/// the names in its body. A body whose name is not met is not written out. `Err` is want of memory.
+pub(crate) fn written(
     alloc: Global,
-    body: &PrismExpr,
-    table: &FormulaBodies,
+    e: &PrismExpr,
+    bodies: &BodyTable,
 ) -> Result<PrismExpr, AllocError>
-    ensures { IfOk result (λ r. tree r ≡ substituted (body_in table.now) (renamed marked (tree body.now))) }
+    ensures { IfOk result (λ r. tree r ≡ substituted (marked_body_in bodies.now) (tree e.now)) }
 {
-    let own = map_ops(alloc, body, &Marking)?;
-    substitute(alloc, &own, table)
+    map_ops(alloc, e, &Writing { bodies })
+}
+
+/// Replaces the names of formulas by their bodies.
+#[derive(Drop)]
+struct Writing<'a, 't> {
+    bodies: &'a BodyTable<'t>,
+}
+
+impl<'a, 't> OpMap<PrismOp, PrismOp> for Writing<'a, 't> {
+    ghost use Rattle.std.specs.Prelude.{◌≡◌, IfOk};
+    ghost use Rattle.op_trees.specs.Rebuilt.{shape};
+    ghost use Rattle.op_trees.specs.Tree.{tree};
+    ghost use Rattle.prop_to_jani.specs.Code.{written_node};
+
+    ghost rebuilt = { λ w. written_node w.bodies.now };
+
+    fn rebuild(&self, alloc: Global, node: Shape<PrismOp, PrismOp>) -> Result<PrismExpr, AllocError>
+        ensures { IfOk result (λ r. tree r ≡ written_node self.now.bodies.now (shape node)) }
+    {
+        match node {
+            Shape::Truth(at, b) => Ok(Expr::Truth(at, b)),
+            Shape::Number(at, d) => Ok(Expr::Number(at, d)),
+            Shape::Name(at, x) => written_name(alloc, at, x.as_str(), self.bodies),
+            Shape::One(at, o, a) => Ok(Expr::One(at, o, a)),
+            Shape::Two(at, o, a, b) => Ok(Expr::Two(at, o, a, b)),
+            Shape::Three(at, o, a, b, c) => Ok(Expr::Three(at, o, a, b, c)),
+        }
+    }
+}
+
+/// The body of a name in a property, or the name where it has none.
+fn written_name(
+    alloc: Global,
+    at: usize,
+    x: &str,
+    bodies: &BodyTable,
+) -> Result<PrismExpr, AllocError>
+    ensures { IfOk result (λ r. tree r ≡ replaced (Name at x.now) (marked_body_in bodies.now x.now)) }
+{
+    match model_name(x) {
+        Some(name) => model_body(alloc, at, name, bodies),
+        None => Ok(Expr::Name(at, Text::copy_of(alloc, x)?)),
+    }
+}
+
+/// The body of a name of the model, or the name where it has none, with each name marked.
+fn model_body(
+    alloc: Global,
+    at: usize,
+    x: &str,
+    bodies: &BodyTable,
+) -> Result<PrismExpr, AllocError>
+    ensures { IfOk result (λ r. tree r ≡ renamed marked (replaced (Name at x.now) (body_in bodies.now x.now))) }
+{
+    let body = own_body(alloc, at, x, bodies)?;
+    let new = map_ops(alloc, &body, &Marking);
+    drop(body);
+    new
+}
+
+/// The body of a name of the model, or the name where it has none, as it stands in the model.
+fn own_body(alloc: Global, at: usize, x: &str, bodies: &BodyTable) -> Result<PrismExpr, AllocError>
+    ensures { IfOk result (λ r. tree r ≡ replaced (Name at x.now) (body_in bodies.now x.now)) }
+{
+    let name = Expr::Name(at, Text::copy_of(alloc, x)?);
+    let same = Renaming::none(alloc);
+    let rewriter = Rewriter {
+        bodies,
+        renaming: &same,
+    };
+    let body = rewriter.expression(alloc, &name);
+    drop(name);
+    body
 }
 
 /// Puts a point before each name.

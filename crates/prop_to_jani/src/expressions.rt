@@ -8,14 +8,15 @@ ghost use Rattle.prop_trees.specs.Names.{built_in, meant};
 ghost use Rattle.prop_trees.specs.JaniText.{expression_node, name_node};
 ghost use Rattle.prop_to_jani.specs.Code.{translated_by};
 
-use crate::bodies::FormulaBodies;
+use crate::bodies::written;
 use crate::members::{object, operation, string, with};
 use crate::names::{PropertyNames, model_name};
 use decimal_json::Json;
 use jani_tree::JaniExpr;
 use name_table::Entry;
-use op_trees::{Expr, substitute};
+use op_trees::Expr;
 use prism_images::image;
+use prism_rewriter::BodyTable;
 use prism_tree::PrismExpr;
 use std::alloc::{AllocError, Global};
 
@@ -24,7 +25,7 @@ use std::alloc::{AllocError, Global};
 #[derive(Clone, Copy)]
 pub(crate) struct Translator<'a, 'f, 'n, 'm> {
     pub(crate) names: &'a PropertyNames<'f, 'n>,
-    pub(crate) bodies: &'a FormulaBodies<'m>,
+    pub(crate) bodies: &'a BodyTable<'m>,
     pub(crate) rewards: &'a [Entry],
 }
 
@@ -41,7 +42,7 @@ impl<'a, 'f, 'n, 'm> Translator<'a, 'f, 'n, 'm> {
     fn translated(&self, alloc: Global, e: &PrismExpr) -> Result<JaniExpr, AllocError>
         ensures { IfOk result (λ r. tree r ≡ translated_by self.now (tree e.now)) }
     {
-        let whole = substitute(alloc, e, self.bodies)?;
+        let whole = written(alloc, e, self.bodies)?;
         image(alloc, &whole, self.names)
     }
 }

@@ -2,12 +2,11 @@
 
 ghost use Rattle.std.specs.Prelude.{◌≡◌, List, ℕ, IfOk, OnOk, length, map, option_copied};
 ghost use Rattle.std.specs.List.{zip};
-ghost use Rattle.std.specs.Option.{option_map};
-ghost use Rattle.op_trees.specs.Tree.{renamed};
 ghost use Rattle.prism_names.specs.Flat.{flat};
 ghost use Rattle.prism_names.specs.Places.{IsPlaceOrder, at_places};
 ghost use Rattle.prism_print.specs.Same.{bare_file};
-ghost use Rattle.prism_flat.specs.Filling.{bodies_after};
+ghost use Rattle.prism_rewriter.specs.Filling.{bodies_after};
+ghost use Rattle.prism_rewriter.specs.Tables.{body_in};
 ghost use Rattle.prism_tree.specs.Syntax.{file_of, var_of};
 ghost use Rattle.jani_table.specs.Node.{node};
 ghost use Rattle.jani_tree.specs.Canonical.{list_node};
@@ -15,13 +14,11 @@ ghost use Rattle.name_table.specs.declared.class.Target.TheVariants.{Jani};
 ghost use Rattle.name_table.specs.Asks.{entries, new_names, variables};
 ghost use Rattle.name_table.specs.Gathered.{told};
 ghost use Rattle.prop_trees.specs.Form.{AreOfPrism};
-ghost use Rattle.prop_trees.specs.Names.{marked};
 ghost use Rattle.prop_trees.specs.Syntax.{property_of};
-ghost use Rattle.prop_to_jani.specs.Code.{IsFlatOf, entry_node, formula_in, name_in};
+ghost use Rattle.prop_to_jani.specs.Code.{IsFlatOf, entry_node, name_in};
 ghost use Rattle.prop_to_jani.specs.Laws.{IsTranslated};
 ghost use Rattle.prop_to_jani.specs.ToJani.{all_entries, new_property_name, property_asks, property_entries, reward_names, to_jani_node};
 
-use crate::bodies::FormulaBodies;
 use crate::expressions::Translator;
 use crate::names::PropertyNames;
 use crate::tables::{marked_names, property_names};
@@ -30,6 +27,7 @@ use decimal_json::Json;
 use gathering::{drop_from, first_of, shorter};
 use name_table::{Entry, NameClass, NameTable, actions, flat_names, variables};
 use prism_check::{CheckedPrism, FlatPrism, flatten};
+use prism_rewriter::{BodyTable, written_bodies};
 use prism_tree::{PrismFile, PrismVar};
 use prop_trees::Property;
 use std::alloc::{AllocError, Global};
@@ -175,7 +173,7 @@ fn with_names(
     ensures { IfOk result (λ v. IsTranslated model.now (map property_of props.now) (node v)) }
 {
     let file = model.file();
-    let bodies = FormulaBodies::of(alloc, file.formulas.as_slice(), model.order())?;
+    let bodies = written_bodies(alloc, file.formulas.as_slice(), model.order())?;
     with_bodies(alloc, props, model, names, &bodies, entries)
 }
 
@@ -185,13 +183,12 @@ fn with_bodies(
     props: &[Property],
     model: &CheckedPrism,
     names: &PropertyNames,
-    bodies: &FormulaBodies,
+    bodies: &BodyTable,
     entries: Entries,
 ) -> Result<Json, AllocError>
     requires order { IsPlaceOrder model.now.file model.now.order }
     requires names { (x : List ℕ) → name_in names.now x ≡ new_property_name (flat model.now.file) x }
-    requires bodies { (x : List ℕ) →
-        formula_in bodies.now x ≡ option_map (renamed marked) (bodies_after (at_places model.now.file.formulas model.now.order) x) }
+    requires bodies { (x : List ℕ) → body_in bodies.now x ≡ bodies_after (at_places model.now.file.formulas model.now.order) x }
     requires rewards { map (λ e. e.name) entries.rewards.now ≡ reward_names (flat model.now.file) }
     requires properties { entries.properties.now ≡ property_entries (flat model.now.file) (map property_of props.now) }
     ensures { IfOk result (λ v. node v ≡ to_jani_node model.now.file (map property_of props.now)) }

@@ -1,16 +1,13 @@
 use Rattle.std.proofs.Common.{◌≡◌, ℕ, List, ap, ap₂, ◌∙◌}
 use Rattle.std.specs.Prelude.{map}
-use Rattle.std.specs.Option.{option_map}
 use Rattle.decimal_json.specs.declared.tree.Json.{Json}
-use Rattle.op_trees.specs.Tree.{renamed}
 use Rattle.prism_tree.specs.Syntax.{File, Formula, formula_of}
 use Rattle.prism_names.specs.Places.{at_places}
-use Rattle.prism_flat.specs.Filling.{bodies_after}
+use Rattle.prism_rewriter.specs.Filling.{bodies_after}
 use Rattle.jani_table.specs.Node.{node}
 use Rattle.name_table.proofs.EntryLemmas.{one_each}
 use Rattle.prism_images.proofs.Form.{operands_kept}
 use Rattle.prism_images.proofs.Typed.{agreeing, typed_seen_alike}
-use Rattle.prop_trees.specs.Names.{marked}
 use Rattle.prop_trees.specs.Syntax.{property_of}
 use Rattle.prop_to_jani.specs.Laws.{IsTranslated}
 use Rattle.prop_to_jani.specs.ToJani.{to_jani_node}
@@ -22,7 +19,7 @@ use Rattle.prop_to_jani.proofs.translation.with_names.Goals as goal
 pub with_bodies-requires-clause-bodies : goal.with_bodies-requires-clause-bodies
 with_bodies-requires-clause-bodies c =
     let formulas = ap (map formula_of) c.as_slice.ensures ∙ ap (λ (f : File). f.formulas) c.file-file.ensures.tree in
-    λ x. c.in_ok-bodies.ensures x ∙ ap₂ (λ (fs : List Formula) (places : List ℕ). option_map (renamed marked) (bodies_after (at_places fs places) x)) formulas c.order.ensures
+    λ x. c.in_ok-bodies.ensures x ∙ ap₂ (λ (fs : List Formula) (places : List ℕ). bodies_after (at_places fs places) x) formulas c.order.ensures
 
 pub returns : goal.returns
 returns c =
