@@ -11,7 +11,7 @@ use Rattle.process_texts.specs.declared.given.GivenText.{GivenText}
 use Rattle.process_texts.specs.declared.given.GivenText.TheVariants.{Good, Past, NoForm}
 use Rattle.command_words.specs.Numbers.{IsSmall, numbers_of, pairs_text}
 use Rattle.command_words.specs.Given.{Assignment, IsAssignment, IsGivenText}
-use Rattle.command_words.specs.Words.{Job, showing, along, seeded, Walking, Claim, of_path, of_rows, of_bounds, Checking, on_file, with_properties, walk, check, claim_words, claim_verb, IsCheck, AreWithProperties, verb_of, lang_word, from_words, job_verb, job_words, IsJob, IsWalk, OneRequest, WordsCount}
+use Rattle.command_words.specs.Words.{Job, showing, along, seeded, Walking, Claim, of_path, of_rows, of_bounds, Checking, on_file, with_properties, generate, walk, check, claim_words, claim_verb, IsCheck, AreWithProperties, AreGenerate, verb_of, lang_word, from_words, job_verb, job_words, IsJob, IsWalk, OneRequest, WordsCount}
 use Rattle.command_words.specs.declared.request.Lang.{Lang}
 use Rattle.command_words.specs.declared.request.Lang.TheVariants.{Prism, Jani}
 use Rattle.command_words.specs.declared.request.Task.{Task}
@@ -19,7 +19,7 @@ use Rattle.command_words.specs.declared.request.Task.TheVariants.{ToJani, ToPris
 use Rattle.command_words.proofs.Pairs.{partition_of, no_comma_in}
 use Rattle.command_words.proofs.Assignments.{one_split}
 use Rattle.command_words.proofs.Forms.{differ}
-use Rattle.command_words.proofs.Requests.{heads, tails, not_walk, not_check, length-front, length-claim}
+use Rattle.command_words.proofs.Requests.{heads, tails, not_task, not_walk, not_check, length-front, length-claim}
 
 -- ---- numbers
 same_number : (m n : ℕ) → m < 2 ^ 32 → n < 2 ^ 32 → decimal m ≡ decimal n → m ≡ n
@@ -177,6 +177,19 @@ walk_properties words w f p h k = not_walk _ _ w (differ _ _ refl) (differ _ _ r
 check_properties : (words : List (List ℕ)) (c : Checking) (f p : List ℕ) → IsCheck words c → AreWithProperties words f p → ⊥
 check_properties words c f p h k = not_check _ _ c (differ _ _ refl) (differ _ _ refl) (differ _ _ refl) (subst (λ ws. IsCheck ws c) k.words_are h)
 
+-- and so does one that is generated
+generate_task : (words : List (List ℕ)) (n : ℕ) (t : Task) (f : List ℕ) → AreGenerate words n → words ≡ verb_of t ++ f ∷ [] → ⊥
+generate_task words n t f h e = not_task _ _ t f (differ _ _ refl) (differ _ _ refl) (differ _ _ refl) (differ _ _ refl) (sym h.words_are ∙ e)
+
+generate_properties : (words : List (List ℕ)) (n : ℕ) (f p : List ℕ) → AreGenerate words n → AreWithProperties words f p → ⊥
+generate_properties words n f p h k = differ _ _ refl (heads _ _ _ _ (sym h.words_are ∙ k.words_are))
+
+generate_walk : (words : List (List ℕ)) (n : ℕ) (w : Walking) → AreGenerate words n → IsWalk words w → ⊥
+generate_walk words n w h k = not_walk _ _ w (differ _ _ refl) (differ _ _ refl) (subst (λ ws. IsWalk ws w) h.words_are k)
+
+generate_check : (words : List (List ℕ)) (n : ℕ) (c : Checking) → AreGenerate words n → IsCheck words c → ⊥
+generate_check words n c h k = not_check _ _ c (differ _ _ refl) (differ _ _ refl) (differ _ _ refl) (subst (λ ws. IsCheck ws c) h.words_are k)
+
 walk_check : (words : List (List ℕ)) (w : Walking) (c : Checking) → IsWalk words w → IsCheck words c → ⊥
 walk_check words w c h k = by_claim c.claim (heads _ _ _ _ (sym h.words_are ∙ k.words_are))
   where
@@ -225,6 +238,17 @@ one_request one words (on_file s f) (with_properties g p) h k = absurd (task_pro
 one_request one words (with_properties f p) (on_file t g) h k = absurd (task_properties words t g f p k.1 h)
 one_request one words (with_properties f p) (with_properties g q) h k =
     let e = tails _ _ _ _ (sym h.words_are ∙ k.words_are) in ap₂ with_properties (heads _ _ _ _ e) (heads _ _ _ _ (tails _ _ _ _ e))
+one_request one words (generate n) (on_file t g) h k = absurd (generate_task words n t g h k.1)
+one_request one words (generate n) (with_properties f p) h k = absurd (generate_properties words n f p h k)
+one_request one words (generate n) (generate m) h k =
+    let e = heads _ _ _ _ (tails _ _ _ _ (sym h.words_are ∙ k.words_are)) in
+    ap generate (decimal_injective n m (let c : n < 2 ^ 64 = omega (arith, h.few) in c) (let c : m < 2 ^ 64 = omega (arith, k.few) in c) e)
+one_request one words (generate n) (walk w) h k = absurd (generate_walk words n w h k)
+one_request one words (generate n) (check c) h k = absurd (generate_check words n c h k)
+one_request one words (on_file t g) (generate n) h k = absurd (generate_task words n t g k h.1)
+one_request one words (with_properties f p) (generate n) h k = absurd (generate_properties words n f p k h)
+one_request one words (walk w) (generate n) h k = absurd (generate_walk words n w k h)
+one_request one words (check c) (generate n) h k = absurd (generate_check words n c k h)
 one_request one words (with_properties f p) (walk w) h k = absurd (walk_properties words w f p k h)
 one_request one words (with_properties f p) (check c) h k = absurd (check_properties words c f p k h)
 one_request one words (walk w) (with_properties f p) h k = absurd (walk_properties words w f p h k)
@@ -268,6 +292,7 @@ length-task CheckJani f = refl
 pub words_count : WordsCount
 words_count words (on_file t f) h = ap length h.1 ∙ length-task t f
 words_count words (with_properties f p) h = ap length h.words_are
+words_count words (generate n) h = ap length h.words_are
 words_count words (walk w) h =
     let a = length-front words (job_verb w.job) (lang_word w.lang) w.file w.job h.rest h.words_are in
     let b = length-zip h.rest w.given h.given.are in

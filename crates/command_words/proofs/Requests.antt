@@ -6,12 +6,12 @@ use Rattle.std.specs.Fmt.{decimal}
 use Rattle.std.specs.List.{AllByRecursion}
 use Rattle.command_words.specs.Numbers.{IsSmall, pairs_text}
 use Rattle.command_words.specs.Given.{Assignment, HasGiven, AreGiven}
-use Rattle.command_words.specs.Words.{texts, Begins, IsWrong, Job, showing, along, seeded, Walking, Claim, of_path, of_rows, of_bounds, Checking, on_file, with_properties, walk, check, IsNameBehind, AreNamesBehind, claim_files, claim_words, claim_verb, IsClaim, HasFileWord, verb_of, lang_word, IsStateWord, IsFrom, from_words, job_verb, job_words, IsJob, IsWalk, IsCheck, HasForm, job_count}
-use Rattle.command_words.specs.Fronts.{Then, One, IsNameWrong, IsFileName, IsPairsWord, IsSeedWord, IsStepsWord, GivenForm, SeedForm, WayForm, WalkForm, StateForm, PathForm, RowsForm, LabelForm, BoundsForm, HeadForm, ShowForm, SimulateForm}
+use Rattle.command_words.specs.Words.{texts, Begins, IsWrong, Job, showing, along, seeded, Walking, Claim, of_path, of_rows, of_bounds, Checking, on_file, with_properties, generate, walk, check, IsNameBehind, AreNamesBehind, claim_files, claim_words, claim_verb, IsClaim, HasFileWord, verb_of, lang_word, IsStateWord, IsFrom, from_words, job_verb, job_words, IsJob, IsWalk, IsCheck, HasForm, job_count}
+use Rattle.command_words.specs.Fronts.{Then, One, IsNameWrong, IsFileName, IsPairsWord, IsSeedWord, IsStepsWord, IsModulesWord, GenerateForm, GivenForm, SeedForm, WayForm, WalkForm, StateForm, PathForm, RowsForm, LabelForm, BoundsForm, HeadForm, ShowForm, SimulateForm}
 use Rattle.command_words.specs.declared.request.Lang.{Lang}
 use Rattle.command_words.specs.declared.request.Task.{Task}
 use Rattle.command_words.specs.declared.request.Task.TheVariants.{ToJani, ToPrism, ToPrismProps, CheckPrism, CheckJani}
-use Rattle.command_words.proofs.Wrong.{wrong_end, wrong_first, wrong_same, wrong_behind, wrong_next, then_begins, then_end, then_first, then_next, one_next}
+use Rattle.command_words.proofs.Wrong.{wrong_end, wrong_first, wrong_same, wrong_behind, wrong_next, then_begins, then_end, then_first, then_next, one_begins, one_end, one_first, one_next}
 use Rattle.command_words.proofs.Forms.{differ, way_given, way_seed, walk_from, walk_way, behind_head, state_begins, walk_begins, path_begins, rows_begins, bounds_begins}
 
 pub heads : (x y : List ℕ) (xs ys : List (List ℕ)) → x ∷ xs ≡ y ∷ ys → x ≡ y
@@ -91,6 +91,7 @@ to_jani_words ws (on_file ToPrismProps name, f) = absurd (differ _ _ refl (heads
 to_jani_words ws (on_file CheckPrism name, f) = absurd (differ _ _ refl (heads _ _ _ _ f.1))
 to_jani_words ws (on_file CheckJani name, f) = absurd (differ _ _ refl (heads _ _ _ _ f.1))
 to_jani_words ws (with_properties f p, h) = subst (Then IsFileName PropertiesForm) (sym (tails _ _ _ _ h.words_are)) (h.names.0.0, inr (h.names.1.0, refl))
+to_jani_words ws (generate n, h) = absurd (differ _ _ refl (heads _ _ _ _ h.words_are))
 to_jani_words ws (walk w, h) = absurd (not_walk _ ws w (differ _ _ refl) (differ _ _ refl) h)
 to_jani_words ws (check c, h) = absurd (not_check _ ws c (differ _ _ refl) (differ _ _ refl) (differ _ _ refl) h)
 
@@ -146,6 +147,7 @@ to_prism_file ws (on_file ToPrismProps name, f) = absurd (differ _ _ refl (heads
 to_prism_file ws (on_file CheckPrism name, f) = absurd (differ _ _ refl (heads _ _ _ _ f.1))
 to_prism_file ws (on_file CheckJani name, f) = absurd (differ _ _ refl (heads _ _ _ _ f.1))
 to_prism_file ws (with_properties f p, h) = absurd (differ _ _ refl (heads _ _ _ _ h.words_are))
+to_prism_file ws (generate n, h) = absurd (differ _ _ refl (heads _ _ _ _ h.words_are))
 to_prism_file ws (walk w, h) = absurd (not_walk _ ws w (differ _ _ refl) (differ _ _ refl) h)
 to_prism_file ws (check c, h) = absurd (not_check _ ws c (differ _ _ refl) (differ _ _ refl) (differ _ _ refl) h)
 
@@ -163,6 +165,7 @@ to_prism_props_file ws (on_file ToPrismProps name, f) = (name, (f.0, tails _ _ _
 to_prism_props_file ws (on_file CheckPrism name, f) = absurd (differ _ _ refl (heads _ _ _ _ f.1))
 to_prism_props_file ws (on_file CheckJani name, f) = absurd (differ _ _ refl (heads _ _ _ _ f.1))
 to_prism_props_file ws (with_properties f p, h) = absurd (differ _ _ refl (heads _ _ _ _ h.words_are))
+to_prism_props_file ws (generate n, h) = absurd (differ _ _ refl (heads _ _ _ _ h.words_are))
 to_prism_props_file ws (walk w, h) = absurd (not_walk _ ws w (differ _ _ refl) (differ _ _ refl) h)
 to_prism_props_file ws (check c, h) = absurd (not_check _ ws c (differ _ _ refl) (differ _ _ refl) (differ _ _ refl) h)
 
@@ -183,6 +186,7 @@ prism_file ws (on_file ToPrismProps name, f) = absurd (differ _ _ refl (heads _ 
 prism_file ws (on_file CheckPrism name, f) = (name, (f.0, tails _ _ _ _ (tails _ _ _ _ f.1)))
 prism_file ws (on_file CheckJani name, f) = absurd (differ _ _ refl (heads _ _ _ _ (tails _ _ _ _ f.1)))
 prism_file ws (with_properties f p, h) = absurd (differ _ _ refl (heads _ _ _ _ h.words_are))
+prism_file ws (generate n, h) = absurd (differ _ _ refl (heads _ _ _ _ h.words_are))
 prism_file ws (walk w, h) = absurd (not_walk _ _ w (differ _ _ refl) (differ _ _ refl) h)
 prism_file ws (check c, h) = absurd (not_check _ _ c (differ _ _ refl) (differ _ _ refl) (differ _ _ refl) h)
 
@@ -196,6 +200,7 @@ jani_file ws (on_file ToPrismProps name, f) = absurd (differ _ _ refl (heads _ _
 jani_file ws (on_file CheckPrism name, f) = absurd (differ _ _ refl (heads _ _ _ _ (tails _ _ _ _ f.1)))
 jani_file ws (on_file CheckJani name, f) = (name, (f.0, tails _ _ _ _ (tails _ _ _ _ f.1)))
 jani_file ws (with_properties f p, h) = absurd (differ _ _ refl (heads _ _ _ _ h.words_are))
+jani_file ws (generate n, h) = absurd (differ _ _ refl (heads _ _ _ _ h.words_are))
 jani_file ws (walk w, h) = absurd (not_walk _ _ w (differ _ _ refl) (differ _ _ refl) h)
 jani_file ws (check c, h) = absurd (not_check _ _ c (differ _ _ refl) (differ _ _ refl) (differ _ _ refl) h)
 
@@ -218,6 +223,7 @@ not_check_end (on_file ToPrismProps name, f) = differ _ _ refl (heads _ _ _ _ f.
 not_check_end (on_file CheckPrism name, f) = let e = tails _ _ _ _ f.1 in cc
 not_check_end (on_file CheckJani name, f) = let e = tails _ _ _ _ f.1 in cc
 not_check_end (with_properties f p, h) = differ _ _ refl (heads _ _ _ _ h.words_are)
+not_check_end (generate n, h) = differ _ _ refl (heads _ _ _ _ h.words_are)
 not_check_end (walk w, h) = not_walk _ _ w (differ _ _ refl) (differ _ _ refl) h
 not_check_end (check c, h) = not_check _ _ c (differ _ _ refl) (differ _ _ refl) (differ _ _ refl) h
 
@@ -231,6 +237,7 @@ language lang (more, (on_file ToPrismProps name, f)) = absurd (differ _ _ refl (
 language lang (more, (on_file CheckPrism name, f)) = inl (heads _ _ _ _ (tails _ _ _ _ f.1))
 language lang (more, (on_file CheckJani name, f)) = inr (heads _ _ _ _ (tails _ _ _ _ f.1))
 language lang (more, (with_properties f p, h)) = absurd (differ _ _ refl (heads _ _ _ _ h.words_are))
+language lang (more, (generate n, h)) = absurd (differ _ _ refl (heads _ _ _ _ h.words_are))
 language lang (more, (walk w, h)) = absurd (not_walk _ _ w (differ _ _ refl) (differ _ _ refl) h)
 language lang (more, (check c, h)) = absurd (not_check _ _ c (differ _ _ refl) (differ _ _ refl) (differ _ _ refl) h)
 
@@ -240,6 +247,42 @@ other_language lang ws a b = wrong_first CheckForm lang ws check_begins (λ begi
     neither : (lang ≡ codes "prism") ⊎ (lang ≡ codes "jani") → ⊥
     neither (inl e) = a e
     neither (inr e) = b e
+
+-- ---- behind `generate`
+generate_form : (ws : List (List ℕ)) → GenerateForm ws → HasForm (codes "generate" ∷ ws)
+generate_form [] h = absurd h
+generate_form (w ∷ ws) h = (generate h.0.0, record { some = h.0.1; few = h.0.2.0; words_are = ap₂ (λ v vs. codes "generate" ∷ v ∷ vs) h.0.2.1 h.1 })
+
+generate_rest : (ws : List (List ℕ)) → HasForm (codes "generate" ∷ ws) → GenerateForm ws
+generate_rest ws (on_file task name, f) = absurd (not_task _ ws task name (differ _ _ refl) (differ _ _ refl) (differ _ _ refl) (differ _ _ refl) f.1)
+generate_rest ws (with_properties f p, h) = absurd (differ _ _ refl (heads _ _ _ _ h.words_are))
+generate_rest ws (generate n, h) = subst GenerateForm (sym (tails _ _ _ _ h.words_are)) ((n, h.some, (h.few, refl)), refl)
+generate_rest ws (walk w, h) = absurd (not_walk _ ws w (differ _ _ refl) (differ _ _ refl) h)
+generate_rest ws (check c, h) = absurd (not_check _ ws c (differ _ _ refl) (differ _ _ refl) (differ _ _ refl) h)
+
+pub behind_generate : (ws : List (List ℕ)) (k : ℕ) → IsWrong GenerateForm ws k → IsWrong HasForm (codes "generate" ∷ ws) (k + 1)
+behind_generate ws k e = wrong_behind GenerateForm HasForm (codes "generate") ws k generate_form generate_rest e
+
+end_begins : Begins (λ vs. vs ≡ []) []
+end_begins = ([], refl)
+
+generate_begins : Begins GenerateForm []
+generate_begins = one_begins IsModulesWord (λ vs. vs ≡ []) (decimal 1) (1, omega arith, (omega arith, refl)) end_begins
+
+pub no_modules : IsWrong GenerateForm [] 1
+no_modules = one_end IsModulesWord (λ vs. vs ≡ []) generate_begins
+
+-- the word is no such number
+pub other_modules : (w : List ℕ) (ws : List (List ℕ)) → (IsModulesWord w → ⊥) → IsWrong GenerateForm (w ∷ ws) 1
+other_modules w ws none = one_first IsModulesWord (λ vs. vs ≡ []) generate_begins w ws none
+
+-- a word stands behind it
+pub behind_modules : (w : List ℕ) (ws : List (List ℕ)) → IsModulesWord w → ws ≢ [] → IsWrong GenerateForm (w ∷ ws) 2
+behind_modules w ws is some = one_next IsModulesWord (λ vs. vs ≡ []) w ws 1 is (third_word ws some)
+  where
+    third_word : (vs : List (List ℕ)) → vs ≢ [] → IsWrong (λ us. us ≡ []) vs 1
+    third_word [] some = absurd (some refl)
+    third_word (v ∷ vs) some = wrong_first (λ us. us ≡ []) v vs end_begins (λ begins. let e = begins.1 in cc)
 
 -- ---- behind `show`
 show_form : (ws : List (List ℕ)) → ShowForm ws → HasForm (codes "show" ∷ ws)
@@ -260,6 +303,7 @@ show_parts ws rest l f (seeded from n k) given a b g e = absurd (differ _ _ refl
 show_rest : (ws : List (List ℕ)) → HasForm (codes "show" ∷ ws) → ShowForm ws
 show_rest ws (on_file task name, f) = absurd (not_task _ ws task name (differ _ _ refl) (differ _ _ refl) (differ _ _ refl) (differ _ _ refl) f.1)
 show_rest ws (with_properties f p, h) = absurd (differ _ _ refl (heads _ _ _ _ h.words_are))
+show_rest ws (generate n, h) = absurd (differ _ _ refl (heads _ _ _ _ h.words_are))
 show_rest ws (walk w, h) = show_parts ws h.rest w.lang w.file w.job w.given h.file h.job h.given h.words_are
 show_rest ws (check c, h) = absurd (not_check _ ws c (differ _ _ refl) (differ _ _ refl) (differ _ _ refl) h)
 
@@ -339,6 +383,7 @@ walk_rest rest (seeded (Some s) n k) e h g = inr (refl, (h.0, inr (refl, seed_re
 simulate_rest : (ws : List (List ℕ)) → HasForm (codes "simulate" ∷ ws) → SimulateForm ws
 simulate_rest ws (on_file task name, f) = absurd (not_task _ ws task name (differ _ _ refl) (differ _ _ refl) (differ _ _ refl) (differ _ _ refl) f.1)
 simulate_rest ws (with_properties f p, h) = absurd (differ _ _ refl (heads _ _ _ _ h.words_are))
+simulate_rest ws (generate n, h) = absurd (differ _ _ refl (heads _ _ _ _ h.words_are))
 simulate_rest ws (walk w, h) =
     subst SimulateForm (sym (tails _ _ _ _ h.words_are)) ((w.lang, refl), (h.file, walk_rest h.rest w.job (sym (heads _ _ _ _ h.words_are)) h.job (w.given, h.given)))
 simulate_rest ws (check c, h) = absurd (not_check _ ws c (differ _ _ refl) (differ _ _ refl) (differ _ _ refl) h)
@@ -403,18 +448,21 @@ module _ (ws rest : List (List ℕ)) (l : Lang) (f : List ℕ) (given : List Ass
 path_rest : (ws : List (List ℕ)) → HasForm (codes "check-path" ∷ ws) → HeadForm PathForm ws
 path_rest ws (on_file task name, f) = absurd (not_task _ ws task name (differ _ _ refl) (differ _ _ refl) (differ _ _ refl) (differ _ _ refl) f.1)
 path_rest ws (with_properties f p, h) = absurd (differ _ _ refl (heads _ _ _ _ h.words_are))
+path_rest ws (generate n, h) = absurd (differ _ _ refl (heads _ _ _ _ h.words_are))
 path_rest ws (walk w, h) = absurd (not_walk _ ws w (differ _ _ refl) (differ _ _ refl) h)
 path_rest ws (check c, h) = path_parts ws h.rest c.lang c.file c.given h.given c.claim h.names h.words_are
 
 rows_rest : (ws : List (List ℕ)) → HasForm (codes "check-rows" ∷ ws) → HeadForm RowsForm ws
 rows_rest ws (on_file task name, f) = absurd (not_task _ ws task name (differ _ _ refl) (differ _ _ refl) (differ _ _ refl) (differ _ _ refl) f.1)
 rows_rest ws (with_properties f p, h) = absurd (differ _ _ refl (heads _ _ _ _ h.words_are))
+rows_rest ws (generate n, h) = absurd (differ _ _ refl (heads _ _ _ _ h.words_are))
 rows_rest ws (walk w, h) = absurd (not_walk _ ws w (differ _ _ refl) (differ _ _ refl) h)
 rows_rest ws (check c, h) = rows_parts ws h.rest c.lang c.file c.given h.given c.claim h.names h.words_are
 
 bounds_rest : (ws : List (List ℕ)) → HasForm (codes "check-bound" ∷ ws) → HeadForm BoundsForm ws
 bounds_rest ws (on_file task name, f) = absurd (not_task _ ws task name (differ _ _ refl) (differ _ _ refl) (differ _ _ refl) (differ _ _ refl) f.1)
 bounds_rest ws (with_properties f p, h) = absurd (differ _ _ refl (heads _ _ _ _ h.words_are))
+bounds_rest ws (generate n, h) = absurd (differ _ _ refl (heads _ _ _ _ h.words_are))
 bounds_rest ws (walk w, h) = absurd (not_walk _ ws w (differ _ _ refl) (differ _ _ refl) h)
 bounds_rest ws (check c, h) = bounds_parts ws h.rest c.lang c.file c.given h.given c.claim h.names h.claim h.words_are
 
@@ -438,17 +486,19 @@ not_form_end (on_file ToPrismProps name, f) = let e = f.1 in cc
 not_form_end (on_file CheckPrism name, f) = let e = f.1 in cc
 not_form_end (on_file CheckJani name, f) = let e = f.1 in cc
 not_form_end (with_properties f p, h) = let e = h.words_are in cc
+not_form_end (generate n, h) = let e = h.words_are in cc
 not_form_end (walk w, h) = let e = h.words_are in cc
 not_form_end (check c, h) = let e = h.words_are in cc
 
 pub no_verb : IsWrong HasForm [] 1
 no_verb = wrong_end HasForm form_begins not_form_end
 
-module _ (v : List ℕ) (ws : List (List ℕ)) (a : v ≢ codes "to-jani") (b : v ≢ codes "to-prism") (p : v ≢ codes "to-prism-props") (c : v ≢ codes "check") (d : v ≢ codes "show") (e : v ≢ codes "simulate")
+module _ (v : List ℕ) (ws : List (List ℕ)) (a : v ≢ codes "to-jani") (b : v ≢ codes "to-prism") (p : v ≢ codes "to-prism-props") (c : v ≢ codes "check") (d : v ≢ codes "show") (e : v ≢ codes "simulate") (z : v ≢ codes "generate")
     (f : v ≢ codes "check-path") (g : v ≢ codes "check-rows") (i : v ≢ codes "check-bound") where
   not_begun : Begins HasForm (v ∷ []) → ⊥
   not_begun (more, (on_file task name, h)) = not_task v more task name a b p c h.1
   not_begun (more, (with_properties file second, h)) = a (heads _ _ _ _ h.words_are)
+  not_begun (more, (generate n, h)) = z (heads _ _ _ _ h.words_are)
   not_begun (more, (walk w, h)) = not_walk v more w d e h
   not_begun (more, (check m, h)) = not_check v more m f g i h
 

@@ -1,5 +1,5 @@
 -- The forms of words, one word after another. (This project's own rule.)
-use Rattle.std.specs.Prelude.{◌≡◌, ◌≢◌, ◌⊎◌, ℕ, ◌^◌, ◌-◌, List, [], ◌∷◌, ◌++◌, codes, Option, Some, None}
+use Rattle.std.specs.Prelude.{◌≡◌, ◌≢◌, ◌⊎◌, ℕ, ◌^◌, ◌-◌, ◌<◌, List, [], ◌∷◌, ◌++◌, codes, Option, Some, None}
 use Rattle.command_words.specs.Numbers.{IsNumber, IsPairs}
 use Rattle.command_words.specs.Given.{HasGiven}
 use Rattle.command_words.specs.Words.{texts, IsStateWord, IsFrom, IsJob, job_of, job_verb, job_words, lang_word, from_words, IsNameBehind, AreNamesBehind, claim_of, claim_verb, claim_files, claim_words, IsClaim}
@@ -39,7 +39,14 @@ IsSeedWord w = (n : ℕ) × IsNumber (2 ^ 64 - 1) w n
 abbrev pub IsStepsWord : List ℕ → Type 0
 IsStepsWord w = (n : ℕ) × IsNumber 1000000 w n
 
+abbrev pub IsModulesWord : List ℕ → Type 0
+IsModulesWord w = (n : ℕ) × (0 < n) × IsNumber 1000 w n
+
 -- ---- forms of words, each from where the last begins
+-- behind `generate`
+abbrev pub GenerateForm : List (List ℕ) → Type 0
+GenerateForm ws = One IsModulesWord (λ vs. vs ≡ []) ws
+
 -- behind `given`, and behind `seed`
 abbrev pub GivenForm : List (List ℕ) → Type 0
 GivenForm ws = One IsPairsWord HasGiven ws

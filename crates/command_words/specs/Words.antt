@@ -67,6 +67,7 @@ pub record Checking : Type 0 where
 pub data Request : Type 0 where
   on_file : (task : Task) (file : List ℕ) → Request
   with_properties : (file properties : List ℕ) → Request
+  generate : (modules : ℕ) → Request
   walk : (walking : Walking) → Request
   check : (checking : Checking) → Request
 
@@ -76,10 +77,11 @@ claim_files (of_path path) = path ∷ []
 claim_files (of_rows states rows) = states ∷ rows ∷ []
 claim_files (of_bounds states rows label bounds) = states ∷ rows ∷ bounds ∷ []
 
--- the file of the model
+-- the file of the model; where one is generated there is none
 abbrev pub file_of : Request → List ℕ
 file_of (on_file task file) = file
 file_of (with_properties file properties) = file
+file_of (generate modules) = []
 file_of (walk w) = w.file
 file_of (check c) = c.file
 
@@ -87,6 +89,7 @@ file_of (check c) = c.file
 abbrev pub files_of : Request → List (List ℕ)
 files_of (on_file task file) = file ∷ []
 files_of (with_properties file properties) = file ∷ properties ∷ []
+files_of (generate modules) = []
 files_of (walk w) = w.file ∷ []
 files_of (check c) = c.file ∷ claim_files c.claim
 
@@ -119,6 +122,12 @@ verb_of CheckJani = codes "check" ∷ codes "jani" ∷ []
 pub record AreWithProperties (words : List (List ℕ)) (file properties : List ℕ) : Type 0 where
   pub names : AreNamesBehind [] (file ∷ properties ∷ [])
   pub words_are : words ≡ codes "to-jani" ∷ file ∷ properties ∷ []
+
+-- ---- the form with a model that is generated: `generate N`
+pub record AreGenerate (words : List (List ℕ)) (modules : ℕ) : Type 0 where
+  pub some : 0 < modules
+  pub few : modules ≤ 1000
+  pub words_are : words ≡ codes "generate" ∷ decimal modules ∷ []
 
 -- ---- the forms with a process: `show LANG FILE STATE`, `simulate LANG FILE given N,N,..`, `simulate LANG FILE seed N STEPS`,
 -- and `from STATE` before `given` or `seed`; then any number of words NAME=VALUE
@@ -196,6 +205,7 @@ pub record IsCheck (words : List (List ℕ)) (c : Checking) : Type 0 where
 abbrev pub IsRequest : List (List ℕ) → Request → Type 0
 IsRequest words (on_file task name) = (name ≢ []) × (words ≡ verb_of task ++ name ∷ [])
 IsRequest words (with_properties file properties) = AreWithProperties words file properties
+IsRequest words (generate modules) = AreGenerate words modules
 IsRequest words (walk w) = IsWalk words w
 IsRequest words (check c) = IsCheck words c
 
@@ -224,6 +234,7 @@ words_before_given c = 3 + length (claim_words c.claim)
 abbrev pub word_count : Request → ℕ
 word_count (on_file task name) = length (verb_of task) + 1
 word_count (with_properties file properties) = 3
+word_count (generate modules) = 2
 word_count (walk w) = words_before w + length w.given
 word_count (check c) = words_before_given c + length c.given
 
@@ -254,6 +265,7 @@ checking_of c = record { lang = c.lang; file = c.file.now; claim = claim_of c.cl
 abbrev pub request_of : code_request.Request → Request
 request_of (code_request_case.OnFile task file) = on_file task file.now
 request_of (code_request_case.WithProperties file properties) = with_properties file.now properties.now
+request_of (code_request_case.Generate modules) = generate modules
 request_of (code_request_case.Walk w) = walk (walking_of w)
 request_of (code_request_case.Check c) = check (checking_of c)
 

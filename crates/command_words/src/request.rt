@@ -96,6 +96,8 @@ pub enum Request<'a> {
     OnFile(Task, &'a str),
     /// `to-jani FILE PROPS`: the PRISM file of the first word is translated to JANI, with the properties in that of the second.
     WithProperties(&'a str, &'a str),
+    /// `generate N`: a model of so many modules is generated, from 1 to 1,000, translated to JANI, and that to PRISM.
+    Generate(u32),
     /// A job on the process of a file.
     Walk(Walking<'a>),
     /// A claim about the process of a file.
@@ -112,6 +114,7 @@ impl<'a> Request<'a> {
             Request::WithProperties(file, properties) => {
                 Vec::from_slice(alloc, &[*file, *properties])
             }
+            Request::Generate(_) => Ok(Vec::new(alloc)),
             Request::Walk(walking) => Vec::from_slice(alloc, &[walking.file]),
             Request::Check(checking) => match checking.claim {
                 Claim::Path(path) => Vec::from_slice(alloc, &[checking.file, path]),

@@ -1,11 +1,12 @@
 // All words.
 ghost use Rattle.std.specs.Prelude.{◌∷◌, MatchResult, codes};
-ghost use Rattle.command_words.specs.Words.{AnswersWords, HasFileWord, HasForm, IsFileWord, IsRequest, IsWrong, on_file, request_of, texts};
-ghost use Rattle.command_words.specs.Fronts.{IsClaimFront, IsStart, ShowForm, SimulateForm};
+ghost use Rattle.command_words.specs.Words.{AnswersWords, HasFileWord, HasForm, IsFileWord, IsRequest, IsWrong, generate, on_file, request_of, texts};
+ghost use Rattle.command_words.specs.Fronts.{GenerateForm, IsClaimFront, IsStart, ShowForm, SimulateForm};
 
 use crate::claims::{ClaimFront, bounds_in, name_in, path_in, rows_in};
 use crate::fronts::{Front, head_in, state_in, walk_in};
 use crate::given::assignments_in;
+use crate::numbers::number_in;
 use crate::request::{Checking, Job, Lang, Request, Task, Walking, WordsFail};
 use std::alloc::Global;
 
@@ -32,6 +33,10 @@ pub fn request_in(alloc: Global, words: &[String]) -> Result<Request<'_>, WordsF
         },
         "check" => match check_in(rest) {
             Ok((task, name)) => Ok(Request::OnFile(task, name)),
+            Err(k) => Err(WordsFail::At(k + 1)),
+        },
+        "generate" => match modules_in(rest) {
+            Ok(modules) => Ok(Request::Generate(modules)),
             Err(k) => Err(WordsFail::At(k + 1)),
         },
         "show" => match show_in(rest) {
@@ -104,6 +109,29 @@ fn check_in(words: &[String]) -> Result<(Task, &str), usize>
         },
         _ => Err(1),
     }
+}
+
+const MOST_MODULES: u64 = 1000;
+
+// The number of modules that the one word behind `generate` is, or the position among them at which no form goes on.
+fn modules_in(words: &[String]) -> Result<u32, usize>
+    ensures { MatchResult result
+        (λ modules. IsRequest (codes "generate" ∷ texts words.now) (generate modules))
+        (λ k. IsWrong GenerateForm (texts words.now) k) }
+{
+    let [word, rest @ ..] = words else {
+        return Err(1);
+    };
+    let Some(modules) = number_in(word.as_str(), MOST_MODULES) else {
+        return Err(1);
+    };
+    if modules == 0 {
+        return Err(1);
+    }
+    if !rest.is_empty() {
+        return Err(2);
+    }
+    Ok(modules as u32)
 }
 
 // The one word, which isn't empty, or the position at which no such words go on.

@@ -4,9 +4,9 @@ use Rattle.std.specs.Prelude.{String}
 use Rattle.std.specs.Global.{Global}
 use Rattle.std.specs.Prelude.{string_bytes, codes}
 use Rattle.command_words.specs.Words.{HasFileWord, HasForm, IsWrong, texts}
-use Rattle.command_words.specs.Fronts.{HeadForm, PathForm, RowsForm, BoundsForm, ShowForm, SimulateForm}
+use Rattle.command_words.specs.Fronts.{GenerateForm, HeadForm, PathForm, RowsForm, BoundsForm, ShowForm, SimulateForm}
 use Rattle.command_words.proofs.Wrong.{read_none, read_first}
-use Rattle.command_words.proofs.Requests.{no_verb, other_verb, behind_to_jani, behind_to_prism, behind_to_prism_props, behind_check, behind_show, behind_simulate, behind_path, behind_rows, behind_bounds}
+use Rattle.command_words.proofs.Requests.{no_verb, other_verb, behind_to_jani, behind_to_prism, behind_to_prism_props, behind_check, behind_generate, behind_show, behind_simulate, behind_path, behind_rows, behind_bounds}
 use Rattle.command_words.proofs.words.request_in.Goals as goal
 
 -- a position among the words behind the first is one of all words
@@ -36,6 +36,11 @@ pub returns-in-Err-check_in : goal.returns-in-Err-check_in
 returns-in-Err-check_in c =
     let eq : string_bytes c.verb-item.result ≡ codes "check" = search rules in
     read_first HasForm _ _ c.verb-item.result _ c.in-len1-up.len_at_least c.verb-item.is eq (behind_check _ _ c.in-Err-check_in.ensures)
+
+pub returns-in-Err-modules_in : goal.returns-in-Err-modules_in
+returns-in-Err-modules_in c =
+    let eq : string_bytes c.verb-item.result ≡ codes "generate" = search rules in
+    read_first HasForm _ _ c.verb-item.result _ c.in-len1-up.len_at_least c.verb-item.is eq (behind_generate _ _ c.in-Err-modules_in.ensures)
 
 pub returns-in-Err-show_in : goal.returns-in-Err-show_in
 returns-in-Err-show_in c =
@@ -69,12 +74,13 @@ returns-in_default-as_str c =
     let not_to_prism : string_bytes c.verb-item.result ≢ codes "to-prism" = search rules in
     let not_props : string_bytes c.verb-item.result ≢ codes "to-prism-props" = search rules in
     let not_check : string_bytes c.verb-item.result ≢ codes "check" = search rules in
+    let not_generate : string_bytes c.verb-item.result ≢ codes "generate" = search rules in
     let not_show : string_bytes c.verb-item.result ≢ codes "show" = search rules in
     let not_simulate : string_bytes c.verb-item.result ≢ codes "simulate" = search rules in
     let not_path : string_bytes c.verb-item.result ≢ codes "check-path" = search rules in
     let not_rows : string_bytes c.verb-item.result ≢ codes "check-rows" = search rules in
     let not_bound : string_bytes c.verb-item.result ≢ codes "check-bound" = search rules in
-    read_first HasForm 1 _ c.verb-item.result _ c.in-len1-up.len_at_least c.verb-item.is refl (other_verb _ _ not_to_jani not_to_prism not_props not_check not_show not_simulate not_path not_rows not_bound)
+    read_first HasForm 1 _ c.verb-item.result _ c.in-len1-up.len_at_least c.verb-item.is refl (other_verb _ _ not_to_jani not_to_prism not_props not_check not_show not_simulate not_generate not_path not_rows not_bound)
 
 pub overflow_add-result : goal.overflow_add-result
 overflow_add-result c = let h = behind_first (λ ws. HasForm (codes "to-jani" ∷ ws)) c.args.words.now c.in-Err.k c.in-len1-up.len_at_least c.in-Err.ensures in omega arith
@@ -87,6 +93,9 @@ overflow_add-result-in-Err-file_in-2 c = let h = behind_first HasFileWord c.args
 
 pub overflow_add-result-in-Err-check_in : goal.overflow_add-result-in-Err-check_in
 overflow_add-result-in-Err-check_in c = let h = behind_first (λ ws. HasForm (codes "check" ∷ ws)) c.args.words.now c.in-Err-check_in.k c.in-len1-up.len_at_least c.in-Err-check_in.ensures in omega arith
+
+pub overflow_add-result-in-Err-modules_in : goal.overflow_add-result-in-Err-modules_in
+overflow_add-result-in-Err-modules_in c = let h = behind_first GenerateForm c.args.words.now c.in-Err-modules_in.k c.in-len1-up.len_at_least c.in-Err-modules_in.ensures in omega arith
 
 pub overflow_add-result-in-Err-show_in : goal.overflow_add-result-in-Err-show_in
 overflow_add-result-in-Err-show_in c = let h = behind_first ShowForm c.args.words.now c.in-Err-show_in.k c.in-len1-up.len_at_least c.in-Err-show_in.ensures in omega arith
