@@ -20,11 +20,12 @@ _bridge() {
     check-path) files=4 ;;
     check-rows) files=5 ;;
     check-bound) files=7 ;;
+    generate) files=1 ;;
   esac
   COMPREPLY=()
   if [ "$place" -eq 1 ]; then
-    mapfile -t COMPREPLY < <(compgen -W "to-jani to-prism to-prism-props check show simulate check-path check-rows check-bound" -- "$cur")
-  elif [ "$place" -eq 2 ] && [[ $command != to-* ]]; then
+    mapfile -t COMPREPLY < <(compgen -W "to-jani to-prism to-prism-props check show simulate check-path check-rows check-bound generate" -- "$cur")
+  elif [ "$place" -eq 2 ] && [[ $command != to-* && $command != generate ]]; then
     mapfile -t COMPREPLY < <(compgen -W "prism jani" -- "$cur")
   elif [ "$place" -eq 6 ] && [ "$command" = check-bound ]; then
     mapfile -t COMPREPLY < <(compgen -W "$(_bridge_labels "${COMP_WORDS[3]}")" -- "$cur")
@@ -32,7 +33,7 @@ _bridge() {
     mapfile -t COMPREPLY < <(compgen -f -- "$cur")
   elif [ "$place" -eq 4 ] && [ "$command" = simulate ]; then
     mapfile -t COMPREPLY < <(compgen -W "from given seed" -- "$cur")
-  elif [ "$place" -gt 4 ] && [[ $command != to-* && $command != check && ${COMP_WORDS[2]} == prism ]]; then
+  elif [ "$place" -gt 4 ] && [[ $command != to-* && $command != check && $command != generate && ${COMP_WORDS[2]} == prism ]]; then
     mapfile -t COMPREPLY < <(compgen -W "$(_bridge_constants "${COMP_WORDS[3]}")" -- "$cur")
     compopt +o filenames -o nospace # the value comes right behind the sign, and no part of these is quoted
   fi

@@ -1,7 +1,7 @@
 -- The generated model: modules in a row. Each has a variable that counts up to K, at every step by chance; once it stands there the module
 -- hands on to the next one, whose variable counts up, and begins anew at 0. (This project's own model, of which each number of modules gives
 -- one; the language is that of the PRISM manual, "The PRISM Language".)
-use Rattle.std.specs.Prelude.{ℕ, zero, suc, pos, List, [], ◌∷◌, ◌++◌, map, codes, decimal, Option, Some, None, false}
+use Rattle.std.specs.Prelude.{ℕ, zero, suc, pos, List, [], ◌∷◌, ◌++◌, map, codes, decimal, Some, None, false}
 use Rattle.std.specs.List.{range_with_len}
 use Rattle.bridge_io.specs.declared.reason.Named.{Named}
 use Rattle.frac_core.specs.Numeral.{literal}

@@ -2,7 +2,7 @@
 use Rattle.std.proofs.Common.{arith, ◌≡◌, ◌⊎◌, ◌∙◌, refl, ap, ℕ, ◌+◌, List, [], ◌∷◌, length, Option, inl, inr}
 use Rattle.std.specs.Io.KnownBytes.{Appends}
 use Rattle.bridge_io.specs.Outside.{HasFailed, Lefts}
-use Rattle.command_words.specs.Words.{Request, Walking, Checking, WordsCount, on_file, with_properties, walk, check, files_of, IsRequest, IsWrongAt}
+use Rattle.command_words.specs.Words.{Request, Walking, Checking, WordsCount, on_file, with_properties, generate, walk, check, files_of, IsRequest, IsWrongAt}
 use Rattle.model_process.specs.Walks.{EndsOnBytes}
 use Rattle.model_process.specs.declared.ending.Ending.TheVariants as Ends
 use Rattle.model_command.specs.Outcome.{status_of, line_of, text_of, word_line}
@@ -71,6 +71,7 @@ module _ (shelf : ShelfSides) (words : List (List ℕ)) where
     of_word : (request : Request) (name : List ℕ) (k : ℕ) → IsRequest words request → IsReadEnd request name shelf.left shelf.left_after (Ended (Ends.Word k)) → Appends out.taken out.taken_after [] → Appends err.taken err.taken_after (word_line k) → IsOfWords
     of_word (on_file task file) name k form end text line = absurd (alone (λ bytes. IsTaskEnd task bytes (Ended (Ends.Word k))) shelf.left shelf.left_after file end.0 end.1 end.2.1).2
     of_word (with_properties file properties) name k form end text line = absurd (no_word file properties name k end.0 end.2)
+    of_word (generate modules) name k form end text line = absurd end.2
     of_word (walk w) name k form end text line = let r = (walk_read w name shelf.left shelf.left_after (Ended (Ends.Word k)) end).1 in (k, text, line, inr (inl (w, r.0, form, r.1, r.2)))
     of_word (check c) name k form end text line = (k, text, line, inr (inr (c, end.0, form, end.1, end.2)))
 

@@ -1,6 +1,7 @@
 pub mod Causes
 pub mod Exact
 pub mod Fit
+pub mod Generated
 pub mod Halts
 pub mod OneEnding
 pub mod PrismTexts

@@ -1,5 +1,5 @@
 -- A request ends in one way.
-use Rattle.std.specs.Prelude.{◌≡◌, ◌≢◌, ℕ, List, [], ◌∷◌, ◌++◌, length, slice_get}
+use Rattle.std.specs.Prelude.{◌≡◌, ◌≢◌, ℕ, ◌*◌, ◌-◌, List, [], ◌∷◌, ◌++◌, length, slice_get}
 use Rattle.std.proofs.Common.{refl, sym, ap, ap₂, subst, ◌∙◌, inl, inr}
 use Rattle.std.proofs.lemmas.Option.{same_Some}
 use Rattle.bridge_io.specs.declared.place.Place.{Place}
@@ -17,7 +17,7 @@ use Rattle.prism_translation.specs.Refused.{refused}
 use Rattle.prism_translation.specs.Translated.{translated}
 use Rattle.command_words.specs.declared.request.Task.{Task}
 use Rattle.command_words.specs.declared.request.Task.TheVariants.{ToJani, ToPrism, ToPrismProps, CheckPrism, CheckJani}
-use Rattle.command_words.specs.Words.{Checking, check, files_of, on_file, walk, Walking, with_properties}
+use Rattle.command_words.specs.Words.{Checking, check, files_of, generate, on_file, walk, Walking, with_properties}
 use Rattle.model_files.specs.Once.{OnePrismFault}
 use Rattle.model_files.specs.PrismFile.{IsPrismFault}
 use Rattle.model_files.proofs.Once.{faulty_or_jani, faulty_or_prism, one_jani_fault, one_jani_tree, one_least, one_prism_tree}
@@ -27,9 +27,10 @@ use Rattle.model_translation.specs.Laws.{OneListOfFaults}
 use Rattle.model_process.specs.Once.{ClaimEndOrFault, EndOrFault, OneClaimEnd, OneEnd, OneFileFault, OneModelFault}
 use Rattle.model_command.specs.Checking.{jani_line, prism_line}
 use Rattle.model_command.specs.ToPrism.{IsPrismRefused, of_file, of_result, TranslatesToPrism}
+use Rattle.model_command.specs.Generating.{generated_line}
 use Rattle.model_command.specs.Tasks.{IsLeastFor, Makes}
 use Rattle.model_command.specs.Outcome.{line_of, place_in}
-use Rattle.model_command.specs.Run.{IsAlone, IsClaimEnd, IsPair, IsPairEnd, IsRefusedAt, IsTaskEnd, IsWalkEnd}
+use Rattle.model_command.specs.Run.{IsAlone, IsClaimEnd, IsGenerateEnd, IsPair, IsPairEnd, IsRefusedAt, IsTaskEnd, IsWalkEnd}
 use Rattle.model_command.specs.OneEnding.{OneEnding}
 use Rattle.model_command.specs.declared.outcome.Outcome.{Outcome}
 use Rattle.model_command.specs.declared.outcome.Outcome.TheVariants.{Done, Ended, Refused, Words, ReadFault, NoMemory}
@@ -98,6 +99,24 @@ module _ (one_fault : OnePrismFault) (one_translation : OneTranslation) (one_pro
   one_task_end task bytes ReadFault p h k m n = absurd h
   one_task_end task bytes NoMemory p h k m n = absurd (m refl)
   one_task_end task bytes o NoMemory h k m n = absurd (n refl)
+
+-- ---- models that are generated
+module _ (one_translation : OneTranslation) where
+  one_generate_end : (modules : ℕ) (name other : List ℕ) (o p : Outcome) → IsGenerateEnd modules o → IsGenerateEnd modules p → o ≢ NoMemory → p ≢ NoMemory → IsSame name other o p
+  one_generate_end modules name other (Done text) (Done written) h k m n =
+      let first : h.jani ≡ k.jani = one_translation _ h.jani k.jani h.to_jani k.to_jani in
+      let second : h.prism ≡ k.prism = one_prism k.jani h.prism k.prism (subst (λ t. TranslatesToPrism t h.prism) first h.to_prism) k.to_prism in
+      (ap Done (h.told ∙ ap₂ (λ a b. generated_line modules (3 * modules - 1) (length a) (length b)) first second ∙ sym k.told), refl)
+  one_generate_end modules name other (Done text) (Ended e) h k m n = absurd k
+  one_generate_end modules name other (Done text) (Refused r a) h k m n = absurd k
+  one_generate_end modules name other (Done text) (Words i) h k m n = absurd k
+  one_generate_end modules name other (Done text) ReadFault h k m n = absurd k
+  one_generate_end modules name other (Ended e) p h k m n = absurd h
+  one_generate_end modules name other (Refused r a) p h k m n = absurd h
+  one_generate_end modules name other (Words i) p h k m n = absurd h
+  one_generate_end modules name other ReadFault p h k m n = absurd h
+  one_generate_end modules name other NoMemory p h k m n = absurd (m refl)
+  one_generate_end modules name other o NoMemory h k m n = absurd (n refl)
 
 -- ---- one state, and walks
 module _ (one_end : OneEnd) (one_fault : OneModelFault) (either : EndOrFault) where
@@ -207,6 +226,7 @@ one_ending laws (on_file task file) contents name other o p h k m n =
 one_ending laws (with_properties file properties) contents name other o p h k m n =
     pair_both (λ model second. IsPairEnd file properties model second name o) (λ model second. IsPairEnd file properties model second other p) (IsSame name other o p)
     (λ model second a b. one_pair_end laws.fault laws.translation_with laws.properties_fault laws.lists file properties model second name other o p a b m n) contents h k
+one_ending laws (generate modules) contents name other o p h k m n = one_generate_end laws.translation modules name other o p h k m n
 one_ending laws (walk w) contents name other o p h k m n =
     of_one name other o p (h.0 ∙ sym k.0)
     (alone_both (λ bytes. IsWalkEnd w bytes o) (λ bytes. IsWalkEnd w bytes p) (o ≡ p)

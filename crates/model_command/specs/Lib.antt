@@ -1,4 +1,5 @@
 pub mod Checking
+pub mod Generating
 pub mod Headline
 pub mod OneEnding
 pub mod Outcome

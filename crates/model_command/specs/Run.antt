@@ -11,7 +11,7 @@ use Rattle.bridge_io.specs.declared.reason.Reason.TheVariants.{TooLong}
 use Rattle.bridge_io.specs.declared.reason.Fault.{Fault}
 use Rattle.bridge_io.specs.declared.place.Place.{Place}
 use Rattle.command_words.specs.declared.request.Task.{Task}
-use Rattle.command_words.specs.Words.{Request, Walking, Checking, on_file, with_properties, walk, check, files_of, word_count, IsRequest, IsWrongAt}
+use Rattle.command_words.specs.Words.{Request, Walking, Checking, on_file, with_properties, generate, walk, check, files_of, word_count, IsRequest, IsWrongAt}
 use Rattle.model_command.specs.Tasks.{Makes, IsLeastFor}
 use Rattle.model_files.specs.PrismFile.{IsPrismFault}
 use Rattle.model_translation.specs.WithProperties.{TranslatesWith, IsPropertiesFault}
@@ -20,6 +20,7 @@ use Rattle.model_translation.specs.declared.properties.FilesRefused.TheVariants 
 use Rattle.model_process.specs.Models.{IsModelFault}
 use Rattle.model_process.specs.Walks.{EndsOnBytes}
 use Rattle.model_process.specs.Claims.{EndsOnFiles, IsFileFault}
+use Rattle.model_command.specs.Generating.{IsGenerated}
 use Rattle.model_command.specs.Outcome.{status_of, line_of, text_of, place_in}
 use Rattle.model_command.specs.declared.outcome.Outcome.{Outcome}
 use Rattle.model_command.specs.declared.outcome.Outcome.TheVariants.{Done, Ended, Refused, Words, ReadFault, NoMemory}
@@ -122,6 +123,15 @@ pair_name file properties (Err (files.Memory e)) = file
 pair_name file properties (Err (files.Model f)) = file
 pair_name file properties (Err (files.Properties f)) = properties
 
+-- how the generation of a model ends; want of memory may come at any time
+abbrev pub IsGenerateEnd : ℕ → Outcome → Type 0
+IsGenerateEnd modules (Done text) = IsGenerated modules text
+IsGenerateEnd modules (Ended e) = ⊥
+IsGenerateEnd modules (Refused reason place) = ⊥
+IsGenerateEnd modules (Words k) = ⊥
+IsGenerateEnd modules ReadFault = ⊥
+IsGenerateEnd modules NoMemory = Unit {0}
+
 -- how a state is shown, or a walk ends
 abbrev pub IsWalkEnd : Walking → List ℕ → Outcome → Type 0
 IsWalkEnd w bytes (Done text) = ⊥
@@ -158,6 +168,7 @@ IsPair Of (bytes ∷ other ∷ more ∷ contents) = ⊥
 abbrev pub IsEndOn : Request → List (List ℕ) → List ℕ → Outcome → Type 0
 IsEndOn (on_file task file) contents name o = (name ≡ file) × IsAlone (λ bytes. IsTaskEnd task bytes o) contents
 IsEndOn (with_properties file properties) contents name o = IsPair (λ model second. IsPairEnd file properties model second name o) contents
+IsEndOn (generate modules) contents name o = IsGenerateEnd modules o
 IsEndOn (walk w) contents name o = (name ≡ w.file) × IsAlone (λ bytes. IsWalkEnd w bytes o) contents
 IsEndOn (check c) contents name o = IsClaimEnd c contents name o
 
@@ -224,3 +235,11 @@ abbrev pub IsCarriedOut : ShelfSides → SinkSides → SinkSides → List (List 
 IsCarriedOut shelf out err words o =
     (request : Request) × (contents : List (List ℕ)) × (name : List ℕ) × IsRequest words request × AreWhole shelf.left shelf.left_after (files_of request) contents
     × IsEndOn request contents name o × Appends out.taken out.taken_after (text_of o) × Appends err.taken err.taken_after (line_of name o)
+
+-- A model was generated and told of: its line was written, and no file was read.
+pub record IsTold (modules : ℕ) (shelf : ShelfSides) (out err : SinkSides) : Type 0 where
+  pub text : List ℕ
+  pub generated : IsGenerated modules text
+  pub left : shelf.left_after ≡ shelf.left
+  pub written : Appends out.taken out.taken_after text
+  pub quiet : Appends err.taken err.taken_after []

@@ -2,17 +2,18 @@
 ghost use Rattle.std.specs.Prelude.{◌≡◌, ◌≤◌, ◌⊎◌, ◌+◌, ◌∷◌, ℕ, List, [], Some, length};
 ghost use Rattle.std.specs.Io.KnownBytes.{Appends};
 ghost use Rattle.bridge_io.specs.Outside.{HasFailed, Lefts};
-ghost use Rattle.command_words.specs.Words.{Walking, texts, on_file, with_properties, walk, check, checking_of, files_of, request_of, IsRequest, IsWrongAt};
+ghost use Rattle.command_words.specs.Words.{Walking, texts, on_file, with_properties, generate, walk, check, checking_of, files_of, request_of, IsRequest, IsWrongAt};
 ghost use Rattle.model_command.specs.Outcome.{halted, status_of, word_line};
 ghost use Rattle.model_process.specs.Walks.{EndsOnBytes, WalksOn};
 ghost use Rattle.model_process.specs.declared.ending.Ending.TheVariants as Ending;
 ghost use Rattle.model_process.specs.Certified.{Certifies};
 ghost use Rattle.model_process.specs.Claims.{EndsOnFiles, JudgesOn};
-ghost use Rattle.model_command.specs.Run.{AreWhole, ComesTo, IsCause, IsClaimEnd, IsEnd, IsEndOn, IsNext, IsDelivered, IsTaskEnd, IsWalkEnd, IsReadWhole, EndsWith, EndsWithOrNoMemory, IsCarriedOut, names_of, pair_name, pair_outcome, shelf_sides, sink_sides};
+ghost use Rattle.model_command.specs.Run.{AreWhole, ComesTo, IsCause, IsClaimEnd, IsEnd, IsEndOn, IsNext, IsDelivered, IsTaskEnd, IsWalkEnd, IsReadWhole, IsTold, EndsWith, EndsWithOrNoMemory, IsCarriedOut, names_of, pair_name, pair_outcome, shelf_sides, sink_sides};
 ghost use Rattle.model_command.specs.Tasks.{Makes, IsFit, Judged};
 ghost use Rattle.model_command.specs.Headline.{AreHeld, IsHeadline, IsEndedAsTold, IsShownAsTold, IsTranslatedAsTold};
 
 use crate::checking::{count_jani, count_prism};
+use crate::generating::generate;
 use crate::outcome::{Outcome, refusal};
 use crate::reading::read_files;
 use crate::to_prism::translate_to_prism;
@@ -43,6 +44,7 @@ const WRITE_FAULT: u8 = 5;
 /// | `check-path LANG FILE PATH NAME=VALUE ..` | `yes`: PATH holds a path of the model |
 /// | `check-rows LANG FILE STATES ROWS NAME=VALUE ..` | `yes`: STATES holds states of the model, each once and an initial one among them, and ROWS their choices, which lead to no others |
 /// | `check-bound LANG FILE STATES ROWS LABEL BOUNDS NAME=VALUE ..` | `yes`: so they do, and no way to choose reaches the label LABEL from a listed state with more probability than BOUNDS gives it |
+/// | `generate N` | `modules N commands C jani L prism B`, of a model of N modules that is generated: how many commands it has, and how long the texts are that `to-jani` writes for it, and `to-prism` for that |
 ///
 /// LANG is `prism` or `jani`. A walk starts at the model's first state; with `from STATE` before `given` or `seed`, at that one.
 ///
@@ -133,6 +135,12 @@ pub fn run<H: Shelf, K: Sink, E: Sink>(
     // constants, and no way to choose reaches the label from a listed state with more probability than its bound, in any number of steps.
     ensures certified { (c : _) → IsRequest (texts words.now) (check c) → result ≡ 0 → (contents : List (List ℕ))
         × AreWhole (H.left shelf.old) (H.left shelf.new) (files_of (check c)) contents × Certifies c contents }
+
+    // A model that is generated: the status is 0 only where its line was written and nothing else, and any other is that of a failed write or of
+    // want of memory.
+    ensures generated { (modules : ℕ) → IsRequest (texts words.now) (generate modules)
+        → ((result ≡ 0) × IsTold modules (shelf_sides H.left H.faults H.steady shelf.old shelf.new) (sink_sides K.taken K.faults out.old out.new)
+        (sink_sides E.taken E.faults err.old err.new)) ⊎ (result ≡ 5) ⊎ (result ≡ 6) }
 {
     words_law();
     one_list_of_faults();
@@ -244,6 +252,10 @@ fn end_on<'a>(
         Request::WithProperties(file, properties) => {
             paired(alloc, file, properties, names, files)
         }
+        Request::Generate(modules) => End {
+            name: "",
+            outcome: generate(alloc, *modules),
+        },
         Request::Walk(walking) => {
             let bytes = files[0].as_slice();
             End {

@@ -27,7 +27,7 @@ struct Command {
     status: u8,
 }
 
-const COMMANDS: [Command; 8] = [
+const COMMANDS: [Command; 9] = [
     Command {
         words: &["to-jani", "f"],
         files: &[("f", LOCK)],
@@ -73,6 +73,11 @@ const COMMANDS: [Command; 8] = [
                 b"3 4 5\n0 0 1 0.25 a\n0 0 2 0.75 a\n0 1 2 1\n1 0 1 1\n2 0 2 1\n",
             ),
         ],
+        status: 0,
+    },
+    Command {
+        words: &["generate", "3"],
+        files: &[],
         status: 0,
     },
 ];

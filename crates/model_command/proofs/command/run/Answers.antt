@@ -6,6 +6,7 @@ use Rattle.model_command.proofs.Causes.{written, of_words, of_read}
 use Rattle.model_command.proofs.CertifiedBounds.{certified_of, status_zero}
 use Rattle.model_command.proofs.Exact.{exact_words}
 use Rattle.model_command.proofs.Fit.{exact_fit}
+use Rattle.model_command.proofs.Generated.{tells_of}
 use Rattle.model_command.proofs.Paired.{translated_of}
 use Rattle.model_command.proofs.SeveralTold.{ended_of}
 use Rattle.model_command.proofs.Told.{headline_of, shown_of, written_whole}
@@ -60,6 +61,11 @@ returns-clause-with_properties g c = λ left file properties model second was sa
     translated_of file properties model second was said _ _ c.answer.result c.one_list_of_faults.ensures no_memory
     (ended_of (shelf_sides g.H.Shelf.left g.H.Shelf.faults g.H.Shelf.steady c.args.shelf.now c.answer.new.shelf) _ c.answer.ensures.0 c.words_law.ensures.one left told (model ∷ second ∷ []) was said _ _ c.answer.result no_read no_memory
     (with_properties file properties) form.names (held, (held_second, tt)) form c.answer.ensures.1 c.answer.ensures.2 e.0 e.1 e.2)
+
+pub returns-clause-generated : goal.returns-clause-generated
+returns-clause-generated g c = λ modules form.
+    tells_of modules (shelf_sides g.H.Shelf.left g.H.Shelf.faults g.H.Shelf.steady c.args.shelf.now c.answer.new.shelf) (sink_sides g.K.Sink.taken g.K.Sink.faults c.args.out.now c.answer.new.out) (sink_sides g.E.Sink.taken g.E.Sink.faults c.args.err.now c.answer.new.err)
+    c.answer.result _ c.words_law.ensures.one form c.answer.ensures.0 c.answer.ensures.1 c.answer.ensures.2 c.answer.ensures.3
 
 pub returns-clause-certified : goal.returns-clause-certified
 returns-clause-certified g c = λ k form zero.

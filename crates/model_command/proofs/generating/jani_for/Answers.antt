@@ -1,0 +1,5 @@
+use Rattle.model_command.proofs.Generated.{of_bytes}
+use Rattle.model_command.proofs.generating.jani_for.Goals as goal
+
+pub returns : goal.returns
+returns c = of_bytes c.args.modules c.in_ok-model.model c.as_slice.result.now c.translate.result c.in_ok-model.ensures c.as_slice.ensures c.translate.ensures
