@@ -11,15 +11,6 @@ use Rattle.module_parts.specs.Writers.{home_for, writers_at}
 use Rattle.module_parts.specs.Homes.{AreWriters, home_with, home_by_table}
 use Rattle.module_parts.proofs.WritersOf.{home_is}
 
-pub walked : {A B C : Type 0} (q : B → Bool) (g : B → C) (s : A → B) (xs : List A) → flat_map (λ x. only_if (q (s x)) (g (s x))) xs ≡ map g (filter q (map s xs))
-walked q g s [] = refl
-walked q g s (x ∷ xs) = by_test (q (s x)) (walked q g s xs)
-  where
-    by_test : (b : Bool) → flat_map (λ x. only_if (q (s x)) (g (s x))) xs ≡ map g (filter q (map s xs)) →
-        only_if b (g (s x)) ++ flat_map (λ x. only_if (q (s x)) (g (s x))) xs ≡ map g (cond b (s x ∷ filter q (map s xs)) (filter q (map s xs)))
-    by_test true e = ap (λ l. g (s x) ∷ l) e
-    by_test false e = e
-
 pub kept_walk : {A B : Type 0} (q : B → Bool) (s : A → B) (xs : List A) → flat_map (λ x. only_if (q (s x)) (s x)) xs ≡ filter q (map s xs)
 kept_walk q s [] = refl
 kept_walk q s (x ∷ xs) = by_test (q (s x)) (kept_walk q s xs)

@@ -48,7 +48,42 @@ fn home(writers: &WriterTable, x: &LastingVar) -> Option<usize>
     }
 }
 
-/// The variables that stay global.
+/// The variables that stay global. `Err` is want of memory.
+pub fn shared<'a>(
+    alloc: Global,
+    names: &Names,
+    writers: &WriterTable,
+    vars: &[LastingVar<'a>],
+) -> Result<Vec<LastingVar<'a>>, AllocError>
+    requires writers { AreWriters writers.now (file_in names.now) }
+    requires vars { map lasting_of vars.now ≡ lasting_variables (file_in names.now) }
+    ensures { IfOk result (λ all. map lasting_of all.items ≡ shared (file_in names.now)) }
+{
+    let mut all = Vec::new(alloc);
+    for x in vars {
+        add_shared(&mut all, writers, x)?;
+    }
+    Ok(all)
+}
+
+/// Adds a variable, if it stays global.
+fn add_shared<'a>(
+    all: &mut Vec<LastingVar<'a>>,
+    writers: &WriterTable,
+    x: &LastingVar<'a>,
+) -> Result<(), AllocError>
+    ensures { OnOk result (all.new.items ≡ all.old.items ++ only_if (is_none (home_by_table writers.now (lasting_of x.now))) x.now) }
+{
+    match home(writers, x) {
+        Some(_) => Ok(()),
+        None => {
+            all.push(*x)?;
+            Ok(())
+        }
+    }
+}
+
+/// The variables that stay global, as the file has them.
 pub fn globals(
     alloc: Global,
     names: &Names,
@@ -60,32 +95,24 @@ pub fn globals(
     requires vars { map lasting_of vars.now ≡ lasting_variables (file_in names.now) }
     ensures { IfOk result (λ all. map prism.var_of all ≡ map (variable (file_in names.now) (names_in names.now)) (shared (file_in names.now))) }
 {
-    let mut all = List::new(alloc);
-    for x in vars {
-        add_global(alloc, &mut all, names, writers, x)?;
-    }
-    Ok(all)
+    let shared = shared(alloc, names, writers, vars)?;
+    variables(alloc, names, shared.as_slice())
 }
 
-/// Adds a variable, if it stays global.
-fn add_global(
+/// Variables that are not transient, as the file has them.
+fn variables(
     alloc: Global,
-    all: &mut List<PrismVar>,
     names: &Names,
-    writers: &WriterTable,
-    x: &LastingVar,
-) -> Result<(), AllocError>
-    requires names { IsReady names.now }
-    ensures { OnOk result (map prism.var_of all.new ≡ map prism.var_of all.old
-        ++ only_if (is_none (home_by_table writers.now (lasting_of x.now))) (variable (file_in names.now) (names_in names.now) (lasting_of x.now))) }
+    vars: &[LastingVar],
+) -> Result<List<PrismVar>, AllocError>
+    requires { IsReady names.now }
+    ensures { IfOk result (λ all. map prism.var_of all ≡ map (variable (file_in names.now) (names_in names.now)) (map lasting_of vars.now)) }
 {
-    match home(writers, x) {
-        Some(_) => Ok(()),
-        None => {
-            all.push(variable(alloc, names, x)?)?;
-            Ok(())
-        }
+    let mut all = List::new(alloc);
+    for x in vars {
+        all.push(variable(alloc, names, x)?)?;
     }
+    Ok(all)
 }
 
 /// The variables of each module: the element's own, and then the global ones that are at home there.

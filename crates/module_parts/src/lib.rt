@@ -12,7 +12,7 @@ mod writers;
 
 pub use element::{Element, elements};
 pub use entries::{Classes, Names, name_at};
-pub use homes::{at_home, globals, lasting_variables};
+pub use homes::{at_home, globals, lasting_variables, shared};
 pub use images::image;
 pub use parts::{LastingVar, constants, counted, falsehood, image_if, is_there, truth, variable};
 pub use updates::branches;

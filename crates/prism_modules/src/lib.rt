@@ -9,5 +9,5 @@ mod served;
 pub use element_modules::modules;
 pub use module_parts::{
     Classes, Element, LastingVar, Names, WriterTable, at_home, constants, counted, elements,
-    falsehood, globals, image, image_if, is_there, lasting_variables, name_at, truth,
+    falsehood, globals, image, image_if, is_there, lasting_variables, name_at, shared, truth,
 };
