@@ -1,5 +1,6 @@
 pub mod Names
 pub mod Promise
+pub mod Maps
 pub use Rattle.prism_translation_laws.specs.NameLaws
 pub use Rattle.prism_translation_laws.specs.Lines
 pub use Rattle.prism_translation_laws.specs.Refused
@@ -8,6 +9,8 @@ pub mod Gains
 pub mod Gathered
 pub mod Given
 pub mod LineParts
+pub mod MapParts
+pub mod NamedTargets
 pub mod Parts
 pub mod Translation
 pub use Rattle.prism_targets.specs.Places

@@ -50,7 +50,11 @@ struct LabelsAndRewards {
 }
 
 /// The writers of variables.
-fn writers(alloc: Global, names: &Names, els: &[Element]) -> Result<WriterTable, AllocError>
+pub(crate) fn writers(
+    alloc: Global,
+    names: &Names,
+    els: &[Element],
+) -> Result<WriterTable, AllocError>
     requires names { IsReady names.now }
     requires elements { map element_of els.now ≡ elements (file_in names.now) }
     ensures { IfOk result (λ t. AreWriters t (file_in names.now)) }

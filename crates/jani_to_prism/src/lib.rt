@@ -4,20 +4,25 @@
 #![tactic(auto)]
 
 mod actions;
+mod carry;
 mod file;
 mod gains;
 mod gathered;
 mod given;
+mod label_pairs;
 mod labels;
 mod laws;
 mod lines;
+mod map_columns;
+mod named_targets;
 mod naming;
 mod rewards;
 mod translating;
 mod translation;
 
+pub use carry::carry_map;
 pub use gathered::{FileParts, file_parts};
-pub use laws::translated_law;
+pub use laws::{carry_law, translated_law};
 pub use naming::new_names;
 pub use prism_translation_laws::lines_law;
 pub use translating::to_prism;

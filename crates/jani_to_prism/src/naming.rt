@@ -8,8 +8,11 @@ ghost use Rattle.jani_meaning.specs.Elements.{lasting as lasting_of_file, labels
 ghost use Rattle.name_rules.specs.Names.{under};
 ghost use Rattle.name_table.specs.JaniParts.{owned_of};
 ghost use Rattle.name_table.specs.PrismAsks.{names_by};
-ghost use Rattle.prism_modules.specs.Code.{file_in, names_in, classes_in, IsReady};
+ghost use Rattle.prism_targets.specs.Names.{entries, new_names as new_names_of_file};
+ghost use Rattle.prism_modules.specs.Code.{file_in, names_in, classes_in, IsReady, HasActions};
+ghost use Rattle.jani_to_prism.specs.Gathered.{AreGathered};
 
+use crate::gathered::FileParts;
 use gathering::{drop_from, first_of};
 use jani_tree::{JaniConst, JaniFile};
 use name_rules::NameMap;
@@ -88,4 +91,29 @@ pub fn new_names<'a>(
         lasting: places,
         constants,
     })
+}
+
+/// The same of a file, where these are its parts and its entries.
+pub(crate) fn file_names<'a>(
+    alloc: Global,
+    file: &'a JaniFile,
+    parts: &FileParts<'a>,
+    all: &'a [Entry],
+) -> Result<Names<'a>, AllocError>
+    requires parts { AreGathered parts.now (file_of file.now) }
+    requires entries { all.now ≡ entries (file_of file.now) }
+    ensures file { IfOk result (λ n. file_in n ≡ file_of file.now) }
+    ensures names { IfOk result (λ n. names_in n ≡ new_names_of_file (file_of file.now)) }
+    ensures ready { IfOk result (λ n. IsReady n) }
+    ensures actions { IfOk result (λ n. HasActions n) }
+{
+    let names = new_names(
+        alloc,
+        file,
+        parts.lasting.as_slice(),
+        parts.labels.len(),
+        parts.structures.len(),
+        all,
+    )?;
+    Ok(names)
 }

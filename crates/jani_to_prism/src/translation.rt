@@ -5,8 +5,6 @@ ghost use Rattle.std.specs.List.{All};
 ghost use Rattle.jani_tree.specs.Syntax.{file_of};
 ghost use Rattle.name_rules.specs.Least.{soonest};
 ghost use Rattle.jani_tree.specs.Faults.{FailsFor};
-ghost use Rattle.name_table.specs.declared.class.Target.TheVariants.{Prism};
-ghost use Rattle.name_table.specs.PrismAsks as asked;
 ghost use Rattle.prism_targets.specs.Names.{entries};
 ghost use Rattle.prism_targets.specs.Elements.{elements};
 ghost use Rattle.prism_targets.specs.Refused.{refused};
@@ -15,17 +13,17 @@ ghost use Rattle.prism_modules.specs.Code.{file_in, names_in, IsReady, HasAction
 ghost use Rattle.jani_to_prism.specs.Gathered.{AreGathered};
 ghost use Rattle.jani_to_prism.specs.Translation.{IsTranslation, IsTextBy};
 
-use crate::actions::ask_actions;
 use crate::file::file_by;
 use crate::gathered::{FileParts, file_parts};
 use crate::lines::lines;
-use crate::naming::new_names;
+use crate::named_targets::named_targets;
+use crate::naming::file_names;
 use bridge_io::{Fault, List, Refused, Text, together};
 use jani_check::CheckedJani;
 use jani_tree::JaniFile;
-use name_table::{Entry, NameTable, parts_names};
+use name_table::Entry;
 use prism_modules::{Element, Names, elements};
-use prism_targets::{Serving, least_refused, serving};
+use prism_targets::{Serving, least_refused};
 use prism_tree::PrismFile;
 use std::alloc::{AllocError, Global};
 
@@ -94,52 +92,8 @@ fn translated(
     requires { AreGathered parts.now (file_of file.now) }
     ensures { IfOk result (λ t. IsTranslation t (file_of file.now)) }
 {
-    let serving = serving(
-        alloc,
-        file,
-        parts.automata.as_slice(),
-        parts.structures.as_slice(),
-    )?;
-    served_text(alloc, file, parts, &serving)
-}
-
-/// The same by what the edges of the file serve.
-fn served_text(
-    alloc: Global,
-    file: &JaniFile,
-    parts: &FileParts,
-    serving: &Serving,
-) -> Result<CheckedPrismText, AllocError>
-    requires parts { AreGathered parts.now (file_of file.now) }
-    requires serving { IsServing (file_of file.now) serving.now }
-    ensures { IfOk result (λ t. IsTranslation t (file_of file.now)) }
-{
-    let mut table = parts_names(
-        alloc,
-        file,
-        parts.lasting.as_slice(),
-        parts.labels.as_slice(),
-        parts.structures.as_slice(),
-    )?;
-    asked_text(alloc, file, parts, serving, &mut table)
-}
-
-/// The same by the table of the new names of the file's parts, to which those of the actions are added.
-fn asked_text(
-    alloc: Global,
-    file: &JaniFile,
-    parts: &FileParts,
-    serving: &Serving,
-    table: &mut NameTable,
-) -> Result<CheckedPrismText, AllocError>
-    requires parts { AreGathered parts.now (file_of file.now) }
-    requires serving { IsServing (file_of file.now) serving.now }
-    requires target { table.old.target ≡ Prism }
-    requires entries { table.old.entries ≡ asked.entries (file_of file.now) }
-    ensures { IfOk result (λ t. IsTranslation t (file_of file.now)) }
-{
-    ask_actions(table, serving.targets.as_slice())?;
-    text(alloc, file, parts, serving, table.as_slice())
+    let named = named_targets(alloc, file, parts)?;
+    text(alloc, file, parts, &named.serving, named.table.as_slice())
 }
 
 /// The translation of a file, where these are its parts, what its edges serve, and its entries.
@@ -175,14 +129,7 @@ fn text_of(
     requires located { All IsElement els.now }
     ensures { IfOk result (λ t. IsTranslation t (file_of file.now)) }
 {
-    let names = new_names(
-        alloc,
-        file,
-        parts.lasting.as_slice(),
-        parts.labels.len(),
-        parts.structures.len(),
-        all,
-    )?;
+    let names = file_names(alloc, file, parts, all)?;
     text_by(alloc, &names, els, parts, serving)
 }
 
