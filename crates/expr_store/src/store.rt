@@ -6,16 +6,16 @@ ghost use Rattle.expr_store.specs.declared.node.Node.TheVariants.{Fixed};
 
 use crate::finding::{Bucket, bucket_of};
 use crate::node::{ExprId, Node, are_same, is_behind};
-use indexmap::IndexMap;
 use op_trees::{Operator, Value};
 use std::alloc::{AllocError, Global};
+use std::collections::BTreeMap;
 
 /// Expressions as nodes, each of which stands behind its operands; one that is equal to one that is found isn't added. Names are
 /// resolved to places.
 pub struct ExprStore<O: Operator> {
     nodes: Vec<Node<O>>,
     notes: Vec<Note>,
-    newest: IndexMap<Bucket, usize>,
+    newest: BTreeMap<Bucket, usize>,
 }
 
 // Written out, so that it is proved here, and not wherever one is held.
@@ -52,7 +52,7 @@ impl<O: Operator> ExprStore<O> {
         ExprStore {
             nodes: Vec::new(alloc),
             notes: Vec::new(alloc),
-            newest: IndexMap::new(alloc),
+            newest: BTreeMap::new(alloc),
         }
     }
 
@@ -112,22 +112,14 @@ impl<O: Operator> ExprStore<O> {
     fn equal_from(&self, node: &Node<O>, newest: Option<usize>) -> Option<usize>
         ensures { IfSome result (λ i. Holds (nodes self.now) i node.now) }
     {
-        match newest {
-            None => None,
-            Some(i) => self.equal_behind(node, i),
+        let mut next = newest;
+        while let Some(i) = next {
+            if self.has(i, node) {
+                return Some(i);
+            }
+            next = self.older(i);
         }
-    }
-
-    fn equal_behind(&self, node: &Node<O>, i: usize) -> Option<usize>
-        ensures { IfSome result (λ i. Holds (nodes self.now) i node.now) }
-    {
-        if self.has(i, node) {
-            return Some(i);
-        }
-        match self.older(i) {
-            None => None,
-            Some(j) => self.equal_behind(node, j),
-        }
+        None
     }
 
     /// Whether an equal node has this number.
