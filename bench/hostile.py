@@ -160,6 +160,12 @@ def actions_beside_structures(n):
     return prism("", "module M x : [0..2];\n" + each(n, "[a@] x=1 -> true;\n") + "endmodule\n" + "rewards endrewards\n" * n)
 
 
+@kind("simulate prism f seed 1 1", most=200000)
+def rewards_of_actions_beside_structures(n):
+    """As many actions as reward structures, all but one without items, and an item of that for each action."""
+    return prism("", "module M x : [0..2];\n" + each(n, "[a@] x=1 -> true;\n") + "endmodule\n" + "rewards " + each(n, "[a@] true : 1;\n") + "endrewards\n" + "rewards endrewards\n" * n)
+
+
 @kind("simulate prism f seed 1 1")
 def modules_beside_structures(n):
     """A thousand modules, and reward structures without items."""
@@ -334,6 +340,11 @@ def chain_of_jani_constants(n):
     return jani(constants=chain + ',{"name":"c%d","type":"int","value":1}' % n)
 
 
+@kind("show jani f (0)", most=60000)
+def jani_constants_given_from_the_last(n):
+    return jani(constants=listed(n, '{"name":"c@","type":"int"}')), ["c%d=1" % k for k in reversed(range(n))]
+
+
 @kind("simulate jani f seed 1 1")
 def elements(n):
     return jani(automata=listed(n, automaton("A@")), elements=listed(n, '{"automaton":"A@"}'))
@@ -359,6 +370,12 @@ def locations_beside_rewards(n):
 @kind("simulate jani f seed 1 1")
 def elements_beside_labels(n):
     return jani(listed(n, LABELS), listed(n, automaton("A@")), listed(n, '{"automaton":"A@"}'))
+
+
+@kind("simulate jani f seed 1 1")
+def labels_of_many_locations(n):
+    """As many labels as locations, each of which gives a value to one."""
+    return jani(listed(n, LABELS), automaton("A", locations=listed(n, '{"name":"l@","transient-values":[{"ref":"r@","value":true}]}'), first="l0"))
 
 
 @kind("simulate jani f seed 1 1")

@@ -7,3 +7,4 @@ pub mod Marks
 pub mod Firsts
 pub mod Participants
 pub mod Kinds
+pub mod Numbered

@@ -1,26 +1,75 @@
 //! Values that are given for the constants that a file leaves open.
-ghost use Rattle.std.specs.Prelude.{◌≡◌, map, bytes_eq, is_none, ◌&&◌, Some};
-ghost use Rattle.std.specs.List.{find, list_any};
+ghost use Rattle.std.specs.Prelude.{◌≡◌, List, ℕ, map, is_none, ◌&&◌, IfOk, OnOk, Some};
+ghost use Rattle.std.specs.List.{list_any};
 ghost use Rattle.std.specs.Option.{option_map};
 ghost use Rattle.frac_core.specs.Fraction.{is_whole};
+ghost use Rattle.name_rules.specs.Names.{under};
 ghost use Rattle.instance_start.specs.Columns.{constant_of};
-ghost use Rattle.instance_start.specs.Given.{fits, given_by, is_missing, misfit, takes};
+ghost use Rattle.instance_start.specs.Given.{constant_called, given_by, is_missing, is_taken, misfit, takes};
 
 use crate::data::Constant;
 use crate::ranges::is_whole;
+use name_rules::NameMap;
 use op_trees::{Ty, Value};
 use process_core::Given;
+use std::alloc::{AllocError, Global};
 
-/// The first given value that no open constant takes; at their count, that an open constant isn't given; or none.
-pub fn misfit(constants: &[Constant], given: &[Given]) -> Option<usize>
+/// The first given value that no open constant takes; at their count, that an open constant isn't given; or none. `Err` is
+/// want of memory.
+pub fn misfit(
+    alloc: Global,
+    constants: &[Constant],
+    given: &[Given],
+) -> Result<Option<usize>, AllocError>
+    ensures { IfOk result (λ first. first ≡ misfit (map constant_of constants.now) given.now) }
+{
+    let called = constants_called(alloc, constants)?;
+    let values = given_values(alloc, given)?;
+    Ok(first_misfit(constants, given, &called, &values))
+}
+
+/// The first constant of each name.
+fn constants_called<'a>(
+    alloc: Global,
+    constants: &[Constant<'a>],
+) -> Result<NameMap<'a, Constant<'a>>, AllocError>
+    ensures { IfOk result (λ m. (x : List ℕ) → option_map constant_of (under m x) ≡ constant_called (map constant_of constants.now) x) }
+{
+    let mut called = NameMap::with_capacity(alloc, constants.len())?;
+    for constant in constants {
+        called.put_first(constant.name.as_str(), *constant)?;
+    }
+    Ok(called)
+}
+
+/// The first value that is given for each name. `Err` is want of memory.
+pub fn given_values<'a>(alloc: Global, given: &'a [Given]) -> Result<NameMap<'a, Value>, AllocError>
+    ensures { IfOk result (λ m. under m ≡ given_by given.entry.now) }
+{
+    let mut values = NameMap::with_capacity(alloc, given.len())?;
+    for one in given {
+        values.put_first(one.name.as_str(), one.value)?;
+    }
+    Ok(values)
+}
+
+/// The first misfit, by the constants and the given values of each name.
+fn first_misfit(
+    constants: &[Constant],
+    given: &[Given],
+    called: &NameMap<Constant>,
+    values: &NameMap<Value>,
+) -> Option<usize>
+    requires called { (x : List ℕ) → option_map constant_of (under called.now x) ≡ constant_called (map constant_of constants.now) x }
+    requires values { under values.now ≡ given_by given.now }
     ensures { result ≡ misfit (map constant_of constants.now) given.now }
 {
     for (i, one) in given.iter().enumerate() {
-        if !fits(constants, one) {
+        if !fits(called, one) {
             return Some(i);
         }
     }
-    if has_missing(constants, given) {
+    if has_missing(constants, values) {
         Some(given.len())
     } else {
         None
@@ -28,25 +77,13 @@ pub fn misfit(constants: &[Constant], given: &[Given]) -> Option<usize>
 }
 
 /// Whether the constant is there, is left open, and takes the value.
-fn fits(constants: &[Constant], one: &Given) -> bool
-    ensures { result ≡ fits (map constant_of constants.now) one.now }
+fn fits(called: &NameMap<Constant>, one: &Given) -> bool
+    ensures { result ≡ is_taken (option_map constant_of (under called.now one.now.name)) one.now.value }
 {
-    match constant_called(constants, one.name.as_str()) {
+    match called.get(one.name.as_str()) {
         Some(constant) => constant.is_open && takes(constant.ty, one.value),
         None => false,
     }
-}
-
-/// The first constant of this name.
-fn constant_called<'a>(constants: &[Constant<'a>], name: &str) -> Option<Constant<'a>>
-    ensures { option_map constant_of result ≡ find (λ c. bytes_eq c.name name.now) (map constant_of constants.now) }
-{
-    for constant in constants {
-        if constant.name.as_str() == name {
-            return Some(*constant);
-        }
-    }
-    None
 }
 
 /// Whether a constant of this type takes the value: a real one takes every number, an int a whole one.
@@ -67,25 +104,13 @@ fn takes(ty: Ty, value: Value) -> bool
 }
 
 /// Whether an open constant isn't given.
-fn has_missing(constants: &[Constant], given: &[Given]) -> bool
-    ensures { result ≡ list_any (is_missing given.now) (map constant_of constants.now) }
+fn has_missing(constants: &[Constant], values: &NameMap<Value>) -> bool
+    ensures { result ≡ list_any (λ c. c.is_open && is_none (under values.now c.name)) (map constant_of constants.now) }
 {
     for constant in constants {
-        if constant.is_open && given_value(given, constant.name.as_str()).is_none() {
+        if constant.is_open && values.get(constant.name.as_str()).is_none() {
             return true;
         }
     }
     false
-}
-
-/// The first value that is given for a name.
-pub fn given_value(given: &[Given], name: &str) -> Option<Value>
-    ensures { result ≡ given_by given.now name.now }
-{
-    for one in given {
-        if one.name.as_str() == name {
-            return Some(one.value);
-        }
-    }
-    None
 }

@@ -12,7 +12,7 @@ mod values;
 
 pub use answers::{is_false, is_wide, truth_in};
 pub use data::{Bounds, Column, Constant, Domain, Place, Variable};
-pub use given::{given_value, misfit};
+pub use given::{given_values, misfit};
 pub use ranges::{domain_at, equal_values, first_values, fits_in, is_in, is_initial, is_state};
 pub use start::columns;
 pub use values::{type_of, value_at};

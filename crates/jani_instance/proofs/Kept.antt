@@ -1,5 +1,5 @@
 -- What is kept of edges comes out as the edges do.
-use Rattle.std.specs.Prelude.{◌≡◌, ℕ, ◌+◌, ◌-◌, ◌<◌, ◌≤◌, List, [], ◌∷◌, ◌++◌, map, length, not, ◌&&◌, zero, suc, Bool, true, false, ◌||◌, Option, Some, None, bytes_eq, is_some, pos, nat_eq, unwrap_or, slice_get, if◌then◌else◌}
+use Rattle.std.specs.Prelude.{◌≡◌, ℕ, ◌+◌, ◌-◌, ◌≤◌, List, [], ◌∷◌, ◌++◌, map, length, not, ◌&&◌, Bool, true, false, ◌||◌, Option, Some, None, bytes_eq, is_some, pos, nat_eq, unwrap_or, slice_get, if◌then◌else◌}
 use Rattle.std.specs.List.{AllZip, filter, flat_map, list_any, position, range_with_len}
 use Rattle.std.specs.Option.{option_map, option_or}
 use Rattle.std.proofs.Common.{refl, sym, ap, ap₂, subst, ◌∙◌, arith}
@@ -29,15 +29,17 @@ use Rattle.jani_tree.specs.Syntax as syntax
 use Rattle.jani_tree.specs.Syntax.{Automaton, Expression, File}
 use Rattle.basics.specs.Mapped.{mapped, turned}
 use Rattle.op_trees.specs.Names.{is_called}
-use Rattle.jani_meaning.specs.Elements.{column_number, elements, is_global, is_own, lasting, location_number, place_of, structure_number, structures}
+use Rattle.jani_meaning.specs.Elements.{column_number, elements, is_global, is_own, lasting, location_number, structure_number, structures}
 use Rattle.jani_meaning.specs.Scene.{counted, see}
 use Rattle.jani_meaning.specs.Moment.{column_write, guard_seen, location_write, reward_of, weight_seen}
+use Rattle.instance_start.specs.Numbered.{by_number, with_value}
+use Rattle.instance_start.proofs.Numbered.{by_seen, got_range}
 use Rattle.instance_start.specs.declared.data.Place.TheVariants.{Constant, Variable}
 use Rattle.jani_instance.specs.Actions.{IsLinked, IsNumbered, action_of, actions_among, actions_of, links_by, located_at, starts_at}
-use Rattle.jani_instance.specs.Built.{IsVectorOf, acts_with, edge_under, edges_from, global_place, links_from, member_from, reward_under, update_under, write_under}
-use Rattle.jani_instance.specs.Parts.{automaton_at, owned_at}
-use Rattle.jani_instance.specs.Shapes.{Assigned, Destination, Edge, Lent, Located, assigned_as, assigned_by, assigned_to, column_in, column_of, destination_as, destination_by, edge_as, edge_by, located_as, located_of, location_in, structure_in, tree_at}
-use Rattle.jani_instance.specs.Views.{Member, edge_seen, guard_as, located_seen, location_seen, reward_seen, see_at, update_seen, weight_as, write_seen}
+use Rattle.jani_instance.specs.Built.{IsVectorOf, acts_with, edge_under, edges_from, global_place, global_structure, links_from, member_from, own_structure, reward_under, update_under, write_under}
+use Rattle.jani_instance.specs.Parts.{automaton_at}
+use Rattle.jani_instance.specs.Shapes.{Assigned, Destination, Edge, Lent, Located, acting_as, assigned_as, assigned_by, assigned_to, column_in, destination_as, destination_by, edge_as, edge_by, located_as, located_of, location_in, structure_in, tree_at, variable_at}
+use Rattle.jani_instance.specs.Views.{Member, acting_seen, edge_seen, guard_as, located_seen, location_seen, reward_seen, see_at, update_seen, weight_as, write_seen}
 use Rattle.jani_instance.specs.declared.acting.Numbers.{Numbers}
 use Rattle.jani_instance.specs.declared.build.Site.{Site}
 use Rattle.jani_instance.specs.declared.data.Destination as code_destination
@@ -52,12 +54,17 @@ same_member s t m n e f = cc
 
 -- ---- the places of names
 by_columns : (n : ℕ) (p q r : Option ℕ) →
-    column_of (option_or (option_map (λ k. Variable (n + k)) p) (option_or (option_map (λ k. Variable (n + k)) q) (option_map Constant r)))
+    variable_at (option_or (option_map (λ k. Variable (n + k)) p) (option_or (option_map (λ k. Variable (n + k)) q) (option_map Constant r)))
     ≡ option_map (λ k. n + k) (option_or p q)
 by_columns n (Some k) q r = refl
 by_columns n None (Some k) r = refl
 by_columns n None None (Some j) = refl
 by_columns n None None None = refl
+
+by_structures : (p q : Option ℕ) → variable_at (option_or (option_map Variable p) (option_map Variable q)) ≡ option_or p q
+by_structures (Some k) q = refl
+by_structures None (Some k) = refl
+by_structures None None = refl
 
 same_write : (i : ℕ) (s t : Seen) (b c : Bool) → s ≡ t → b ≡ c → ◌≡◌ {A = Write} (record { column = i; value = s; fits = b }) (record { column = i; value = t; fits = c })
 same_write i s t b c e f = cc
@@ -69,18 +76,13 @@ location_is i n = same_write i _ _ _ _ (computed_laws.values (counted n)) (by_wi
     by_wide true v = refl
     by_wide false v = refl
 
-got_range : (a n i : ℕ) → i < n → slice_get (range_with_len a n) i ≡ Some (a + i)
-got_range a zero i h = absurd (omega (arith, h))
-got_range a (suc n) zero h = ap Some (let d : a ≡ a + 0 = omega arith in d)
-got_range a (suc n) (suc i) h = got_range (a + 1) n i (let d : i < n = omega (arith, h) in d) ∙ ap Some (let d : a + 1 + i ≡ a + suc i = omega arith in d)
-
 -- a site of the element with this number
 pub record IsSite (file : File) (i : ℕ) (s : Site) : Type 0 where
-  pub number : s.number ≡ i
   pub own : (x : Name) → under s.own.now x ≡ option_map (λ k. Variable (length file.elements + k)) (position (is_own i x) (lasting file))
   pub global : (x : Name) → under s.places.now x ≡ global_place file x
   pub locations : (x : Name) → under s.locations.now x ≡ position (λ l. is_called x l.name) (automaton_at s.part).locations
-  pub rewards : map owned_at s.structures.now ≡ structures file
+  pub own_structures : (x : Name) → under s.own_structures.now x ≡ own_structure file i x
+  pub structures : (x : Name) → under s.structures.now x ≡ global_structure file x
 
 -- ---- what comes out of what is kept, by what it stands for
 -- what an edge comes out as, by its guard and its updates
@@ -126,8 +128,10 @@ module _ {E X : Type 0} (g : E → X) (f : X → Seen) (cs : List Column) (i : �
   pub located_kept : (l : code_located.Located E) → located_seen cs (λ e. f (g e)) i (Some l) ≡ located_from f cs i (located_as g l)
   located_kept l =
       let edges = λ (es : List (code_edge.Edge E)). mapped (edge_as g) (edge_from f cs i) (edge_seen cs (λ e. f (g e)) i) (λ e. sym (edge_kept e)) es in
+      let acting =
+      mapped (acting_as g) (with_value (edge_from f cs i)) (acting_seen cs (λ e. f (g e)) i) (λ a. ap (λ e. record { number = a.action; value = e }) (sym (edge_kept a.edge))) l.acting.items in
       same_member _ _ _ _ (sym (edges l.silent.items))
-      (sym (mapped (λ es. map (edge_as g) es.items) (map (edge_from f cs i)) (λ es. map (edge_seen cs (λ e. f (g e)) i) es.items) (λ es. edges es.items) l.parts.items))
+      (ap (by_number l.actions) (sym acting) ∙ by_seen (edge_from f cs i) l.actions (map (acting_as g) l.acting.items))
 
 -- locations that are seen alike come out alike
 pub located_alike : {E F : Type 0} (look : E → Seen) (other : F → Seen) (cs : List Column) (i : ℕ) (l : Option (code_located.Located E)) (m : Option (code_located.Located F)) →
@@ -159,11 +163,13 @@ module _ (cs : List Column) (names : Name → Seen) (i : ℕ) where
 
     column_is : (x : Name) → column_in s x ≡ column_number file i x
     column_is x =
-        ap₂ (λ p q. column_of (option_or p q)) (h.own x) (h.global x)
+        ap₂ (λ p q. variable_at (option_or p q)) (h.own x) (h.global x)
         ∙ by_columns (length file.elements) (position (is_own i x) (lasting file)) (position (is_global x) (lasting file)) (position (λ c. is_called x c.name) file.constants)
 
     structure_is : (x : Name) → structure_in s x ≡ structure_number file i x
-    structure_is x = ap₂ (λ l n. place_of l n x) h.rewards h.number
+    structure_is x =
+        ap₂ (λ p q. variable_at (option_or p q)) (h.own_structures x) (h.structures x)
+        ∙ by_structures (position (is_own i x) (structures file)) (position (is_global x) (structures file))
 
     one_write : (k : Option ℕ) (w : syntax.Write) → map (write_from look cs i) (assigned_to k w.value) ≡ map trimmed_write (column_write cs k (see w.value names))
     one_write None w = refl

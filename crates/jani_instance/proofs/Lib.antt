@@ -9,9 +9,11 @@ pub mod Tables
 pub mod Placed
 pub mod Typed
 pub mod Locations
+pub mod Gifts
 pub mod Givers
 pub mod StartLaws
 pub mod Numbering
+pub mod Acted
 pub mod Kept
 pub mod Prepared
 pub mod Resolved

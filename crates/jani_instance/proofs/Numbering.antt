@@ -14,7 +14,7 @@ use Rattle.basics.specs.Members.{is_some-position, position_cons}
 use Rattle.basics.specs.Numbers.{nat_eq-self}
 use Rattle.basics.specs.Options.{none_of, if_some}
 use Rattle.basics.specs.Texts.{bytes_eq-self, bytes_eq-true, bytes_eq_comm}
-use Rattle.gathering.proofs.Loops.{range_more, taken}
+use Rattle.gathering.proofs.Loops.{taken}
 use Rattle.name_rules.specs.Names.{put, under}
 use Rattle.process_core.specs.Equal.{IsEquality}
 use Rattle.process_core.specs.Zip.{AllZip-append}
@@ -82,16 +82,6 @@ among_more xs i e h g o k =
     names = flat_map (λ (d : Edge). if_some (action_of d)) (map edge_of (take i xs))
 
 -- ---- lists that grow
--- one more image of the numbers from 0
-pub counted_more : {Y B : Type 0} (view : Y → B) (f : ℕ → B) (n : ℕ) (old new : List Y) (y : Y) → map view old ≡ map f (range_with_len 0 n) → new ≡ old ++ y ∷ [] → view y ≡ f n →
-    map view new ≡ map f (range_with_len 0 (n + 1))
-counted_more view f n old new y so_far pushed here =
-    ap (map view) pushed
-    ∙ map-append view old (y ∷ [])
-    ∙ ap₂ (λ a b. a ++ b ∷ []) so_far (here ∙ ap f (let d : n ≡ 0 + n = omega arith in d))
-    ∙ sym (map-append f (range_with_len 0 n) ((0 + n) ∷ []))
-    ∙ ap (map f) (sym (range_more 0 n))
-
 -- one more pair
 pub zip_more : {A B C : Type 0} (R : B → C → Type 0) (s : A → B) (xs : List A) (i : ℕ) (x : A) (old new : List C) (y : C) → i < length xs → x ≡ get_or xs i x →
     AllZip R (map s (take i xs)) old → new ≡ old ++ y ∷ [] → R (s x) y → AllZip R (map s (take (i + 1) xs)) new

@@ -25,7 +25,7 @@ use Rattle.jani_instance.specs.Built.{IsElementOf, IsNamedElementOf, IsNamedTran
 use Rattle.jani_instance.specs.Knowing.{AreNamed, IsBuilt, IsPreparedOf}
 use Rattle.jani_instance.specs.Prepared.{places_at, places_of, own_or, placed_names, see_from}
 use Rattle.jani_instance.specs.Shapes.{Giver, Lent, Transient, giver_as, located_as, transient_as}
-use Rattle.jani_instance.specs.Views.{At, giver_from, located_seen, look_by}
+use Rattle.jani_instance.specs.Views.{At, first_else, giver_from, located_seen, look_by}
 use Rattle.jani_instance.specs.declared.data.Element.{Element}
 use Rattle.jani_instance.specs.declared.data.NamedElement.{NamedElement}
 use Rattle.jani_instance.specs.declared.data.Transient as code_transient
@@ -89,14 +89,15 @@ module _ (file : File) (ns : List (Node JaniOp)) (places : NameMap Place) (es : 
         ((at : At) → transient_as (λ i. look_by at ns) p ≡ transient_as (λ i. see_from (places_at es places i) at) t) → IsTransientOf file v ns o p
     transient_is o t p h alike = record {
       start = ap (λ (s : Transient Seen). s.start) (alike nowhere) ∙ h.start;
-      givers = λ values at k.
+      givers = λ values at k other.
           let all = λ (gs : List (Giver Seen)). flat_map (gives_by (λ i s. s) at) gs in
-          sym (walked (giver_as (λ i. look_by values ns)) (gives_by (λ i s. s) at) (giver_from (λ i. look_by values ns) at) (λ g. sym (giver_seen (λ i. look_by values ns) (λ i s. s) at g)) p.givers.items)
+          ap (first_else other)
+          (sym (walked (giver_as (λ i. look_by values ns)) (gives_by (λ i s. s) at) (giver_from (λ i. look_by values ns) at) (λ g. sym (giver_seen (λ i. look_by values ns) (λ i s. s) at g)) p.givers.items)
           ∙ ap (λ (s : Transient Seen). all s.givers) (alike values)
           ∙ walked (giver_as (λ i. see_from (places_at es places i) values)) (gives_by (λ i s. s) at) (giver_from (λ i. see_from (places_at es places i) values) at)
-          (λ g. sym (giver_seen (λ i. see_from (places_at es places i) values) (λ i s. s) at g)) t.givers.items
-          ∙ h.givers (λ i. placed_names (places_at es places i) values) at k
-          ∙ numbered_agree _ _ 0 (elements file) (λ n a e. given_alike values at n (0 + n) a (let d : n ≡ 0 + n = omega arith in d) e);
+          (λ g. sym (giver_seen (λ i. see_from (places_at es places i) values) (λ i s. s) at g)) t.givers.items)
+          ∙ h.givers (λ i. placed_names (places_at es places i) values) at k other
+          ∙ ap (first_else other) (numbered_agree _ _ 0 (elements file) (λ n a e. given_alike values at n (0 + n) a (let d : n ≡ 0 + n = omega arith in d) e));
     }
       where
         given_alike : (values : At) (at : ℕ → ℕ) (n m : ℕ) (a : Automaton) → n ≡ m → slice_get (elements file) n ≡ Some a →

@@ -1,7 +1,7 @@
 -- The columns of a file are as many as their texts, which stand in order.
 use Rattle.std.specs.Prelude.{◌≡◌, ℕ, zero, suc, ◌+◌, ◌-◌, ◌<◌, ◌≤◌, List, [], ◌∷◌, ◌++◌, map, length, Some, codes, slice_get}
 use Rattle.std.specs.Fmt.{decimal}
-use Rattle.std.proofs.Common.{refl, sym, ap, ap₂, ◌∙◌, arith, length-append}
+use Rattle.std.proofs.Common.{sym, ap, ap₂, ◌∙◌, arith, length-append}
 use Rattle.std.proofs.lemmas.List.{length-map}
 use Rattle.basics.specs.Lists.{slice_get-front}
 use Rattle.process_core.specs.Instance.{Valuation}

@@ -252,9 +252,9 @@ module _ (file : File) (v : Valuation) (acts : Automaton → List Name) (store :
 
   transient_is : (o : Owned) (t : Transient ExprId) → IsTransientOf file v (nodes store) o t → transient_value k t ≡ computed (transient_at file v s o)
   transient_is o t b =
-      ap₂ (λ x l. first_else x l) b.start
-      (b.givers here (location_at s) (λ i a e. let h = at i a e in subst (λ n. n ≤ length a.locations - 1) (sym (number_at i a h)) h.within)
-      ∙ ap (λ (names : ℕ → Name → Seen). numbered (given_from file v names (location_at s) o) 0 (elements file)) (fun_ext names_are)
+      b.givers here (location_at s) (λ i a e. let h = at i a e in subst (λ n. n ≤ length a.locations - 1) (sym (number_at i a h)) h.within) t.start
+      ∙ ap₂ (λ x l. first_else x l) b.start
+      (ap (λ (names : ℕ → Name → Seen). numbered (given_from file v names (location_at s) o) 0 (elements file)) (fun_ext names_are)
       ∙ numbered_agree _ _ 0 (elements file) (λ n a e. subst (λ m. given_from file v (names_in file v s) (location_at s) o m a ≡ map computed (given_to file v s o m a)) (let d : n ≡ 0 + n = omega arith in d) (given_is o n a e))
       ∙ sym (map_numbered computed (given_to file v s o) 0 (elements file)))
       ∙ first_is (start_of (constant_names file v) o.var.start) (numbered (given_to file v s o) 0 (elements file))

@@ -7,6 +7,7 @@ use Rattle.std.specs.Option.{option_map}
 use Rattle.bridge_io.specs.declared.reason.Named.{Named}
 use Rattle.expr_store.specs.declared.node.Node.{Node}
 use Rattle.jani_table.specs.declared.operator.JaniOp.{JaniOp}
+use Rattle.gathering.specs.Lists.{list_for}
 use Rattle.name_rules.specs.Names.{under}
 use Rattle.basics.specs.Options.{if_some}
 use Rattle.process_core.specs.Ready.{Name, firsts, same_label}
@@ -15,9 +16,10 @@ use Rattle.jani_tree.specs.Syntax as syntax
 use Rattle.jani_tree.specs.Syntax.{Automaton, Expression, File, file_of}
 use Rattle.op_trees.specs.Names.{is_called}
 use Rattle.jani_meaning.specs.Elements.{elements, lasting, structures}
-use Rattle.jani_instance.specs.Built.{IsElementOf, IsNamedElementOf, acts_with, global_place}
-use Rattle.jani_instance.specs.Parts.{automaton_at, owned_at}
-use Rattle.jani_instance.specs.Shapes.{Located, edge_by, location_in}
+use Rattle.jani_instance.specs.Built.{IsElementOf, IsNamedElementOf, acts_with, global_place, global_structure, own_place, own_structure}
+use Rattle.jani_instance.specs.Parts.{automaton_at, owned_at, place_under}
+use Rattle.instance_start.specs.Numbered.{Numbered}
+use Rattle.jani_instance.specs.Shapes.{Edge, Located, edge_by, location_in}
 use Rattle.jani_instance.specs.declared.acting.ActionTable.{ActionTable}
 use Rattle.jani_instance.specs.declared.acting.Basis.{Basis}
 use Rattle.jani_instance.specs.declared.acting.Numbers.{Numbers}
@@ -25,6 +27,7 @@ use Rattle.jani_instance.specs.declared.build.Site.{Site}
 use Rattle.jani_instance.specs.declared.data.Element.{Element}
 use Rattle.jani_instance.specs.declared.data.NamedElement.{NamedElement}
 use Rattle.jani_instance.specs.declared.data.Link.{Link}
+use Rattle.jani_instance.specs.declared.located.Owning.{Owning}
 use Rattle.jani_instance.specs.declared.data.Vector as code_vector
 
 -- ---- the actions of an element
@@ -72,6 +75,14 @@ is_number number k (Some x) = nat_eq k (number x.name)
 abbrev pub acts_as : (Name → ℕ) → ℕ → syntax.Edge → Bool
 acts_as number k e = is_number number k e.action
 
+-- an edge as it is kept, if it has an action
+abbrev pub acted_with : (Name → ℕ) → Site → Option Named → syntax.Edge → List (Numbered (Edge Expression))
+acted_with number s None e = []
+acted_with number s (Some x) e = record { number = number x.name; value = edge_by s e } ∷ []
+
+abbrev pub acted_by : (Name → ℕ) → Site → syntax.Edge → List (Numbered (Edge Expression))
+acted_by number s e = acted_with number s e.action e
+
 -- these edges, as one location keeps them
 abbrev pub located_among : Site → List syntax.Edge → Located Expression
 located_among s es = record {
@@ -105,6 +116,12 @@ pub record IsBasis (b : Basis) : Type 0 where
   pub rewards : map owned_at b.structures.now ≡ structures (file_of b.file.now)
   pub global : (x : Name) → under b.places.now x ≡ global_place (file_of b.file.now) x
   pub room : length b.parts.now + length b.lasting.now < 2 ^ 64
+
+-- what elements own, and what is global
+pub record IsOwning (file : File) (o : Owning) : Type 0 where
+  pub columns : (i : ℕ) (x : Name) → place_under x (list_for o.columns i) ≡ own_place file i x
+  pub structures : (i : ℕ) (x : Name) → place_under x (list_for o.structures i) ≡ own_structure file i x
+  pub global : (x : Name) → under o.global x ≡ global_structure file x
 
 -- each element of the file
 pub record AreNamedElementsOf (file : File) (es : List NamedElement) : Type 0 where

@@ -15,7 +15,7 @@ use Rattle.state_choices.specs.Trimmed.{computed, trimmed}
 use Rattle.jani_tree.specs.Syntax as syntax
 use Rattle.jani_tree.specs.Syntax.{Automaton, Destination, Edge, File, Location}
 use Rattle.op_trees.specs.Names.{is_called}
-use Rattle.jani_meaning.specs.Elements.{Owned, column_number, elements, is_global, is_own, lasting, location_number, structure_number}
+use Rattle.jani_meaning.specs.Elements.{Owned, column_number, elements, is_global, is_own, lasting, location_number, structure_number, structures}
 use Rattle.jani_meaning.specs.Scene.{constant_names, see, start_of}
 use Rattle.jani_meaning.specs.Moment.{column_write, given_in, guard_seen, location_write, may_give, reward_of, weight_seen}
 use Rattle.instance_start.specs.declared.data.Place.{Place}
@@ -25,7 +25,7 @@ use Rattle.expr_store.specs.declared.node.Node.{Node}
 use Rattle.jani_table.specs.declared.operator.JaniOp.{JaniOp}
 use Rattle.jani_instance.specs.Prepared.{placed_names}
 use Rattle.jani_instance.specs.Shapes.{Lent}
-use Rattle.jani_instance.specs.Views.{At, Member, giver_from, located_seen, look_by, see_at}
+use Rattle.jani_instance.specs.Views.{At, Member, first_else, giver_from, located_seen, look_by, see_at}
 use Rattle.jani_instance.specs.declared.data.Element as code
 use Rattle.jani_instance.specs.declared.data.NamedElement.{NamedElement}
 use Rattle.jani_instance.specs.declared.data.Transient.{Transient}
@@ -77,6 +77,13 @@ global_place file x =
     option_or (option_map (λ k. Variable (length file.elements + k)) (position (is_global x) (lasting file)))
     (option_map Constant (position (λ c. is_called x c.name) file.constants))
 
+-- and which of them are reward structures
+abbrev pub own_structure : File → ℕ → Name → Option Place
+own_structure file i x = option_map Variable (position (is_own i x) (structures file))
+
+abbrev pub global_structure : File → Name → Option Place
+global_structure file x = option_map Variable (position (is_global x) (structures file))
+
 -- in the element with this number
 abbrev pub place_in : File → ℕ → Name → Option Place
 place_in file i x = option_or (own_place file i x) (global_place file x)
@@ -127,14 +134,15 @@ given_from file v names at o i a =
 abbrev pub AreWithin : File → (ℕ → ℕ) → Type 0
 AreWithin file at = (i : ℕ) (a : Automaton) → slice_get (elements file) i ≡ Some a → at i ≤ length a.locations - 1
 
--- a transient variable before names are resolved
+-- a transient variable before names are resolved: what is given to it first, or else another value
 pub record IsNamedTransientOf (file : File) (v : Valuation) (o : Owned) (t : Transient Lent) : Type 0 where
   pub name : t.name.now ≡ o.var.name.name
   pub start : t.start ≡ computed (start_of (constant_names file v) o.var.start)
-  pub givers : (names : ℕ → Name → Seen) (at : ℕ → ℕ) → AreWithin file at →
-      flat_map (giver_from (λ i. see_at (names i)) at) t.givers.items ≡ numbered (given_from file v names at o) 0 (elements file)
+  pub givers : (names : ℕ → Name → Seen) (at : ℕ → ℕ) → AreWithin file at → (other : Result Value EvalFail) →
+      first_else other (flat_map (giver_from (λ i. see_at (names i)) at) t.givers.items) ≡ first_else other (numbered (given_from file v names at o) 0 (elements file))
 
 pub record IsTransientOf (file : File) (v : Valuation) (ns : List (Node JaniOp)) (o : Owned) (t : Transient ExprId) : Type 0 where
   pub start : t.start ≡ computed (start_of (constant_names file v) o.var.start)
-  pub givers : (values : At) (at : ℕ → ℕ) → AreWithin file at →
-      flat_map (giver_from (λ i. look_by values ns) at) t.givers.items ≡ numbered (given_from file v (λ i. placed_names (place_in file i) values) at o) 0 (elements file)
+  pub givers : (values : At) (at : ℕ → ℕ) → AreWithin file at → (other : Result Value EvalFail) →
+      first_else other (flat_map (giver_from (λ i. look_by values ns) at) t.givers.items)
+      ≡ first_else other (numbered (given_from file v (λ i. placed_names (place_in file i) values) at o) 0 (elements file))

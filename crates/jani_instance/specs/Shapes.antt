@@ -14,12 +14,12 @@ use Rattle.state_choices.specs.Trimmed.{computed}
 use Rattle.jani_table.specs.declared.operator.JaniOp.{JaniOp}
 use Rattle.jani_tree.specs.Syntax as syntax
 use Rattle.jani_tree.specs.Syntax.{Automaton, Expression, File, Write}
-use Rattle.jani_meaning.specs.Elements.{place_of}
 use Rattle.jani_meaning.specs.Scene.{counted}
+use Rattle.instance_start.specs.Numbered.{Numbered, by_number}
 use Rattle.instance_start.specs.declared.data.Place.{Place}
 use Rattle.instance_start.specs.declared.data.Place.TheVariants.{Constant, Variable}
-use Rattle.jani_instance.specs.Parts.{owned_at}
 use Rattle.jani_instance.specs.declared.build.Site.{Site}
+use Rattle.jani_instance.specs.declared.data.Acting as code_acting
 use Rattle.jani_instance.specs.declared.data.Assignment as code_assignment
 use Rattle.jani_instance.specs.declared.data.Destination as code_destination
 use Rattle.jani_instance.specs.declared.data.Edge as code_edge
@@ -48,7 +48,8 @@ pub record Located (X : Type 0) : Type 0 where
 -- what a location of an element gives
 pub record Giver (X : Type 0) : Type 0 where
   pub element : ℕ
-  pub values : List (Option X)
+  pub location : ℕ
+  pub value : X
 
 pub record Transient (X : Type 0) : Type 0 where
   pub name : Name
@@ -71,13 +72,16 @@ module _ {E X : Type 0} (look : E → X) where
   abbrev pub edge_as : code_edge.Edge E → Edge X
   edge_as e = record { guard = option_map look e.guard; destinations = map destination_as e.destinations.items }
 
+  abbrev pub acting_as : code_acting.Acting E → Numbered (Edge X)
+  acting_as a = record { number = a.action; value = edge_as a.edge }
+
   abbrev pub located_as : code_located.Located E → Located X
-  located_as l = record { silent = map edge_as l.silent.items; parts = map (λ es. map edge_as es.items) l.parts.items }
+  located_as l = record { silent = map edge_as l.silent.items; parts = by_number l.actions (map acting_as l.acting.items) }
 
 -- and in each element in its own way
 module _ {E X : Type 0} (look : ℕ → E → X) where
   abbrev pub giver_as : code_giver.Giver E → Giver X
-  giver_as g = record { element = g.element; values = map (option_map (look g.element)) g.values.items }
+  giver_as g = record { element = g.element; location = g.location; value = look g.element g.value }
 
   abbrev pub transient_as : code_transient.Transient E → Transient X
   transient_as t = record { name = t.name.now; start = t.start; givers = map giver_as t.givers.items }
@@ -98,6 +102,9 @@ destination_of = destination_as tree_at
 abbrev pub edge_of : code_edge.Edge Lent → Edge Expression
 edge_of = edge_as tree_at
 
+abbrev pub acting_of : code_acting.Acting Lent → Numbered (Edge Expression)
+acting_of = acting_as tree_at
+
 abbrev pub located_of : code_located.Located Lent → Located Expression
 located_of = located_as tree_at
 
@@ -108,20 +115,20 @@ abbrev pub transient_at : code_transient.Transient Lent → Transient Expression
 transient_at = transient_as (λ i. tree_at)
 
 -- ---- what it is of the file's data
--- the column at a place
-abbrev pub column_of : Option Place → Option ℕ
-column_of None = None
-column_of (Some (Constant k)) = None
-column_of (Some (Variable k)) = Some k
+-- the number of the variable at a place
+abbrev pub variable_at : Option Place → Option ℕ
+variable_at None = None
+variable_at (Some (Constant k)) = None
+variable_at (Some (Variable k)) = Some k
 
 abbrev pub column_in : Site → Name → Option ℕ
-column_in s x = column_of (option_or (under s.own.now x) (under s.places.now x))
+column_in s x = variable_at (option_or (under s.own.now x) (under s.places.now x))
 
 abbrev pub location_in : Site → Name → ℕ
 location_in s x = unwrap_or (under s.locations.now x) 0
 
 abbrev pub structure_in : Site → Name → Option ℕ
-structure_in s x = place_of (map owned_at s.structures.now) s.number x
+structure_in s x = variable_at (option_or (under s.own_structures.now x) (under s.structures.now x))
 
 abbrev pub assigned_to : Option ℕ → Expression → List (Assigned Expression)
 assigned_to None e = []

@@ -1,9 +1,10 @@
 -- What an instance's data stands for in a state: what its expressions, edges, vectors and transient variables come out as there, as
 -- far as a program computes it (jani-model specification, version 1: "Edges", "Composition", "Transient variables").
-use Rattle.std.specs.Prelude.{ℕ, ℤ, pos, negsuc, List, [], ◌∷◌, ◌++◌, map, not, ◌&&◌, true, Option, Some, None, is_some, Result, option_copied, slice_get, unwrap_or, if◌then◌else◌}
-use Rattle.std.specs.List.{flat_map}
+use Rattle.std.specs.Prelude.{ℕ, ℤ, pos, negsuc, List, [], ◌∷◌, ◌++◌, map, not, ◌&&◌, true, Option, Some, None, is_some, Result, nat_eq, option_copied, slice_get, unwrap_or, if◌then◌else◌}
+use Rattle.std.specs.List.{flat_map, range_with_len}
 use Rattle.std.specs.declared.cmp.PartialEq as PartialEq
 use Rattle.std.specs.Option.{option_map}
+use Rattle.gathering.specs.Lists.{list_for}
 use Rattle.expr_store.specs.Nodes.{seen_at}
 use Rattle.expr_store.specs.Views.{LooksIn, nodes}
 use Rattle.expr_store.specs.declared.evaluation.Evaluation.{Evaluation}
@@ -24,7 +25,7 @@ use Rattle.name_rules.specs.declared.map.NameMap.{NameMap}
 use Rattle.process_core.specs.Ready.{Name, Values, Write, Reward, Update, Ready, Sum}
 use Rattle.process_core.specs.Choices.{is_false}
 use Rattle.process_core.specs.Instance as core
-use Rattle.process_core.specs.Instance.{numbered, write_to}
+use Rattle.process_core.specs.Instance.{numbered, only_if, write_to}
 use Rattle.jani_table.specs.Operators.{jani_meaning}
 use Rattle.jani_table.specs.declared.operator.JaniOp.{JaniOp}
 use Rattle.jani_meaning.specs.Scene.{see}
@@ -32,9 +33,11 @@ use Rattle.state_choices.specs.Groups.{Group}
 use Rattle.state_choices.specs.Trimmed.{computed, trimmed_seen, trimmed_write}
 use Rattle.state_choices.specs.Views.{seen_of, command_of}
 use Rattle.instance_start.specs.Columns.{agrees, column_of, type_of, value_at}
+use Rattle.instance_start.specs.Numbered.{Numbered, by_number}
 use Rattle.instance_start.specs.declared.data.Column.{Column}
 use Rattle.instance_start.specs.declared.data.Place.{Place}
 use Rattle.jani_instance.specs.Shapes.{Lent}
+use Rattle.jani_instance.specs.declared.data.Acting.{Acting}
 use Rattle.jani_instance.specs.declared.data.Assignment.{Assignment}
 use Rattle.jani_instance.specs.declared.data.Destination.{Destination}
 use Rattle.jani_instance.specs.declared.data.Edge.{Edge}
@@ -153,19 +156,22 @@ module _ {E : Type 0} (cs : List core.Column) (look : E → Seen) (i : ℕ) wher
     updates = updates_seen (guard_as (option_map look e.guard)) e.destinations.items;
   }
 
+  abbrev pub acting_seen : Acting E → Numbered Ready
+  acting_seen a = record { number = a.action; value = edge_seen a.edge }
+
 -- ---- members: the silent edges of an element, and those of each of its actions
 pub record Member : Type 0 where
   pub silent : List Ready
   pub parts : List (List Ready)
 
 abbrev pub member_of : Evaluated → Member
-member_of m = record { silent = map command_of m.silent; parts = map (map command_of) m.parts }
+member_of m = record { silent = map command_of m.silent; parts = map (λ k. map command_of (list_for m.acting k)) (range_with_len 0 m.actions) }
 
 abbrev pub located_seen : {E : Type 0} → List core.Column → (E → Seen) → ℕ → Option (Located E) → Member
 located_seen cs look i None = record { silent = []; parts = [] }
 located_seen cs look i (Some l) = record {
   silent = map (edge_seen cs look i) l.silent.items;
-  parts = map (λ es. map (edge_seen cs look i) es.items) l.parts.items;
+  parts = by_number l.actions (map (acting_seen cs look i) l.acting.items);
 }
 
 abbrev pub member_seen : Setting → ℕ → Element → Member
@@ -196,14 +202,9 @@ abbrev pub first_else : {X : Type 0} → X → List X → X
 first_else x [] = x
 first_else x (y ∷ ys) = y
 
-abbrev pub given_values : {E : Type 0} → (E → Seen) → Option (Option E) → List (Result Value EvalFail)
-given_values look None = []
-given_values look (Some None) = []
-given_values look (Some (Some e)) = computed (look e) ∷ []
-
--- what an element gives, where it is in this location
+-- what a location of an element gives, where the element is there
 abbrev pub giver_from : {E : Type 0} → (ℕ → E → Seen) → (ℕ → ℕ) → Giver E → List (Result Value EvalFail)
-giver_from look at g = given_values (look g.element) (slice_get g.values.items (at g.element))
+giver_from look at g = only_if (nat_eq (at g.element) g.location) (computed (look g.element g.value))
 
 abbrev pub giver_values : Setting → Giver ExprId → List (Result Value EvalFail)
 giver_values k = giver_from (λ i. look_at k) (location_at k.values)

@@ -1,31 +1,29 @@
 //! What is kept of the edges of an element: the numbers of the columns, structures and locations that they name.
 ghost use Rattle.std.specs.Prelude.{◌≡◌, IfOk, map};
-ghost use Rattle.std.specs.List.{flat_map, position};
+ghost use Rattle.std.specs.List.{flat_map};
 ghost use Rattle.std.specs.Option.{option_map};
 ghost use Rattle.op_trees.specs.Tree.{tree};
 ghost use Rattle.jani_tree.specs.Syntax as syntax;
-ghost use Rattle.jani_meaning.specs.Elements.{is_global, is_own};
-ghost use Rattle.jani_instance.specs.Parts.{owned_at};
-ghost use Rattle.jani_instance.specs.Shapes.{assigned_by, assigned_of, column_in, column_of, destination_by, destination_of, edge_by, edge_of, location_in, structure_in};
+ghost use Rattle.jani_instance.specs.Shapes.{assigned_by, assigned_of, column_in, destination_by, destination_of, edge_by, edge_of, location_in, structure_in, variable_at};
 
 use crate::columns::counted;
 use crate::data::{Assignment, Destination, Edge};
-use crate::parts::{Owned, Part, is_owner, is_unowned};
+use crate::parts::Part;
 use instance_start::Place;
 use jani_tree::{JaniDestination, JaniEdge, JaniExpr, JaniWrite};
 use name_rules::NameMap;
 use std::alloc::{AllocError, Global};
 
-/// An element: its number and automaton, where its own names stand, the numbers of its locations, where global names stand, and the
-/// reward structures.
+/// An element: its automaton, where its own names stand, which of them are reward structures, the numbers of its locations, where
+/// global names stand, and which of them are reward structures.
 #[derive(Clone, Copy)]
 pub(crate) struct Site<'o, 's, 'a> {
-    pub(crate) number: usize,
     pub(crate) part: Part<'a>,
     pub(crate) own: &'o NameMap<'a, Place>,
+    pub(crate) own_structures: &'o NameMap<'a, Place>,
     pub(crate) locations: &'s NameMap<'a, usize>,
     pub(crate) places: &'s NameMap<'a, Place>,
-    pub(crate) structures: &'s [Owned<'a>],
+    pub(crate) structures: &'o NameMap<'a, Place>,
 }
 
 /// The number of a location.
@@ -40,13 +38,14 @@ fn column_in(site: &Site, name: &str) -> Option<usize>
     ensures { result ≡ column_in site.now name.now }
 {
     match site.own.get(name) {
-        Some(place) => column_of(Some(place)),
-        None => column_of(site.places.get(name)),
+        Some(place) => variable_at(Some(place)),
+        None => variable_at(site.places.get(name)),
     }
 }
 
-fn column_of(place: Option<Place>) -> Option<usize>
-    ensures { result ≡ column_of place }
+/// The number of the variable that stands at a place.
+fn variable_at(place: Option<Place>) -> Option<usize>
+    ensures { result ≡ variable_at place }
 {
     match place {
         Some(Place::Variable(k)) => Some(k),
@@ -58,46 +57,10 @@ fn column_of(place: Option<Place>) -> Option<usize>
 fn structure_in(site: &Site, name: &str) -> Option<usize>
     ensures { result ≡ structure_in site.now name.now }
 {
-    match own_structure(site.structures, site.number, name) {
-        Some(k) => Some(k),
-        None => global_structure(site.structures, name),
+    match site.own_structures.get(name) {
+        Some(place) => variable_at(Some(place)),
+        None => variable_at(site.structures.get(name)),
     }
-}
-
-fn own_structure(structures: &[Owned], i: usize, name: &str) -> Option<usize>
-    ensures { result ≡ position (is_own i name.now) (map owned_at structures.now) }
-{
-    own_position(structures, i, name)
-}
-
-fn own_position(structures: &[Owned], i: usize, name: &str) -> Option<usize>
-    ensures { result ≡ position (λ o. is_own i name.now (owned_at o)) structures.now }
-{
-    structures.iter().position(|o| is_own(*o, i, name))
-}
-
-fn is_own(o: Owned, i: usize, name: &str) -> bool
-    ensures { result ≡ is_own i name.now (owned_at o.entry) }
-{
-    is_owner(i, o.owner) && o.var.name.name.as_str() == name
-}
-
-fn global_structure(structures: &[Owned], name: &str) -> Option<usize>
-    ensures { result ≡ position (is_global name.now) (map owned_at structures.now) }
-{
-    global_position(structures, name)
-}
-
-fn global_position(structures: &[Owned], name: &str) -> Option<usize>
-    ensures { result ≡ position (λ o. is_global name.now (owned_at o)) structures.now }
-{
-    structures.iter().position(|o| is_global(*o, name))
-}
-
-fn is_global(o: Owned, name: &str) -> bool
-    ensures { result ≡ is_global name.now (owned_at o.entry) }
-{
-    is_unowned(o.owner) && o.var.name.name.as_str() == name
 }
 
 /// The assignments to columns.

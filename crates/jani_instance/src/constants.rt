@@ -9,16 +9,14 @@ ghost use Rattle.state_choices.specs.Trimmed.{computed};
 ghost use Rattle.state_choices.specs.Views.{seen_of};
 ghost use Rattle.jani_tree.specs.Syntax.{const_of, file_of};
 ghost use Rattle.jani_meaning.specs.Scene.{constant_seen};
-ghost use Rattle.instance_start.specs.Given.{given_by};
 ghost use Rattle.jani_instance.specs.Constants.{AreWithin, Tabled, constant_place, first_table, round_of};
 ghost use Rattle.jani_instance.specs.Views.{seen_in, values_by};
 
 use crate::run::{Run, value_of};
-use instance_start::{Place, equal_values, given_value, is_wide};
+use instance_start::{Place, equal_values, is_wide};
 use jani_tree::{JaniConst, JaniFile};
 use name_rules::{Declaration, NameMap, add_names, judge_circles};
 use op_trees::{EvalFail, Value};
-use process_core::Given;
 use std::alloc::{AllocError, Global};
 
 /// The values of the constants, none for one that is undefined; or none at all where something is wide. Constants stand in any
@@ -26,11 +24,11 @@ use std::alloc::{AllocError, Global};
 pub(crate) fn constant_table(
     alloc: Global,
     file: &JaniFile,
-    given: &[Given],
+    given: &NameMap<Value>,
     places: &NameMap<Place>,
 ) -> Result<Option<Vec<Option<Value>>>, AllocError>
     requires { (x : List ℕ) → under places.now x ≡ constant_place (map const_of file.now.constants) x }
-    ensures { IfOk result (λ table. Tabled (file_of file.now) (given_by given.now) (option_map (λ t. t.items) table)) }
+    ensures { IfOk result (λ table. Tabled (file_of file.now) (under given.now) (option_map (λ t. t.items) table)) }
 {
     let constants = file.constants.as_slice();
     let order = constant_order(alloc, constants)?;
@@ -82,12 +80,12 @@ fn uses_of<'a>(alloc: Global, constant: &'a JaniConst) -> Result<Vec<&'a str>, A
 fn ordered_table(
     alloc: Global,
     file: &JaniFile,
-    given: &[Given],
+    given: &NameMap<Value>,
     places: &NameMap<Place>,
     order: &[usize],
 ) -> Result<Vec<Option<Value>>, AllocError>
     requires { (x : List ℕ) → under places.now x ≡ constant_place (map const_of file.now.constants) x }
-    ensures { IfOk result (λ t. AreWithin (file_of file.now) (given_by given.now) (length file.now.constants) t.items) }
+    ensures { IfOk result (λ t. AreWithin (file_of file.now) (under given.now) (length file.now.constants) t.items) }
 {
     let constants = file.constants.as_slice();
     let mut table = first_table(alloc, constants)?;
@@ -101,13 +99,13 @@ fn ordered_table(
 /// Puts the value of one more constant into a table.
 fn take_turn(
     file: &JaniFile,
-    given: &[Given],
+    given: &NameMap<Value>,
     places: &NameMap<Place>,
     i: usize,
     table: &mut Vec<Option<Value>>,
 )
     requires { (x : List ℕ) → under places.now x ≡ constant_place (map const_of file.now.constants) x }
-    ensures { (n : ℕ) → AreWithin (file_of file.now) (given_by given.now) n table.old.items → AreWithin (file_of file.now) (given_by given.now) (n + 1) table.new.items }
+    ensures { (n : ℕ) → AreWithin (file_of file.now) (under given.now) n table.old.items → AreWithin (file_of file.now) (under given.now) (n + 1) table.new.items }
 {
     let constants = file.constants.as_slice();
     if i >= constants.len() || i >= table.len() {
@@ -119,11 +117,11 @@ fn take_turn(
 
 fn next_value(
     constant: &JaniConst,
-    given: &[Given],
+    given: &NameMap<Value>,
     places: &NameMap<Place>,
     table: &[Option<Value>],
 ) -> Option<Value>
-    ensures { result ≡ (seen_of (computed (constant_seen (given_by given.now constant.now.name.name) (known_names (values_by places.now table.now)) (option_map tree constant.now.value)))).value }
+    ensures { result ≡ (seen_of (computed (constant_seen (under given.now constant.now.name.name) (known_names (values_by places.now table.now)) (option_map tree constant.now.value)))).value }
 {
     let run = Run {
         places,
@@ -137,11 +135,11 @@ fn next_value(
 fn table_in_turns(
     alloc: Global,
     file: &JaniFile,
-    given: &[Given],
+    given: &NameMap<Value>,
     places: &NameMap<Place>,
 ) -> Result<Option<Vec<Option<Value>>>, AllocError>
     requires { (x : List ℕ) → under places.now x ≡ constant_place (map const_of file.now.constants) x }
-    ensures { IfOk result (λ table. Tabled (file_of file.now) (given_by given.now) (option_map (λ t. t.items) table)) }
+    ensures { IfOk result (λ table. Tabled (file_of file.now) (under given.now) (option_map (λ t. t.items) table)) }
 {
     let constants = file.constants.as_slice();
     let mut table = first_table(alloc, constants)?;
@@ -175,12 +173,12 @@ fn first_table(alloc: Global, constants: &[JaniConst]) -> Result<Vec<Option<Valu
 pub(crate) fn constant_values(
     alloc: Global,
     constants: &[JaniConst],
-    given: &[Given],
+    given: &NameMap<Value>,
     places: &NameMap<Place>,
     table: &[Option<Value>],
 ) -> Result<Vec<Result<Value, EvalFail>>, AllocError>
     requires { (x : List ℕ) → under places.now x ≡ constant_place (map const_of constants.now) x }
-    ensures { IfOk result (λ rs. rs.items ≡ map computed (round_of (map const_of constants.now) (given_by given.now) table.now)) }
+    ensures { IfOk result (λ rs. rs.items ≡ map computed (round_of (map const_of constants.now) (under given.now) table.now)) }
 {
     let run = Run {
         places,
@@ -192,10 +190,10 @@ pub(crate) fn constant_values(
 fn each_value(
     alloc: Global,
     constants: &[JaniConst],
-    given: &[Given],
+    given: &NameMap<Value>,
     run: &Run,
 ) -> Result<Vec<Result<Value, EvalFail>>, AllocError>
-    ensures { IfOk result (λ rs. rs.items ≡ map (λ c. computed (constant_seen (given_by given.now c.name.name) (seen_in run.now) c.value)) (map const_of constants.now)) }
+    ensures { IfOk result (λ rs. rs.items ≡ map (λ c. computed (constant_seen (under given.now c.name.name) (seen_in run.now) c.value)) (map const_of constants.now)) }
 {
     let mut all = Vec::with_capacity(alloc, constants.len())?;
     for constant in constants {
@@ -206,12 +204,16 @@ fn each_value(
 }
 
 /// What a constant comes out as: the value that is given for it, or that of its expression.
-fn constant_value(constant: &JaniConst, given: &[Given], run: &Run) -> Result<Value, EvalFail>
-    ensures { result ≡ computed (constant_seen (given_by given.now constant.now.name.name) (seen_in run.now) (option_map tree constant.now.value)) }
+fn constant_value(
+    constant: &JaniConst,
+    given: &NameMap<Value>,
+    run: &Run,
+) -> Result<Value, EvalFail>
+    ensures { result ≡ computed (constant_seen (under given.now constant.now.name.name) (seen_in run.now) (option_map tree constant.now.value)) }
 {
     match &constant.value {
         Some(e) => value_of(e, run),
-        None => held(given_value(given, constant.name.name.as_str())),
+        None => held(given.get(constant.name.name.as_str())),
     }
 }
 

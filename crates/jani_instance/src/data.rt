@@ -2,6 +2,7 @@
 
 use bridge_io::{List, Text};
 use expr_store::ExprId;
+use gathering::NumberLists;
 use instance_start::Place;
 use jani_tree::JaniExpr;
 use name_rules::NameMap;
@@ -33,11 +34,19 @@ pub struct Edge<E> {
     pub destinations: Vec<Destination<E>>,
 }
 
-/// The edges that start at a location: the silent ones, and for each action of the element those with it.
+/// An edge with an action: the number of the action among those of the element, and the edge.
+#[derive(Drop)]
+pub struct Acting<E> {
+    pub action: usize,
+    pub edge: Edge<E>,
+}
+
+/// The edges that start at a location: the silent ones, and those with an action; and how many actions the element has.
 #[derive(Drop)]
 pub struct Located<E> {
     pub silent: Vec<Edge<E>>,
-    pub parts: Vec<Vec<Edge<E>>>,
+    pub acting: Vec<Acting<E>>,
+    pub actions: usize,
 }
 
 /// An element: its locations.
@@ -67,14 +76,15 @@ pub struct Vector<'a> {
     pub links: Vec<Link>,
 }
 
-/// An element whose locations give values to a transient variable: for each location the value, if it gives one.
-#[derive(Drop)]
+/// A value that a location of an element gives to a transient variable.
+#[derive(Clone, Copy)]
 pub struct Giver<E> {
     pub element: usize,
-    pub values: Vec<Option<E>>,
+    pub location: usize,
+    pub value: E,
 }
 
-/// A transient variable: its name, its first value, and the elements that may give another.
+/// A transient variable: its name, its first value, and the locations that give another.
 #[derive(Drop)]
 pub struct Transient<'a, E> {
     pub name: &'a Text,
@@ -82,9 +92,11 @@ pub struct Transient<'a, E> {
     pub givers: Vec<Giver<E>>,
 }
 
-/// What the edges of an element at its current location come out as.
+/// What the edges of an element at its current location come out as: the silent ones, and those with each action; and how many
+/// actions the element has.
 #[derive(Drop)]
 pub struct Evaluated {
     pub silent: List<Command>,
-    pub parts: List<List<Command>>,
+    pub acting: NumberLists<Command>,
+    pub actions: usize,
 }

@@ -37,7 +37,7 @@ pub(crate) fn commands(
 }
 
 /// What an edge comes out as. Where its guard is false, its updates aren't asked for.
-fn command_of(
+pub(crate) fn command_of(
     alloc: Global,
     edge: &Edge<ExprId>,
     i: usize,

@@ -1,14 +1,17 @@
 //! What the groups of combinations come out as at a state.
-ghost use Rattle.std.specs.Prelude.{◌≡◌, ◌++◌, IfOk, List, [], map};
+ghost use Rattle.std.specs.Prelude.{◌≡◌, ◌++◌, ℕ, IfOk, map};
+ghost use Rattle.gathering.specs.Lists.{list_for};
+ghost use Rattle.instance_start.specs.Numbered.{of_number};
 ghost use Rattle.state_choices.specs.Views as choices;
-ghost use Rattle.jani_instance.specs.Views.{IsIn, columns_of, edge_seen, groups_of, located_seen, look_at, member_of, member_seen, members_seen, part_at, part_of, setting_of, silent_group};
+ghost use Rattle.jani_instance.specs.Views.{IsIn, acting_seen, columns_of, groups_of, located_seen, look_at, member_of, member_seen, members_seen, part_at, part_of, setting_of, silent_group};
 
-use crate::data::{Edge, Element, Evaluated, Link, Located, Vector};
-use crate::edges::commands;
+use crate::data::{Acting, Element, Evaluated, Link, Located, Vector};
+use crate::edges::{command_of, commands};
 use crate::run::{Here, location_at};
 use bridge_io::List;
 use expr_store::{Evaluation, ExprId};
 use frac_core::Frac;
+use gathering::NumberLists;
 use jani_table::JaniOp;
 use op_trees::EvalFail;
 use state_choices::{Command, Group};
@@ -46,7 +49,8 @@ fn member(
         Some(located) => evaluated(alloc, located, i, here, evaluation),
         None => Ok(Evaluated {
             silent: List::new(alloc),
-            parts: List::new(alloc),
+            acting: NumberLists::new(alloc),
+            actions: 0,
         }),
     }
 }
@@ -64,25 +68,30 @@ fn evaluated(
         × (member_of m ≡ located_seen (columns_of (setting_of here.now)) (look_at (setting_of here.now)) i (Some located.now))) }
 {
     let silent = commands(alloc, located.silent.as_slice(), i, here, evaluation)?;
-    let parts = parts(alloc, located.parts.as_slice(), i, here, evaluation)?;
-    Ok(Evaluated { silent, parts })
+    let acting = acting(alloc, located.acting.as_slice(), i, here, evaluation)?;
+    Ok(Evaluated {
+        silent,
+        acting,
+        actions: located.actions,
+    })
 }
 
 /// What the edges of each action come out as.
-fn parts(
+fn acting(
     alloc: Global,
-    parts: &[Vec<Edge<ExprId>>],
+    these: &[Acting<ExprId>],
     i: usize,
     here: &Here,
     evaluation: &mut Evaluation<JaniOp>,
-) -> Result<List<List<Command>>, AllocError>
+) -> Result<NumberLists<Command>, AllocError>
     requires { IsIn (setting_of here.now) evaluation.old }
     ensures { IfOk result (λ ls. IsIn (setting_of here.now) evaluation.new
-        × (map (map choices.command_of) ls ≡ map (λ es. map (edge_seen (columns_of (setting_of here.now)) (look_at (setting_of here.now)) i) es.items) parts.now)) }
+        × ((k : ℕ) → map choices.command_of (list_for ls k) ≡ of_number k (map (acting_seen (columns_of (setting_of here.now)) (look_at (setting_of here.now)) i) these.now))) }
 {
-    let mut all = List::with_capacity(alloc, parts.len())?;
-    for edges in parts {
-        all.push(commands(alloc, edges.as_slice(), i, here, evaluation)?)?;
+    let mut all = NumberLists::new(alloc);
+    for one in these {
+        let command = command_of(alloc, &one.edge, i, here, evaluation)?;
+        all.add(alloc, one.action, command)?;
     }
     Ok(all)
 }
@@ -157,8 +166,9 @@ fn part_at<'a>(members: &'a [Evaluated], link: Link) -> &'a [Command]
 fn part_of(member: &Evaluated, part: usize) -> &[Command]
     ensures { map choices.command_of result.now ≡ part_of (Some (member_of member.entry.now)) part }
 {
-    match member.parts.as_slice().get(part) {
-        Some(commands) => commands.as_slice(),
-        None => &[],
+    if part < member.actions {
+        member.acting.get(part)
+    } else {
+        &[]
     }
 }

@@ -1,24 +1,31 @@
 //! The elements: where their own names stand, and their edges by the locations that they start at and by their actions.
 ghost use Rattle.std.specs.Prelude.{◌≡◌, ◌+◌, ◌-◌, ◌++◌, ◌<◌, List, ℕ, IfOk, OnOk, length, map};
-ghost use Rattle.std.specs.List.{filter, range_with_len};
-ghost use Rattle.process_core.specs.Instance.{only_if};
+ghost use Rattle.std.specs.List.{filter, flat_map, range_with_len};
 ghost use Rattle.gathering.specs.Lists.{list_for};
 ghost use Rattle.jani_tree.specs.Syntax as syntax;
 ghost use Rattle.jani_tree.specs.Syntax.{file_of};
-ghost use Rattle.jani_instance.specs.Built.{IsNamedElementOf, own_place};
-ghost use Rattle.jani_instance.specs.Actions.{AreNamedElementsOf, AreNumbered, IsBasis, IsNumbered, acts_as, actions_of, is_silent, lent_edge, located_among, located_at, number_in, starts_at};
-ghost use Rattle.jani_instance.specs.Parts.{automaton_at, place_under};
-ghost use Rattle.jani_instance.specs.Shapes.{edge_by, edge_of, located_of};
+ghost use Rattle.jani_instance.specs.Built.{IsNamedElementOf};
+ghost use Rattle.jani_instance.specs.Actions.{AreNamedElementsOf, AreNumbered, IsBasis, IsNumbered, IsOwning, acted_by, actions_of, is_silent, lent_edge, located_among, located_at, number_in, starts_at};
+ghost use Rattle.jani_instance.specs.Parts.{automaton_at};
+ghost use Rattle.jani_instance.specs.Shapes.{acting_of, edge_by, edge_of, located_of};
 
 use crate::acting::{ActionTable, Basis, Numbers, number_of};
 use crate::build::{Site, edge, location_in};
-use crate::data::{Edge, Located, NamedElement};
-use crate::parts::{Part, Placed, by_owner, edges, locations, own_places};
+use crate::data::{Acting, Edge, Located, NamedElement};
+use crate::parts::{Part, Placed, by_owner, edges, global_places, locations, own_places};
 use gathering::NumberLists;
 use instance_start::Place;
 use jani_tree::{JaniEdge, JaniExpr};
 use name_rules::NameMap;
 use std::alloc::{AllocError, Global};
+
+/// Which columns and reward structures elements own, and which reward structures are global.
+#[derive(Drop)]
+pub(crate) struct Owning<'a> {
+    pub(crate) columns: NumberLists<Placed<'a>>,
+    pub(crate) structures: NumberLists<Placed<'a>>,
+    pub(crate) global: NameMap<'a, Place>,
+}
 
 /// The elements of a file.
 pub(crate) fn elements<'s, 'a>(
@@ -28,24 +35,39 @@ pub(crate) fn elements<'s, 'a>(
     requires { IsBasis basis.now }
     ensures { IfOk result (λ es. AreNamedElementsOf (file_of basis.now.file.now) es.items) }
 {
-    let owned = by_owner(alloc, basis.lasting, basis.parts.len())?;
-    each_element(alloc, basis, &owned)
+    let owning = owning_of(alloc, basis)?;
+    each_element(alloc, basis, &owning)
 }
 
-/// The same by the own variables of each.
+/// Which columns and reward structures elements own, and which reward structures are global.
+fn owning_of<'s, 'a>(alloc: Global, basis: &Basis<'s, 'a>) -> Result<Owning<'a>, AllocError>
+    requires { IsBasis basis.now }
+    ensures { IfOk result (IsOwning (file_of basis.now.file.now)) }
+{
+    let _count = basis.structures.len();
+    let columns = by_owner(alloc, basis.lasting, basis.parts.len())?;
+    let structures = by_owner(alloc, basis.structures, 0)?;
+    let global = global_places(alloc, basis.structures, 0)?;
+    Ok(Owning {
+        columns,
+        structures,
+        global,
+    })
+}
+
+/// The same by what each element owns.
 fn each_element<'s, 'a>(
     alloc: Global,
     basis: &Basis<'s, 'a>,
-    owned: &NumberLists<Placed<'a>>,
+    owning: &Owning<'a>,
 ) -> Result<Vec<NamedElement<'a>>, AllocError>
     requires basis { IsBasis basis.now }
-    requires owned { (i : ℕ) (x : List ℕ) → place_under x (list_for owned.now i) ≡ own_place (file_of basis.now.file.now) i x }
+    requires owning { IsOwning (file_of basis.now.file.now) owning.now }
     ensures { IfOk result (λ es. AreNamedElementsOf (file_of basis.now.file.now) es.items) }
 {
     let mut all = Vec::with_capacity(alloc, basis.parts.len())?;
     for (i, part) in basis.parts.iter().enumerate() {
-        let these = owned.get(i);
-        all.push(element(alloc, basis, i, *part, &basis.actions[i], these)?)?;
+        all.push(element(alloc, basis, i, *part, &basis.actions[i], owning)?)?;
     }
     Ok(all)
 }
@@ -57,15 +79,16 @@ fn element<'s, 'a>(
     i: usize,
     part: Part<'a>,
     numbers: &'s Numbers<'a>,
-    these: &[Placed<'a>],
+    owning: &Owning<'a>,
 ) -> Result<NamedElement<'a>, AllocError>
     requires basis { IsBasis basis.now }
     requires numbers { IsNumbered (automaton_at part) numbers.now }
-    requires own { (x : List ℕ) → place_under x these.now ≡ own_place (file_of basis.now.file.now) i x }
+    requires owning { IsOwning (file_of basis.now.file.now) owning.now }
     ensures { IfOk result (λ e. IsNamedElementOf (file_of basis.now.file.now) (actions_of (automaton_at part.entry)) i (automaton_at part.entry) e) }
 {
-    let own = own_places(alloc, these)?;
-    let site = site_of(basis, i, part, &own, numbers);
+    let own = own_places(alloc, owning.columns.get(i))?;
+    let structures = own_places(alloc, owning.structures.get(i))?;
+    let site = site_of(basis, part, &own, &structures, &owning.global, numbers);
     let locations = all_located(alloc, edges(part), &numbers.actions, site)?;
     Ok(NamedElement { own, locations })
 }
@@ -73,25 +96,26 @@ fn element<'s, 'a>(
 /// Where the edges of an element stand.
 fn site_of<'o, 's, 'a>(
     basis: &Basis<'s, 'a>,
-    number: usize,
     part: Part<'a>,
     own: &'o NameMap<'a, Place>,
+    own_structures: &'o NameMap<'a, Place>,
+    structures: &'o NameMap<'a, Place>,
     numbers: &'s Numbers<'a>,
 ) -> Site<'o, 's, 'a>
-    ensures number { result.number ≡ number }
     ensures part { result.part ≡ part.entry }
     ensures own { result.own ≡ own.entry }
+    ensures own_structures { result.own_structures ≡ own_structures.entry }
     ensures locations { result.locations.now ≡ numbers.entry.now.locations }
     ensures places { result.places ≡ basis.now.places }
-    ensures structures { result.structures ≡ basis.now.structures }
+    ensures structures { result.structures ≡ structures.entry }
 {
     Site {
-        number,
         part,
         own,
+        own_structures,
         locations: &numbers.locations,
         places: basis.places,
-        structures: basis.structures,
+        structures,
     }
 }
 
@@ -162,73 +186,50 @@ fn located<'a>(
     requires { AreNumbered (actions_of (automaton_at site.now.part)) actions.now }
     ensures { IfOk result (λ l. located_of l ≡ located_among site.now (map lent_edge these.now)) }
 {
-    let lists = by_action(alloc, these, actions)?;
-    let parts = parts(alloc, &lists, actions.count, site)?;
+    let silent = silent(alloc, these, site)?;
+    let acting = acting(alloc, these, actions, site)?;
     Ok(Located {
-        silent: silent(alloc, these, site)?,
-        parts,
+        silent,
+        acting,
+        actions: actions.count,
     })
 }
 
-/// The edges with each action.
-fn by_action<'a>(
+/// What is kept of those with an action.
+fn acting<'a>(
     alloc: Global,
     these: &[&'a JaniEdge],
     actions: &ActionTable,
-) -> Result<NumberLists<&'a JaniEdge>, AllocError>
-    ensures { IfOk result (λ b. (k : ℕ) → map lent_edge (list_for b k) ≡ filter (acts_as (number_in actions.now) k) (map lent_edge these.now)) }
+    site: &Site,
+) -> Result<Vec<Acting<&'a JaniExpr>>, AllocError>
+    ensures { IfOk result (λ es. map acting_of es.items ≡ flat_map (acted_by (number_in actions.now) site.now) (map lent_edge these.now)) }
 {
-    let mut all = NumberLists::new(alloc);
-    for edge in these {
-        add_acting(alloc, &mut all, edge, actions)?;
+    let mut all = Vec::new(alloc);
+    for e in these {
+        add_acting(alloc, &mut all, e, actions, site)?;
     }
     Ok(all)
 }
 
-/// An edge besides, if it has an action.
+/// What is kept of an edge besides, if it has an action.
 fn add_acting<'a>(
     alloc: Global,
-    all: &mut NumberLists<&'a JaniEdge>,
-    edge: &'a JaniEdge,
+    all: &mut Vec<Acting<&'a JaniExpr>>,
+    e: &'a JaniEdge,
     actions: &ActionTable,
+    site: &Site,
 ) -> Result<(), AllocError>
-    ensures { OnOk result ((k : ℕ) → list_for all.new k ≡ list_for all.old k ++ only_if (acts_as (number_in actions.now) k (syntax.edge_of edge.entry.now)) edge.entry) }
+    ensures { OnOk result (map acting_of all.new.items ≡ map acting_of all.old.items ++ acted_by (number_in actions.now) site.now (syntax.edge_of e.entry.now)) }
 {
-    match &edge.action {
-        Some(name) => all.add(alloc, number_of(actions, name.name.as_str()), edge),
+    match &e.action {
+        Some(name) => {
+            let action = number_of(actions, name.name.as_str());
+            let edge = edge(alloc, e, site)?;
+            all.push(Acting { action, edge })?;
+            Ok(())
+        }
         None => Ok(()),
     }
-}
-
-/// What is kept of the edges with each action.
-fn parts<'a>(
-    alloc: Global,
-    lists: &NumberLists<&'a JaniEdge>,
-    count: usize,
-    site: &Site,
-) -> Result<Vec<Vec<Edge<&'a JaniExpr>>>, AllocError>
-    ensures { IfOk result (λ ps. map (λ es. map edge_of es.items) ps.items ≡ map (λ k. map (edge_by site.now) (map lent_edge (list_for lists.now k))) (range_with_len 0 count)) }
-{
-    let mut all = Vec::with_capacity(alloc, count)?;
-    for k in 0..count {
-        all.push(kept(alloc, lists.get(k), site)?)?;
-    }
-    Ok(all)
-}
-
-/// What is kept of edges.
-fn kept<'a>(
-    alloc: Global,
-    these: &[&'a JaniEdge],
-    site: &Site,
-) -> Result<Vec<Edge<&'a JaniExpr>>, AllocError>
-    ensures { IfOk result (λ es. map edge_of es.items ≡ map (edge_by site.now) (map lent_edge these.now)) }
-{
-    let mut all = Vec::with_capacity(alloc, these.len())?;
-    for e in these {
-        all.push(edge(alloc, e, site)?)?;
-    }
-    Ok(all)
 }
 
 /// What is kept of those without action.

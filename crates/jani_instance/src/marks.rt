@@ -85,12 +85,13 @@ fn transient_value(
     transient.start
 }
 
-/// What the current location of an element gives to a transient variable.
+/// What a location of an element gives to a transient variable, if that is the current one.
 fn given_here(giver: &Giver<ExprId>, here: &Here) -> Option<ExprId>
     ensures { map (λ id. computed (look_at (setting_of here.now) id)) (if_some result) ≡ giver_values (setting_of here.now) giver.now }
 {
-    match giver.values.get(location_at(here.values, giver.element)) {
-        Some(id) => *id,
-        None => None,
+    if location_at(here.values, giver.element) == giver.location {
+        Some(giver.value)
+    } else {
+        None
     }
 }

@@ -6,7 +6,7 @@ ghost use Rattle.name_rules.specs.Names.{under};
 ghost use Rattle.gathering.specs.Lists.{list_for};
 ghost use Rattle.process_core.specs.Instance.{numbered};
 ghost use Rattle.jani_tree.specs.Syntax.{automaton_of, const_of, edge_of, file_of, location_of, var_of};
-ghost use Rattle.jani_meaning.specs.Elements.{elements, is_global, is_label, is_lasting, is_own, is_owner, is_structure, owned_by};
+ghost use Rattle.jani_meaning.specs.Elements.{elements, is_global, is_label, is_lasting, is_own, is_structure, owned_by};
 ghost use Rattle.instance_start.specs.declared.data.Place.TheVariants.{Variable};
 ghost use Rattle.jani_instance.specs.Constants.{constant_place};
 ghost use Rattle.jani_instance.specs.Parts.{automaton_among, automaton_at, owned_at, place_under};
@@ -180,17 +180,17 @@ pub(crate) struct Placed<'a> {
     pub(crate) place: Place,
 }
 
-/// The own variables of each element: which columns they are.
+/// The own ones of these variables for each element. They are counted from a number on.
 pub(crate) fn by_owner<'a>(
     alloc: Global,
-    lasting: &[Owned<'a>],
+    vars: &[Owned<'a>],
     first: usize,
 ) -> Result<NumberLists<Placed<'a>>, AllocError>
-    requires { first + length lasting.now < 2 ^ 64 }
-    ensures { IfOk result (λ b. (i : ℕ) (x : List ℕ) → place_under x (list_for b i) ≡ option_map (λ k. Variable (first + k)) (position (is_own i x) (map owned_at lasting.now))) }
+    requires { first + length vars.now < 2 ^ 64 }
+    ensures { IfOk result (λ b. (i : ℕ) (x : List ℕ) → place_under x (list_for b i) ≡ option_map (λ k. Variable (first + k)) (position (is_own i x) (map owned_at vars.now))) }
 {
     let mut all = NumberLists::new(alloc);
-    for (k, o) in lasting.iter().enumerate() {
+    for (k, o) in vars.iter().enumerate() {
         add_own(alloc, &mut all, *o, Place::Variable(first + k))?;
     }
     Ok(all)
@@ -216,7 +216,7 @@ fn add_own<'a>(
     }
 }
 
-/// The element's own variables by their names.
+/// An element's own variables by their names.
 pub(crate) fn own_places<'a>(
     alloc: Global,
     these: &[Placed<'a>],
@@ -237,26 +237,17 @@ fn put_own<'a>(places: &mut NameMap<'a, Place>, one: &Placed<'a>) -> Result<(), 
     Ok(())
 }
 
-pub(crate) fn is_owner(i: usize, owner: Option<usize>) -> bool
-    ensures { result ≡ is_owner i owner }
-{
-    match owner {
-        Some(k) => i == k,
-        None => false,
-    }
-}
-
-/// The global variables: which columns they are.
+/// The global ones of these variables. They are counted from a number on.
 pub(crate) fn global_places<'a>(
     alloc: Global,
-    lasting: &[Owned<'a>],
+    vars: &[Owned<'a>],
     first: usize,
 ) -> Result<NameMap<'a, Place>, AllocError>
-    requires { first + length lasting.now < 2 ^ 64 }
-    ensures { IfOk result (λ m. (x : List ℕ) → under m x ≡ option_map (λ k. Variable (first + k)) (position (is_global x) (map owned_at lasting.now))) }
+    requires { first + length vars.now < 2 ^ 64 }
+    ensures { IfOk result (λ m. (x : List ℕ) → under m x ≡ option_map (λ k. Variable (first + k)) (position (is_global x) (map owned_at vars.now))) }
 {
     let mut places = NameMap::new(alloc);
-    for (k, o) in lasting.iter().enumerate() {
+    for (k, o) in vars.iter().enumerate() {
         if is_unowned(o.owner) {
             places.put_first(o.var.name.name.as_str(), Place::Variable(first + k))?;
         }
@@ -264,7 +255,7 @@ pub(crate) fn global_places<'a>(
     Ok(places)
 }
 
-pub(crate) fn is_unowned(owner: Option<usize>) -> bool
+fn is_unowned(owner: Option<usize>) -> bool
     ensures { result ≡ is_none owner }
 {
     match owner {

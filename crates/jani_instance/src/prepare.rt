@@ -3,10 +3,10 @@ ghost use Rattle.std.specs.Prelude.{◌≡◌, IfOk, map};
 ghost use Rattle.std.specs.Option.{option_map};
 ghost use Rattle.expr_store.specs.Views.{nodes};
 ghost use Rattle.jani_instance.specs.Prepared.{IsPrepared, places_at, places_in, places_of, see_from};
-ghost use Rattle.jani_instance.specs.Shapes.{assigned_as, destination_as, edge_as, giver_as, located_as, transient_as};
+ghost use Rattle.jani_instance.specs.Shapes.{acting_as, assigned_as, destination_as, edge_as, giver_as, located_as, transient_as};
 
 use crate::data::{
-    Assignment, Destination, Edge, Element, Giver, Located, NamedElement, Transient,
+    Acting, Assignment, Destination, Edge, Element, Giver, Located, NamedElement, Transient,
 };
 use expr_store::{ExprId, ExprStore, Scope};
 use instance_start::Place;
@@ -137,18 +137,22 @@ fn edges(
 
 // ---- elements
 
-/// The edges with each action.
-fn parts(
+/// The edges with an action.
+fn acting(
     alloc: Global,
-    these: &[Vec<Edge<&JaniExpr>>],
+    these: &[Acting<&JaniExpr>],
     scope: &Inside,
     store: &mut ExprStore<JaniOp>,
-) -> Result<Vec<Vec<Edge<ExprId>>>, AllocError>
-    ensures { IfOk result (λ ps. IsPrepared (nodes store.old) (nodes store.new) (λ look. map (λ es. map (edge_as look) es.items) ps.items) (λ at. map (λ es. map (edge_as (see_from (places_in scope.now) at)) es.items) these.now)) }
+) -> Result<Vec<Acting<ExprId>>, AllocError>
+    ensures { IfOk result (λ ps. IsPrepared (nodes store.old) (nodes store.new) (λ look. map (acting_as look) ps.items) (λ at. map (acting_as (see_from (places_in scope.now) at)) these.now)) }
 {
     let mut all = Vec::with_capacity(alloc, these.len())?;
     for one in these {
-        all.push(edges(alloc, one.as_slice(), scope, store)?)?;
+        let edge = edge(alloc, &one.edge, scope, store)?;
+        all.push(Acting {
+            action: one.action,
+            edge,
+        })?;
     }
     Ok(all)
 }
@@ -162,8 +166,12 @@ fn located(
     ensures { IfOk result (λ p. IsPrepared (nodes store.old) (nodes store.new) (λ look. located_as look p) (λ at. located_as (see_from (places_in scope.now) at) one.now)) }
 {
     let silent = edges(alloc, one.silent.as_slice(), scope, store)?;
-    let parts = parts(alloc, one.parts.as_slice(), scope, store)?;
-    Ok(Located { silent, parts })
+    let acting = acting(alloc, one.acting.as_slice(), scope, store)?;
+    Ok(Located {
+        silent,
+        acting,
+        actions: one.actions,
+    })
 }
 
 fn locations(
@@ -205,23 +213,6 @@ pub(crate) fn elements<'a>(
 
 // ---- transient variables
 
-/// What each location gives.
-fn values(
-    alloc: Global,
-    these: &[Option<&JaniExpr>],
-    scope: &Inside,
-    store: &mut ExprStore<JaniOp>,
-) -> Result<Vec<Option<ExprId>>, AllocError>
-    ensures { IfOk result (λ ps. IsPrepared (nodes store.old) (nodes store.new) (λ look. map (option_map look) ps.items) (λ at. map (option_map (see_from (places_in scope.now) at)) these.now)) }
-{
-    let mut all = Vec::with_capacity(alloc, these.len())?;
-    for one in these {
-        let value: Option<ExprId> = expression(*one, scope, store)?;
-        all.push(value)?;
-    }
-    Ok(all)
-}
-
 /// Where names stand in the element of this number; where there is none, the global ones alone.
 fn scope_at<'s, 'a>(
     elements: &'s [NamedElement<'a>],
@@ -243,7 +234,6 @@ fn scope_at<'s, 'a>(
 }
 
 fn giver<'a>(
-    alloc: Global,
     one: &Giver<&JaniExpr>,
     elements: &[NamedElement<'a>],
     places: &NameMap<'a, Place>,
@@ -252,10 +242,11 @@ fn giver<'a>(
     ensures { IfOk result (λ p. IsPrepared (nodes store.old) (nodes store.new) (λ look. giver_as (λ i. look) p) (λ at. giver_as (λ i. see_from (places_at elements.now places.now i) at) one.now)) }
 {
     let scope = scope_at(elements, places, one.element);
-    let values = values(alloc, one.values.as_slice(), &scope, store)?;
+    let value = store.put(one.value, &scope)?;
     Ok(Giver {
         element: one.element,
-        values,
+        location: one.location,
+        value,
     })
 }
 
@@ -270,7 +261,7 @@ fn givers<'a>(
 {
     let mut all = Vec::with_capacity(alloc, these.len())?;
     for one in these {
-        all.push(giver(alloc, one, elements, places, store)?)?;
+        all.push(giver(one, elements, places, store)?)?;
     }
     Ok(all)
 }

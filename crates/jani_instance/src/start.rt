@@ -34,7 +34,7 @@ use crate::run::Run;
 use crate::transients::transients;
 use crate::vectors::vectors;
 use expr_store::{ExprId, ExprStore};
-use instance_start::{Column, Constant, Place, columns, misfit};
+use instance_start::{Column, Constant, Place, columns, given_values, misfit};
 use jani_check::CheckedJani;
 use jani_table::JaniOp;
 use jani_tree::{JaniConst, JaniExpr, JaniFile};
@@ -57,9 +57,12 @@ pub fn start_jani<'a>(
         Ok(opens) => opens,
         Err(e) => return Err(StartFail::Memory(e)),
     };
-    match misfit(opens.as_slice(), given) {
-        Some(i) => Err(StartFail::Word(i)),
-        None => start_fitting(alloc, checked, given, opens.as_slice()),
+    match misfit(alloc, opens.as_slice(), given) {
+        Err(e) => Err(StartFail::Memory(e)),
+        Ok(first) => match first {
+            Some(i) => Err(StartFail::Word(i)),
+            None => start_fitting(alloc, checked, given, opens.as_slice()),
+        },
     }
 }
 
@@ -235,6 +238,24 @@ fn what_is_known<'a>(
     requires listed { IsListed (file_of file.now) listed.now }
     ensures { MatchResult result (IsKnown (file_of file.now) (given_by given.now)) (FailsIn (map opened (file_of file.now).constants) (scene (file_of file.now) (given_by given.now))) }
 {
+    match given_values(alloc, given) {
+        Err(e) => Err(StartFail::Memory(e)),
+        Ok(values) => known_under(alloc, file, &values, opens, listed),
+    }
+}
+
+/// The same under the values that are given for names.
+fn known_under<'a>(
+    alloc: Global,
+    file: &'a JaniFile,
+    given: &NameMap<Value>,
+    opens: &[Constant<'a>],
+    listed: &Listed<'a>,
+) -> Result<Known<'a>, StartFail>
+    requires opens { map constant_of opens.now ≡ map opened (file_of file.now).constants }
+    requires listed { IsListed (file_of file.now) listed.now }
+    ensures { MatchResult result (IsKnown (file_of file.now) (under given.now)) (FailsIn (map opened (file_of file.now).constants) (scene (file_of file.now) (under given.now))) }
+{
     let table = known_constants(alloc, file, given, &listed.constants)?;
     let columns = known_columns(alloc, file, given, opens, listed, table.as_slice())?;
     let _count = columns.as_slice().len();
@@ -252,11 +273,11 @@ fn what_is_known<'a>(
 fn known_constants(
     alloc: Global,
     file: &JaniFile,
-    given: &[Given],
+    given: &NameMap<Value>,
     places: &NameMap<Place>,
 ) -> Result<Vec<Option<Value>>, StartFail>
     requires { (x : List ℕ) → under places.now x ≡ constant_place (map const_of file.now.constants) x }
-    ensures { MatchResult result (λ t. Tabled (file_of file.now) (given_by given.now) (Some t.items)) (HasWideConstant (file_of file.now) (given_by given.now)) }
+    ensures { MatchResult result (λ t. Tabled (file_of file.now) (under given.now) (Some t.items)) (HasWideConstant (file_of file.now) (under given.now)) }
 {
     match constant_table(alloc, file, given, places) {
         Err(e) => Err(StartFail::Memory(e)),
@@ -271,16 +292,16 @@ fn known_constants(
 fn known_columns<'a>(
     alloc: Global,
     file: &'a JaniFile,
-    given: &[Given],
+    given: &NameMap<Value>,
     opens: &[Constant<'a>],
     listed: &Listed<'a>,
     table: &[Option<Value>],
 ) -> Result<Vec<Column<'a>>, StartFail>
     requires opens { map constant_of opens.now ≡ map opened (file_of file.now).constants }
     requires listed { IsListed (file_of file.now) listed.now }
-    requires constants { Tabled (file_of file.now) (given_by given.now) (Some table.now) }
-    ensures { MatchResult result (λ cs. AreColumns (scene (file_of file.now) (given_by given.now)) (map column_of cs.items))
-        (FailsIn (map opened (file_of file.now).constants) (scene (file_of file.now) (given_by given.now))) }
+    requires constants { Tabled (file_of file.now) (under given.now) (Some table.now) }
+    ensures { MatchResult result (λ cs. AreColumns (scene (file_of file.now) (under given.now)) (map column_of cs.items))
+        (FailsIn (map opened (file_of file.now).constants) (scene (file_of file.now) (under given.now))) }
 {
     let values = match constant_values(
         alloc,

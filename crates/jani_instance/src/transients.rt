@@ -1,13 +1,11 @@
 //! The labels and the reward structures, with what locations give to them.
-ghost use Rattle.std.specs.Prelude.{◌≡◌, ◌++◌, List, ℕ, IfOk, OnOk, map};
-ghost use Rattle.std.specs.List.{find};
-ghost use Rattle.std.specs.Option.{option_map};
-ghost use Rattle.op_trees.specs.Tree.{tree};
+ghost use Rattle.std.specs.Prelude.{◌≡◌, ◌++◌, List as ListOf, ℕ, IfOk, OnOk, map};
+ghost use Rattle.std.specs.List.{flat_map};
+ghost use Rattle.gathering.specs.Lists.{list_under};
 ghost use Rattle.process_core.specs.Instance.{numbered};
 ghost use Rattle.jani_tree.specs.Syntax.{location_of, write_of};
-ghost use Rattle.op_trees.specs.Names.{is_called};
 ghost use Rattle.jani_instance.specs.Parts.{automaton_at, owned_at};
-ghost use Rattle.jani_instance.specs.Transients.{given_by_location, giver_by, takes_from, transient_by};
+ghost use Rattle.jani_instance.specs.Transients.{AreGifts, gift_by, gifts_at, gifts_by, given_to, own_list, transient_by};
 ghost use Rattle.jani_instance.specs.Shapes.{giver_at, transient_at};
 ghost use Rattle.jani_instance.specs.Views.{seen_in};
 
@@ -15,8 +13,16 @@ use crate::columns::start_of;
 use crate::data::{Giver, Transient};
 use crate::parts::{Owned, Part, locations};
 use crate::run::Run;
+use gathering::NameLists;
 use jani_tree::{JaniExpr, JaniLocation, JaniWrite};
 use std::alloc::{AllocError, Global};
+
+/// What locations give, under the names that they give it to: those of all elements, and those of each.
+#[derive(Drop)]
+pub(crate) struct Gifts<'a> {
+    pub(crate) all: NameLists<'a, Giver<&'a JaniExpr>>,
+    pub(crate) own: Vec<NameLists<'a, Giver<&'a JaniExpr>>>,
+}
 
 /// The labels, then the reward structures.
 pub(crate) fn transients<'a>(
@@ -30,9 +36,10 @@ pub(crate) fn transients<'a>(
         ≡ map (transient_by (map automaton_at parts.now) (seen_in run.now)) (map owned_at labels.now)
         ++ map (transient_by (map automaton_at parts.now) (seen_in run.now)) (map owned_at structures.now)) }
 {
+    let gifts = gathered(alloc, parts)?;
     let mut all = Vec::new(alloc);
-    add_transients(alloc, &mut all, parts, labels, run)?;
-    add_transients(alloc, &mut all, parts, structures, run)?;
+    add_transients(alloc, &mut all, parts, &gifts, labels, run)?;
+    add_transients(alloc, &mut all, parts, &gifts, structures, run)?;
     Ok(all)
 }
 
@@ -40,14 +47,16 @@ fn add_transients<'a>(
     alloc: Global,
     all: &mut Vec<Transient<'a, &'a JaniExpr>>,
     parts: &[Part<'a>],
+    gifts: &Gifts<'a>,
     vars: &[Owned<'a>],
     run: &Run,
 ) -> Result<(), AllocError>
+    requires { AreGifts (map automaton_at parts.now) gifts.now }
     ensures { OnOk result (map transient_at all.new.items
         ≡ map transient_at all.old.items ++ map (transient_by (map automaton_at parts.now) (seen_in run.now)) (map owned_at vars.now)) }
 {
     for o in vars {
-        all.push(transient(alloc, *o, parts, run)?)?;
+        all.push(transient(alloc, *o, parts, gifts, run)?)?;
     }
     Ok(())
 }
@@ -57,11 +66,14 @@ fn transient<'a>(
     alloc: Global,
     o: Owned<'a>,
     parts: &[Part<'a>],
+    gifts: &Gifts<'a>,
     run: &Run,
 ) -> Result<Transient<'a, &'a JaniExpr>, AllocError>
+    requires { AreGifts (map automaton_at parts.now) gifts.now }
     ensures { IfOk result (λ t. transient_at t ≡ transient_by (map automaton_at parts.now) (seen_in run.now) (owned_at o.entry)) }
 {
-    let givers = givers(alloc, parts, o)?;
+    let _count = parts.len();
+    let givers = given_to(alloc, gifts, o)?;
     Ok(Transient {
         name: &o.var.name.name,
         start: start_of(&o.var.start, run),
@@ -69,71 +81,145 @@ fn transient<'a>(
     })
 }
 
-/// The elements that may give it a value.
-fn givers<'a>(
+/// What is given to a variable: a global one gets it of all elements, another one of its owner.
+fn given_to<'a>(
     alloc: Global,
-    parts: &[Part<'a>],
+    gifts: &Gifts<'a>,
     o: Owned<'a>,
 ) -> Result<Vec<Giver<&'a JaniExpr>>, AllocError>
-    ensures { IfOk result (λ gs. map giver_at gs.items ≡ numbered (giver_by (owned_at o.entry).owner (owned_at o.entry).var.name.name) 0 (map automaton_at parts.now)) }
+    ensures { IfOk result (λ gs. gs.items ≡ given_to gifts.now o.entry.owner o.entry.var.now.name.name) }
 {
-    let mut all = Vec::new(alloc);
-    for (i, part) in parts.iter().enumerate() {
-        push_giver(alloc, &mut all, o.owner, o.var.name.name.as_str(), i, *part)?;
+    let name = o.var.name.name.as_str();
+    match o.owner {
+        None => copied(alloc, gifts.all.get(name)),
+        Some(k) => given_by(alloc, gifts.own.as_slice(), k, name),
+    }
+}
+
+/// What an element gives to a name.
+fn given_by<'a>(
+    alloc: Global,
+    own: &[NameLists<'a, Giver<&'a JaniExpr>>],
+    k: usize,
+    name: &str,
+) -> Result<Vec<Giver<&'a JaniExpr>>, AllocError>
+    ensures { IfOk result (λ gs. gs.items ≡ own_list own.now k name.now) }
+{
+    match own.get(k) {
+        Some(lists) => copied(alloc, lists.get(name)),
+        None => Ok(Vec::new(alloc)),
+    }
+}
+
+fn copied<'a>(
+    alloc: Global,
+    these: &[Giver<&'a JaniExpr>],
+) -> Result<Vec<Giver<&'a JaniExpr>>, AllocError>
+    ensures { IfOk result (λ gs. gs.items ≡ these.now) }
+{
+    let mut all = Vec::with_capacity(alloc, these.len())?;
+    for one in these {
+        all.push(*one)?;
     }
     Ok(all)
 }
 
-fn push_giver<'a>(
-    alloc: Global,
-    all: &mut Vec<Giver<&'a JaniExpr>>,
-    owner: Option<usize>,
-    name: &str,
-    i: usize,
-    part: Part<'a>,
-) -> Result<(), AllocError>
-    ensures { OnOk result (map giver_at all.new.items ≡ map giver_at all.old.items ++ giver_by owner name.now i (automaton_at part.entry)) }
+// ---- what locations give
+
+fn gathered<'a>(alloc: Global, parts: &[Part<'a>]) -> Result<Gifts<'a>, AllocError>
+    ensures { IfOk result (AreGifts (map automaton_at parts.now)) }
 {
-    if takes_from(i, owner) {
-        let values = given_values(alloc, locations(part), name)?;
-        all.push(Giver { element: i, values })?;
+    let own = gifts_of_each(alloc, parts)?;
+    let all = gifts_of_all(alloc, parts)?;
+    Ok(Gifts { all, own })
+}
+
+/// What the locations of all elements give.
+fn gifts_of_all<'a>(
+    alloc: Global,
+    parts: &[Part<'a>],
+) -> Result<NameLists<'a, Giver<&'a JaniExpr>>, AllocError>
+    ensures { IfOk result (λ t. (x : ListOf ℕ) → map giver_at (list_under t x) ≡ numbered (gifts_by x) 0 (map automaton_at parts.now)) }
+{
+    let mut all = NameLists::new(alloc);
+    for (i, part) in parts.iter().enumerate() {
+        add_element(alloc, i, locations(*part), &mut all)?;
+    }
+    Ok(all)
+}
+
+/// What the locations of each element give.
+fn gifts_of_each<'a>(
+    alloc: Global,
+    parts: &[Part<'a>],
+) -> Result<Vec<NameLists<'a, Giver<&'a JaniExpr>>>, AllocError>
+    ensures { IfOk result (λ ts. (k : ℕ) (x : ListOf ℕ) → map giver_at (own_list ts.items k x) ≡ gifts_at k x (map automaton_at parts.now)) }
+{
+    let mut all = Vec::with_capacity(alloc, parts.len())?;
+    for (i, part) in parts.iter().enumerate() {
+        all.push(gifts_of_one(alloc, i, locations(*part))?)?;
+    }
+    Ok(all)
+}
+
+fn gifts_of_one<'a>(
+    alloc: Global,
+    i: usize,
+    locations: &'a [JaniLocation],
+) -> Result<NameLists<'a, Giver<&'a JaniExpr>>, AllocError>
+    ensures { IfOk result (λ t. (x : ListOf ℕ) → map giver_at (list_under t x) ≡ numbered (λ n l. flat_map (gift_by x i n) l.values) 0 (map location_of locations.now)) }
+{
+    let mut all = NameLists::new(alloc);
+    add_element(alloc, i, locations, &mut all)?;
+    Ok(all)
+}
+
+/// What the locations of an element give besides.
+fn add_element<'a>(
+    alloc: Global,
+    i: usize,
+    locations: &'a [JaniLocation],
+    all: &mut NameLists<'a, Giver<&'a JaniExpr>>,
+) -> Result<(), AllocError>
+    ensures { OnOk result ((x : ListOf ℕ) → map giver_at (list_under all.new x)
+        ≡ map giver_at (list_under all.old x) ++ numbered (λ n l. flat_map (gift_by x i n) l.values) 0 (map location_of locations.now)) }
+{
+    for (n, location) in locations.iter().enumerate() {
+        add_location(alloc, i, n, location.values.as_slice(), all)?;
     }
     Ok(())
 }
 
-/// Whether a variable of this owner may get a value of the element.
-fn takes_from(i: usize, owner: Option<usize>) -> bool
-    ensures { result ≡ takes_from i owner }
-{
-    match owner {
-        Some(k) => i == k,
-        None => true,
-    }
-}
-
-/// What each location gives to the variable of this name.
-fn given_values<'a>(
+/// What a location gives besides.
+fn add_location<'a>(
     alloc: Global,
-    locations: &'a [JaniLocation],
-    name: &str,
-) -> Result<Vec<Option<&'a JaniExpr>>, AllocError>
-    ensures { IfOk result (λ vs. map (option_map (λ e. tree e.now)) vs.items ≡ map (given_by_location name.now) (map location_of locations.entry.now)) }
-{
-    let mut all = Vec::with_capacity(alloc, locations.len())?;
-    for location in locations {
-        all.push(given_value(location.values.as_slice(), name))?;
-    }
-    Ok(all)
-}
-
-/// The first value that is given to the variable of this name.
-fn given_value<'a>(values: &'a [JaniWrite], name: &str) -> Option<&'a JaniExpr>
-    ensures { option_map (λ e. tree e.now) result ≡ option_map (λ w. w.value) (find (λ w. is_called name.now w.target) (map write_of values.entry.now)) }
+    i: usize,
+    n: usize,
+    values: &'a [JaniWrite],
+    all: &mut NameLists<'a, Giver<&'a JaniExpr>>,
+) -> Result<(), AllocError>
+    ensures { OnOk result ((x : ListOf ℕ) → map giver_at (list_under all.new x)
+        ≡ map giver_at (list_under all.old x) ++ flat_map (gift_by x i n) (map write_of values.now)) }
 {
     for value in values {
-        if value.target.name.as_str() == name {
-            return Some(&value.value);
-        }
+        add_value(alloc, i, n, value, all)?;
     }
-    None
+    Ok(())
+}
+
+fn add_value<'a>(
+    alloc: Global,
+    i: usize,
+    n: usize,
+    write: &'a JaniWrite,
+    all: &mut NameLists<'a, Giver<&'a JaniExpr>>,
+) -> Result<(), AllocError>
+    ensures { OnOk result ((x : ListOf ℕ) → map giver_at (list_under all.new x) ≡ map giver_at (list_under all.old x) ++ gift_by x i n (write_of write.now)) }
+{
+    let one = Giver {
+        element: i,
+        location: n,
+        value: &write.value,
+    };
+    all.add(alloc, write.target.name.as_str(), one)
 }

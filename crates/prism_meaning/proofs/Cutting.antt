@@ -1,7 +1,7 @@
 -- Lists that stand one behind the other, cut into them again.
-use Rattle.std.proofs.Common.{◌≡◌, ℕ, zero, suc, ◌<◌, ◌+◌, List, [], ◌∷◌, ◌++◌, map, take, drop, length, get_or, refl, sym, ap, ap₂, ◌∙◌, append_assoc}
+use Rattle.std.proofs.Common.{◌≡◌, ℕ, zero, suc, ◌<◌, ◌+◌, List, [], ◌∷◌, ◌++◌, map, take, drop, length, get_or, Bool, true, false, ◌||◌, refl, sym, ap, ap₂, ◌∙◌, append_assoc}
 use Rattle.std.specs.Borrow.{Bor}
-use Rattle.std.specs.List.{flat_map}
+use Rattle.std.specs.List.{flat_map, list_any}
 use Rattle.std.proofs.Math.Seq.{take-append_seam, drop-append_seam}
 use Rattle.std.proofs.lemmas.List.{drop-map, map-append}
 use Rattle.basics.specs.Lists.{drop_item}
@@ -32,3 +32,24 @@ cut_more {C = C} size view xs i x old new these rest later whole h is pushed fir
     ∙ append_assoc (map shown old) (take (size x) (map view rest) ∷ []) (cut (map size (drop (i + 1) xs)) (drop (size x) (map view rest)))
     ∙ ap (λ l. map shown old ++ cut (map size l) (map view rest)) (sym (drop_item xs i x h is))
     ∙ so_far
+
+-- ---- whether some part passes a test
+module _ {A C X : Type 0} (size : A → ℕ) (view : C → X) (p : List X → Bool) (xs : List A) where
+  part_next : (i : ℕ) (x : A) (these left behind : List C) (b whole : Bool) → i < length xs → x ≡ get_or xs i x → these ≡ take (size x) left → behind ≡ drop (size x) left →
+      p (map view these) ≡ b → list_any p (cut (map size (drop i xs)) (map view left)) ≡ whole → (b || list_any p (cut (map size (drop (i + 1) xs)) (map view behind))) ≡ whole
+  part_next i x these left behind b whole h is first next test so_far =
+      ap₂ (λ a l. a || list_any p (cut (map size (drop (i + 1) xs)) l))
+      (sym test ∙ ap p (ap (map view) first ∙ sym (take-map view (size x) left)))
+      (ap (map view) next ∙ sym (drop-map view (size x) left))
+      ∙ ap (λ l. list_any p (cut (map size l) (map view left))) (sym (drop_item xs i x h is))
+      ∙ so_far
+
+  -- this one doesn't
+  pub part_fails : (i : ℕ) (x : A) (these left behind : List C) (whole : Bool) → i < length xs → x ≡ get_or xs i x → these ≡ take (size x) left → behind ≡ drop (size x) left →
+      p (map view these) ≡ false → list_any p (cut (map size (drop i xs)) (map view left)) ≡ whole → list_any p (cut (map size (drop (i + 1) xs)) (map view behind)) ≡ whole
+  part_fails i x these left behind whole h is first next test so_far = part_next i x these left behind false whole h is first next test so_far
+
+  -- this one does
+  pub part_passes : (i : ℕ) (x : A) (these left behind : List C) (whole : Bool) → i < length xs → x ≡ get_or xs i x → these ≡ take (size x) left → behind ≡ drop (size x) left →
+      p (map view these) ≡ true → list_any p (cut (map size (drop i xs)) (map view left)) ≡ whole → true ≡ whole
+  part_passes i x these left behind whole h is first next test so_far = part_next i x these left behind true whole h is first next test so_far

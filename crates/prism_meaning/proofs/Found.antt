@@ -1,5 +1,5 @@
 -- What an answer tells of what is seen.
-use Rattle.std.proofs.Common.{◌≡◌, [], false, None, Result, if◌then◌else◌, sym, ap, ◌∙◌}
+use Rattle.std.proofs.Common.{◌≡◌, false, None, Result, if◌then◌else◌, sym, ap, ◌∙◌}
 use Rattle.op_trees.specs.Seen.{Seen}
 use Rattle.op_trees.specs.declared.tree.Value.{Value}
 use Rattle.op_trees.specs.declared.tree.EvalFail.{EvalFail}

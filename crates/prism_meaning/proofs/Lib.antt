@@ -1,8 +1,10 @@
 pub mod Values
 pub mod Preparing
 pub mod Evaluating
+pub mod Earned
 pub mod Cutting
 pub mod Trimming
+pub mod Sparing
 pub mod Grouped
 pub mod Found
 pub mod Whole

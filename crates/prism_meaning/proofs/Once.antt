@@ -4,7 +4,9 @@ use Rattle.std.specs.Prelude.{if◌then◌else◌}
 use Rattle.std.specs.List.{filter, list_any}
 use Rattle.std.proofs.lemmas.List.{map-append}
 use Rattle.std.proofs.lemmas.List.Elements.{filter-append}
-use Rattle.gathering.proofs.Loops.{taken}
+use Rattle.gathering.proofs.Lists.{mapped_if}
+use Rattle.gathering.proofs.Loops.{kept_more, taken}
+use Rattle.process_core.specs.Instance.{only_if}
 use Rattle.prism_meaning.specs.Shapes.{unless_empty}
 
 -- behind what was there before, one image more
@@ -17,6 +19,15 @@ after_more view f s xs i x before old new y h e so_far pushed here =
     ∙ append_assoc before (map f (map s (take i xs))) (f (s x) ∷ [])
     ∙ ap (λ l. before ++ l)
     (sym (map-append f (map s (take i xs)) (s x ∷ [])) ∙ ap (map f) (sym (map-append s (take i xs) (x ∷ [])) ∙ ap (map s) (sym (taken xs i x h e))))
+
+-- and one member more of those that pass, where what is gathered is seen as something
+pub kept_after : {A B Y : Type 0} (view : Y → B) (p : B → Bool) (s : A → B) (before : List B) (xs : List A) (i : ℕ) (x : A) (y : Y) (w : Bool) (old new : List Y) → i < length xs → x ≡ get_or xs i x →
+    map view old ≡ before ++ filter p (map s (take i xs)) → view y ≡ s x → w ≡ p (s x) → new ≡ old ++ only_if w y → map view new ≡ before ++ filter p (map s (take (i + 1) xs))
+kept_after {B = B} view p s before xs i x y w old new h e so_far here test pushed =
+    mapped_if view w y old new pushed
+    ∙ ap₂ (λ (l m : List B). l ++ m) so_far (ap₂ (λ (b : Bool) (z : B). only_if b z) test here)
+    ∙ append_assoc before (filter p (map s (take i xs))) (only_if (p (s x)) (s x))
+    ∙ ap (λ l. before ++ l) (sym (kept_more p s xs i x h e))
 
 -- ---- of the lists in which some member passes, the members that do
 pub one_shared : {A : Type 0} (p : A → Bool) (m : List A) → unless_empty (filter p m) ≡ (if list_any p m then filter p m ∷ [] else [])

@@ -16,7 +16,7 @@ use Rattle.instance_start.specs.Columns.{column_at, value_at}
 use Rattle.instance_start.specs.declared.data.Place.{Place}
 use Rattle.instance_start.specs.declared.data.Place.TheVariants.{Constant, Variable}
 use Rattle.name_rules.specs.Circles.{circles as circles_of}
-use Rattle.prism_check.specs.NameFaults.{circles, declared_formula}
+use Rattle.prism_check.specs.NameFaults.{declared_formula}
 use Rattle.prism_check.proofs.Typed.{no_name_fault}
 use Rattle.prism_check.specs.Flattened.{IsFlat}
 use Rattle.process_core.specs.declared.data.Given.{Given}

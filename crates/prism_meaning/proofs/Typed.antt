@@ -1,5 +1,5 @@
 -- The values of constants have their types, so a variable without a range begins with a truth value.
-use Rattle.std.proofs.Common.{◌≡◌, ℕ, zero, suc, ◌+◌, List, [], ◌∷◌, map, length, Bool, true, false, not, Option, Some, None, IsTrue, refl, sym, ap, subst, ◌∙◌}
+use Rattle.std.proofs.Common.{◌≡◌, ℕ, zero, suc, ◌+◌, List, [], ◌∷◌, map, length, true, false, not, Option, Some, None, IsTrue, refl, sym, ap, subst, ◌∙◌}
 use Rattle.std.specs.Prelude.{bytes_eq}
 use Rattle.std.specs.List.{flat_map, find, list_any, list_all, AllByRecursion as Each}
 use Rattle.std.specs.Option.{option_map, option_or}
@@ -18,7 +18,7 @@ use Rattle.op_trees.specs.Names.{names_of, offset_of, is_called}
 use Rattle.op_trees.specs.Types.{AgreesWith, has_type}
 use Rattle.op_trees.specs.TypeLaws.{value_agrees}
 use Rattle.op_trees.specs.Wanted.{wider, wanted_by}
-use Rattle.name_rules.specs.Least.{fault, fault_if}
+use Rattle.name_rules.specs.Least.{fault_if}
 use Rattle.name_rules.specs.Names.{is_among}
 use Rattle.name_rules.specs.Unknown.{unless_known}
 use Rattle.process_core.specs.Ready.{Name}

@@ -16,7 +16,6 @@ use Rattle.prism_check.specs.Moment.{value_in, names_in, place_of, weight_seen, 
 use Rattle.prism_check.specs.Process.{choice_rewards}
 use Rattle.prism_check.specs.Kept.{is_plain, IsWrittenOut}
 use Rattle.prism_check.proofs.CleanTypes.{same_written}
-use Rattle.state_choices.specs.Groups.{module_groups}
 use Rattle.prism_meaning.specs.Shapes.{bodies, shapes, write_under, update_under, command_under, group_under}
 use Rattle.std.proofs.Math.Path.{fun_ext}
 use Rattle.op_trees.specs.Seen.{known_names}
@@ -26,7 +25,7 @@ use Rattle.prism_meaning.specs.Shapes.{sum_under, earned_in_states}
 use Rattle.instance_start.specs.Columns.{column_of}
 use Rattle.instance_start.specs.States.{state_length}
 use Rattle.instance_start.specs.declared.data.Column as code
-use Rattle.prism_meaning.proofs.Grouped.{groups_are, sums_are}
+use Rattle.prism_meaning.proofs.Grouped.{groups_are, joined_groups, sums_are}
 
 pub reads_plainly : (file : File) → file.formulas ≡ [] → (names : Name → Seen) → reading file names ≡ names
 unfolding reading
@@ -54,11 +53,11 @@ modules_are file v s (copied m ∷ ms) h = absurd cc
 -- the groups that are fixed at the start are at the state those of the modules there
 pub whole_groups : (file : File) (v : Valuation) (s : Values) → IsWrittenOut file → (cs : List Column) (names : Name → Seen) →
     cs ≡ columns_of file v → names ≡ names_in file v s unchanged →
-    map (group_under cs names) (shapes file.rewards (bodies file.modules)) ≡ module_groups (choice_rewards (moment file v s).rewards) (moment file v s).modules
+    map (group_under cs names) (shapes file.rewards (bodies file.modules)) ≡ joined_groups (choice_rewards (moment file v s).rewards) (moment file v s).modules
 whole_groups file v s w cs names e f =
     ap₂ (λ c n. map (group_under c n) (shapes file.rewards (bodies file.modules))) e f
     ∙ groups_are (names_in file v s unchanged) (columns_of file v) file.rewards (bodies file.modules)
-    ∙ ap (module_groups (choice_rewards (moment file v s).rewards)) (modules_are file v s file.modules w.modules)
+    ∙ ap (joined_groups (choice_rewards (moment file v s).rewards)) (modules_are file v s file.modules w.modules)
 
 -- ---- columns
 pub column_count : (cols : List code.Column) (cs : List Column) → map column_of cols ≡ cs → length (map (λ (c : Column). c.name) cs) ≡ length cols

@@ -1,5 +1,6 @@
 pub mod Described
 pub mod Shapes
+pub mod Spared
 pub mod Prepared
 pub mod Views
 pub mod Places

@@ -10,10 +10,12 @@ use Rattle.process_core.specs.Bounds.{summed}
 use Rattle.process_core.specs.Instance.{Column, write_to}
 use Rattle.state_choices.specs.Groups.{Group}
 use Rattle.expr_store.specs.declared.node.ExprId.{ExprId}
+use Rattle.instance_start.specs.Numbered.{Numbered, by_number}
 use Rattle.prism_meaning.specs.declared.data.PreparedWrite.{PreparedWrite}
 use Rattle.prism_meaning.specs.declared.data.PreparedUpdate.{PreparedUpdate}
 use Rattle.prism_meaning.specs.declared.data.PreparedCommand.{PreparedCommand}
 use Rattle.prism_meaning.specs.declared.data.PreparedItem.{PreparedItem}
+use Rattle.prism_meaning.specs.declared.data.PreparedEarned.{PreparedEarned}
 use Rattle.prism_meaning.specs.declared.data.PreparedShape.{PreparedShape}
 
 -- ---- where the expression of each number is seen so
@@ -22,6 +24,9 @@ item_by at i = record { guard = at i.guard; value = at i.value }
 
 abbrev pub sum_by : (ExprId → Seen) → List PreparedItem → Sum
 sum_by at is = summed (map (item_by at) is)
+
+abbrev pub earned_by : (ExprId → Seen) → PreparedEarned → Numbered core.Item
+earned_by at e = record { number = e.structure; value = item_by at e.item }
 
 abbrev pub weight_by : (ExprId → Seen) → Option ExprId → Seen
 weight_by at None = known (Some (V.Number unit))
@@ -40,6 +45,6 @@ module _ (cs : List Column) (at : ExprId → Seen) where
   abbrev pub group_by : PreparedShape → Group
   group_by g = record {
     label = option_copied g.label;
-    rewards = map (sum_by at) (map (λ is. is.items) g.rewards.items);
+    rewards = map summed (by_number g.structures (map (earned_by at) g.earned.items));
     lists = map (map command_by) (map (λ l. l.items) g.lists.items);
   }

@@ -1,19 +1,20 @@
 -- The groups of combinations of a PRISM file before a state is known: which commands and which reward items belong together
 -- (PRISM manual, "The PRISM Language": "Commands", "Synchronisation", "Costs and Rewards").
-use Rattle.std.specs.Prelude.{List, [], ◌∷◌, ◌++◌, map, Bool, Option, Some, None, bytes_eq}
+use Rattle.std.specs.Prelude.{ℕ, List, [], ◌∷◌, map, Bool, Option, Some, None, bytes_eq}
 use Rattle.std.specs.List.{flat_map, filter, list_any}
 use Rattle.op_trees.specs.Seen.{Seen}
 use Rattle.basics.specs.Options.{if_some}
 use Rattle.process_core.specs.Ready.{Name, Write, Update, Ready, Sum, same_label, firsts}
 use Rattle.process_core.specs.Bounds as core
 use Rattle.process_core.specs.Bounds.{summed}
-use Rattle.process_core.specs.Instance.{Column, write_to}
+use Rattle.process_core.specs.Instance.{Column, numbered, only_if, write_to}
 use Rattle.prism_tree.specs.Syntax.{Branch, Command, Item, Module, plain, copied, Rewards, File}
 use Rattle.prism_tree.specs.Syntax as syntax
 use Rattle.prism_names.specs.Names.{unchanged, see}
 use Rattle.prism_flat.specs.Moment.{Adds, adds_of, action_of, place_of, weight_seen}
 use Rattle.prism_flat.specs.Process.{is_for_states, is_for_choices}
 use Rattle.state_choices.specs.Groups.{Group}
+use Rattle.instance_start.specs.Numbered.{Numbered}
 
 -- one command of each list, with one label, and what that earns in each reward structure
 pub record Shape : Type 0 where
@@ -31,6 +32,13 @@ items_for wanted r = filter (λ i. wanted (adds_of i.on)) r.items
 -- those of each structure that choices with this label earn
 abbrev pub earned : List Rewards → Option Name → List (List Item)
 earned rewards label = map (items_for (is_for_choices label)) rewards
+
+-- the same in one list, each with the number of its structure
+abbrev pub earned_from : Option Name → ℕ → Item → List (Numbered Item)
+earned_from label k i = only_if (is_for_choices label (adds_of i.on)) (record { number = k; value = i })
+
+abbrev pub earnings : List Rewards → Option Name → List (Numbered Item)
+earnings rewards label = numbered (λ k r. flat_map (earned_from label k) r.items) 0 rewards
 
 -- those that states earn
 abbrev pub earned_in_states : List Rewards → List (List Item)
@@ -57,15 +65,15 @@ abbrev pub unless_empty : {X : Type 0} → List X → List (List X)
 unless_empty [] = []
 unless_empty (x ∷ xs) = (x ∷ xs) ∷ []
 
-abbrev pub silent_shape : List (List Item) → List Command → Shape
-silent_shape rewards m = record { label = None; rewards = rewards; lists = filter (acts None) m ∷ [] }
+abbrev pub silent_shape : List (List Item) → List (List Command) → Shape
+silent_shape rewards ms = record { label = None; rewards = rewards; lists = flat_map (filter (acts None)) ms ∷ [] }
 
 abbrev pub action_shape : List Rewards → List (List Command) → Name → Shape
 action_shape rewards ms a = record { label = Some a; rewards = earned rewards (Some a); lists = sharing a ms }
 
--- the commands without action of each module, then for each action those with it of each module that has it
+-- the commands without action, then for each action those with it of each module that has it
 abbrev pub shapes : List Rewards → List (List Command) → List Shape
-shapes rewards ms = map (silent_shape (earned rewards None)) ms ++ map (action_shape rewards ms) (acting ms)
+shapes rewards ms = silent_shape (earned rewards None) ms ∷ map (action_shape rewards ms) (acting ms)
 
 -- ---- at a state, whose names are seen so; names of a file that is written out stand for themselves
 abbrev pub item_under : (Name → Seen) → Item → core.Item

@@ -1,6 +1,6 @@
 -- What the code of an instance stands for: groups that are fixed at the start, and names.
 -- (This project's own rule.)
-use Rattle.std.specs.Prelude.{◌≡◌, ℕ, length, List, [], ◌∷◌, map, take, drop, Option, option_copied}
+use Rattle.std.specs.Prelude.{◌≡◌, ℕ, length, List, [], ◌∷◌, map, take, drop, Option, Some, None, option_copied}
 use Rattle.std.specs.Borrow.{Bor}
 use Rattle.op_trees.specs.Meaning.{Environment}
 use Rattle.op_trees.specs.Seen.{Seen, known_names}
@@ -20,8 +20,13 @@ use Rattle.state_choices.specs.Groups.{Group}
 use Rattle.state_choices.specs.Views as choices
 use Rattle.prism_flat.specs.Moment.{place_of}
 use Rattle.prism_tree.specs.Syntax as syntax
+use Rattle.gathering.specs.Lists.{list_under}
+use Rattle.instance_start.specs.Numbered.{Numbered, by_number}
 use Rattle.prism_meaning.specs.Shapes as shapes
+use Rattle.prism_meaning.specs.Shapes.{earnings}
+use Rattle.prism_meaning.specs.declared.data.Earned.{Earned}
 use Rattle.prism_meaning.specs.declared.data.Shape.{Shape}
+use Rattle.prism_meaning.specs.declared.shapes.Earnings.{Earnings}
 use Rattle.prism_meaning.specs.declared.data.Evaluated.{Evaluated}
 use Rattle.prism_meaning.specs.declared.constant_names.ConstantNames.{ConstantNames}
 use Rattle.prism_meaning.specs.declared.state_names.StateNames.{StateNames}
@@ -33,8 +38,20 @@ items_of is = map (λ i. item_of i.now) is
 abbrev pub commands_of : List (Bor PrismCommand) → List syntax.Command
 commands_of cs = map (λ c. command_of c.now) cs
 
+abbrev pub earned_of : Earned → Numbered syntax.Item
+earned_of e = record { number = e.structure; value = item_of e.item.now }
+
 abbrev pub shape_of : Shape → shapes.Shape
-shape_of g = record { label = option_copied g.label; rewards = map (λ is. items_of is.items) g.rewards.items; lists = map (λ cs. commands_of cs.items) g.lists.items }
+shape_of g = record {
+  label = option_copied g.label;
+  rewards = by_number g.structures (map earned_of g.earned.items);
+  lists = map (λ cs. commands_of cs.items) g.lists.items;
+}
+
+-- the items that choices earn, by their labels
+pub record AreEarnings (rewards : List syntax.Rewards) (e : Earnings) : Type 0 where
+  pub silent : map earned_of e.silent.items ≡ earnings rewards None
+  pub named : (x : Name) → map earned_of (list_under e.named x) ≡ earnings rewards (Some x)
 
 -- a list cut into parts of these lengths, from the left
 abbrev pub cut : {X : Type 0} → List ℕ → List X → List (List X)

@@ -8,18 +8,17 @@ ghost use Rattle.prism_tree.specs.Syntax.{const_of, file_of};
 ghost use Rattle.prism_check.specs.Scene.{constant, constant_seen};
 ghost use Rattle.state_choices.specs.Trimmed.{computed};
 ghost use Rattle.state_choices.specs.Views.{seen_of};
-ghost use Rattle.instance_start.specs.Given.{given_by};
 ghost use Rattle.prism_meaning.specs.Constants.{AreConstants, declared_const, HasWideConstant};
 ghost use Rattle.prism_meaning.specs.Places.{constant_place};
 ghost use Rattle.prism_meaning.specs.Views.{names_by, seen_in};
 
 use crate::constant_names::{ConstantNames, value_of};
-use instance_start::{Place, given_value, is_wide};
+use instance_start::{Place, is_wide};
 use name_rules::{Declaration, NameMap, judge_circles};
 use op_trees::{EvalFail, Value, held};
 use prism_check::uses_of;
 use prism_tree::{PrismConst, PrismFile};
-use process_core::{Given, StartFail};
+use process_core::StartFail;
 use std::alloc::{AllocError, Global};
 
 /// An order in which each constant stands behind those that its value needs.
@@ -51,18 +50,19 @@ fn declarations(alloc: Global, constants: &[PrismConst]) -> Result<Vec<Declarati
     Ok(all)
 }
 
-/// The values of the constants, in an order in which each stands behind those that its value needs. `Wide` where one is.
+/// The values of the constants, in an order in which each stands behind those that its value needs, by those that are given.
+/// `Wide` where one is.
 pub(crate) fn constant_values(
     alloc: Global,
     file: &PrismFile,
-    given: &[Given],
+    given: &NameMap<Value>,
     places: &NameMap<Place>,
     order: &[usize],
 ) -> Result<Vec<Option<Value>>, StartFail>
     requires form { (file_of file.now).formulas ≡ [] }
     requires turns { AreTurns (map declared_const (map const_of file.now.constants)) order.now }
     requires places { (x : List ℕ) → under places.now x ≡ constant_place 0 (map const_of file.now.constants) x }
-    ensures { MatchResult result (λ t. AreConstants (file_of file.now) (given_by given.now) t.items) (HasWideConstant (file_of file.now) (given_by given.now)) }
+    ensures { MatchResult result (λ t. AreConstants (file_of file.now) (under given.now) t.items) (HasWideConstant (file_of file.now) (under given.now)) }
 {
     let mut table = match no_values(alloc, file.constants.len()) {
         Ok(table) => table,
@@ -93,15 +93,15 @@ fn no_values(alloc: Global, count: usize) -> Result<Vec<Option<Value>>, AllocErr
 /// The value of a constant, by those that are in the table.
 fn value_under(
     constant: &PrismConst,
-    given: &[Given],
+    given: &NameMap<Value>,
     places: &NameMap<Place>,
     table: &[Option<Value>],
 ) -> Result<Value, EvalFail>
-    ensures { result ≡ computed (constant_seen (given_by given.now constant.now.name.name) (names_by places.now table.now) (option_map tree constant.now.value)) }
+    ensures { result ≡ computed (constant_seen (under given.now constant.now.name.name) (names_by places.now table.now) (option_map tree constant.now.value)) }
 {
     match &constant.value {
         Some(e) => value_of(e, &constants_alone(places, table)),
-        None => held(given_value(given, constant.name.name.as_str())),
+        None => held(given.get(constant.name.name.as_str())),
     }
 }
 

@@ -7,12 +7,20 @@ use op_trees::EvalFail;
 use prism_tree::{PrismCommand, PrismItem, PrismOp};
 use state_choices::Command;
 
-/// The combinations of one action, or of one module without action: one command of each list, with one label and what that
-/// earns in each reward structure.
+/// An item of the reward structure of this number.
+#[derive(Clone, Copy)]
+pub struct Earned<'a> {
+    pub structure: usize,
+    pub item: &'a PrismItem,
+}
+
+/// The combinations of one action, or those without action: one command of each list, with one label; how many reward structures
+/// there are, and the items of them that the label earns.
 #[derive(Drop)]
 pub struct Shape<'a> {
     pub label: Option<&'a Text>,
-    pub rewards: Vec<Vec<&'a PrismItem>>,
+    pub structures: usize,
+    pub earned: Vec<Earned<'a>>,
     pub lists: Vec<Vec<&'a PrismCommand>>,
 }
 
@@ -44,11 +52,19 @@ pub struct PreparedItem {
     pub value: ExprId,
 }
 
-/// The combinations of one action, or of one module without action, prepared: expressions are numbers in a store.
+/// An item of the reward structure of this number, prepared.
+#[derive(Clone, Copy)]
+pub struct PreparedEarned {
+    pub structure: usize,
+    pub item: PreparedItem,
+}
+
+/// The combinations of one action, or those without action, prepared: expressions are numbers in a store.
 #[derive(Drop)]
 pub struct PreparedShape<'a> {
     pub label: Option<&'a Text>,
-    pub rewards: Vec<Vec<PreparedItem>>,
+    pub structures: usize,
+    pub earned: Vec<PreparedEarned>,
     pub lists: Vec<Vec<PreparedCommand>>,
 }
 
@@ -62,7 +78,8 @@ pub struct Prepared<'a> {
     pub labels: Vec<ExprId>,
 }
 
-/// Combinations at a state: what the commands of all their lists come out as, one list behind the other.
+/// Combinations at a state: what the commands of all their lists come out as, one list behind the other; and what the label earns in
+/// each reward structure, but nothing where no combination can be taken.
 #[derive(Drop)]
 pub struct Evaluated<'a> {
     pub label: Option<&'a Text>,

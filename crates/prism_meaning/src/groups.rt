@@ -1,21 +1,26 @@
 //! What the groups of an instance come out as at a state.
-ghost use Rattle.std.specs.Prelude.{◌≡◌, IfOk, Err, map, length, take, drop, if◌then◌else◌};
-ghost use Rattle.std.specs.List.{flat_map};
+ghost use Rattle.std.specs.Prelude.{◌≡◌, ℕ, [], IfOk, Err, map, length, not, take, drop, if◌then◌else◌};
+ghost use Rattle.std.specs.List.{flat_map, list_any, range_with_len};
+ghost use Rattle.gathering.specs.Lists.{list_for};
 ghost use Rattle.op_trees.specs.declared.tree.EvalFail.TheVariants.{Undef};
-ghost use Rattle.process_core.specs.Choices.{is_true};
+ghost use Rattle.process_core.specs.Bounds.{summed};
+ghost use Rattle.process_core.specs.Choices.{is_false, is_true};
 ghost use Rattle.state_choices.specs.Views as choices;
-ghost use Rattle.state_choices.specs.Trimmed.{computed, computed_sum, trimmed, trimmed_group, trimmed_item};
+ghost use Rattle.state_choices.specs.Trimmed.{computed, computed_sum, trimmed, trimmed_group, trimmed_item, trimmed_sum};
 ghost use Rattle.instance_start.specs.Columns.{column_of};
+ghost use Rattle.instance_start.specs.Numbered.{by_number, of_number, with_value};
 ghost use Rattle.expr_store.specs.Views.{seen_by, IsSame};
-ghost use Rattle.prism_meaning.specs.Prepared.{command_by, group_by, item_by, sum_by};
+ghost use Rattle.prism_meaning.specs.Prepared.{command_by, earned_by, group_by, item_by, sum_by};
+ghost use Rattle.prism_meaning.specs.Spared.{is_closed, spared};
 ghost use Rattle.prism_meaning.specs.Views.{cut, evaluated_of};
 
 use crate::commands::add_commands;
-use crate::data::{Evaluated, PreparedCommand, PreparedItem, PreparedShape};
+use crate::data::{Evaluated, PreparedCommand, PreparedEarned, PreparedItem, PreparedShape};
 use bridge_io::List;
 use expr_store::{Evaluation, ExprId};
 use frac_core::Frac;
-use instance_start::Column;
+use gathering::NumberLists;
+use instance_start::{Column, is_false};
 use op_trees::{EvalFail, Value};
 use prism_tree::PrismOp;
 use state_choices::{Command, Group, Item, sum_of, trimming_law};
@@ -28,7 +33,7 @@ pub(crate) fn evaluated<'a>(
     columns: &[Column],
     state: &mut Evaluation<PrismOp>,
 ) -> Result<Vec<Evaluated<'a>>, AllocError>
-    ensures { IfOk result (λ gs. (map evaluated_of gs.items ≡ map (λ p. trimmed_group (group_by (map column_of columns.now) (seen_by state.old) p)) shapes.now) × IsSame state.old state.new) }
+    ensures { IfOk result (λ gs. (map evaluated_of gs.items ≡ map (λ p. spared (trimmed_group (group_by (map column_of columns.now) (seen_by state.old) p))) shapes.now) × IsSame state.old state.new) }
 {
     let mut all = Vec::with_capacity(alloc, shapes.len())?;
     for shape in shapes {
@@ -38,18 +43,19 @@ pub(crate) fn evaluated<'a>(
     Ok(all)
 }
 
-/// What a group comes out as.
+/// What a group comes out as. What it earns is asked for only where it has a choice.
 fn evaluated_under<'a>(
     alloc: Global,
     shape: &'a PreparedShape<'a>,
     columns: &[Column],
     state: &mut Evaluation<PrismOp>,
 ) -> Result<Evaluated<'a>, AllocError>
-    ensures { IfOk result (λ g. (evaluated_of g ≡ trimmed_group (group_by (map column_of columns.now) (seen_by state.old) shape.now)) × IsSame state.old state.new) }
+    ensures { IfOk result (λ g. (evaluated_of g ≡ spared (trimmed_group (group_by (map column_of columns.now) (seen_by state.old) shape.now))) × IsSame state.old state.new) }
 {
     let lists = shape.lists.as_slice();
     let commands = all_commands(alloc, lists, columns, state)?;
-    let rewards = sums(alloc, shape.rewards.as_slice(), state)?;
+    let closed = has_closed(lists, commands.as_slice());
+    let rewards = rewards_of(alloc, shape, closed, state)?;
     Ok(Evaluated {
         label: shape.label,
         rewards,
@@ -83,18 +89,83 @@ fn command_count(lists: &[Vec<PreparedCommand>]) -> usize {
     count
 }
 
-/// What each reward structure adds by the items that are listed of it.
-fn sums(
+/// Whether of some list no command can be taken.
+fn has_closed(lists: &[Vec<PreparedCommand>], commands: &[Command]) -> bool
+    ensures { result ≡ list_any is_closed (cut (map (λ l. length l.items) lists.now) (map choices.command_of commands.now)) }
+{
+    let mut left = commands;
+    for list in lists {
+        let (these, behind) = parted(left, list.len());
+        if is_closed(these) {
+            return true;
+        }
+        left = behind;
+    }
+    false
+}
+
+/// Whether no guard of these may hold.
+fn is_closed(commands: &[Command]) -> bool
+    ensures { result ≡ is_closed (map choices.command_of commands.now) }
+{
+    !has_open(commands)
+}
+
+fn has_open(commands: &[Command]) -> bool
+    ensures { result ≡ list_any (λ r. not (is_false r.guard.value)) (map choices.command_of commands.now) }
+{
+    for command in commands {
+        if !is_false(&command.guard) {
+            return true;
+        }
+    }
+    false
+}
+
+/// What a group earns in each reward structure; nothing is asked for where none of its combinations can be taken.
+fn rewards_of(
     alloc: Global,
-    rewards: &[Vec<PreparedItem>],
+    shape: &PreparedShape,
+    closed: bool,
     state: &mut Evaluation<PrismOp>,
 ) -> Result<List<Result<Frac, EvalFail>>, AllocError>
-    ensures { IfOk result (λ ms. (ms ≡ map (λ is. computed_sum (sum_by (seen_by state.old) is.items)) rewards.now) × IsSame state.old state.new) }
+    ensures { IfOk result (λ ms. (map choices.sum_of ms
+        ≡ (if closed then [] else map trimmed_sum (map summed (by_number shape.now.structures (map (earned_by (seen_by state.old)) shape.now.earned.items))))) × IsSame state.old state.new) }
 {
-    let mut all = List::with_capacity(alloc, rewards.len())?;
-    for items in rewards {
-        let one = sum_under(alloc, items.as_slice(), state)?;
-        all.push(one)?;
+    if closed {
+        return Ok(List::new(alloc));
+    }
+    let items = by_structure(alloc, shape.earned.as_slice(), state)?;
+    sums(alloc, &items, shape.structures)
+}
+
+/// What items come out as, under the numbers of their structures.
+fn by_structure(
+    alloc: Global,
+    these: &[PreparedEarned],
+    state: &mut Evaluation<PrismOp>,
+) -> Result<NumberLists<Item>, AllocError>
+    ensures { IfOk result (λ t. ((k : ℕ) → map choices.item_of (list_for t k) ≡ of_number k (map (λ e. with_value trimmed_item (earned_by (seen_by state.old) e)) these.now)) × IsSame state.old state.new) }
+{
+    let mut all = NumberLists::new(alloc);
+    for one in these {
+        let item = item_under(&one.item, state);
+        all.add(alloc, one.structure, item)?;
+    }
+    Ok(all)
+}
+
+/// What each reward structure adds.
+fn sums(
+    alloc: Global,
+    items: &NumberLists<Item>,
+    count: usize,
+) -> Result<List<Result<Frac, EvalFail>>, AllocError>
+    ensures { IfOk result (λ ms. ms ≡ map (λ k. computed_sum (summed (map choices.item_of (list_for items.now k)))) (range_with_len 0 count)) }
+{
+    let mut all = List::with_capacity(alloc, count)?;
+    for k in 0..count {
+        all.push(sum_of(items.get(k)))?;
     }
     Ok(all)
 }

@@ -2,6 +2,7 @@
 ghost use Rattle.std.specs.Prelude.{◌≡◌, IfOk, map};
 ghost use Rattle.std.specs.Option.{option_map};
 ghost use Rattle.op_trees.specs.Tree.{tree};
+ghost use Rattle.instance_start.specs.Numbered.{with_value};
 ghost use Rattle.expr_store.specs.Alike.{IsMade};
 ghost use Rattle.expr_store.specs.Views.{nodes};
 ghost use Rattle.prism_check.specs.Moment.{weight_seen};
@@ -10,12 +11,13 @@ ghost use Rattle.prism_tree.specs.Operators.{prism_meaning};
 ghost use Rattle.prism_tree.specs.Syntax as syntax;
 ghost use Rattle.state_choices.specs.Trimmed.{trimmed, trimmed_group};
 ghost use Rattle.prism_meaning.specs.Knowing.{ArePrepared};
-ghost use Rattle.prism_meaning.specs.Prepared.{command_by, group_by, item_by, sum_by, update_by, weight_by, write_by};
+ghost use Rattle.prism_meaning.specs.Prepared.{command_by, earned_by, group_by, item_by, sum_by, update_by, weight_by, write_by};
 ghost use Rattle.prism_meaning.specs.Shapes.{command_under, group_under, item_under, sum_under, update_under, write_under};
-ghost use Rattle.prism_meaning.specs.Views.{columns_in, commands_of, items_of, places_in, shape_of, FindsColumns};
+ghost use Rattle.prism_meaning.specs.Views.{columns_in, commands_of, earned_of, items_of, places_in, shape_of, FindsColumns};
 
 use crate::data::{
-    Prepared, PreparedCommand, PreparedItem, PreparedShape, PreparedUpdate, PreparedWrite, Shape,
+    Earned, Prepared, PreparedCommand, PreparedEarned, PreparedItem, PreparedShape, PreparedUpdate,
+    PreparedWrite, Shape,
 };
 use crate::state_names::{StateNames, column_of, put};
 use expr_store::{ExprId, ExprStore};
@@ -78,12 +80,34 @@ fn prepared_shape<'a>(
         (λ at. trimmed_group (group_by (columns_in names.now) at p)) (λ seen. trimmed_group (group_under (columns_in names.now) seen (shape_of shape.now)))) }
 {
     let lists = prepared_lists(alloc, shape.lists.as_slice(), names, store)?;
-    let rewards = prepared_rewards(alloc, shape.rewards.as_slice(), names, store)?;
+    let earned = prepared_earned(alloc, shape.earned.as_slice(), names, store)?;
     Ok(PreparedShape {
         label: shape.label,
-        rewards,
+        structures: shape.structures,
+        earned,
         lists,
     })
+}
+
+/// Items with the numbers of their structures, prepared.
+fn prepared_earned(
+    alloc: Global,
+    these: &[Earned],
+    names: &StateNames,
+    store: &mut ExprStore<PrismOp>,
+) -> Result<Vec<PreparedEarned>, AllocError>
+    ensures { IfOk result (λ es. IsMade prism_meaning (places_in names.now) (nodes store.old) (nodes store.new)
+        (λ at. map (λ e. earned_by at e) es.items) (λ seen. map (λ e. with_value (item_under seen) e) (map earned_of these.now))) }
+{
+    let mut all = Vec::with_capacity(alloc, these.len())?;
+    for one in these {
+        let item = prepared_item(one.item, names, store)?;
+        all.push(PreparedEarned {
+            structure: one.structure,
+            item,
+        })?;
+    }
+    Ok(all)
 }
 
 fn prepared_lists(

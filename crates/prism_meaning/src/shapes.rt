@@ -1,77 +1,90 @@
 //! Which commands and reward items belong together, found once.
-ghost use Rattle.std.specs.Prelude.{◌≡◌, ◌++◌, ℕ, IfOk, List as ListOf, None, Some, [], bytes_eq, if◌then◌else◌, map, option_copied};
+ghost use Rattle.std.specs.Prelude.{◌≡◌, ◌++◌, ◌∷◌, ℕ, IfOk, List as ListOf, None, OnOk, Some, [], bytes_eq, if◌then◌else◌, map};
 ghost use Rattle.std.specs.List.{filter, flat_map};
 ghost use Rattle.basics.specs.Options.{if_some};
 ghost use Rattle.gathering.specs.Lists.{list_under};
 ghost use Rattle.process_core.specs.Instance.{only_if};
 ghost use Rattle.prism_check.specs.Moment.{action_of, adds_of};
-ghost use Rattle.prism_check.specs.Process.{is_for_choices, is_for_states};
+ghost use Rattle.prism_check.specs.Process.{is_for_states};
 ghost use Rattle.prism_names.specs.Names.{unchanged};
 ghost use Rattle.prism_tree.specs.Syntax as syntax;
 ghost use Rattle.prism_tree.specs.Syntax.{command_of, item_of, module_of, rewards_of};
-ghost use Rattle.prism_meaning.specs.Shapes.{acting, action_shape, acts, bodies, earned, earned_in_states, own_commands, shapes, sharing, silent_shape, unless_empty};
-ghost use Rattle.prism_meaning.specs.Views.{commands_of, items_of, shape_of};
+ghost use Rattle.prism_meaning.specs.Shapes.{acting, action_shape, acts, bodies, earned, earned_from, earned_in_states, own_commands, shapes, sharing, silent_shape, unless_empty};
+ghost use Rattle.prism_meaning.specs.Views.{AreEarnings, commands_of, earned_of, items_of, shape_of};
 
-use crate::data::Shape;
+use crate::data::{Earned, Shape};
 use bridge_io::{List, Text};
 use gathering::{NameLists, each_once, keep_if};
 use prism_tree::{ItemOn, PrismCommand, PrismFile, PrismItem, PrismModule, PrismRewards};
 use std::alloc::{AllocError, Global};
 
-/// The combinations of a file: those of each module's commands without action, then those of each action.
+/// The combinations of a file: those of the commands without action, then those of each action.
 pub(crate) fn shapes(alloc: Global, file: &PrismFile) -> Result<Vec<Shape>, AllocError>
     ensures { IfOk result (λ gs. map shape_of gs.items ≡ shapes (map rewards_of file.now.rewards) (bodies (map module_of file.now.modules))) }
 {
+    let earnings = earned(alloc, file.rewards.as_slice())?;
+    shapes_with(alloc, file, &earnings)
+}
+
+fn shapes_with<'a>(
+    alloc: Global,
+    file: &'a PrismFile,
+    earnings: &Earnings<'a>,
+) -> Result<Vec<Shape<'a>>, AllocError>
+    requires { AreEarnings (map rewards_of file.now.rewards) earnings.now }
+    ensures { IfOk result (λ gs. map shape_of gs.items ≡ shapes (map rewards_of file.now.rewards) (bodies (map module_of file.now.modules))) }
+{
     let mut all = Vec::new(alloc);
-    add_silent(alloc, file, &mut all)?;
-    add_acting(alloc, file, &mut all)?;
+    all.push(silent_shape(alloc, file, earnings)?)?;
+    add_acting(alloc, file, earnings, &mut all)?;
     Ok(all)
 }
 
-fn add_silent<'a>(
-    alloc: Global,
-    file: &'a PrismFile,
-    all: &mut Vec<Shape<'a>>,
-) -> Result<(), AllocError>
-    ensures { IfOk result (λ u. map shape_of all.new.items ≡ map shape_of all.old.items
-        ++ map (silent_shape (earned (map rewards_of file.now.rewards) None)) (bodies (map module_of file.now.modules))) }
-{
-    for one in file.modules.as_slice() {
-        let shape = silent_shape(alloc, file.rewards.as_slice(), one)?;
-        all.push(shape)?;
-    }
-    Ok(())
-}
-
+/// The combinations without action: one command of a module each.
 fn silent_shape<'a>(
     alloc: Global,
-    rewards: &'a [PrismRewards],
-    one: &'a PrismModule,
+    file: &'a PrismFile,
+    earnings: &Earnings<'a>,
 ) -> Result<Shape<'a>, AllocError>
-    ensures { IfOk result (λ g. shape_of g ≡ silent_shape (earned (map rewards_of rewards.now) None) (own_commands (module_of one.now))) }
+    requires { AreEarnings (map rewards_of file.now.rewards) earnings.now }
+    ensures { IfOk result (λ g. shape_of g ≡ silent_shape (earned (map rewards_of file.now.rewards) None) (bodies (map module_of file.now.modules))) }
 {
-    let rewards = earned(alloc, rewards, None)?;
-    let mut lists = Vec::with_capacity(alloc, 1)?;
-    lists.push(silent_commands(alloc, own_commands(one))?)?;
+    let lists = silent_lists(alloc, file.modules.as_slice())?;
+    let earned = copied_items(alloc, earnings.silent.as_slice())?;
     Ok(Shape {
         label: None,
-        rewards,
+        structures: file.rewards.len(),
+        earned,
         lists,
     })
+}
+
+/// The commands without action, in one list.
+fn silent_lists<'a>(
+    alloc: Global,
+    modules: &'a [PrismModule],
+) -> Result<Vec<Vec<&'a PrismCommand>>, AllocError>
+    ensures { IfOk result (λ ls. map (λ l. commands_of l.items) ls.items ≡ flat_map (filter (acts None)) (bodies (map module_of modules.now)) ∷ []) }
+{
+    let mut lists = Vec::with_capacity(alloc, 1)?;
+    lists.push(silent_commands(alloc, modules)?)?;
+    Ok(lists)
 }
 
 fn add_acting<'a>(
     alloc: Global,
     file: &'a PrismFile,
+    earnings: &Earnings<'a>,
     all: &mut Vec<Shape<'a>>,
 ) -> Result<(), AllocError>
+    requires { AreEarnings (map rewards_of file.now.rewards) earnings.now }
     ensures { IfOk result (λ u. map shape_of all.new.items ≡ map shape_of all.old.items
         ++ map (action_shape (map rewards_of file.now.rewards) (bodies (map module_of file.now.modules))) (acting (bodies (map module_of file.now.modules)))) }
 {
     let names = acting(alloc, file.modules.as_slice())?;
     let shared = sharing(alloc, file.modules.as_slice())?;
     for action in names.as_slice() {
-        let shape = action_shape(alloc, file, *action, &shared)?;
+        let shape = action_shape(alloc, file, *action, earnings, &shared)?;
         all.push(shape)?;
     }
     Ok(())
@@ -81,16 +94,19 @@ fn action_shape<'a>(
     alloc: Global,
     file: &'a PrismFile,
     action: &'a Text,
+    earnings: &Earnings<'a>,
     shared: &NameLists<'a, List<&'a PrismCommand>>,
 ) -> Result<Shape<'a>, AllocError>
-    requires { (x : ListOf ℕ) → map commands_of (list_under shared.now x) ≡ sharing x (bodies (map module_of file.now.modules)) }
+    requires earned { AreEarnings (map rewards_of file.now.rewards) earnings.now }
+    requires shared { (x : ListOf ℕ) → map commands_of (list_under shared.now x) ≡ sharing x (bodies (map module_of file.now.modules)) }
     ensures { IfOk result (λ g. shape_of g ≡ action_shape (map rewards_of file.now.rewards) (bodies (map module_of file.now.modules)) action.now) }
 {
-    let rewards = earned(alloc, file.rewards.as_slice(), Some(action))?;
     let lists = copied_lists(alloc, shared.get(action.as_str()))?;
+    let earned = copied_items(alloc, earnings.named.get(action.as_str()))?;
     Ok(Shape {
         label: Some(action),
-        rewards,
+        structures: file.rewards.len(),
+        earned,
         lists,
     })
 }
@@ -229,16 +245,28 @@ fn own_commands(one: &PrismModule) -> &[PrismCommand]
 /// The commands without action.
 fn silent_commands<'a>(
     alloc: Global,
-    commands: &'a [PrismCommand],
+    modules: &'a [PrismModule],
 ) -> Result<Vec<&'a PrismCommand>, AllocError>
-    ensures { IfOk result (λ cs. commands_of cs.items ≡ filter (acts None) (map command_of commands.now)) }
+    ensures { IfOk result (λ cs. commands_of cs.items ≡ flat_map (filter (acts None)) (bodies (map module_of modules.now))) }
 {
     let mut these = Vec::new(alloc);
-    for command in commands {
-        let wanted = is_silent(command);
-        keep_if(&mut these, wanted, command)?;
+    for one in modules {
+        add_silent(own_commands(one), &mut these)?;
     }
     Ok(these)
+}
+
+fn add_silent<'a>(
+    commands: &'a [PrismCommand],
+    these: &mut Vec<&'a PrismCommand>,
+) -> Result<(), AllocError>
+    ensures { OnOk result (commands_of these.new.items ≡ commands_of these.old.items ++ filter (acts None) (map command_of commands.now)) }
+{
+    for command in commands {
+        let wanted = is_silent(command);
+        keep_if(these, wanted, command)?;
+    }
+    Ok(())
 }
 
 fn is_silent(command: &PrismCommand) -> bool
@@ -271,47 +299,73 @@ fn add_actions<'a>(commands: &'a [PrismCommand], all: &mut Vec<&'a Text>) -> Res
     Ok(())
 }
 
-/// The items of each reward structure that choices with this label earn, or those without one.
-fn earned<'a>(
-    alloc: Global,
-    rewards: &'a [PrismRewards],
-    label: Option<&Text>,
-) -> Result<Vec<Vec<&'a PrismItem>>, AllocError>
-    ensures { IfOk result (λ ls. map (λ l. items_of l.items) ls.items ≡ earned (map rewards_of rewards.now) (option_copied label.entry)) }
-{
-    let mut lists = Vec::with_capacity(alloc, rewards.len())?;
-    for structure in rewards {
-        lists.push(choice_items(alloc, structure.items.as_slice(), label)?)?;
-    }
-    Ok(lists)
+/// The items that choices earn: those of choices without label, and under each action those of choices with it.
+#[derive(Drop)]
+pub(crate) struct Earnings<'a> {
+    pub(crate) silent: Vec<Earned<'a>>,
+    pub(crate) named: NameLists<'a, Earned<'a>>,
 }
 
-fn choice_items<'a>(
+/// The items that choices earn in all reward structures.
+fn earned<'a>(alloc: Global, rewards: &'a [PrismRewards]) -> Result<Earnings<'a>, AllocError>
+    ensures { IfOk result (AreEarnings (map rewards_of rewards.now)) }
+{
+    let mut all = Earnings {
+        silent: Vec::new(alloc),
+        named: NameLists::new(alloc),
+    };
+    for (k, structure) in rewards.iter().enumerate() {
+        add_structure(alloc, k, structure.items.as_slice(), &mut all)?;
+    }
+    Ok(all)
+}
+
+/// The items of one reward structure besides.
+fn add_structure<'a>(
     alloc: Global,
+    k: usize,
     items: &'a [PrismItem],
-    label: Option<&Text>,
-) -> Result<Vec<&'a PrismItem>, AllocError>
-    ensures { IfOk result (λ is. items_of is.items ≡ filter (λ i. is_for_choices (option_copied label.entry) (adds_of i.on)) (map item_of items.now)) }
+    all: &mut Earnings<'a>,
+) -> Result<(), AllocError>
+    ensures silent { OnOk result (map earned_of all.new.silent.items ≡ map earned_of all.old.silent.items ++ flat_map (earned_from None k) (map item_of items.now)) }
+    ensures named { OnOk result ((x : ListOf ℕ) → map earned_of (list_under all.new.named x)
+        ≡ map earned_of (list_under all.old.named x) ++ flat_map (earned_from (Some x) k) (map item_of items.now)) }
 {
-    let mut these = Vec::new(alloc);
     for item in items {
-        let wanted = is_for_choices(&item.on, label);
-        keep_if(&mut these, wanted, item)?;
+        add_item(alloc, k, item, all)?;
     }
-    Ok(these)
+    Ok(())
 }
 
-fn is_for_choices(on: &ItemOn, label: Option<&Text>) -> bool
-    ensures { result ≡ is_for_choices (option_copied label.entry) (adds_of on.now) }
+/// An item besides, if choices earn it.
+fn add_item<'a>(
+    alloc: Global,
+    structure: usize,
+    item: &'a PrismItem,
+    all: &mut Earnings<'a>,
+) -> Result<(), AllocError>
+    ensures silent { OnOk result (map earned_of all.new.silent.items ≡ map earned_of all.old.silent.items ++ earned_from None structure (item_of item.now)) }
+    ensures named { OnOk result ((x : ListOf ℕ) → map earned_of (list_under all.new.named x) ≡ map earned_of (list_under all.old.named x) ++ earned_from (Some x) structure (item_of item.now)) }
 {
-    match on {
-        ItemOn::InState => false,
-        ItemOn::Silent => label.is_none(),
-        ItemOn::Action(action) => match label {
-            None => false,
-            Some(name) => name.as_str() == action.name.as_str(),
-        },
+    let one = Earned { structure, item };
+    match &item.on {
+        ItemOn::InState => Ok(()),
+        ItemOn::Silent => {
+            all.silent.push(one)?;
+            Ok(())
+        }
+        ItemOn::Action(action) => all.named.add(alloc, action.name.as_str(), one),
     }
+}
+
+fn copied_items<'a>(alloc: Global, items: &[Earned<'a>]) -> Result<Vec<Earned<'a>>, AllocError>
+    ensures { IfOk result (λ es. es.items ≡ items.now) }
+{
+    let mut all = Vec::with_capacity(alloc, items.len())?;
+    for item in items {
+        all.push(*item)?;
+    }
+    Ok(all)
 }
 
 /// The items of each reward structure that states earn.

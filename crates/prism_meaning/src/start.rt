@@ -2,6 +2,8 @@
 ghost use Rattle.std.specs.Prelude.{◌≡◌, ◌++◌, [], IfOk, MatchResult, None, map};
 ghost use Rattle.op_trees.specs.Seen.{Seen, known};
 ghost use Rattle.process_core.specs.Ready.{Name};
+ghost use Rattle.name_rules.specs.Circles.{AreTurns};
+ghost use Rattle.name_rules.specs.Names.{under};
 ghost use Rattle.prism_check.specs.Scene.{column, columns_of, scene};
 ghost use Rattle.prism_names.specs.Names.{unchanged};
 ghost use Rattle.state_choices.specs.Views.{seen_of};
@@ -10,7 +12,7 @@ ghost use Rattle.instance_start.specs.Columns.{AreColumns, column_of, constant_o
 ghost use Rattle.instance_start.specs.Firsts.{BeginRight};
 ghost use Rattle.instance_start.specs.Given.{given_by, misfit};
 ghost use Rattle.instance_start.specs.Started.{FailsIn, Starts};
-ghost use Rattle.prism_meaning.specs.Constants.{AreConstants, HasWideConstant, narrow_value};
+ghost use Rattle.prism_meaning.specs.Constants.{AreConstants, HasWideConstant, declared_const, narrow_value};
 ghost use Rattle.prism_meaning.specs.Described.{described, mark_names, opened, prism_description, structure_name};
 ghost use Rattle.prism_meaning.specs.Instance.{process_of};
 ghost use Rattle.prism_meaning.specs.Knowing.{IsFixed, IsKnown, IsPrepared};
@@ -27,7 +29,7 @@ use crate::prepare::prepared;
 use crate::shapes::{earned_in_states, shapes};
 use crate::state_names::StateNames;
 use crate::variables::{all_variables, variables_under};
-use instance_start::{Column, Constant, Place, Variable, columns, misfit};
+use instance_start::{Column, Constant, Place, Variable, columns, given_values, misfit};
 use name_rules::NameMap;
 use op_trees::{EvalFail, Value};
 use prism_check::FlatPrism;
@@ -49,9 +51,12 @@ pub fn start_prism<'a>(
         Ok(opens) => opens,
         Err(e) => return Err(StartFail::Memory(e)),
     };
-    match misfit(opens.as_slice(), given) {
-        Some(i) => Err(StartFail::Word(i)),
-        None => start_fitting(alloc, flat, given, opens.as_slice()),
+    match misfit(alloc, opens.as_slice(), given) {
+        Err(e) => Err(StartFail::Memory(e)),
+        Ok(first) => match first {
+            Some(i) => Err(StartFail::Word(i)),
+            None => start_fitting(alloc, flat, given, opens.as_slice()),
+        },
     }
 }
 
@@ -177,9 +182,26 @@ fn known_constants(
         Ok(order) => order,
         Err(e) => return Err(StartFail::Memory(e)),
     };
-    match constant_places(alloc, constants) {
+    match given_values(alloc, given) {
         Err(e) => Err(StartFail::Memory(e)),
-        Ok(places) => constant_values(alloc, file, given, &places, order.as_slice()),
+        Ok(values) => ordered_constants(alloc, file, &values, order.as_slice()),
+    }
+}
+
+/// The same in an order in which each stands behind those that its value needs.
+fn ordered_constants(
+    alloc: Global,
+    file: &PrismFile,
+    given: &NameMap<Value>,
+    order: &[usize],
+) -> Result<Vec<Option<Value>>, StartFail>
+    requires flat { IsFlat (file_of file.now) }
+    requires turns { AreTurns (map declared_const (map const_of file.now.constants)) order.now }
+    ensures { MatchResult result (λ t. AreConstants (file_of file.now) (under given.now) t.items) (HasWideConstant (file_of file.now) (under given.now)) }
+{
+    match constant_places(alloc, file.constants.as_slice()) {
+        Err(e) => Err(StartFail::Memory(e)),
+        Ok(places) => constant_values(alloc, file, given, &places, order),
     }
 }
 

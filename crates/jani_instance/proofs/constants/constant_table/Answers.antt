@@ -1,10 +1,10 @@
-use Rattle.std.proofs.Common.{◌≡◌, ◌∙◌, length, map, sym, ap, subst}
+use Rattle.std.proofs.Common.{◌∙◌, map, sym, ap, subst}
 use Rattle.std.specs.List.{list_any}
 use Rattle.std.proofs.lemmas.List.{length-map}
 use Rattle.state_choices.specs.Trimmed.{computed}
 use Rattle.state_choices.specs.Views.{seen_of}
 use Rattle.jani_tree.specs.Syntax.{const_of, file_of}
-use Rattle.instance_start.specs.Given.{given_by}
+use Rattle.name_rules.specs.Names.{under}
 use Rattle.jani_instance.specs.Constants.{AreWithin, round_of}
 use Rattle.jani_instance.proofs.Rounds.{narrow_values, wides}
 use Rattle.jani_instance.proofs.Tables.{within_settled, within_wide}
@@ -13,7 +13,7 @@ use Rattle.jani_instance.proofs.constants.constant_table.Goals as goal
 pub returns-then-has_wide : goal.returns-then-has_wide
 returns-then-has_wide c =
     let file = file_of c.args.file.now in
-    let v = given_by c.args.given.now in
+    let v = under c.args.given.now in
     let t = c.in_ok-table.table.items in
     let ss = round_of file.constants v t in
     let found = c.in_ok-found.ensures ∙ ap (λ l. map computed (round_of (map const_of l) v c.as_slice-2.result.now)) c.as_slice-constants.ensures ∙ ap (λ t. map computed (round_of file.constants v t)) c.as_slice-2.ensures.value in
@@ -23,7 +23,7 @@ returns-then-has_wide c =
 pub returns-then-same : goal.returns-then-same
 returns-then-same c =
     let file = file_of c.args.file.now in
-    let v = given_by c.args.given.now in
+    let v = under c.args.given.now in
     let t = c.in_ok-table.table.items in
     let ss = round_of file.constants v t in
     let found = c.in_ok-found.ensures ∙ ap (λ l. map computed (round_of (map const_of l) v c.as_slice-2.result.now)) c.as_slice-constants.ensures ∙ ap (λ t. map computed (round_of file.constants v t)) c.as_slice-2.ensures.value in

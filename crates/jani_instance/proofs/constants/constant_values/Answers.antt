@@ -10,7 +10,7 @@ use Rattle.jani_tree.specs.Syntax.{Const, const_of}
 use Rattle.op_trees.specs.Names.{is_called}
 use Rattle.jani_meaning.specs.Scene.{constant_seen}
 use Rattle.instance_start.specs.Columns.{value_at}
-use Rattle.instance_start.specs.Given.{given_by}
+use Rattle.name_rules.specs.Names.{under}
 use Rattle.jani_instance.specs.Constants.{names_by}
 use Rattle.jani_instance.proofs.StartLaws.{constant_at}
 use Rattle.jani_instance.proofs.constants.constant_values.Goals as goal
@@ -18,7 +18,7 @@ use Rattle.jani_instance.proofs.constants.constant_values.Goals as goal
 pub returns : goal.returns
 returns c =
     let cs = map const_of c.args.constants.now in
-    let v = given_by c.args.given.now in
+    let v = under c.args.given.now in
     let table = c.args.table.now in
     let e = fun_ext (λ (x : Name). ap known (ap (value_at [] table) (c.requires x) ∙ constant_at table (position (λ d. is_called x d.name) cs))) in
     subst (λ l. IfOk c.each_value.result (λ rs. rs.items ≡ l))

@@ -5,7 +5,7 @@ use Rattle.state_choices.specs.Trimmed.{computed}
 use Rattle.state_choices.specs.Views.{seen_of}
 use Rattle.jani_tree.specs.Syntax.{const_of, file_of}
 use Rattle.jani_meaning.specs.Scene.{constant_within}
-use Rattle.instance_start.specs.Given.{given_by}
+use Rattle.name_rules.specs.Names.{under}
 use Rattle.jani_instance.specs.Constants.{first_table, round_of}
 use Rattle.jani_instance.proofs.Rounds.{IsRound, narrow_values, round_more, round_none, round_settled, round_wide, wides}
 use Rattle.jani_instance.proofs.constants.table_in_turns.Goals as goal
@@ -13,13 +13,13 @@ use Rattle.jani_instance.proofs.constants.table_in_turns.Goals as goal
 pub loop-turn-init : goal.loop-turn-init
 loop-turn-init c =
     let file = file_of c.args.file.now in
-    let v = given_by c.args.given.now in
+    let v = under c.args.given.now in
     subst (IsRound file v 0) (sym (c.in_ok-table.ensures ∙ ap (λ l. first_table (map const_of l)) c.as_slice-constants.ensures)) (round_none file v)
 
 pub loop-turn-preserved : goal.loop-turn-preserved
 loop-turn-preserved c =
     let file = file_of c.args.file.now in
-    let v = given_by c.args.given.now in
+    let v = under c.args.given.now in
     let ss = round_of file.constants v c.loop-turn.table.items in
     let found = c.in_ok-found.ensures ∙ ap (λ l. map computed (round_of (map const_of l) v c.as_slice.result.now)) c.as_slice-constants.ensures ∙ ap (λ t. map computed (round_of file.constants v t)) c.as_slice.ensures.value in
     let wide = sym (wides ss) ∙ sym (ap (list_any (λ r. (seen_of r).wide)) (c.as_slice-in-loop-turn.ensures.value ∙ found)) ∙ sym c.has_wide.ensures in
@@ -29,7 +29,7 @@ loop-turn-preserved c =
 pub returns-then-has_wide : goal.returns-then-has_wide
 returns-then-has_wide c =
     let file = file_of c.args.file.now in
-    let v = given_by c.args.given.now in
+    let v = under c.args.given.now in
     let ss = round_of file.constants v c.loop-turn.table.items in
     let found = c.in_ok-found.ensures ∙ ap (λ l. map computed (round_of (map const_of l) v c.as_slice.result.now)) c.as_slice-constants.ensures ∙ ap (λ t. map computed (round_of file.constants v t)) c.as_slice.ensures.value in
     let wide = sym (wides ss) ∙ sym (ap (list_any (λ r. (seen_of r).wide)) (c.as_slice-in-loop-turn.ensures.value ∙ found)) ∙ sym c.has_wide.ensures in
@@ -40,7 +40,7 @@ returns-then-has_wide c =
 pub returns-then-same : goal.returns-then-same
 returns-then-same c =
     let file = file_of c.args.file.now in
-    let v = given_by c.args.given.now in
+    let v = under c.args.given.now in
     let ss = round_of file.constants v c.loop-turn.table.items in
     let found = c.in_ok-found.ensures ∙ ap (λ l. map computed (round_of (map const_of l) v c.as_slice.result.now)) c.as_slice-constants.ensures ∙ ap (λ t. map computed (round_of file.constants v t)) c.as_slice.ensures.value in
     let wide = sym (wides ss) ∙ sym (ap (list_any (λ r. (seen_of r).wide)) (c.as_slice-in-loop-turn.ensures.value ∙ found)) ∙ sym c.has_wide.ensures in
@@ -54,7 +54,7 @@ returns-then-same c =
 pub returns : goal.returns
 returns c =
     let file = file_of c.args.file.now in
-    let v = given_by c.args.given.now in
+    let v = under c.args.given.now in
     let size = ap length c.as_slice-constants.ensures ∙ sym (length-map c.args.file.now.constants const_of) in
     let test = c.loop-turn-test.false in
     let end = c.loop-turn.auto._turn-end in

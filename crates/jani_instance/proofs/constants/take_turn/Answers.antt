@@ -1,4 +1,4 @@
-use Rattle.std.proofs.Common.{◌≡◌, ◌∙◌, ◌<◌, [], length, map, get_or, ap, refl, arith}
+use Rattle.std.proofs.Common.{◌∙◌, ◌<◌, [], length, get_or, ap, refl, arith}
 use Rattle.std.specs.List.{position}
 use Rattle.std.specs.Option.{option_map}
 use Rattle.std.proofs.Math.Path.{fun_ext}
@@ -11,19 +11,19 @@ use Rattle.state_choices.specs.Views.{seen_of}
 use Rattle.jani_tree.specs.Syntax.{const_of, file_of}
 use Rattle.jani_meaning.specs.Scene.{constant_seen}
 use Rattle.instance_start.specs.Columns.{value_at}
-use Rattle.instance_start.specs.Given.{given_by}
+use Rattle.name_rules.specs.Names.{under}
 use Rattle.jani_instance.specs.Views.{values_by}
 use Rattle.jani_instance.proofs.StartLaws.{constant_at}
 use Rattle.jani_instance.proofs.Tables.{within_more, within_next}
 use Rattle.jani_instance.proofs.constants.take_turn.Goals as goal
 
 pub returns-then-i-constants : goal.returns-then-i-constants
-returns-then-i-constants c = λ n h. within_more (file_of c.args.file.now) (given_by c.args.given.now) n c.args.table.now.items h
+returns-then-i-constants c = λ n h. within_more (file_of c.args.file.now) (under c.args.given.now) n c.args.table.now.items h
 
 pub returns : goal.returns
 returns c =
     let file = file_of c.args.file.now in
-    let v = given_by c.args.given.now in
+    let v = under c.args.given.now in
     let t = c.args.table.now.items in
     let i = c.args.i in
     let one = c.index-constants-i.result in

@@ -7,7 +7,7 @@ use Rattle.jani_tree.specs.Syntax.{file_of}
 use Rattle.jani_meaning.specs.Elements.{elements}
 use Rattle.jani_instance.specs.Actions.{IsBasis, IsNumbered, actions_of}
 use Rattle.jani_instance.specs.Built.{IsNamedElementOf}
-use Rattle.jani_instance.specs.Parts.{automaton_at, place_under}
+use Rattle.jani_instance.specs.Parts.{automaton_at}
 use Rattle.jani_instance.specs.declared.acting.Basis.{Basis}
 use Rattle.jani_instance.specs.declared.parts.Part.{Part}
 use Rattle.jani_instance.proofs.Numbering.{built_more, got_at, zip_at}
@@ -43,6 +43,3 @@ loop-i-preserved c =
       built_more (λ k a d. IsNamedElementOf file (actions_of a) k a d) (elements file) c.loop-i.all.items c.push.new.self.items i (automaton_at p) e c.loop-i.invariant.0
           (is_there b c.requires.basis i p c.loop-i-test.true c.part-item.is) c.loop-i.invariant.1 c.in_ok-element.ensures c.in_ok-push.ensures.items,
     )
-
-pub element-requires-clause-own : goal.element-requires-clause-own
-element-requires-clause-own c = λ x. ap (place_under x) c.get-these.ensures ∙ c.requires.owned c.loop-i.i x

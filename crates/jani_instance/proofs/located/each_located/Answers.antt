@@ -2,7 +2,7 @@ use Rattle.std.proofs.Common.{◌∙◌, map, ap}
 use Rattle.gathering.specs.Lists.{list_for}
 use Rattle.jani_instance.specs.Actions.{lent_edge, located_among}
 use Rattle.jani_instance.specs.Shapes.{located_of}
-use Rattle.jani_instance.proofs.Numbering.{counted_more}
+use Rattle.instance_start.proofs.Numbered.{counted_more}
 use Rattle.jani_instance.proofs.located.each_located.Goals as goal
 
 pub loop-n-preserved : goal.loop-n-preserved

@@ -1,9 +1,9 @@
-use Rattle.std.proofs.Common.{◌≡◌, ◌∙◌, ap, ap₂, sym}
+use Rattle.std.proofs.Common.{◌∙◌, ap, ap₂, sym}
 use Rattle.std.specs.Prelude.{◌&&◌, Some, None, bytes_eq, nat_eq, if◌then◌else◌}
 use Rattle.std.specs.Option.{option_or}
 use Rattle.gathering.specs.Lists.{list_for}
-use Rattle.jani_meaning.specs.Elements.{is_own, is_owner}
-use Rattle.jani_instance.specs.Parts.{owned_at, place_under}
+use Rattle.jani_meaning.specs.Elements.{is_owner}
+use Rattle.jani_instance.specs.Parts.{place_under}
 use Rattle.jani_instance.proofs.Owning.{place_added}
 use Rattle.jani_instance.proofs.parts.add_own.Goals as goal
 

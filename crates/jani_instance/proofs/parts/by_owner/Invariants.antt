@@ -8,4 +8,4 @@ use Rattle.jani_meaning.specs.Elements.{is_own}
 use Rattle.jani_instance.proofs.parts.by_owner.Given as goal
 
 abbrev pub invariant-loop-k : goal.invariant-loop-k
-invariant-loop-k l = (i : ℕ) (x : List ℕ) → place_under x (list_for l.all i) ≡ option_map (λ n. Variable (l.first + n)) (position (is_own i x) (map owned_at (take l.k l.lasting)))
+invariant-loop-k l = (i : ℕ) (x : List ℕ) → place_under x (list_for l.all i) ≡ option_map (λ n. Variable (l.first + n)) (position (is_own i x) (map owned_at (take l.k l.vars)))

@@ -13,16 +13,16 @@ loop-k-init c = λ x. ap (λ f. f x) c.new-places.ensures
 
 pub loop-k-preserved : goal.loop-k-preserved
 loop-k-preserved c =
-    let o = c.index-lasting-k.result in
+    let o = c.index-vars-k.result in
     let F = λ (n : ℕ). Variable (c.args.first + n) in
     λ x. elim c.if-is_unowned.branch [
       | then-is_unowned+in_ok-put_first w ↦
           ap (λ m. under m x) w.places-is
-          ∙ placed_more F (is_global x) owned_at c.args.lasting.now c.loop-k.k o (under c.loop-k.places x) _ (bytes_eq o.var.now.name.name x) c.loop-k-test.true c.index-lasting-k.is (c.loop-k.invariant x)
+          ∙ placed_more F (is_global x) owned_at c.args.vars.now c.loop-k.k o (under c.loop-k.places x) _ (bytes_eq o.var.now.name.name x) c.loop-k-test.true c.index-vars-k.is (c.loop-k.invariant x)
           (ap (λ f. f x) w.in_ok-put_first.ensures ∙ ap (λ n. put_first (under c.loop-k.places) n (F c.loop-k.k) x) w.as_str.ensures)
           (ap (λ b. b && bytes_eq o.var.now.name.name x) (sym c.is_unowned.ensures ∙ w.if-is_unowned.true))
       | else-is_unowned w ↦
           ap (λ m. under m x) w.places-is
-          ∙ placed_none F (is_global x) owned_at c.args.lasting.now c.loop-k.k o (under c.loop-k.places x) c.loop-k-test.true c.index-lasting-k.is (c.loop-k.invariant x)
+          ∙ placed_none F (is_global x) owned_at c.args.vars.now c.loop-k.k o (under c.loop-k.places x) c.loop-k-test.true c.index-vars-k.is (c.loop-k.invariant x)
           (ap (λ b. b && bytes_eq o.var.now.name.name x) (sym c.is_unowned.ensures ∙ w.if-is_unowned.false))
     ]

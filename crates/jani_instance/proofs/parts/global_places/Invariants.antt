@@ -8,4 +8,4 @@ use Rattle.jani_meaning.specs.Elements.{is_global}
 use Rattle.jani_instance.proofs.parts.global_places.Given as goal
 
 abbrev pub invariant-loop-k : goal.invariant-loop-k
-invariant-loop-k l = (x : List ℕ) → under l.places x ≡ option_map (λ n. Variable (l.first + n)) (position (is_global x) (map owned_at (take l.k l.lasting)))
+invariant-loop-k l = (x : List ℕ) → under l.places x ≡ option_map (λ n. Variable (l.first + n)) (position (is_global x) (map owned_at (take l.k l.vars)))

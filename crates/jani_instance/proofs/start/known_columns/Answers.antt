@@ -3,7 +3,7 @@ use Rattle.std.specs.Prelude.{MatchResult}
 use Rattle.state_choices.specs.Trimmed.{computed}
 use Rattle.state_choices.specs.Views.{seen_of}
 use Rattle.instance_start.specs.Columns.{AreColumns, column_of, variable_of}
-use Rattle.instance_start.specs.Given.{given_by}
+use Rattle.name_rules.specs.Names.{under}
 use Rattle.instance_start.specs.Started.{FailsIn}
 use Rattle.jani_tree.specs.Syntax.{const_of, file_of}
 use Rattle.jani_meaning.specs.Scene.{scene}
@@ -15,7 +15,7 @@ use Rattle.jani_instance.proofs.start.known_columns.Goals as goal
 pub returns : goal.returns
 returns c =
     let file = file_of c.args.file.now in
-    let v = given_by c.args.given.now in
+    let v = under c.args.given.now in
     let table = c.args.table.now in
     let listed = c.requires.listed in
     subst (λ cs. MatchResult c.columns.result (λ xs. AreColumns (scene file v) (map column_of xs.items)) (FailsIn cs (scene file v))) c.requires.opens

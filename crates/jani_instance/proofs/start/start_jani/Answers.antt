@@ -9,5 +9,5 @@ pub returns-in-Some : goal.returns-in-Some
 returns-in-Some c =
     ap (λ cs. misfit cs c.args.given.now)
     (sym (ap (map constant_of) c.as_slice-2.ensures.value ∙ c.in-Ok.ensures ∙ ap (λ l. map opened (map const_of l)) c.as_slice.ensures ∙ ap (λ f. map opened (map const_of f.constants)) c.file-file.ensures.same))
-    ∙ sym c.misfit.ensures
+    ∙ sym c.in-Ok-misfit.ensures
     ∙ c.in-Some.is

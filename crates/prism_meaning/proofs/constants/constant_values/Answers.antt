@@ -5,7 +5,7 @@ use Rattle.std.proofs.lemmas.List.{take_more}
 use Rattle.basics.specs.Lists.{at_take_all}
 use Rattle.std.proofs.lemmas.Option.{slice_get-get_or}
 use Rattle.op_trees.specs.Tree.{tree}
-use Rattle.instance_start.specs.Given.{given_by}
+use Rattle.name_rules.specs.Names.{under}
 use Rattle.prism_tree.specs.Syntax.{const_of, file_of}
 use Rattle.prism_check.specs.Scene.{constant_seen}
 use Rattle.state_choices.specs.Trimmed.{computed}
@@ -17,7 +17,7 @@ use Rattle.prism_meaning.proofs.constants.constant_values.Goals as goal
 pub returns-then-is_wide : goal.returns-then-is_wide
 returns-then-is_wide c =
     let file = file_of c.args.file.now in
-    let v = given_by c.args.given.now in
+    let v = under c.args.given.now in
     let k = c.loop-turn.turn-index in
     let t = get_or c.args.order.now k 0 in
     let one = c.index-as_slice-turn.result in
@@ -32,7 +32,7 @@ returns-then-is_wide c =
 pub loop-turn-preserved : goal.loop-turn-preserved
 loop-turn-preserved c =
     let file = file_of c.args.file.now in
-    let v = given_by c.args.given.now in
+    let v = under c.args.given.now in
     let k = c.loop-turn.turn-index in
     let t = get_or c.args.order.now k 0 in
     let one = c.index-as_slice-turn.result in
@@ -49,6 +49,6 @@ loop-turn-preserved c =
 pub returns : goal.returns
 returns c =
     let file = file_of c.args.file.now in
-    let v = given_by c.args.given.now in
+    let v = under c.args.given.now in
     all_names file v c.requires.form c.args.order.now c.requires.turns c.loop-turn.table.items
     (subst (AreTurned file v c.loop-turn.table.items) (at_take_all (λ l. l) c.args.order.now c.loop-turn.turn-index c.loop-turn-test.false) c.loop-turn.invariant)

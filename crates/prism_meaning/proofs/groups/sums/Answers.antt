@@ -1,22 +1,13 @@
-use Rattle.std.proofs.Common.{◌∙◌, ap, map}
-use Rattle.basics.specs.Lists.{at_take_all}
-use Rattle.expr_store.specs.Views.{seen_by, same_by, same_none, same_then}
-use Rattle.prism_meaning.specs.Prepared.{sum_by}
+use Rattle.std.proofs.Common.{◌∙◌, sym, ap, map, map-id}
+use Rattle.gathering.specs.Lists.{list_for}
+use Rattle.process_core.specs.Bounds.{summed}
 use Rattle.state_choices.specs.Trimmed.{computed_sum}
-use Rattle.prism_meaning.proofs.Evaluating.{sums_more}
+use Rattle.state_choices.specs.Views.{item_of}
+use Rattle.instance_start.proofs.Numbered.{counted_more}
 use Rattle.prism_meaning.proofs.groups.sums.Goals as goal
 
-pub loop-items-init : goal.loop-items-init
-loop-items-init c = (c.in_ok-all.ensures, same_none c.args.state.now)
-
-pub loop-items-preserved : goal.loop-items-preserved
-loop-items-preserved c = (
-  sums_more (λ at x. computed_sum (sum_by at x.items)) c.args.rewards.now c.loop-items.items-index c.items-item.result c.loop-items.all c.push.new.self c.in_ok-one.one (seen_by c.args.state.now) (seen_by c.loop-items.state)
-      c.loop-items-test.true c.items-item.is (same_by c.loop-items.invariant.1) c.loop-items.invariant.0 c.in_ok-push.ensures.ok
-      (c.in_ok-one.ensures.0 ∙ ap (λ l. computed_sum (sum_by (seen_by c.loop-items.state) l)) c.as_slice.ensures.value),
-  same_then c.loop-items.invariant.1 c.in_ok-one.ensures.1,
-)
-
-pub returns : goal.returns
-returns c =
-    (c.loop-items.invariant.0 ∙ at_take_all (map (λ x. computed_sum (sum_by (seen_by c.args.state.now) x.items))) c.args.rewards.now c.loop-items.items-index c.loop-items-test.false, c.loop-items.invariant.1)
+pub loop-k-preserved : goal.loop-k-preserved
+loop-k-preserved c =
+    sym (map-id c.push.new.self)
+    ∙ counted_more (λ m. m) (λ k. computed_sum (summed (map item_of (list_for c.args.items.now k)))) c.loop-k.k c.loop-k.all c.push.new.self _ (map-id c.loop-k.all ∙ c.loop-k.invariant)
+    c.in_ok-push.ensures.ok (c.sum_of.ensures ∙ ap (λ l. computed_sum (summed (map item_of l))) c.get.ensures)

@@ -1,8 +1,10 @@
-use Rattle.std.proofs.Common.{◌≡◌, map, take}
-use Rattle.expr_store.specs.Views.{seen_by, IsSame}
-use Rattle.prism_meaning.specs.Prepared.{sum_by}
+use Rattle.std.proofs.Common.{◌≡◌, map}
+use Rattle.std.specs.List.{range_with_len}
+use Rattle.gathering.specs.Lists.{list_for}
+use Rattle.process_core.specs.Bounds.{summed}
 use Rattle.state_choices.specs.Trimmed.{computed_sum}
+use Rattle.state_choices.specs.Views.{item_of}
 use Rattle.prism_meaning.proofs.groups.sums.Given as goal
 
-abbrev pub invariant-loop-items : goal.invariant-loop-items
-invariant-loop-items l = (l.all ≡ map (λ x. computed_sum (sum_by (seen_by l.fn.state) x.items)) (take l.items-index l.rewards)) × IsSame l.fn.state l.state
+abbrev pub invariant-loop-k : goal.invariant-loop-k
+invariant-loop-k l = l.all ≡ map (λ k. computed_sum (summed (map item_of (list_for l.items k)))) (range_with_len 0 l.k)

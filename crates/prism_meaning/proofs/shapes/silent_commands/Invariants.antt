@@ -1,9 +1,9 @@
 use Rattle.std.proofs.Common.{◌≡◌, map, take, None}
-use Rattle.std.specs.List.{filter}
-use Rattle.prism_tree.specs.Syntax.{command_of}
-use Rattle.prism_meaning.specs.Shapes.{acts}
+use Rattle.std.specs.List.{filter, flat_map}
+use Rattle.prism_tree.specs.Syntax.{module_of}
+use Rattle.prism_meaning.specs.Shapes.{acts, bodies}
 use Rattle.prism_meaning.specs.Views.{commands_of}
 use Rattle.prism_meaning.proofs.shapes.silent_commands.Given as goal
 
-abbrev pub invariant-loop-command : goal.invariant-loop-command
-invariant-loop-command l = commands_of l.these.items ≡ filter (acts None) (map command_of (take l.command-index l.commands))
+abbrev pub invariant-loop-one : goal.invariant-loop-one
+invariant-loop-one l = commands_of l.these.items ≡ flat_map (filter (acts None)) (bodies (map module_of (take l.one-index l.modules)))
