@@ -1,7 +1,6 @@
 pub mod Kept
 pub mod Named
 mod ActionLabels
-mod EntryClasses
 mod GainItems
 mod GivenTo
 mod LineLists
@@ -12,4 +11,3 @@ mod OneLine
 mod PairedActions
 mod ShortActions
 mod Utf8Lines
-pub use Rattle.prism_targets.proofs.Positions

@@ -6,11 +6,9 @@ pub use Rattle.prism_translation_laws.specs.Lines
 pub use Rattle.prism_translation_laws.specs.Refused
 pub mod Asks
 pub mod Gains
-pub mod Gathered
 pub mod Given
 pub mod LineParts
 pub mod MapParts
 pub mod NamedTargets
 pub mod Parts
 pub mod Translation
-pub use Rattle.prism_targets.specs.Places

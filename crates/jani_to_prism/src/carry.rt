@@ -7,11 +7,10 @@ ghost use Rattle.prism_targets.specs.Names.{entries};
 ghost use Rattle.prism_targets.specs.Serving.{target_in};
 ghost use Rattle.prism_targets.specs.Targets.{targets};
 ghost use Rattle.prism_modules.specs.Code.{file_in, names_in, IsReady};
-ghost use Rattle.jani_to_prism.specs.Gathered.{AreGathered};
+ghost use Rattle.prism_modules.specs.Gathered.{AreGathered};
 ghost use Rattle.jani_to_prism.specs.MapParts.{IsMapBy};
 ghost use Rattle.jani_to_prism.specs.Maps.{IsMapToPrism};
 
-use crate::gathered::{FileParts, file_parts};
 use crate::label_pairs::label_pairs;
 use crate::map_columns::map_columns;
 use crate::named_targets::named_targets;
@@ -21,7 +20,7 @@ use carry_maps::CarryMap;
 use jani_check::CheckedJani;
 use jani_tree::{JaniAutomaton, JaniFile};
 use name_table::Entry;
-use prism_modules::Names;
+use prism_modules::{FileParts, Names, file_parts};
 use prism_targets::Target;
 use std::alloc::{AllocError, Global};
 

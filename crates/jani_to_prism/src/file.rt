@@ -15,12 +15,11 @@ ghost use Rattle.gathering.specs.Lists.{list_for};
 ghost use Rattle.prism_modules.specs.Code.{file_in, names_in, IsReady, element_of, IsElement, HasActions, lasting_of};
 ghost use Rattle.jani_to_prism.specs.Gains.{gain_of, gains_of};
 ghost use Rattle.prism_modules.specs.Homes.{AreWriters};
-ghost use Rattle.jani_to_prism.specs.Gathered.{AreGathered};
+ghost use Rattle.prism_modules.specs.Gathered.{AreGathered};
 ghost use Rattle.jani_to_prism.specs.Given.{AreGiven};
 ghost use Rattle.jani_to_prism.specs.Parts.{globals_in, modules_in, labels_in, rewards_in};
 
 use crate::gains::{Gain, gains};
-use crate::gathered::FileParts;
 use crate::given::GivenTable;
 use crate::labels::labels;
 use crate::rewards::structures;
@@ -28,8 +27,8 @@ use bridge_io::{List, together};
 use gathering::NumberLists;
 use name_table::OwnedVar;
 use prism_modules::{
-    Element, LastingVar, Names, WriterTable, at_home, constants, globals, lasting_variables,
-    modules,
+    Element, FileParts, LastingVar, Names, WriterTable, at_home, constants, globals,
+    lasting_variables, modules,
 };
 use prism_targets::{ElementServing, Places, Serving, Target};
 use prism_tree::{PrismFile, PrismLabel, PrismModule, PrismRewards, PrismVar};

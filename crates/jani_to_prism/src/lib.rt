@@ -7,7 +7,6 @@ mod actions;
 mod carry;
 mod file;
 mod gains;
-mod gathered;
 mod given;
 mod label_pairs;
 mod labels;
@@ -21,9 +20,7 @@ mod translating;
 mod translation;
 
 pub use carry::carry_map;
-pub use gathered::{FileParts, file_parts};
 pub use laws::{carry_law, translated_law};
-pub use naming::new_names;
 pub use prism_translation_laws::lines_law;
 pub use translating::to_prism;
 pub use translation::{CheckedPrismText, translate};

@@ -11,17 +11,16 @@ ghost use Rattle.prism_targets.specs.Elements.{elements};
 ghost use Rattle.prism_targets.specs.Lines.{name_line, name_lines, location_line, old_text, joined, called, lines_by};
 ghost use Rattle.prism_targets.specs.Serving.{target_in};
 ghost use Rattle.prism_modules.specs.Code.{file_in, names_in, element_of};
-ghost use Rattle.jani_to_prism.specs.Gathered.{AreGathered};
+ghost use Rattle.prism_modules.specs.Gathered.{AreGathered};
 ghost use Rattle.jani_to_prism.specs.LineParts.{made_line, several_line, old_of, value_lines, moving_lines, mark_lines};
 
 use crate::actions::old_name;
-use crate::gathered::FileParts;
 use bridge_io::{List, Named, Text};
 use decimal_json::push_string;
 use gathering::shorter;
 use jani_tree::{JaniConst, JaniLocation};
 use name_table::{Entry, OwnedVar};
-use prism_modules::{Element, Names, name_at};
+use prism_modules::{Element, FileParts, Names, name_at};
 use prism_targets::Target;
 use std::alloc::{AllocError, Global};
 

@@ -6,16 +6,16 @@ ghost use Rattle.gathering.specs.Lists.{list_for};
 ghost use Rattle.prism_targets.specs.Elements.{elements, lasting_variables, shared};
 ghost use Rattle.prism_modules.specs.Code.{file_in, IsReady, element_of, lasting_of};
 ghost use Rattle.prism_modules.specs.Homes.{AreWriters};
-ghost use Rattle.jani_to_prism.specs.Gathered.{AreGathered};
+ghost use Rattle.prism_modules.specs.Gathered.{AreGathered};
 ghost use Rattle.jani_to_prism.specs.MapParts.{columns_at, element_columns, file_columns, location_columns, variable_columns};
 
 use crate::file::writers;
-use crate::gathered::FileParts;
 use bridge_io::List;
 use carry_maps::Column;
 use gathering::NumberLists;
 use prism_modules::{
-    Element, LastingVar, Names, WriterTable, at_home, elements, lasting_variables, shared,
+    Element, FileParts, LastingVar, Names, WriterTable, at_home, elements, lasting_variables,
+    shared,
 };
 use std::alloc::{AllocError, Global};
 

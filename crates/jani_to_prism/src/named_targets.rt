@@ -5,13 +5,13 @@ ghost use Rattle.jani_tree.specs.Syntax.{file_of};
 ghost use Rattle.prism_targets.specs.Names.{entries};
 ghost use Rattle.prism_targets.specs.Serving.{target_in};
 ghost use Rattle.prism_targets.specs.Targets.{targets};
-ghost use Rattle.jani_to_prism.specs.Gathered.{AreGathered};
+ghost use Rattle.prism_modules.specs.Gathered.{AreGathered};
 ghost use Rattle.jani_to_prism.specs.NamedTargets.{AreNamed};
 
 use crate::actions::ask_actions;
-use crate::gathered::FileParts;
 use jani_tree::JaniFile;
 use name_table::{NameTable, parts_names};
+use prism_modules::FileParts;
 use prism_targets::{Serving, Target, serving};
 use std::alloc::{AllocError, Global};
 

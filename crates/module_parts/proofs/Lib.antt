@@ -1,4 +1,5 @@
 pub mod ByPlaces
 pub mod Kept
 pub mod Singles
+mod EntryClasses
 mod WritersOf

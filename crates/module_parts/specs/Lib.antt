@@ -1,4 +1,5 @@
 pub mod Code
+pub mod Gathered
 pub mod Homes
 pub mod Writers
 pub use Rattle.edge_tables.specs.declared.places.Places

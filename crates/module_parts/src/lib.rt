@@ -4,16 +4,20 @@
 
 mod element;
 mod entries;
+mod gathered;
 mod homes;
 mod images;
+mod naming;
 mod parts;
 mod updates;
 mod writers;
 
 pub use element::{Element, elements};
 pub use entries::{Classes, Names, name_at};
+pub use gathered::{FileParts, file_parts};
 pub use homes::{at_home, globals, lasting_variables, shared};
 pub use images::image;
+pub use naming::new_names;
 pub use parts::{LastingVar, constants, counted, falsehood, image_if, is_there, truth, variable};
 pub use updates::branches;
 pub use writers::WriterTable;

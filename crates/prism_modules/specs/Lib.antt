@@ -1,5 +1,6 @@
 pub mod Commands
 pub use Rattle.module_parts.specs.Code
+pub use Rattle.module_parts.specs.Gathered
 pub use Rattle.module_parts.specs.Homes
 pub use Rattle.module_parts.specs.declared.element.Element
 pub use Rattle.module_parts.specs.Places

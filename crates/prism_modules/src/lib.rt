@@ -8,6 +8,7 @@ mod served;
 
 pub use element_modules::modules;
 pub use module_parts::{
-    Classes, Element, LastingVar, Names, WriterTable, at_home, constants, counted, elements,
-    falsehood, globals, image, image_if, is_there, lasting_variables, name_at, shared, truth,
+    Classes, Element, FileParts, LastingVar, Names, WriterTable, at_home, constants, counted,
+    elements, falsehood, file_parts, globals, image, image_if, is_there, lasting_variables,
+    name_at, new_names, shared, truth,
 };

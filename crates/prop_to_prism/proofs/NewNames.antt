@@ -10,8 +10,8 @@ use Rattle.op_trees.specs.Names.{is_called}
 use Rattle.jani_meaning.specs.Elements.{labels, lasting, place_of}
 use Rattle.name_table.specs.declared.entry.Entry.{Entry}
 use Rattle.name_table.specs.PrismAsks.{NewNames, name_at, name_at_some, value_name, outside}
-use Rattle.prism_modules.specs.Names.{Names}
-use Rattle.prism_modules.specs.Code.{file_in, names_in, value_in, IsReady}
+use Rattle.module_parts.specs.declared.entries.Names.{Names}
+use Rattle.module_parts.specs.Code.{file_in, names_in, value_in, IsReady}
 use Rattle.prop_trees.specs.Trees.{Name}
 use Rattle.prop_trees.specs.Names.{quoted, meant, built_in, Meant, of_model, is_initial, is_deadlock, nothing, initial_name, deadlock_name}
 use Rattle.prop_to_prism.specs.declared.names.PropertyNames.{PropertyNames}

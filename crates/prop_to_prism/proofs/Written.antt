@@ -12,7 +12,7 @@ use Rattle.jani_props.specs.Reading.{AreOfJani}
 use Rattle.prop_trees.specs.Text.{properties_text}
 use Rattle.prop_to_prism.specs.ToPrism.{new_names, reward_names, property_asks, all_entries, property_entries, to_prism}
 use Rattle.prop_to_prism.specs.Code.{names_of, plain_new, all_written, text_by}
-use Rattle.prop_to_prism.specs.Laws.{ReadsBack, TextReadBack, IsWritten}
+use Rattle.prop_to_prism.specs.Laws.{ReadsBack, TextReadBack, AreWrittenAs}
 use Rattle.prop_to_prism.proofs.Entries.{constants_same, variables_same, labels_same, rewards_same, behind_same}
 use Rattle.prop_to_prism.proofs.NewNames.{plain_same}
 use Rattle.prop_to_prism.proofs.Texts.{as_translated}
@@ -27,7 +27,7 @@ text_is file ps =
     (plain_same file (new_names file) news (sym (constants_same file first_alone more)) (sym (variables_same file first_alone more)) (sym (labels_same file first_alone more)))
     (reward_names file) ps (property_entries file ps)
 
-pub is_written : TextReadBack → (file : File) → IsChecked file → (ps : List JaniProperty) → AreOfJani file ps → (text : List ℕ) → text ≡ text_by file (all_entries file ps) ps → IsWritten file ps text
+pub is_written : TextReadBack → (file : File) → IsChecked file → (ps : List JaniProperty) → AreOfJani file ps → (text : List ℕ) → text ≡ text_by file (all_entries file ps) ps → AreWrittenAs file ps text
 is_written law file checked ps are text e =
     let same = e ∙ text_is file ps in
     record { same = same; agree = translated_agree file checked ps are; back = subst (ReadsBack file ps) (sym same) (law file checked ps are) }

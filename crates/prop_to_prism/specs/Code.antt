@@ -8,8 +8,8 @@ use Rattle.name_table.specs.declared.entry.Entry.{Entry}
 use Rattle.name_rules.specs.Names.{under}
 use Rattle.name_table.specs.PrismAsks.{NewNames, names_by, outside}
 use Rattle.jani_images.specs.Image.{image}
-use Rattle.prism_modules.specs.Names.{Names}
-use Rattle.prism_modules.specs.Code.{file_in, value_in}
+use Rattle.module_parts.specs.declared.entries.Names.{Names}
+use Rattle.module_parts.specs.Code.{file_in, value_in}
 use Rattle.prop_trees.specs.Trees.{Name, JaniProperty, ask_with, path_with}
 use Rattle.prop_trees.specs.Names.{quoted, initial_name, deadlock_name}
 use Rattle.prop_to_prism.specs.declared.names.PropertyNames.{PropertyNames}

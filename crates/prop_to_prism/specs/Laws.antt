@@ -99,7 +99,7 @@ TextReadBack = (file : File) → IsChecked file → (ps : List JaniProperty) →
 
 -- ---- what the call promises
 -- The text is the canonical one of the translation, which agrees with the properties; and it is read back as the translation.
-pub record IsWritten (file : File) (ps : List JaniProperty) (text : List ℕ) : Type 0 where
+pub record AreWrittenAs (file : File) (ps : List JaniProperty) (text : List ℕ) : Type 0 where
   pub same : text ≡ properties_text (reward_names file) (to_prism file ps)
   pub agree : AllAgree (translated file) (naming file) (to_prism file ps) ps
   pub back : ReadsBack file ps text

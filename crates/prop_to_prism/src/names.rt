@@ -5,15 +5,15 @@ ghost use Rattle.std.specs.List.{position};
 ghost use Rattle.op_trees.specs.Names.{is_called};
 ghost use Rattle.name_rules.specs.Names.{under};
 ghost use Rattle.name_table.specs.JaniParts.{owned_of};
-ghost use Rattle.prism_modules.specs.Code.{IsReady};
+ghost use Rattle.module_parts.specs.Code.{IsReady};
 ghost use Rattle.prop_trees.specs.Names.{quoted};
 ghost use Rattle.prop_to_prism.specs.Code.{model_name_in, plain_given, text_at, IsReadyFor};
 
 use bridge_io::Text;
+use module_parts::Names;
 use name_rules::NameMap;
 use name_table::{Entry, OwnedVar};
 use prism_images::NewNames;
-use prism_modules::Names;
 use std::alloc::{AllocError, Global};
 
 /// What the names in the properties of a file become: those of its constants and variables, and the numbers of its labels by their names,

@@ -6,23 +6,22 @@ ghost use Rattle.jani_meaning.specs.Elements.{labels as labels_of_file};
 ghost use Rattle.name_table.specs.Gathered.{told};
 ghost use Rattle.name_table.specs.JaniParts.{owned_of};
 ghost use Rattle.jani_check.specs.NameFaults.{name_faults};
-ghost use Rattle.prism_modules.specs.Code.{file_in, names_in, IsReady};
-ghost use Rattle.jani_to_prism.specs.Gathered.{AreGathered};
+ghost use Rattle.module_parts.specs.Code.{file_in, names_in, IsReady};
+ghost use Rattle.module_parts.specs.Gathered.{AreGathered};
 ghost use Rattle.prop_trees.specs.Syntax.{jani_property_of};
 ghost use Rattle.jani_props.specs.Reading.{AreOfJani};
 ghost use Rattle.prop_to_prism.specs.ToPrism.{all_entries, property_asks};
 ghost use Rattle.prop_to_prism.specs.Code.{all_written, at_entry, name_in, names_of, text_by, written_by};
-ghost use Rattle.prop_to_prism.specs.Laws.{IsWritten};
+ghost use Rattle.prop_to_prism.specs.Laws.{AreWrittenAs};
 
 use crate::laws::properties_law;
 use crate::names::PropertyNames;
 use crate::text::write_property;
 use bridge_io::List;
 use jani_check::CheckedJani;
-use jani_to_prism::{FileParts, file_parts, new_names};
 use jani_tree::JaniFile;
+use module_parts::{FileParts, Names, file_parts, new_names};
 use name_table::{Entry, NameClass, NameTable, OwnedVar, prism_names};
-use prism_modules::Names;
 use prop_trees::JaniProperty;
 use std::alloc::{AllocError, Global};
 
@@ -36,7 +35,7 @@ pub fn props_to_prism(
     model: &CheckedJani,
 ) -> Result<List<u8>, AllocError>
     requires { AreOfJani (file_of model.now) (map jani_property_of props.now) }
-    ensures { IfOk result (λ text. IsWritten (file_of model.now) (map jani_property_of props.now) text) }
+    ensures { IfOk result (λ text. AreWrittenAs (file_of model.now) (map jani_property_of props.now) text) }
 {
     let props = props.as_slice();
     let table = table_of(alloc, props, model)?;
@@ -52,7 +51,7 @@ fn text_list(
 ) -> Result<List<u8>, AllocError>
     requires entries { entries.now ≡ all_entries (file_of model.now) (map jani_property_of props.now) }
     requires props { AreOfJani (file_of model.now) (map jani_property_of props.now) }
-    ensures { IfOk result (λ text. IsWritten (file_of model.now) (map jani_property_of props.now) text) }
+    ensures { IfOk result (λ text. AreWrittenAs (file_of model.now) (map jani_property_of props.now) text) }
 {
     properties_law();
     let file = model.file();

@@ -7,8 +7,8 @@ use Rattle.name_table.specs.declared.jani_parts.OwnedVar.{OwnedVar}
 use Rattle.name_rules.specs.Names.{under}
 use Rattle.name_rules.proofs.Maps.{at}
 use Rattle.name_table.specs.JaniParts.{owned_of}
-use Rattle.jani_to_prism.specs.Places.{only_then}
-use Rattle.jani_to_prism.proofs.Positions.{position_more}
+use Rattle.edge_tables.specs.Places.{only_then}
+use Rattle.edge_tables.proofs.Positions.{position_more}
 use Rattle.prop_to_prism.proofs.names.label_numbers.Goals as goal
 
 pub loop-i-preserved : goal.loop-i-preserved

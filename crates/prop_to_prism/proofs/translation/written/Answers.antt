@@ -2,7 +2,7 @@ use Rattle.std.proofs.Common.{◌≡◌, sym, subst, map, List}
 use Rattle.std.specs.Prelude.{IfOk}
 use Rattle.std.proofs.Math.Path.{fun_ext}
 use Rattle.jani_meaning.specs.Elements.{Owned}
-use Rattle.prism_modules.specs.Names.{Names}
+use Rattle.module_parts.specs.declared.entries.Names.{Names}
 use Rattle.prop_trees.specs.Trees.{Name, JaniProperty}
 use Rattle.prop_trees.specs.Syntax.{jani_property_of}
 use Rattle.prop_to_prism.specs.Code.{all_written, names_of, IsReadyFor}

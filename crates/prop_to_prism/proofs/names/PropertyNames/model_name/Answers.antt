@@ -1,6 +1,6 @@
 use Rattle.std.proofs.Common.{◌∙◌, ap, sym, ℕ, List, Option}
 use Rattle.name_table.specs.PrismAsks.{outside}
-use Rattle.prism_modules.specs.Code.{file_in, value_in}
+use Rattle.module_parts.specs.Code.{file_in, value_in}
 use Rattle.prop_trees.specs.Trees.{Name}
 use Rattle.prop_to_prism.specs.Code.{text_at, label_text, model_name_in}
 use Rattle.prop_to_prism.proofs.names.PropertyNames.model_name.Goals as goal

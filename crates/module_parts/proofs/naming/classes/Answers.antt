@@ -1,8 +1,8 @@
 use Rattle.std.proofs.Common.{◌≡◌, ◌∙◌, ap, sym, length, take, drop, ℕ}
 use Rattle.std.proofs.lemmas.List.{length-map}
 use Rattle.jani_tree.specs.Syntax.{File, file_of, const_of}
-use Rattle.jani_to_prism.proofs.EntryClasses.{classes_are}
-use Rattle.jani_to_prism.proofs.naming.classes.Goals as goal
+use Rattle.module_parts.proofs.EntryClasses.{classes_are}
+use Rattle.module_parts.proofs.naming.classes.Goals as goal
 
 pub returns : goal.returns
 returns c =

@@ -7,9 +7,9 @@ use Rattle.jani_tree.specs.Syntax.{const_of}
 use Rattle.op_trees.specs.Names.{is_called}
 use Rattle.name_rules.specs.Names.{under}
 use Rattle.name_rules.proofs.Maps.{at}
-use Rattle.prism_targets.specs.Places.{only_then}
-use Rattle.prism_targets.proofs.Positions.{position_more}
-use Rattle.jani_to_prism.proofs.naming.constant_numbers.Goals as goal
+use Rattle.edge_tables.specs.Places.{only_then}
+use Rattle.edge_tables.proofs.Positions.{position_more}
+use Rattle.module_parts.proofs.naming.constant_numbers.Goals as goal
 
 pub loop-i-preserved : goal.loop-i-preserved
 loop-i-preserved c = λ x.

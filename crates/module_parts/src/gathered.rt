@@ -3,7 +3,7 @@
 ghost use Rattle.std.specs.Prelude.{◌≡◌, [], IfOk};
 ghost use Rattle.jani_tree.specs.Syntax.{file_of};
 ghost use Rattle.jani_check.specs.NameFaults.{name_faults};
-ghost use Rattle.jani_to_prism.specs.Gathered.{AreGathered};
+ghost use Rattle.module_parts.specs.Gathered.{AreGathered};
 
 use jani_tree::{JaniAutomaton, JaniFile};
 use name_table::{OwnedVar, element_automata, labels, lasting, structures};

@@ -3,7 +3,7 @@ use Rattle.std.specs.Prelude.{◌≡◌, map}
 use Rattle.jani_tree.specs.Syntax.{File, automaton_of}
 use Rattle.jani_meaning.specs.Elements.{elements, lasting, labels, structures}
 use Rattle.name_table.specs.JaniParts.{owned_of}
-use Rattle.jani_to_prism.specs.declared.gathered.FileParts.{FileParts}
+use Rattle.module_parts.specs.declared.gathered.FileParts.{FileParts}
 
 pub record AreGathered (g : FileParts) (file : File) : Type 0 where
   pub automata_are : map (λ a. automaton_of a.now) g.automata.items ≡ elements file
