@@ -12,7 +12,7 @@ use Rattle.jani_tree.specs.Canonical.{file_node}
 use Rattle.basics.specs.Lists.{IsNotEmpty as HasItems}
 use Rattle.jani_tree.specs.Form.{FileShort, IsShortName}
 use Rattle.jani_tree.specs.Places.{bare_node, bare_file}
-use Rattle.jani_tree.specs.Back.{IsWritable, OnlyLong, IsClean, ReadsBack, SpellsFile, TextSpells}
+use Rattle.jani_tree.specs.Back.{IsWritable, OnlyLong, IsCleanValue, ReadsBack, SpellsFile, TextSpells}
 use Rattle.jani_tree.proofs.Again.{file_again}
 use Rattle.jani_tree.proofs.Sound.{IsNone, no_fault, short_name, only_long, any_name, file_good}
 use Rattle.jani_tree.proofs.Filled.{Good}
@@ -39,7 +39,7 @@ reads_back f x y h short e s =
     }
 
 -- the canonical value of a tree is clean, but for names that are too long
-pub clean_value : (f : File) (x : Json) → node x ≡ file_node f → IsWritable f → IsClean x
+pub clean_value : (f : File) (x : Json) → node x ≡ file_node f → IsWritable f → IsCleanValue x
 clean_value f x e h =
     let g : Good OnlyLong F.Model (node x) = subst (Good OnlyLong F.Model) (sym e) (file_good OnlyLong only_long HasItems any_name f h.read h.types h.once) in
     record { shape = g.clean; normal = normal_again x g.normal; once = g.once }

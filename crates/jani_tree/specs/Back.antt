@@ -31,7 +31,7 @@ OnlyLong = OfAll (λ f. f.reason ≡ TooLong)
 
 -- The value has no fault of shape but names of more than 255 bytes, each of its numbers is in normal form, and no object of it has
 -- a key twice.
-pub record IsClean (x : Json) : Type 0 where
+pub record IsCleanValue (x : Json) : Type 0 where
   pub shape : OnlyLong (faults F.Model (node x))
   pub normal : all_normal x ≡ true
   pub once : KeysOnce (node x)

@@ -9,7 +9,7 @@ ghost use Rattle.jani_table.specs.Operators.{op_text};
 ghost use Rattle.jani_table.specs.Words.{ty_text};
 ghost use Rattle.jani_tree.specs.Syntax.{bounded, Automaton, Const, Destination, Edge, Location, Var, Vector, Write, automaton_of, const_of, destination_of, edge_of, file_of, kind_of, location_of, var_of, vector_of, write_of};
 ghost use Rattle.jani_tree.specs.Jani.{IsFile};
-ghost use Rattle.jani_tree.specs.Back.{IsClean, IsWritable};
+ghost use Rattle.jani_tree.specs.Back.{IsCleanValue, IsWritable};
 ghost use Rattle.jani_tree.specs.Canonical.{FileForm, automaton_node, bounded_word, boxed_node, const_node, destination_node, edge_node, expr_node, features_node, file_members, file_node, flag_node, head_members, keyed_node, kind_node, list_node, location_node, name_node, part_node, some_list, system_node, var_node, vector_node, version_node, with_entry, with_maybe, with_members, word, write_node};
 
 use crate::copy::copy_json;
@@ -653,7 +653,7 @@ fn file_json(alloc: Global, file: &JaniFile) -> Result<Json, AllocError>
 pub fn to_json(alloc: Global, file: &JaniFile) -> Result<Json, AllocError>
     ensures value { IfOk result (λ v. node v ≡ file_node (file_of file.now)) }
     ensures again { IfOk result (λ v. FileForm (file_of file.now) → IsFile (node v) (file_of file.now)) }
-    ensures clean { IfOk result (λ v. IsWritable (file_of file.now) → IsClean v) }
+    ensures clean { IfOk result (λ v. IsWritable (file_of file.now) → IsCleanValue v) }
 {
     let value = file_json(alloc, file)?;
     Ok(value)

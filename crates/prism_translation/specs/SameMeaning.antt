@@ -92,6 +92,6 @@ pub record AreAlike (file : File) (v w : Valuation) : Type 0 where
 
 -- Under such valuations the instance faults are the same; and, where there are none, the states of the translated file go one to
 -- one onto those of the file, the same are initial, with the same marks; and each choice occurs equally often.
-abbrev pub MeansTheSame : File → Type 0
-MeansTheSame file = FileIsSound file → MarksAreSound file →
+abbrev pub SoundMeansTheSame : File → Type 0
+SoundMeansTheSame file = FileIsSound file → MarksAreSound file →
     SameProcess (prism_process.model (translated file)) (jani_process.model file) (AreAlike file) (placed file) (old_label file) (state_of file)

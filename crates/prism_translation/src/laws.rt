@@ -1,7 +1,7 @@
 // Laws of the translation: a function that does nothing, whose contract is the laws.
 
 ghost use Rattle.jani_tree.specs.Syntax.{File};
-ghost use Rattle.prism_translation.specs.SameMeaning.{ChoicesOften, FaultsAlike, InitialAlike, MarksAlike, MeansTheSame, OneActionEach, SameConstants, SameRanges, StatesAreThese, StatesDiffer, StatesGoTo};
+ghost use Rattle.prism_translation.specs.SameMeaning.{ChoicesOften, FaultsAlike, InitialAlike, MarksAlike, SoundMeansTheSame, OneActionEach, SameConstants, SameRanges, StatesAreThese, StatesDiffer, StatesGoTo};
 
 /// There is an action for each target of the file, in order. Where the file is sound, and two valuations give each constant
 /// that has no expression the same value under its names in both files: constants have the same values and columns the same
@@ -19,5 +19,5 @@ pub fn meaning_law()
     ensures faults { (file : File) → FaultsAlike file }
     ensures marks { (file : File) → MarksAlike file }
     ensures choices { (file : File) → ChoicesOften file }
-    ensures same { (file : File) → MeansTheSame file }
+    ensures same { (file : File) → SoundMeansTheSame file }
 {}

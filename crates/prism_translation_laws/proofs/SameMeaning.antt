@@ -63,7 +63,7 @@ corresponding_are_alike file c v w h = record { gives = gives_alike file v w h; 
 
 -- ---- the same process
 -- by what is proved of files that meet what is asked
-module _ (meant : (file : File) → translation.MeansTheSame file) where
+module _ (meant : (file : File) → translation.SoundMeansTheSame file) where
   as_translated : (file : File) → IsChecked file → MeansTheSame file (translated file)
   as_translated file c =
       let same = meant file (file_is_sound file c) (marks_are_sound file c) in

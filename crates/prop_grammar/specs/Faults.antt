@@ -38,8 +38,8 @@ abbrev pub file_within : List Lexeme → Lang (List WrittenProperty)
 file_within us = properties (outer us) (outer_operand us)
 
 -- These tokens begin a properties file, and none of them is past the limit.
-abbrev pub IsSound : List Lexeme → Type 0
-IsSound us = Begins (file_within us) us
+abbrev pub BeginsProperties : List Lexeme → Type 0
+BeginsProperties us = Begins (file_within us) us
 
 -- ---- the reasons
 
@@ -79,9 +79,9 @@ pub data IsReason (us : List Lexeme) (t : Lexeme) : Reason → Type 0 where
 
 -- The fault is at the first token behind which the tokens are not sound any more. The end counts as a token, at this offset.
 pub data IsGrammarFault (end : ℕ) (ts : List Lexeme) (f : Fault) : Type 0 where
-  at_token : (us rest : List Lexeme) (t : Lexeme) → ts ≡ us ++ t ∷ rest → IsSound us → (IsSound (us ++ t ∷ []) → ⊥) →
+  at_token : (us rest : List Lexeme) (t : Lexeme) → ts ≡ us ++ t ∷ rest → BeginsProperties us → (BeginsProperties (us ++ t ∷ []) → ⊥) →
       f.at ≡ t.at → IsReason us t f.reason → IsGrammarFault end ts f
-  at_end : IsSound ts → ((x : List WrittenProperty) → file ts x → ⊥) → f.at ≡ end → f.reason ≡ Syntax → IsGrammarFault end ts f
+  at_end : BeginsProperties ts → ((x : List WrittenProperty) → file ts x → ⊥) → f.at ≡ end → f.reason ≡ Syntax → IsGrammarFault end ts f
 
 -- ---- texts
 

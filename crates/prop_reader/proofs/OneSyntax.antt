@@ -12,7 +12,7 @@ use Rattle.prism_parse.proofs.Grows.{Grows}
 use Rattle.prism_parse.proofs.Single.{less_early, only_read, Order, same, sooner, later, order}
 use Rattle.prop_grammar.specs.Syntax.{WrittenProperty}
 use Rattle.prop_grammar.specs.Grammar.{as_name}
-use Rattle.prop_grammar.specs.Faults.{operand, outer_operand, file, file_within, IsSound, IsReason, too_deep, left_out, no_form, IsGrammarFault, at_token, at_end, of_tokens, of_grammar, none}
+use Rattle.prop_grammar.specs.Faults.{operand, outer_operand, file, file_within, BeginsProperties, IsReason, too_deep, left_out, no_form, IsGrammarFault, at_token, at_end, of_tokens, of_grammar, none}
 use Rattle.prop_reader.proofs.Whole.{properties_one}
 use Rattle.prop_reader.specs.Laws.{OneSyntax, OneFile}
 use Rattle.prop_reader.proofs.Growing.{properties_grows}
@@ -38,21 +38,21 @@ operand_only_read : (us : List Lexeme) → Grows (outer_operand us) operand
 unfolding outer_operand
 operand_only_read us = record { grows = λ w e p. p.0 }
 
-sound_before : (us vs : List Lexeme) → IsSound (us ++ vs) → IsSound us
+sound_before : (us vs : List Lexeme) → BeginsProperties (us ++ vs) → BeginsProperties us
 sound_before us vs s =
     let F : List Lexeme → Type 0 = λ w. file_within (us ++ vs) w s.1 in
     (vs ++ s.0, s.1, (properties_grows (outer (us ++ vs)) (outer us) (outer_operand (us ++ vs)) (outer_operand us) (less_early us vs) (operand_less_early us vs)).grows (us ++ (vs ++ s.0)) s.1 (subst F (append_assoc us vs s.0) s.2))
 
-sound_whole : (ts : List Lexeme) (x : List WrittenProperty) → file_within ts ts x → IsSound ts
+sound_whole : (ts : List Lexeme) (x : List WrittenProperty) → file_within ts ts x → BeginsProperties ts
 sound_whole ts x h = let F : List Lexeme → Type 0 = λ w. file_within ts w x in ([], x, subst F (sym (append-nil ts)) h)
 
 read_whole : (ts : List Lexeme) (x : List WrittenProperty) → file_within ts ts x → file ts x
 read_whole ts x h = (properties_grows (outer ts) expr (outer_operand ts) operand (only_read ts) (operand_only_read ts)).grows ts x h
 
 -- The tokens with this one more are not sound, so no longer ones are.
-not_sound : (us more vs : List Lexeme) (t : Lexeme) → vs ≡ us ++ t ∷ more → (IsSound (us ++ t ∷ []) → ⊥) → IsSound vs → ⊥
+not_sound : (us more vs : List Lexeme) (t : Lexeme) → vs ≡ us ++ t ∷ more → (BeginsProperties (us ++ t ∷ []) → ⊥) → BeginsProperties vs → ⊥
 not_sound us more vs t e n s =
-    let F : List Lexeme → Type 0 = λ w. IsSound w in
+    let F : List Lexeme → Type 0 = λ w. BeginsProperties w in
     n (sound_before (us ++ t ∷ []) more (subst F (e ∙ sym (append_assoc us (t ∷ []) more)) s))
 
 one_grammar_fault : (end : ℕ) (ts : List Lexeme) (f g : Fault) → IsGrammarFault end ts f → IsGrammarFault end ts g → f ≡ g

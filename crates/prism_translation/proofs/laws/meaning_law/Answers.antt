@@ -1,6 +1,6 @@
 use Rattle.jani_tree.specs.Syntax.{File}
 use Rattle.prism_translation.specs.StateLaws.{state_of}
-use Rattle.prism_translation.specs.SameMeaning.{MeansTheSame}
+use Rattle.prism_translation.specs.SameMeaning.{SoundMeansTheSame}
 use Rattle.prism_translation.proofs.Apart.{made_for}
 use Rattle.prism_translation.proofs.NamesAlike.{constant_alike}
 use Rattle.prism_translation.proofs.Domains.{domains_alike}
@@ -12,7 +12,7 @@ use Rattle.prism_translation.proofs.SoundEdges.{choices_meant}
 use Rattle.prism_translation.proofs.MarksAlike.{marks_alike}
 use Rattle.prism_translation.proofs.laws.meaning_law.Goals as goal
 
-same : (file : File) → MeansTheSame file
+same : (file : File) → SoundMeansTheSame file
 same file sound given = record {
   faults = λ v w alike f. faults_alike file v w sound alike.gives f;
   process = λ v w alike none. record {
