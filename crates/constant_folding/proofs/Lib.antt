@@ -1,0 +1,15 @@
+mod Called
+pub mod Kept
+pub mod Steps
+pub mod Monotone
+pub mod Typed
+pub mod WholeNumbers
+pub mod Places
+pub mod Turns
+pub mod KnownLaws
+pub mod Values
+pub mod KnownTypes
+pub mod Uncircled
+pub mod Listed
+pub mod Once
+pub mod Fitting

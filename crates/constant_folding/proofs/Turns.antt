@@ -1,0 +1,154 @@
+-- Where constants have their turns after those that they need, the turns are ranks.
+use Rattle.std.proofs.Common.{◌≡◌, ℕ, zero, suc, ◌<◌, List, [], ◌∷◌, ◌++◌, map, length, take, Bool, true, false, ◌||◌, Some, refl, sym, ap, subst, ◌∙◌, append_assoc, append-nil, arith}
+use Rattle.std.specs.Prelude.{◌-◌, nat_eq, nat_lt, slice_get, if◌then◌else◌}
+use Rattle.std.specs.List.{All, find, list_any}
+use Rattle.std.specs.Option.{option_map}
+use Rattle.std.proofs.lemmas.Bool.Decides.{nat_tests}
+use Rattle.std.proofs.lemmas.List.{length-map}
+use Rattle.std.proofs.lemmas.List.Elements.{All-head, All-tail, All-nil, All-cons}
+use Rattle.std.proofs.lemmas.Option.{slice_get-map, slice_get_within, get_or_from_slice_get}
+use Rattle.bridge_io.specs.declared.reason.Named.{Named}
+use Rattle.op_trees.specs.Tree.{Tree, Truth, Number, Name as At, One, Two, Three, AllNames}
+use Rattle.op_trees.specs.SeenLaws.{names_then}
+use Rattle.op_trees.specs.Names.{is_called, names_of}
+use Rattle.name_rules.specs.Circles.{Declared, nothing_declared, declared_at, HasTurned, AreInTurn, turns_from, AreTurns}
+use Rattle.name_rules.specs.Uses.{used}
+use Rattle.process_core.specs.Ready.{Name}
+use Rattle.constant_folding.specs.Constants.{AnyConst, called, declared, RanksBelow, IsRank, AreRanked}
+
+-- ---- what holds of all names of an expression, where they are listed
+in_both : (P : Name → Type 0) (xs ys : List Named) → All P (map (λ n. n.name) (xs ++ ys)) → All P (map (λ n. n.name) xs) × All P (map (λ n. n.name) ys)
+in_both P [] ys h = (All-nil P, h)
+in_both P (x ∷ xs) ys h =
+    let rest = in_both P xs ys (All-tail P x.name (map (λ n. n.name) (xs ++ ys)) h) in
+    (All-cons P x.name (map (λ n. n.name) xs) (All-head P x.name (map (λ n. n.name) (xs ++ ys)) h) rest.0, rest.1)
+
+pub each_name : {O : Type 0} (P : Name → Type 0) (t : Tree O) → All P (map (λ n. n.name) (names_of t)) → AllNames P t
+each_name P (Truth at b) h = tt
+each_name P (Number at d) h = tt
+each_name P (At at x) h = All-head P x [] h
+each_name P (One at o a) h = each_name P a h
+each_name P (Two at o a b) h =
+    let parts = in_both P (names_of a) (names_of b) h in
+    (each_name P a parts.0, each_name P b parts.1)
+each_name P (Three at o a b c) h =
+    let parts = in_both P (names_of a) (names_of b ++ names_of c) h in
+    let last = in_both P (names_of b) (names_of c) parts.1 in
+    (each_name P a parts.0, each_name P b last.0, each_name P c last.1)
+
+-- ---- the number of a constant
+abbrev pub const_at : {O : Type 0} → List (AnyConst O) → Name → ℕ
+const_at [] x = 0
+const_at (c ∷ cs) x = if is_called x c.name then 0 else suc (const_at cs x)
+
+pub found_const : {O : Type 0} (cs : List (AnyConst O)) (x : Name) (c : AnyConst O) → called cs x ≡ Some c → (slice_get cs (const_at cs x) ≡ Some c) × (is_called x c.name ≡ true)
+found_const [] x c h = absurd cc
+found_const (d ∷ ds) x c h = by_test (is_called x d.name) refl h (found_const ds x c)
+  where
+    by_test : (b : Bool) → is_called x d.name ≡ b → (if b then Some d else find (λ e. is_called x e.name) ds) ≡ Some c →
+        (find (λ e. is_called x e.name) ds ≡ Some c → (slice_get ds (const_at ds x) ≡ Some c) × (is_called x c.name ≡ true)) →
+        (slice_get (d ∷ ds) (if b then 0 else suc (const_at ds x)) ≡ Some c) × (is_called x c.name ≡ true)
+    by_test true e h r = (h, subst (λ (k : AnyConst _). is_called x k.name ≡ true) (let s : d ≡ c = cc in s) e)
+    by_test false e h r = r h
+
+pub declared_there : {O : Type 0} (cs : List (AnyConst O)) (i : ℕ) (c : AnyConst O) → slice_get cs i ≡ Some c → declared_at (map declared cs) i ≡ declared c
+declared_there cs i c h =
+    get_or_from_slice_get (map declared cs) i (declared c) nothing_declared (slice_get-map declared cs i ∙ ap (λ o. option_map declared o) h)
+
+-- ---- turns
+abbrev pub turn_of : List ℕ → ℕ → ℕ
+turn_of [] t = 0
+turn_of (u ∷ us) t = if nat_eq t u then 0 else suc (turn_of us t)
+
+turn_within : (turns : List ℕ) (t : ℕ) → list_any (nat_eq t) turns ≡ true → turn_of turns t < length turns
+turn_within [] t h = absurd cc
+turn_within (u ∷ us) t h = by_test (nat_eq t u) h (turn_within us t)
+  where
+    by_test : (b : Bool) → (b || list_any (nat_eq t) us) ≡ true → (list_any (nat_eq t) us ≡ true → turn_of us t < length us) → (if b then 0 else suc (turn_of us t)) < suc (length us)
+    by_test true h r = omega arith
+    by_test false h r = let m = r h in omega (arith, m)
+
+turn_before : (k : ℕ) (turns : List ℕ) (t : ℕ) → list_any (nat_eq t) (take k turns) ≡ true → turn_of turns t < k
+turn_before zero [] t h = absurd cc
+turn_before zero (u ∷ us) t h = absurd cc
+turn_before (suc k) [] t h = absurd cc
+turn_before (suc k) (u ∷ us) t h = by_test (nat_eq t u) h (turn_before k us t)
+  where
+    by_test : (b : Bool) → (b || list_any (nat_eq t) (take k us)) ≡ true → (list_any (nat_eq t) (take k us) ≡ true → turn_of us t < k) → (if b then 0 else suc (turn_of us t)) < suc k
+    by_test true h r = omega arith
+    by_test false h r = let m = r h in omega (arith, m)
+
+in_turn : (ds : List Declared) (before turns : List ℕ) → AreInTurn ds before turns → (t : ℕ) → list_any (nat_eq t) turns ≡ true →
+    All (HasTurned ds (before ++ take (turn_of turns t) turns)) (declared_at ds t).uses
+in_turn ds before [] h t k = absurd cc
+in_turn ds before (u ∷ us) h t k = by_test (nat_eq t u) refl k (in_turn ds (before ++ u ∷ []) us h.1 t)
+  where
+    by_test : (b : Bool) → nat_eq t u ≡ b → (b || list_any (nat_eq t) us) ≡ true →
+        (list_any (nat_eq t) us ≡ true → All (HasTurned ds ((before ++ u ∷ []) ++ take (turn_of us t) us)) (declared_at ds t).uses) →
+        All (HasTurned ds (before ++ take (if b then 0 else suc (turn_of us t)) (u ∷ us))) (declared_at ds t).uses
+    by_test true e k r =
+        let same : u ≡ t = grind (arith, nat_tests) in
+        subst (λ l. All (HasTurned ds l) (declared_at ds t).uses) (sym (append-nil before)) (subst (λ i. All (HasTurned ds before) (declared_at ds i).uses) same h.0)
+    by_test false e k r = subst (λ l. All (HasTurned ds l) (declared_at ds t).uses) (append_assoc before (u ∷ []) (take (turn_of us t) us)) (r k)
+
+-- the turns that are left, at each place
+pub left_in_turn : (ds : List Declared) (before turns : List ℕ) (k t : ℕ) → AreInTurn ds before turns → slice_get turns k ≡ Some t → All (HasTurned ds (before ++ take k turns)) (declared_at ds t).uses
+left_in_turn ds before [] k t h e = absurd cc
+left_in_turn ds before (u ∷ us) zero t h e =
+    subst (λ l. All (HasTurned ds l) (declared_at ds t).uses) (sym (append-nil before)) (subst (λ i. All (HasTurned ds before) (declared_at ds i).uses) (let s : u ≡ t = cc in s) h.0)
+left_in_turn ds before (u ∷ us) (suc k) t h e =
+    subst (λ l. All (HasTurned ds l) (declared_at ds t).uses) (append_assoc before (u ∷ []) (take k us)) (left_in_turn ds (before ++ u ∷ []) us k t h.1 e)
+
+-- ---- the turns are ranks
+all_turns : (turns : List ℕ) → length (turns_from 0 turns) ≡ length turns
+all_turns [] = refl
+all_turns (t ∷ ts) =
+    let late : nat_lt t 0 ≡ false = grind (arith, nat_tests) in
+    ap (λ (b : Bool). length (if b then turns_from 0 ts else (t - 0) ∷ turns_from 0 ts)) late ∙ ap suc (all_turns ts)
+
+module _ {O : Type 0} (cs : List (AnyConst O)) (turns : List ℕ) (h : AreTurns (map declared cs) turns) where
+  abbrev ds : List Declared
+  ds = map declared cs
+
+  abbrev rank : Name → ℕ
+  rank x = turn_of turns (const_at cs x)
+
+  within_constants : (x : Name) (c : AnyConst O) → called cs x ≡ Some c → const_at cs x < length ds
+  within_constants x c k =
+      let l = slice_get_within cs (const_at cs x) c (found_const cs x c k).0 in
+      let s = length-map cs declared in
+      omega (arith, l, s)
+
+  ranks_within : (x : Name) → RanksBelow cs rank (length cs) x
+  ranks_within x = record {
+    below =
+        λ c k.
+        let l = turn_within turns (const_at cs x) (h.turned (const_at cs x) (within_constants x c k)) in
+        let m = h.counted 0 in
+        let n = all_turns turns in
+        let s = length-map cs declared in
+        omega (arith, l, m, n, s);
+  }
+
+  falls : (x : Name) (c : AnyConst O) (e : Tree O) → called cs x ≡ Some c → c.value ≡ Some e → AllNames (RanksBelow cs rank (rank x)) e
+  falls x c e k v =
+      let p = const_at cs x in
+      let at = found_const cs x c k in
+      let turned = in_turn ds [] turns h.order p (h.turned p (within_constants x c k)) in
+      let before = take (turn_of turns p) turns in
+      let names = subst (λ us. All (HasTurned ds before) us) (ap (λ (d : Declared). d.uses) (declared_there cs p c at.0) ∙ ap used v) turned in
+      names_then (HasTurned ds before) (RanksBelow cs rank (rank x))
+      (λ y g. record {
+        below =
+            λ d m.
+            let q = const_at cs y in
+            let there = found_const cs y d m in
+            turn_before (turn_of turns p) turns q
+            (g q (within_constants y d m) (ap (λ (z : Declared). is_called y z.name) (declared_there cs q d there.0) ∙ there.1));
+      }) e (each_name (HasTurned ds before) e names)
+
+  pub ranked : IsRank cs rank
+  ranked = record { within = ranks_within; falls = falls }
+
+  pub are_ranked : AreRanked cs
+  are_ranked = record { rank = rank; ranked = ranked }

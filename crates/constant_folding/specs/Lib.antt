@@ -1,0 +1,13 @@
+pub mod Walk
+pub mod Known
+pub mod Folded
+pub mod Literals
+pub mod Kept
+pub mod Asked
+pub mod Monotone
+pub mod Numbers
+pub mod ValueLiterals
+pub mod ValueLiteralLaws
+pub mod Constants
+pub mod Unfit
+pub mod Tables

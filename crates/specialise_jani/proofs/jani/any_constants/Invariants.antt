@@ -1,0 +1,8 @@
+use Rattle.std.proofs.Common.{◌≡◌, map, take}
+use Rattle.jani_tree.specs.Syntax.{const_of}
+use Rattle.constant_folding.specs.Constants as folding
+use Rattle.specialise_jani.specs.Specialised.{any_const}
+use Rattle.specialise_jani.proofs.jani.any_constants.Given as goal
+
+abbrev pub invariant-loop-constant : goal.invariant-loop-constant
+invariant-loop-constant l = map folding.const_of l.all.items ≡ map any_const (map const_of (take l.constant-index l.constants))

@@ -1,0 +1,5 @@
+pub mod Literal
+pub mod LiteralLaws
+pub mod Specialised
+pub mod SameMeaning
+pub mod Clean
