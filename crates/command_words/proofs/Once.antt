@@ -11,7 +11,7 @@ use Rattle.process_texts.specs.declared.given.GivenText.{GivenText}
 use Rattle.process_texts.specs.declared.given.GivenText.TheVariants.{Good, Past, NoForm}
 use Rattle.command_words.specs.Numbers.{IsSmall, numbers_of, pairs_text}
 use Rattle.command_words.specs.Given.{Assignment, IsAssignment, IsGivenText}
-use Rattle.command_words.specs.Words.{Job, showing, along, seeded, Walking, Claim, of_path, of_rows, of_bounds, Checking, on_file, with_properties, generate, walk, check, claim_words, claim_verb, IsCheck, AreWithProperties, AreGenerate, verb_of, lang_word, from_words, job_verb, job_words, IsJob, IsWalk, OneRequest, WordsCount}
+use Rattle.command_words.specs.Words.{Job, showing, along, seeded, Walking, Claim, of_path, of_rows, of_bounds, Checking, Carrying, on_file, with_properties, generate, walk, check, carry, claim_words, claim_verb, IsCheck, IsCarry, AreWithProperties, AreGenerate, verb_of, lang_word, from_words, job_verb, job_words, IsJob, IsWalk, OneRequest, WordsCount}
 use Rattle.command_words.specs.declared.request.Lang.{Lang}
 use Rattle.command_words.specs.declared.request.Lang.TheVariants.{Prism, Jani}
 use Rattle.command_words.specs.declared.request.Task.{Task}
@@ -203,6 +203,22 @@ walk_check words w c h k = by_claim c.claim (heads _ _ _ _ (sym h.words_are ∙ 
     by_claim (of_rows s r) e = by_job _ w.job (differ _ _ refl) (differ _ _ refl) e
     by_claim (of_bounds s r n b) e = by_job _ w.job (differ _ _ refl) (differ _ _ refl) e
 
+-- and so does a path that is carried
+task_carry : (words : List (List ℕ)) (t : Task) (f : List ℕ) (c : Carrying) → words ≡ verb_of t ++ f ∷ [] → IsCarry words c → ⊥
+task_carry words t f c e h = not_task _ _ t f (differ _ _ refl) (differ _ _ refl) (differ _ _ refl) (differ _ _ refl) (sym h.words_are ∙ e)
+
+walk_carry : (words : List (List ℕ)) (w : Walking) (c : Carrying) → IsWalk words w → IsCarry words c → ⊥
+walk_carry words w c h k = not_walk _ _ w (differ _ _ refl) (differ _ _ refl) (subst (λ ws. IsWalk ws w) k.words_are h)
+
+check_carry : (words : List (List ℕ)) (b : Checking) (c : Carrying) → IsCheck words b → IsCarry words c → ⊥
+check_carry words b c h k = not_check _ _ b (differ _ _ refl) (differ _ _ refl) (differ _ _ refl) (subst (λ ws. IsCheck ws b) k.words_are h)
+
+carry_properties : (words : List (List ℕ)) (c : Carrying) (f p : List ℕ) → IsCarry words c → AreWithProperties words f p → ⊥
+carry_properties words c f p h k = differ _ _ refl (heads _ _ _ _ (sym h.words_are ∙ k.words_are))
+
+generate_carry : (words : List (List ℕ)) (n : ℕ) (c : Carrying) → AreGenerate words n → IsCarry words c → ⊥
+generate_carry words n c h k = differ _ _ refl (heads _ _ _ _ (sym h.words_are ∙ k.words_are))
+
 same_bounds : (s t r u n m b d : List ℕ) → s ≡ t → r ≡ u → n ≡ m → b ≡ d → of_bounds s r n b ≡ of_bounds t u m d
 same_bounds s t r u n m b d e f g h = cc
 
@@ -229,6 +245,10 @@ same_walking l m f g i j xs ys a b c d = cc
 same_checking : (l m : Lang) (f g : List ℕ) (i j : Claim) (xs ys : List Assignment) → l ≡ m → f ≡ g → i ≡ j → xs ≡ ys
     → ◌≡◌ {A = Checking} (record { lang = l; file = f; claim = i; given = xs }) (record { lang = m; file = g; claim = j; given = ys })
 same_checking l m f g i j xs ys a b c d = cc
+
+same_carrying : (l m : Lang) (f g p q : List ℕ) (xs ys : List Assignment) → l ≡ m → f ≡ g → p ≡ q → xs ≡ ys
+    → ◌≡◌ {A = Carrying} (record { lang = l; file = f; path = p; given = xs }) (record { lang = m; file = g; path = q; given = ys })
+same_carrying l m f g p q xs ys a b c d = cc
 
 pub one_request : OneValueText → OneRequest
 one_request one words (on_file s f) (on_file t g) h k = let e = same_task s t f g (sym h.1 ∙ k.1) in ap₂ on_file e.0 e.1
@@ -257,6 +277,22 @@ one_request one words (walk w) (on_file t g) h k = absurd (task_walk words t g w
 one_request one words (walk w) (check c) h k = absurd (walk_check words w c h k)
 one_request one words (check c) (on_file t g) h k = absurd (task_check words t g c k.1 h)
 one_request one words (check c) (walk w) h k = absurd (walk_check words w c k h)
+one_request one words (on_file s f) (carry c) h k = absurd (task_carry words s f c h.1 k)
+one_request one words (carry c) (on_file t g) h k = absurd (task_carry words t g c k.1 h)
+one_request one words (with_properties f p) (carry c) h k = absurd (carry_properties words c f p k h)
+one_request one words (carry c) (with_properties f p) h k = absurd (carry_properties words c f p h k)
+one_request one words (generate n) (carry c) h k = absurd (generate_carry words n c h k)
+one_request one words (carry c) (generate n) h k = absurd (generate_carry words n c k h)
+one_request one words (walk w) (carry c) h k = absurd (walk_carry words w c h k)
+one_request one words (carry c) (walk w) h k = absurd (walk_carry words w c k h)
+one_request one words (check b) (carry c) h k = absurd (check_carry words b c h k)
+one_request one words (carry c) (check b) h k = absurd (check_carry words b c k h)
+one_request one words (carry c) (carry b) h k =
+    let e1 = tails _ _ _ _ (sym h.words_are ∙ k.words_are) in
+    let e2 = tails _ _ _ _ e1 in
+    let e3 = tails _ _ _ _ e2 in
+    ap carry (same_carrying c.lang b.lang c.file b.file c.path b.path c.given b.given (same_lang c.lang b.lang (heads _ _ _ _ e1)) (heads _ _ _ _ e2) (heads _ _ _ _ e3)
+    (same_given one h.rest c.given b.given h.given.are (subst (λ ws. AllZip IsAssignment ws b.given) (sym (tails _ _ _ _ e3)) k.given.are)))
 one_request one words (check c) (check b) h k =
     let e = sym h.words_are ∙ k.words_are in
     let e1 = tails _ _ _ _ e in
@@ -299,5 +335,9 @@ words_count words (walk w) h =
     omega (arith, a, b)
 words_count words (check c) h =
     let a = length-claim words (claim_verb c.claim) (lang_word c.lang) c.file c.claim h.rest h.words_are in
+    let b = length-zip h.rest c.given h.given.are in
+    omega (arith, a, b)
+words_count words (carry c) h =
+    let a = ap length h.words_are in
     let b = length-zip h.rest c.given h.given.are in
     omega (arith, a, b)

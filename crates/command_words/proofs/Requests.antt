@@ -6,7 +6,7 @@ use Rattle.std.specs.Fmt.{decimal}
 use Rattle.std.specs.List.{AllByRecursion}
 use Rattle.command_words.specs.Numbers.{IsSmall, pairs_text}
 use Rattle.command_words.specs.Given.{Assignment, HasGiven, AreGiven}
-use Rattle.command_words.specs.Words.{texts, Begins, IsWrong, Job, showing, along, seeded, Walking, Claim, of_path, of_rows, of_bounds, Checking, on_file, with_properties, generate, walk, check, IsNameBehind, AreNamesBehind, claim_files, claim_words, claim_verb, IsClaim, HasFileWord, verb_of, lang_word, IsStateWord, IsFrom, from_words, job_verb, job_words, IsJob, IsWalk, IsCheck, HasForm, job_count}
+use Rattle.command_words.specs.Words.{texts, Begins, IsWrong, Job, showing, along, seeded, Walking, Claim, of_path, of_rows, of_bounds, Checking, on_file, with_properties, generate, walk, check, carry, IsNameBehind, AreNamesBehind, claim_files, claim_words, claim_verb, IsClaim, HasFileWord, verb_of, lang_word, IsStateWord, IsFrom, from_words, job_verb, job_words, IsJob, IsWalk, IsCheck, HasForm, job_count}
 use Rattle.command_words.specs.Fronts.{Then, One, IsNameWrong, IsFileName, IsPairsWord, IsSeedWord, IsStepsWord, IsModulesWord, GenerateForm, GivenForm, SeedForm, WayForm, WalkForm, StateForm, PathForm, RowsForm, LabelForm, BoundsForm, HeadForm, ShowForm, SimulateForm}
 use Rattle.command_words.specs.declared.request.Lang.{Lang}
 use Rattle.command_words.specs.declared.request.Task.{Task}
@@ -94,6 +94,7 @@ to_jani_words ws (with_properties f p, h) = subst (Then IsFileName PropertiesFor
 to_jani_words ws (generate n, h) = absurd (differ _ _ refl (heads _ _ _ _ h.words_are))
 to_jani_words ws (walk w, h) = absurd (not_walk _ ws w (differ _ _ refl) (differ _ _ refl) h)
 to_jani_words ws (check c, h) = absurd (not_check _ ws c (differ _ _ refl) (differ _ _ refl) (differ _ _ refl) h)
+to_jani_words ws (carry c, h) = absurd (differ _ _ refl (heads _ _ _ _ h.words_are))
 
 behind_to_jani_words : (ws : List (List ℕ)) (k : ℕ) → IsWrong (Then IsFileName PropertiesForm) ws k → IsWrong ToJaniForm ws k
 behind_to_jani_words ws k e = wrong_same (Then IsFileName PropertiesForm) ToJaniForm ws k to_jani_form to_jani_words e
@@ -150,6 +151,7 @@ to_prism_file ws (with_properties f p, h) = absurd (differ _ _ refl (heads _ _ _
 to_prism_file ws (generate n, h) = absurd (differ _ _ refl (heads _ _ _ _ h.words_are))
 to_prism_file ws (walk w, h) = absurd (not_walk _ ws w (differ _ _ refl) (differ _ _ refl) h)
 to_prism_file ws (check c, h) = absurd (not_check _ ws c (differ _ _ refl) (differ _ _ refl) (differ _ _ refl) h)
+to_prism_file ws (carry c, h) = absurd (differ _ _ refl (heads _ _ _ _ h.words_are))
 
 pub behind_to_prism : (ws : List (List ℕ)) (k : ℕ) → IsWrong HasFileWord ws k → IsWrong HasForm (codes "to-prism" ∷ ws) (k + 1)
 behind_to_prism ws k e = wrong_behind HasFileWord HasForm (codes "to-prism") ws k to_prism_form to_prism_file e
@@ -168,6 +170,7 @@ to_prism_props_file ws (with_properties f p, h) = absurd (differ _ _ refl (heads
 to_prism_props_file ws (generate n, h) = absurd (differ _ _ refl (heads _ _ _ _ h.words_are))
 to_prism_props_file ws (walk w, h) = absurd (not_walk _ ws w (differ _ _ refl) (differ _ _ refl) h)
 to_prism_props_file ws (check c, h) = absurd (not_check _ ws c (differ _ _ refl) (differ _ _ refl) (differ _ _ refl) h)
+to_prism_props_file ws (carry c, h) = absurd (differ _ _ refl (heads _ _ _ _ h.words_are))
 
 pub behind_to_prism_props : (ws : List (List ℕ)) (k : ℕ) → IsWrong HasFileWord ws k → IsWrong HasForm (codes "to-prism-props" ∷ ws) (k + 1)
 behind_to_prism_props ws k e = wrong_behind HasFileWord HasForm (codes "to-prism-props") ws k to_prism_props_form to_prism_props_file e
@@ -189,6 +192,7 @@ prism_file ws (with_properties f p, h) = absurd (differ _ _ refl (heads _ _ _ _ 
 prism_file ws (generate n, h) = absurd (differ _ _ refl (heads _ _ _ _ h.words_are))
 prism_file ws (walk w, h) = absurd (not_walk _ _ w (differ _ _ refl) (differ _ _ refl) h)
 prism_file ws (check c, h) = absurd (not_check _ _ c (differ _ _ refl) (differ _ _ refl) (differ _ _ refl) h)
+prism_file ws (carry c, h) = absurd (differ _ _ refl (heads _ _ _ _ h.words_are))
 
 jani_form : (ws : List (List ℕ)) → HasFileWord ws → CheckForm (codes "jani" ∷ ws)
 jani_form ws f = (on_file CheckJani f.0, (f.1.0, ap (λ v. codes "check" ∷ codes "jani" ∷ v) f.1.1))
@@ -203,6 +207,7 @@ jani_file ws (with_properties f p, h) = absurd (differ _ _ refl (heads _ _ _ _ h
 jani_file ws (generate n, h) = absurd (differ _ _ refl (heads _ _ _ _ h.words_are))
 jani_file ws (walk w, h) = absurd (not_walk _ _ w (differ _ _ refl) (differ _ _ refl) h)
 jani_file ws (check c, h) = absurd (not_check _ _ c (differ _ _ refl) (differ _ _ refl) (differ _ _ refl) h)
+jani_file ws (carry c, h) = absurd (differ _ _ refl (heads _ _ _ _ h.words_are))
 
 pub behind_jani : (ws : List (List ℕ)) (k : ℕ) → IsWrong HasFileWord ws k → IsWrong CheckForm (codes "jani" ∷ ws) (k + 1)
 behind_jani ws k e = wrong_behind HasFileWord CheckForm (codes "jani") ws k jani_form jani_file e
@@ -226,6 +231,7 @@ not_check_end (with_properties f p, h) = differ _ _ refl (heads _ _ _ _ h.words_
 not_check_end (generate n, h) = differ _ _ refl (heads _ _ _ _ h.words_are)
 not_check_end (walk w, h) = not_walk _ _ w (differ _ _ refl) (differ _ _ refl) h
 not_check_end (check c, h) = not_check _ _ c (differ _ _ refl) (differ _ _ refl) (differ _ _ refl) h
+not_check_end (carry c, h) = differ _ _ refl (heads _ _ _ _ h.words_are)
 
 pub no_language : IsWrong CheckForm [] 1
 no_language = wrong_end CheckForm check_begins not_check_end
@@ -240,6 +246,7 @@ language lang (more, (with_properties f p, h)) = absurd (differ _ _ refl (heads 
 language lang (more, (generate n, h)) = absurd (differ _ _ refl (heads _ _ _ _ h.words_are))
 language lang (more, (walk w, h)) = absurd (not_walk _ _ w (differ _ _ refl) (differ _ _ refl) h)
 language lang (more, (check c, h)) = absurd (not_check _ _ c (differ _ _ refl) (differ _ _ refl) (differ _ _ refl) h)
+language lang (more, (carry c, h)) = absurd (differ _ _ refl (heads _ _ _ _ h.words_are))
 
 pub other_language : (lang : List ℕ) (ws : List (List ℕ)) → lang ≢ codes "prism" → lang ≢ codes "jani" → IsWrong CheckForm (lang ∷ ws) 1
 other_language lang ws a b = wrong_first CheckForm lang ws check_begins (λ begins. neither (language lang begins))
@@ -259,6 +266,7 @@ generate_rest ws (with_properties f p, h) = absurd (differ _ _ refl (heads _ _ _
 generate_rest ws (generate n, h) = subst GenerateForm (sym (tails _ _ _ _ h.words_are)) ((n, h.some, (h.few, refl)), refl)
 generate_rest ws (walk w, h) = absurd (not_walk _ ws w (differ _ _ refl) (differ _ _ refl) h)
 generate_rest ws (check c, h) = absurd (not_check _ ws c (differ _ _ refl) (differ _ _ refl) (differ _ _ refl) h)
+generate_rest ws (carry c, h) = absurd (differ _ _ refl (heads _ _ _ _ h.words_are))
 
 pub behind_generate : (ws : List (List ℕ)) (k : ℕ) → IsWrong GenerateForm ws k → IsWrong HasForm (codes "generate" ∷ ws) (k + 1)
 behind_generate ws k e = wrong_behind GenerateForm HasForm (codes "generate") ws k generate_form generate_rest e
@@ -306,6 +314,7 @@ show_rest ws (with_properties f p, h) = absurd (differ _ _ refl (heads _ _ _ _ h
 show_rest ws (generate n, h) = absurd (differ _ _ refl (heads _ _ _ _ h.words_are))
 show_rest ws (walk w, h) = show_parts ws h.rest w.lang w.file w.job w.given h.file h.job h.given h.words_are
 show_rest ws (check c, h) = absurd (not_check _ ws c (differ _ _ refl) (differ _ _ refl) (differ _ _ refl) h)
+show_rest ws (carry c, h) = absurd (differ _ _ refl (heads _ _ _ _ h.words_are))
 
 pub behind_show : (ws : List (List ℕ)) (k : ℕ) → IsWrong ShowForm ws k → IsWrong HasForm (codes "show" ∷ ws) (k + 1)
 behind_show ws k e = wrong_behind ShowForm HasForm (codes "show") ws k show_form show_rest e
@@ -387,6 +396,7 @@ simulate_rest ws (generate n, h) = absurd (differ _ _ refl (heads _ _ _ _ h.word
 simulate_rest ws (walk w, h) =
     subst SimulateForm (sym (tails _ _ _ _ h.words_are)) ((w.lang, refl), (h.file, walk_rest h.rest w.job (sym (heads _ _ _ _ h.words_are)) h.job (w.given, h.given)))
 simulate_rest ws (check c, h) = absurd (not_check _ ws c (differ _ _ refl) (differ _ _ refl) (differ _ _ refl) h)
+simulate_rest ws (carry c, h) = absurd (differ _ _ refl (heads _ _ _ _ h.words_are))
 
 pub behind_simulate : (ws : List (List ℕ)) (k : ℕ) → IsWrong SimulateForm ws k → IsWrong HasForm (codes "simulate" ∷ ws) (k + 1)
 behind_simulate ws k e = wrong_behind SimulateForm HasForm (codes "simulate") ws k simulate_form simulate_rest e
@@ -451,6 +461,7 @@ path_rest ws (with_properties f p, h) = absurd (differ _ _ refl (heads _ _ _ _ h
 path_rest ws (generate n, h) = absurd (differ _ _ refl (heads _ _ _ _ h.words_are))
 path_rest ws (walk w, h) = absurd (not_walk _ ws w (differ _ _ refl) (differ _ _ refl) h)
 path_rest ws (check c, h) = path_parts ws h.rest c.lang c.file c.given h.given c.claim h.names h.words_are
+path_rest ws (carry c, h) = absurd (differ _ _ refl (heads _ _ _ _ h.words_are))
 
 rows_rest : (ws : List (List ℕ)) → HasForm (codes "check-rows" ∷ ws) → HeadForm RowsForm ws
 rows_rest ws (on_file task name, f) = absurd (not_task _ ws task name (differ _ _ refl) (differ _ _ refl) (differ _ _ refl) (differ _ _ refl) f.1)
@@ -458,6 +469,7 @@ rows_rest ws (with_properties f p, h) = absurd (differ _ _ refl (heads _ _ _ _ h
 rows_rest ws (generate n, h) = absurd (differ _ _ refl (heads _ _ _ _ h.words_are))
 rows_rest ws (walk w, h) = absurd (not_walk _ ws w (differ _ _ refl) (differ _ _ refl) h)
 rows_rest ws (check c, h) = rows_parts ws h.rest c.lang c.file c.given h.given c.claim h.names h.words_are
+rows_rest ws (carry c, h) = absurd (differ _ _ refl (heads _ _ _ _ h.words_are))
 
 bounds_rest : (ws : List (List ℕ)) → HasForm (codes "check-bound" ∷ ws) → HeadForm BoundsForm ws
 bounds_rest ws (on_file task name, f) = absurd (not_task _ ws task name (differ _ _ refl) (differ _ _ refl) (differ _ _ refl) (differ _ _ refl) f.1)
@@ -465,6 +477,7 @@ bounds_rest ws (with_properties f p, h) = absurd (differ _ _ refl (heads _ _ _ _
 bounds_rest ws (generate n, h) = absurd (differ _ _ refl (heads _ _ _ _ h.words_are))
 bounds_rest ws (walk w, h) = absurd (not_walk _ ws w (differ _ _ refl) (differ _ _ refl) h)
 bounds_rest ws (check c, h) = bounds_parts ws h.rest c.lang c.file c.given h.given c.claim h.names h.claim h.words_are
+bounds_rest ws (carry c, h) = absurd (differ _ _ refl (heads _ _ _ _ h.words_are))
 
 pub behind_path : (ws : List (List ℕ)) (k : ℕ) → IsWrong (HeadForm PathForm) ws k → IsWrong HasForm (codes "check-path" ∷ ws) (k + 1)
 behind_path ws k e = wrong_behind (HeadForm PathForm) HasForm (codes "check-path") ws k path_form path_rest e
@@ -474,6 +487,27 @@ behind_rows ws k e = wrong_behind (HeadForm RowsForm) HasForm (codes "check-rows
 
 pub behind_bounds : (ws : List (List ℕ)) (k : ℕ) → IsWrong (HeadForm BoundsForm) ws k → IsWrong HasForm (codes "check-bound" ∷ ws) (k + 1)
 behind_bounds ws k e = wrong_behind (HeadForm BoundsForm) HasForm (codes "check-bound") ws k bounds_form bounds_rest e
+
+-- ---- behind `carry-path`
+carry_form : (ws : List (List ℕ)) → HeadForm PathForm ws → HasForm (codes "carry-path" ∷ ws)
+carry_form [] h = absurd h
+carry_form (l ∷ []) h = absurd h.1
+carry_form (l ∷ f ∷ []) h = absurd h.1.1
+carry_form (l ∷ f ∷ p ∷ ws) h = (
+  carry (record { lang = h.0.0; file = f; path = p; given = h.1.1.1.0 }),
+  record { names = ((h.1.0, tt), (h.1.1.0, tt)); rest = ws; words_are = ap (λ v. codes "carry-path" ∷ v ∷ f ∷ p ∷ ws) h.0.1; given = h.1.1.1.1 },
+)
+
+carry_rest : (ws : List (List ℕ)) → HasForm (codes "carry-path" ∷ ws) → HeadForm PathForm ws
+carry_rest ws (on_file task name, f) = absurd (not_task _ ws task name (differ _ _ refl) (differ _ _ refl) (differ _ _ refl) (differ _ _ refl) f.1)
+carry_rest ws (with_properties f p, h) = absurd (differ _ _ refl (heads _ _ _ _ h.words_are))
+carry_rest ws (generate n, h) = absurd (differ _ _ refl (heads _ _ _ _ h.words_are))
+carry_rest ws (walk w, h) = absurd (not_walk _ ws w (differ _ _ refl) (differ _ _ refl) h)
+carry_rest ws (check c, h) = absurd (not_check _ ws c (differ _ _ refl) (differ _ _ refl) (differ _ _ refl) h)
+carry_rest ws (carry c, h) = subst (HeadForm PathForm) (sym (tails _ _ _ _ h.words_are)) ((c.lang, refl), (h.names.0.0, (h.names.1.0, (c.given, h.given))))
+
+pub behind_carry : (ws : List (List ℕ)) (k : ℕ) → IsWrong (HeadForm PathForm) ws k → IsWrong HasForm (codes "carry-path" ∷ ws) (k + 1)
+behind_carry ws k e = wrong_behind (HeadForm PathForm) HasForm (codes "carry-path") ws k carry_form carry_rest e
 
 -- ---- the first word
 form_begins : Begins HasForm []
@@ -489,18 +523,20 @@ not_form_end (with_properties f p, h) = let e = h.words_are in cc
 not_form_end (generate n, h) = let e = h.words_are in cc
 not_form_end (walk w, h) = let e = h.words_are in cc
 not_form_end (check c, h) = let e = h.words_are in cc
+not_form_end (carry c, h) = let e = h.words_are in cc
 
 pub no_verb : IsWrong HasForm [] 1
 no_verb = wrong_end HasForm form_begins not_form_end
 
 module _ (v : List ℕ) (ws : List (List ℕ)) (a : v ≢ codes "to-jani") (b : v ≢ codes "to-prism") (p : v ≢ codes "to-prism-props") (c : v ≢ codes "check") (d : v ≢ codes "show") (e : v ≢ codes "simulate") (z : v ≢ codes "generate")
-    (f : v ≢ codes "check-path") (g : v ≢ codes "check-rows") (i : v ≢ codes "check-bound") where
+    (f : v ≢ codes "check-path") (g : v ≢ codes "check-rows") (i : v ≢ codes "check-bound") (j : v ≢ codes "carry-path") where
   not_begun : Begins HasForm (v ∷ []) → ⊥
   not_begun (more, (on_file task name, h)) = not_task v more task name a b p c h.1
   not_begun (more, (with_properties file second, h)) = a (heads _ _ _ _ h.words_are)
   not_begun (more, (generate n, h)) = z (heads _ _ _ _ h.words_are)
   not_begun (more, (walk w, h)) = not_walk v more w d e h
   not_begun (more, (check m, h)) = not_check v more m f g i h
+  not_begun (more, (carry m, h)) = j (heads _ _ _ _ h.words_are)
 
   pub other_verb : IsWrong HasForm (v ∷ ws) 1
   other_verb = wrong_first HasForm v ws form_begins not_begun
@@ -583,3 +619,12 @@ pub wrong_given_claim : (ws rest : List (List ℕ)) (l : Lang) (f : List ℕ) (m
 wrong_given_claim ws rest l f m k n a i e c h =
     let d = length-claim ws (claim_verb m) (lang_word l) f m rest e in
     more HasForm ws ((3 + length (claim_words m)) + k) (n + k) (omega (arith, c, d)) (subst (λ vs. IsWrong HasForm vs ((3 + length (claim_words m)) + k)) (sym e) (claim_wrong rest k h l f m a i))
+
+-- ---- behind a path that is carried
+pub wrong_given_carry : (ws rest : List (List ℕ)) (l : Lang) (f p : List ℕ) (k n : ℕ) → AreNamesBehind [] (f ∷ p ∷ []) → ws ≡ codes "carry-path" ∷ lang_word l ∷ f ∷ p ∷ rest → n + length rest ≡ length ws → IsWrong HasGiven rest k →
+    IsWrong HasForm ws (n + k)
+wrong_given_carry ws rest l f p k n a e c h =
+    let d = ap length e in
+    subst (λ vs. IsWrong HasForm vs (n + k)) (sym e)
+    (more HasForm _ _ _ (let i : k + 1 + 2 + 1 ≡ n + k = omega (arith, c, d) in i)
+    (behind_carry _ _ (behind_head PathForm (path_begins (codes "f")) (lang_word l) f _ _ (l, refl) a.0.0 (one_next (IsNameBehind (f ∷ [])) HasGiven p rest k a.1.0 h))))

@@ -2,7 +2,7 @@
 use Rattle.std.proofs.Common.{arith, ◌≡◌, ◌∙◌, sym, ap, subst, ℕ, suc, ◌+◌, ◌-◌, ◌<◌, ◌≤◌, List, [], ◌∷◌, length, take, drop, get_or, inl, inr, refl, String}
 use Rattle.std.specs.Global.{Global}
 use Rattle.std.specs.Prelude.{string_bytes}
-use Rattle.std.proofs.lemmas.List.{take_rest}
+use Rattle.std.proofs.lemmas.List.{length-map, take_rest}
 use Rattle.command_words.specs.Words.{texts, Begins, IsWrong}
 use Rattle.command_words.specs.Fronts.{Then, One}
 
@@ -95,3 +95,12 @@ module _ (Form : List (List ℕ) → Type 0) (k : ℕ) (words : List (String Glo
   pub read_first : (first : String Global) (w : List ℕ) → 1 ≤ length words → first ≡ get_or words 0 first → string_bytes first ≡ w
       → IsWrong Form (w ∷ texts (take (length words - 1) (drop 1 words))) k → IsWrong Form (texts words) k
   read_first first w some is same e = subst (λ ws. IsWrong Form ws k) (sym (first_words words first w some is same)) e
+
+-- behind a first word that is another one
+pub asked_behind : (Form : List (List ℕ) → Type 0) (ws rest : List (List ℕ)) (verb v : List ℕ) (k : ℕ) → ws ≡ verb ∷ rest → verb ≡ v → IsWrong Form (v ∷ rest) k → IsWrong Form ws k
+asked_behind Form ws rest verb v k e same h = subst (λ us. IsWrong Form us k) (sym (e ∙ ap (λ u. u ∷ rest) same)) h
+
+-- a position among the words behind the first is one of all words
+pub behind_verb : (Form : List (List ℕ) → Type 0) (words rest : List (String Global)) (verb : List ℕ) (k : ℕ) → texts words ≡ verb ∷ texts rest → IsWrong Form (texts rest) k → k ≤ length words
+behind_verb Form words rest verb k e (inl h) = let f = ap length e in omega (arith, f, h.1, length-map words string_bytes)
+behind_verb Form words rest verb k e (inr h) = let f = ap length e in omega (arith, f, h.0, length-map words string_bytes)

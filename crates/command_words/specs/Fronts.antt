@@ -9,6 +9,7 @@ use Rattle.command_words.specs.declared.fronts.StateFront.{StateFront}
 use Rattle.command_words.specs.declared.fronts.Front.{Front}
 use Rattle.command_words.specs.declared.words.Start.{Start}
 use Rattle.command_words.specs.declared.claims.ClaimFront.{ClaimFront}
+use Rattle.command_words.specs.declared.claims.CarryFront.{CarryFront}
 use Rattle.command_words.specs.declared.claims.NameFront.{NameFront}
 
 -- a word of one kind, and then others that it has a say in
@@ -69,7 +70,7 @@ WalkForm ws = WayForm ws ⊎ Fixed (codes "from") FromForm ws
 abbrev pub StateForm : List (List ℕ) → Type 0
 StateForm ws = One IsStateWord HasGiven ws
 
--- behind `check-path LANG FILE`, and behind `check-rows LANG FILE`
+-- behind `check-path LANG FILE` and `carry-path LANG FILE`, and behind `check-rows LANG FILE`
 abbrev pub PathForm : List ℕ → List (List ℕ) → Type 0
 PathForm file ws = One (IsNameBehind (file ∷ [])) HasGiven ws
 
@@ -93,6 +94,10 @@ ShowForm ws = HeadForm (λ file. StateForm) ws
 
 abbrev pub SimulateForm : List (List ℕ) → Type 0
 SimulateForm ws = HeadForm (λ file. WalkForm) ws
+
+-- a first word that none of the forms without a process begins with
+abbrev pub IsOfProcess : List ℕ → Type 0
+IsOfProcess verb = (verb ≢ codes "to-jani") × (verb ≢ codes "to-prism") × (verb ≢ codes "to-prism-props") × (verb ≢ codes "check") × (verb ≢ codes "generate")
 
 -- ---- what is read of words
 -- the language that a word names
@@ -148,6 +153,11 @@ pub record IsClaimFront (ws : List (List ℕ)) (c : ClaimFront) : Type 0 where
   pub names : AreNamesBehind [] (c.file.now ∷ claim_files (claim_of c.claim))
   pub claim : IsClaim (claim_of c.claim)
   pub words_are : ws ≡ claim_verb (claim_of c.claim) ∷ lang_word c.lang ∷ c.file.now ∷ (claim_words (claim_of c.claim) ++ texts c.rest.now)
+
+-- A path that is carried, and what stands behind it.
+pub record IsCarryFront (ws : List (List ℕ)) (c : CarryFront) : Type 0 where
+  pub names : AreNamesBehind [] (c.file.now ∷ c.path.now ∷ [])
+  pub words_are : ws ≡ codes "carry-path" ∷ lang_word c.lang ∷ c.file.now ∷ c.path.now ∷ texts c.rest.now
 
 -- all words before those of the constants, and what stands behind them
 pub record IsStart (ws : List (List ℕ)) (s : Start) : Type 0 where

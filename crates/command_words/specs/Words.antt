@@ -16,6 +16,7 @@ use Rattle.command_words.specs.declared.request.Walking as code_walking
 use Rattle.command_words.specs.declared.request.Claim as code_claim
 use Rattle.command_words.specs.declared.request.Claim.TheVariants as code_claim_case
 use Rattle.command_words.specs.declared.request.Checking as code_checking
+use Rattle.command_words.specs.declared.request.Carrying as code_carrying
 use Rattle.command_words.specs.declared.request.Request as code_request
 use Rattle.command_words.specs.declared.request.Request.TheVariants as code_request_case
 use Rattle.command_words.specs.declared.request.WordsFail.{WordsFail}
@@ -64,12 +65,20 @@ pub record Checking : Type 0 where
   pub claim : Claim
   pub given : List Assignment
 
+-- a path of the process, in this file, is carried to the counterpart of the model in the other language
+pub record Carrying : Type 0 where
+  pub lang : Lang
+  pub file : List ℕ
+  pub path : List ℕ
+  pub given : List Assignment
+
 pub data Request : Type 0 where
   on_file : (task : Task) (file : List ℕ) → Request
   with_properties : (file properties : List ℕ) → Request
   generate : (modules : ℕ) → Request
   walk : (walking : Walking) → Request
   check : (checking : Checking) → Request
+  carry : (carrying : Carrying) → Request
 
 -- ---- the words of files
 abbrev pub claim_files : Claim → List (List ℕ)
@@ -84,6 +93,7 @@ file_of (with_properties file properties) = file
 file_of (generate modules) = []
 file_of (walk w) = w.file
 file_of (check c) = c.file
+file_of (carry c) = c.file
 
 -- all files, in the order of their words
 abbrev pub files_of : Request → List (List ℕ)
@@ -92,6 +102,7 @@ files_of (with_properties file properties) = file ∷ properties ∷ []
 files_of (generate modules) = []
 files_of (walk w) = w.file ∷ []
 files_of (check c) = c.file ∷ claim_files c.claim
+files_of (carry c) = c.file ∷ c.path ∷ []
 
 -- a word of a file behind these: it isn't empty, and it is none of them
 abbrev pub IsNameBehind : List (List ℕ) → List ℕ → Type 0
@@ -201,6 +212,13 @@ pub record IsCheck (words : List (List ℕ)) (c : Checking) : Type 0 where
   pub words_are : words ≡ claim_verb c.claim ∷ lang_word c.lang ∷ c.file ∷ (claim_words c.claim ++ rest)
   pub given : AreGiven rest c.given
 
+-- ---- the form with a path that is carried: `carry-path LANG FILE PATH`; then any number of words NAME=VALUE
+pub record IsCarry (words : List (List ℕ)) (c : Carrying) : Type 0 where
+  pub names : AreNamesBehind [] (c.file ∷ c.path ∷ [])
+  pub rest : List (List ℕ)
+  pub words_are : words ≡ codes "carry-path" ∷ lang_word c.lang ∷ c.file ∷ c.path ∷ rest
+  pub given : AreGiven rest c.given
+
 -- ---- all forms
 abbrev pub IsRequest : List (List ℕ) → Request → Type 0
 IsRequest words (on_file task name) = (name ≢ []) × (words ≡ verb_of task ++ name ∷ [])
@@ -208,6 +226,7 @@ IsRequest words (with_properties file properties) = AreWithProperties words file
 IsRequest words (generate modules) = AreGenerate words modules
 IsRequest words (walk w) = IsWalk words w
 IsRequest words (check c) = IsCheck words c
+IsRequest words (carry c) = IsCarry words c
 
 abbrev pub HasForm : List (List ℕ) → Type 0
 HasForm words = (r : Request) × IsRequest words r
@@ -237,6 +256,7 @@ word_count (with_properties file properties) = 3
 word_count (generate modules) = 2
 word_count (walk w) = words_before w + length w.given
 word_count (check c) = words_before_given c + length c.given
+word_count (carry c) = 4 + length c.given
 
 abbrev pub WordsCount : Type 0
 WordsCount = (words : List (List ℕ)) (request : Request) → IsRequest words request → length words ≡ word_count request
@@ -262,12 +282,16 @@ claim_of (code_claim_case.Bounds states rows label bounds) = of_bounds states.no
 abbrev pub checking_of : code_checking.Checking → Checking
 checking_of c = record { lang = c.lang; file = c.file.now; claim = claim_of c.claim; given = assignments_of c.given }
 
+abbrev pub carrying_of : code_carrying.Carrying → Carrying
+carrying_of c = record { lang = c.lang; file = c.file.now; path = c.path.now; given = assignments_of c.given }
+
 abbrev pub request_of : code_request.Request → Request
 request_of (code_request_case.OnFile task file) = on_file task file.now
 request_of (code_request_case.WithProperties file properties) = with_properties file.now properties.now
 request_of (code_request_case.Generate modules) = generate modules
 request_of (code_request_case.Walk w) = walk (walking_of w)
 request_of (code_request_case.Check c) = check (checking_of c)
+request_of (code_request_case.Carry c) = carry (carrying_of c)
 
 -- what is answered: what the words ask for, or where they leave every form
 abbrev pub AnswersWords : {X : Type 0} → (X → Type 0) → (List (List ℕ) → Type 0) → List (List ℕ) → Result X WordsFail → Type 0

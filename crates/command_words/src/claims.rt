@@ -1,9 +1,9 @@
-// The words before those of the constants, behind `check-path`, `check-rows` and `check-bound`.
+// The words before those of the constants, behind `check-path`, `check-rows`, `check-bound` and `carry-path`.
 
 ghost use Rattle.std.specs.Prelude.{◌≢◌, ◌∷◌, MatchBool, MatchResult, codes, map};
 ghost use Rattle.std.specs.List.{AllByRecursion};
 ghost use Rattle.command_words.specs.Words.{IsWrong, texts};
-ghost use Rattle.command_words.specs.Fronts.{BoundsForm, HeadForm, IsClaimFront, PathForm, ReadsName, RowsForm};
+ghost use Rattle.command_words.specs.Fronts.{BoundsForm, HeadForm, IsCarryFront, IsClaimFront, PathForm, ReadsName, RowsForm};
 
 use crate::fronts::head_in;
 use crate::request::{Claim, Lang};
@@ -83,6 +83,34 @@ pub(crate) fn bounds_in(words: &[String]) -> Result<ClaimFront<'_>, usize>
         file: head.file,
         claim: Claim::Bounds(states.name, rows.name, label.name, bounds.name),
         rest: bounds.rest,
+    })
+}
+
+/// A path of the process of a file, and the words behind it.
+#[derive(Clone, Copy)]
+pub(crate) struct CarryFront<'a> {
+    pub(crate) lang: Lang,
+    pub(crate) file: &'a str,
+    pub(crate) path: &'a str,
+    pub(crate) rest: &'a [String],
+}
+
+/// What words of the form `LANG FILE PATH ..` of a path that is carried begin with, or the position of the word that isn't so.
+pub(crate) fn carry_in(words: &[String]) -> Result<CarryFront<'_>, usize>
+    ensures { MatchResult result (IsCarryFront (codes "carry-path" ∷ texts words.now)) (λ k. IsWrong (HeadForm PathForm) (texts words.now) k) }
+{
+    let head = match head_in(words) {
+        Ok(head) => head,
+        Err(k) => return Err(k),
+    };
+    let Some(path) = name_in(head.rest, &[head.file]) else {
+        return Err(3);
+    };
+    Ok(CarryFront {
+        lang: head.lang,
+        file: head.file,
+        path: path.name,
+        rest: path.rest,
     })
 }
 

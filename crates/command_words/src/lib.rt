@@ -10,5 +10,7 @@ mod request;
 mod words;
 
 pub use laws::words_law;
-pub use request::{Assignment, Checking, Claim, Job, Lang, Request, Task, Walking, WordsFail};
+pub use request::{
+    Assignment, Carrying, Checking, Claim, Job, Lang, Request, Task, Walking, WordsFail,
+};
 pub use words::request_in;

@@ -89,6 +89,19 @@ pub struct Checking<'a> {
     pub given: List<Assignment<'a>>,
 }
 
+/// A path of the process of a file under given constants, which is to be carried to the model's counterpart in the other language.
+#[derive(Drop)]
+pub struct Carrying<'a> {
+    /// The language of the file.
+    pub lang: Lang,
+    /// The word of the file.
+    pub file: &'a str,
+    /// The word of the file of the path, another one.
+    pub path: &'a str,
+    /// The given constants in their order, no two of one name.
+    pub given: List<Assignment<'a>>,
+}
+
 /// What words ask for.
 #[derive(Drop)]
 pub enum Request<'a> {
@@ -102,6 +115,8 @@ pub enum Request<'a> {
     Walk(Walking<'a>),
     /// A claim about the process of a file.
     Check(Checking<'a>),
+    /// A path of the process of a file, to be carried.
+    Carry(Carrying<'a>),
 }
 
 impl<'a> Request<'a> {
@@ -125,6 +140,7 @@ impl<'a> Request<'a> {
                     Vec::from_slice(alloc, &[checking.file, states, rows, bounds])
                 }
             },
+            Request::Carry(carrying) => { Vec::from_slice(alloc, &[carrying.file, carrying.path]) }
         };
         Ok(List::from_vec(files?))
     }

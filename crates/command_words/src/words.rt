@@ -1,13 +1,13 @@
 // All words.
-ghost use Rattle.std.specs.Prelude.{◌∷◌, MatchResult, codes};
+ghost use Rattle.std.specs.Prelude.{◌≡◌, ◌∷◌, MatchResult, codes};
 ghost use Rattle.command_words.specs.Words.{AnswersWords, HasFileWord, HasForm, IsFileWord, IsRequest, IsWrong, generate, on_file, request_of, texts};
-ghost use Rattle.command_words.specs.Fronts.{GenerateForm, IsClaimFront, IsStart, ShowForm, SimulateForm};
+ghost use Rattle.command_words.specs.Fronts.{GenerateForm, IsCarryFront, IsClaimFront, IsOfProcess, IsStart, ShowForm, SimulateForm};
 
-use crate::claims::{ClaimFront, bounds_in, name_in, path_in, rows_in};
+use crate::claims::{CarryFront, ClaimFront, bounds_in, carry_in, name_in, path_in, rows_in};
 use crate::fronts::{Front, head_in, state_in, walk_in};
 use crate::given::assignments_in;
 use crate::numbers::number_in;
-use crate::request::{Checking, Job, Lang, Request, Task, Walking, WordsFail};
+use crate::request::{Carrying, Checking, Job, Lang, Request, Task, Walking, WordsFail};
 use std::alloc::Global;
 
 /// What the words ask for; or, where they are of no form, the position of the first word with which no form goes on, or of the
@@ -39,6 +39,22 @@ pub fn request_in(alloc: Global, words: &[String]) -> Result<Request<'_>, WordsF
             Ok(modules) => Ok(Request::Generate(modules)),
             Err(k) => Err(WordsFail::At(k + 1)),
         },
+        _ => of_process_in(alloc, words, verb.as_str(), rest),
+    }
+}
+
+// What words ask for whose first is none of those above: the forms with a process.
+fn of_process_in<'a>(
+    alloc: Global,
+    words: &[String],
+    verb: &str,
+    rest: &'a [String],
+) -> Result<Request<'a>, WordsFail>
+    requires words { texts words.now ≡ verb.now ∷ texts rest.now }
+    requires others { IsOfProcess verb.now }
+    ensures { AnswersWords (λ r. IsRequest (texts words.now) (request_of r)) HasForm (texts words.now) result }
+{
+    match verb {
         "show" => match show_in(rest) {
             Ok(start) => with_given(alloc, words, start),
             Err(k) => Err(WordsFail::At(k + 1)),
@@ -58,6 +74,10 @@ pub fn request_in(alloc: Global, words: &[String]) -> Result<Request<'_>, WordsF
         },
         "check-bound" => match bounds_in(rest) {
             Ok(front) => claim_with_given(alloc, words, front),
+            Err(k) => Err(WordsFail::At(k + 1)),
+        },
+        "carry-path" => match carry_in(rest) {
+            Ok(front) => carry_with_given(alloc, words, front),
             Err(k) => Err(WordsFail::At(k + 1)),
         },
         _ => Err(WordsFail::At(1)),
@@ -236,6 +256,28 @@ fn claim_with_given<'a>(
             lang: front.lang,
             file: front.file,
             claim: front.claim,
+            given,
+        })),
+        Err(WordsFail::At(k)) => Err(WordsFail::At(before + k)),
+        Err(WordsFail::Memory(e)) => Err(WordsFail::Memory(e)),
+    }
+}
+
+// The request to carry the path in these words, with the constants that stand behind.
+fn carry_with_given<'a>(
+    alloc: Global,
+    words: &[String],
+    front: CarryFront<'a>,
+) -> Result<Request<'a>, WordsFail>
+    requires { IsCarryFront (texts words.now) front }
+    ensures { AnswersWords (λ r. IsRequest (texts words.now) (request_of r)) HasForm (texts words.now) result }
+{
+    let before = words.len() - front.rest.len();
+    match assignments_in(alloc, front.rest) {
+        Ok(given) => Ok(Request::Carry(Carrying {
+            lang: front.lang,
+            file: front.file,
+            path: front.path,
             given,
         })),
         Err(WordsFail::At(k)) => Err(WordsFail::At(before + k)),

@@ -13,4 +13,5 @@ pub mod ToPrism
 pub mod Told
 pub mod Tasked
 pub mod CertifiedBounds
-pub mod ClaimEnds
+pub mod CarriedPaths
+pub mod FilesEnds

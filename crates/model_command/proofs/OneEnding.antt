@@ -17,20 +17,24 @@ use Rattle.prism_translation.specs.Refused.{refused}
 use Rattle.prism_translation.specs.Translated.{translated}
 use Rattle.command_words.specs.declared.request.Task.{Task}
 use Rattle.command_words.specs.declared.request.Task.TheVariants.{ToJani, ToPrism, ToPrismProps, CheckPrism, CheckJani}
-use Rattle.command_words.specs.Words.{Checking, check, files_of, generate, on_file, walk, Walking, with_properties}
+use Rattle.command_words.specs.Words.{carry, check, files_of, generate, on_file, walk, Walking, with_properties}
 use Rattle.model_files.specs.Once.{OnePrismFault}
 use Rattle.model_files.specs.PrismFile.{IsPrismFault}
 use Rattle.model_files.proofs.Once.{faulty_or_jani, faulty_or_prism, one_jani_fault, one_jani_tree, one_least, one_prism_tree}
 use Rattle.model_translation.specs.Once.{OnePropertiesFault, OnePropertiesRefused, OnePropertiesText, OneTranslation, OneTranslationWith}
 use Rattle.model_translation.specs.WithProperties.{IsPropertiesFault}
 use Rattle.model_translation.specs.Laws.{OneListOfFaults}
+use Rattle.model_process.specs.Claims.{EndsOnFiles, IsFileFault}
+use Rattle.model_process.specs.declared.ending.Ending.{Ending}
+use Rattle.model_carrying.specs.Ends.{EndsOnCarryFiles, IsCarryFileFault}
+use Rattle.model_carrying.specs.Once.{CarryEndOrFault, OneCarryEnd, OneCarryFault}
 use Rattle.model_process.specs.Once.{ClaimEndOrFault, EndOrFault, OneClaimEnd, OneEnd, OneFileFault, OneModelFault}
 use Rattle.model_command.specs.Checking.{jani_line, prism_line}
 use Rattle.model_command.specs.ToPrism.{IsPrismRefused, of_file, of_result, TranslatesToPrism}
 use Rattle.model_command.specs.Generating.{generated_line}
 use Rattle.model_command.specs.Tasks.{IsLeastFor, Makes}
 use Rattle.model_command.specs.Outcome.{line_of, place_in}
-use Rattle.model_command.specs.Run.{IsAlone, IsClaimEnd, IsGenerateEnd, IsPair, IsPairEnd, IsRefusedAt, IsTaskEnd, IsWalkEnd}
+use Rattle.model_command.specs.Run.{IsAlone, IsFilesEnd, IsGenerateEnd, IsPair, IsPairEnd, IsRefusedAt, IsTaskEnd, IsWalkEnd}
 use Rattle.model_command.specs.OneEnding.{OneEnding}
 use Rattle.model_command.specs.declared.outcome.Outcome.{Outcome}
 use Rattle.model_command.specs.declared.outcome.Outcome.TheVariants.{Done, Ended, Refused, Words, ReadFault, NoMemory}
@@ -167,28 +171,29 @@ module _ (one_fault : OnePrismFault) (one_text : OneTranslationWith) (one_proper
   one_pair_end name other NoMemory p h k m n = absurd (m refl)
   one_pair_end name other o NoMemory h k m n = absurd (n refl)
 
--- ---- claims
-module _ (one_end : OneClaimEnd) (one_fault : OneFileFault) (either : ClaimEndOrFault) (c : Checking) (contents : List (List ℕ)) where
-  one_claim_end : (name other : List ℕ) (o p : Outcome) → IsClaimEnd c contents name o → IsClaimEnd c contents other p → o ≢ NoMemory → p ≢ NoMemory → IsSame name other o p
-  one_claim_end name other (Done text) p h k m n = absurd h
-  one_claim_end name other (Ended e) (Done text) h k m n = absurd k
-  one_claim_end name other (Ended e) (Ended g) h k m n = let same : Ended e ≡ Ended g = ap Ended (one_end c contents e g h k) in (same, ap (λ x. line_of name x) same)
-  one_claim_end name other (Ended e) (Refused r a) h (i, bytes, f, k, x, y, u, v) m n = absurd (either c contents e i f h k)
-  one_claim_end name other (Ended e) (Words i) h k m n = absurd k
-  one_claim_end name other (Ended e) ReadFault h k m n = absurd k
-  one_claim_end name other (Refused r a) (Done text) h k m n = absurd k
-  one_claim_end name other (Refused r a) (Ended e) (i, bytes, f, h, x, y, u, v) k m n = absurd (either c contents e i f k h)
-  one_claim_end name other (Refused r a) (Refused q b) (i, bytes, f, h, x, y, u, v) (j, others, g, k, z, w, d, e) m n =
-      let same = one_fault c contents i j f g h k in
-      let names : name ≡ other = same_Some name other (sym x ∙ ap (slice_get (files_of (check c))) same.0 ∙ z) in
+-- ---- several files
+module _ (IsEnding : Ending → Type 0) (IsFaulty : ℕ → Fault → Type 0) (one_end : (e g : Ending) → IsEnding e → IsEnding g → e ≡ g) (one_fault : (i j : ℕ) (f g : Fault) → IsFaulty i f → IsFaulty j g → (i ≡ j) × (f ≡ g))
+    (either : (e : Ending) (i : ℕ) (f : Fault) → IsEnding e → IsFaulty i f → ⊥) (names contents : List (List ℕ)) where
+  one_files_end : (name other : List ℕ) (o p : Outcome) → IsFilesEnd IsEnding IsFaulty names contents name o → IsFilesEnd IsEnding IsFaulty names contents other p → o ≢ NoMemory → p ≢ NoMemory → IsSame name other o p
+  one_files_end name other (Done text) p h k m n = absurd h
+  one_files_end name other (Ended e) (Done text) h k m n = absurd k
+  one_files_end name other (Ended e) (Ended g) h k m n = let same : Ended e ≡ Ended g = ap Ended (one_end e g h k) in (same, ap (λ x. line_of name x) same)
+  one_files_end name other (Ended e) (Refused r a) h (i, bytes, f, k, x, y, u, v) m n = absurd (either e i f h k)
+  one_files_end name other (Ended e) (Words i) h k m n = absurd k
+  one_files_end name other (Ended e) ReadFault h k m n = absurd k
+  one_files_end name other (Refused r a) (Done text) h k m n = absurd k
+  one_files_end name other (Refused r a) (Ended e) (i, bytes, f, h, x, y, u, v) k m n = absurd (either e i f k h)
+  one_files_end name other (Refused r a) (Refused q b) (i, bytes, f, h, x, y, u, v) (j, others, g, k, z, w, d, e) m n =
+      let same = one_fault i j f g h k in
+      let named : name ≡ other = same_Some name other (sym x ∙ ap (slice_get names) same.0 ∙ z) in
       let texts : bytes ≡ others = same_Some bytes others (sym y ∙ ap (slice_get contents) same.0 ∙ w) in
-      of_one name other (Refused r a) (Refused q b) names (refused_so bytes f g r q a b same.1 (u, v) (subst (λ t. IsRefusedAt t g q b) (sym texts) (d, e)))
-  one_claim_end name other (Refused r a) (Words i) h k m n = absurd k
-  one_claim_end name other (Refused r a) ReadFault h k m n = absurd k
-  one_claim_end name other (Words i) p h k m n = absurd h
-  one_claim_end name other ReadFault p h k m n = absurd h
-  one_claim_end name other NoMemory p h k m n = absurd (m refl)
-  one_claim_end name other o NoMemory h k m n = absurd (n refl)
+      of_one name other (Refused r a) (Refused q b) named (refused_so bytes f g r q a b same.1 (u, v) (subst (λ t. IsRefusedAt t g q b) (sym texts) (d, e)))
+  one_files_end name other (Refused r a) (Words i) h k m n = absurd k
+  one_files_end name other (Refused r a) ReadFault h k m n = absurd k
+  one_files_end name other (Words i) p h k m n = absurd h
+  one_files_end name other ReadFault p h k m n = absurd h
+  one_files_end name other NoMemory p h k m n = absurd (m refl)
+  one_files_end name other o NoMemory h k m n = absurd (n refl)
 
 -- ---- any request
 -- what holds of the one file of both
@@ -217,6 +222,9 @@ pub record Laws : Type 0 where
   pub claim : OneClaimEnd
   pub file_fault : OneFileFault
   pub claim_either : ClaimEndOrFault
+  pub carried : OneCarryEnd
+  pub carried_fault : OneCarryFault
+  pub carried_either : CarryEndOrFault
 
 pub one_ending : Laws → OneEnding
 one_ending laws (on_file task file) contents name other o p h k m n =
@@ -231,4 +239,7 @@ one_ending laws (walk w) contents name other o p h k m n =
     of_one name other o p (h.0 ∙ sym k.0)
     (alone_both (λ bytes. IsWalkEnd w bytes o) (λ bytes. IsWalkEnd w bytes p) (o ≡ p)
     (λ bytes a b. one_walk_end laws.end laws.model_fault laws.either w bytes o p a b m n) contents h.1 k.1)
-one_ending laws (check c) contents name other o p h k m n = one_claim_end laws.claim laws.file_fault laws.claim_either c contents name other o p h k m n
+one_ending laws (check c) contents name other o p h k m n =
+    one_files_end (EndsOnFiles c contents) (IsFileFault c contents) (laws.claim c contents) (laws.file_fault c contents) (laws.claim_either c contents) (files_of (check c)) contents name other o p h k m n
+one_ending laws (carry c) contents name other o p h k m n =
+    one_files_end (EndsOnCarryFiles c contents) (IsCarryFileFault c contents) (laws.carried c contents) (laws.carried_fault c contents) (laws.carried_either c contents) (files_of (carry c)) contents name other o p h k m n

@@ -11,7 +11,7 @@ use Rattle.bridge_io.specs.declared.reason.Reason.TheVariants.{TooLong}
 use Rattle.bridge_io.specs.declared.reason.Fault.{Fault}
 use Rattle.bridge_io.specs.declared.place.Place.{Place}
 use Rattle.command_words.specs.declared.request.Task.{Task}
-use Rattle.command_words.specs.Words.{Request, Walking, Checking, on_file, with_properties, generate, walk, check, files_of, word_count, IsRequest, IsWrongAt}
+use Rattle.command_words.specs.Words.{Request, Walking, Checking, Carrying, on_file, with_properties, generate, walk, check, carry, files_of, word_count, IsRequest, IsWrongAt}
 use Rattle.model_command.specs.Tasks.{Makes, IsLeastFor}
 use Rattle.model_files.specs.PrismFile.{IsPrismFault}
 use Rattle.model_translation.specs.WithProperties.{TranslatesWith, IsPropertiesFault}
@@ -20,6 +20,10 @@ use Rattle.model_translation.specs.declared.properties.FilesRefused.TheVariants 
 use Rattle.model_process.specs.Models.{IsModelFault}
 use Rattle.model_process.specs.Walks.{EndsOnBytes}
 use Rattle.model_process.specs.Claims.{EndsOnFiles, IsFileFault}
+use Rattle.model_process.specs.declared.ending.Ending.{Ending}
+use Rattle.model_process.specs.declared.judging.ClaimRefused.{ClaimRefused}
+use Rattle.model_process.specs.declared.judging.ClaimRefused.TheVariants as claim
+use Rattle.model_carrying.specs.Ends.{EndsOnCarryFiles, IsCarryFileFault}
 use Rattle.model_command.specs.Generating.{IsGenerated}
 use Rattle.model_command.specs.Outcome.{status_of, line_of, text_of, place_in}
 use Rattle.model_command.specs.declared.outcome.Outcome.{Outcome}
@@ -141,15 +145,31 @@ IsWalkEnd w bytes (Words k) = ⊥
 IsWalkEnd w bytes ReadFault = ⊥
 IsWalkEnd w bytes NoMemory = Unit {0}
 
--- how a claim is judged: it is refused at the file of this name, which has this place among all
+-- how a request over files of these names and contents ends: with such an end; or it is refused at the file of this name, which has this place
+-- among all, for such a fault
+abbrev pub IsFilesEnd : (Ending → Type 0) → (ℕ → Fault → Type 0) → List (List ℕ) → List (List ℕ) → List ℕ → Outcome → Type 0
+IsFilesEnd IsEnding IsFaulty names contents name (Done text) = ⊥
+IsFilesEnd IsEnding IsFaulty names contents name (Ended e) = IsEnding e
+IsFilesEnd IsEnding IsFaulty names contents name (Refused reason place) = (i : ℕ) × (bytes : List ℕ) × (f : Fault) × IsFaulty i f
+    × (slice_get names i ≡ Some name) × (slice_get contents i ≡ Some bytes) × (reason ≡ f.reason) × (place ≡ place_in bytes f.at)
+IsFilesEnd IsEnding IsFaulty names contents name (Words k) = ⊥
+IsFilesEnd IsEnding IsFaulty names contents name ReadFault = ⊥
+IsFilesEnd IsEnding IsFaulty names contents name NoMemory = Unit {0}
+
+-- how a claim is judged
 abbrev pub IsClaimEnd : Checking → List (List ℕ) → List ℕ → Outcome → Type 0
-IsClaimEnd c contents name (Done text) = ⊥
-IsClaimEnd c contents name (Ended e) = EndsOnFiles c contents e
-IsClaimEnd c contents name (Refused reason place) = (i : ℕ) × (bytes : List ℕ) × (f : Fault) × IsFileFault c contents i f
-    × (slice_get (files_of (check c)) i ≡ Some name) × (slice_get contents i ≡ Some bytes) × (reason ≡ f.reason) × (place ≡ place_in bytes f.at)
-IsClaimEnd c contents name (Words k) = ⊥
-IsClaimEnd c contents name ReadFault = ⊥
-IsClaimEnd c contents name NoMemory = Unit {0}
+IsClaimEnd c contents name o = IsFilesEnd (EndsOnFiles c contents) (IsFileFault c contents) (files_of (check c)) contents name o
+
+-- how a path is carried
+abbrev pub IsCarryEnd : Carrying → List (List ℕ) → List ℕ → Outcome → Type 0
+IsCarryEnd c contents name o = IsFilesEnd (EndsOnCarryFiles c contents) (IsCarryFileFault c contents) (files_of (carry c)) contents name o
+
+-- how what was made of files is told: at the first of them, or at the one that is refused
+abbrev pub IsToldOfFiles : List (List ℕ) → List (List ℕ) → Result Ending ClaimRefused → List ℕ → Outcome → Type 0
+IsToldOfFiles names contents (Ok e) name o = o ≡ Ended e
+IsToldOfFiles names contents (Err (claim.Memory e)) name o = o ≡ NoMemory
+IsToldOfFiles names contents (Err (claim.At i f)) name o =
+    (bytes : List ℕ) × (slice_get names i ≡ Some name) × (slice_get contents i ≡ Some bytes) × (o ≡ Refused f.reason (place_in bytes f.at))
 
 -- of one file
 abbrev pub IsAlone : (List ℕ → Type 0) → List (List ℕ) → Type 0
@@ -171,6 +191,7 @@ IsEndOn (with_properties file properties) contents name o = IsPair (λ model sec
 IsEndOn (generate modules) contents name o = IsGenerateEnd modules o
 IsEndOn (walk w) contents name o = (name ≡ w.file) × IsAlone (λ bytes. IsWalkEnd w bytes o) contents
 IsEndOn (check c) contents name o = IsClaimEnd c contents name o
+IsEndOn (carry c) contents name o = IsCarryEnd c contents name o
 
 -- it ends so once its files are read whole
 abbrev pub IsReadEnd : Request → List ℕ → Option Lefts → Option Lefts → Outcome → Type 0

@@ -1,14 +1,17 @@
 //! One run of the program, from the words of the command line to what is written.
-ghost use Rattle.std.specs.Prelude.{◌≡◌, ◌≤◌, ◌⊎◌, ◌+◌, ◌∷◌, ℕ, List, [], Some, length};
+ghost use Rattle.std.specs.Prelude.{◌≡◌, ◌<◌, ◌≤◌, ◌⊎◌, ◌+◌, ◌∷◌, ℕ, List, [], Some, Err, length};
 ghost use Rattle.std.specs.Io.KnownBytes.{Appends};
 ghost use Rattle.bridge_io.specs.Outside.{HasFailed, Lefts};
-ghost use Rattle.command_words.specs.Words.{Walking, texts, on_file, with_properties, generate, walk, check, checking_of, files_of, request_of, IsRequest, IsWrongAt};
+ghost use Rattle.command_words.specs.Words.{Walking, texts, on_file, with_properties, generate, walk, check, carry, files_of, request_of, IsRequest, IsWrongAt};
 ghost use Rattle.model_command.specs.Outcome.{halted, status_of, word_line};
 ghost use Rattle.model_process.specs.Walks.{EndsOnBytes, WalksOn};
 ghost use Rattle.model_process.specs.declared.ending.Ending.TheVariants as Ending;
 ghost use Rattle.model_process.specs.Certified.{Certifies};
-ghost use Rattle.model_process.specs.Claims.{EndsOnFiles, JudgesOn};
-ghost use Rattle.model_command.specs.Run.{AreWhole, ComesTo, IsCause, IsClaimEnd, IsEnd, IsEndOn, IsNext, IsDelivered, IsTaskEnd, IsWalkEnd, IsReadWhole, IsTold, EndsWith, EndsWithOrNoMemory, IsCarriedOut, names_of, pair_name, pair_outcome, shelf_sides, sink_sides};
+ghost use Rattle.model_process.specs.Claims.{EndsOnFiles};
+ghost use Rattle.model_process.specs.declared.judging.ClaimRefused.TheVariants as claim;
+ghost use Rattle.model_carrying.specs.Ends.{EndsOnCarryFiles};
+ghost use Rattle.model_carrying.specs.Kept.{IsKept, IsNotAccepted};
+ghost use Rattle.model_command.specs.Run.{AreWhole, ComesTo, IsCause, IsEnd, IsEndOn, IsNext, IsDelivered, IsTaskEnd, IsWalkEnd, IsReadWhole, IsTold, IsToldOfFiles, EndsWith, EndsWithOrNoMemory, IsCarriedOut, names_of, pair_name, pair_outcome, shelf_sides, sink_sides};
 ghost use Rattle.model_command.specs.Tasks.{Makes, IsFit, Judged};
 ghost use Rattle.model_command.specs.Headline.{AreHeld, IsHeadline, IsEndedAsTold, IsShownAsTold, IsTranslatedAsTold};
 
@@ -18,7 +21,8 @@ use crate::outcome::{Outcome, refusal};
 use crate::reading::read_files;
 use crate::to_prism::translate_to_prism;
 use bridge_io::{List, ReadFail, Reason, Refused, Shelf, Sink, write_whole};
-use command_words::{Checking, Request, Task, WordsFail, request_in, words_law};
+use command_words::{Request, Task, WordsFail, request_in, words_law};
+use model_carrying::{carry_between, kept_law};
 use model_process::{ClaimRefused, Ending, certified_law, judge_claim, show_or_walk};
 use model_translation::{
     FilesRefused, one_list_of_faults, translate, translate_properties, translate_with_properties,
@@ -44,22 +48,23 @@ const WRITE_FAULT: u8 = 5;
 /// | `check-path LANG FILE PATH NAME=VALUE ..` | `yes`: PATH holds a path of the model |
 /// | `check-rows LANG FILE STATES ROWS NAME=VALUE ..` | `yes`: STATES holds states of the model, each once and an initial one among them, and ROWS their choices, which lead to no others |
 /// | `check-bound LANG FILE STATES ROWS LABEL BOUNDS NAME=VALUE ..` | `yes`: so they do, and no way to choose reaches the label LABEL from a listed state with more probability than BOUNDS gives it |
+/// | `carry-path LANG FILE PATH NAME=VALUE ..` | the path that PATH holds as one of the model that FILE is translated to |
 /// | `generate N` | `modules N commands C jani L prism B`, of a model of N modules that is generated: how many commands it has, and how long the texts are that `to-jani` writes for it, and `to-prism` for that |
 ///
 /// LANG is `prism` or `jani`. A walk starts at the model's first state; with `from STATE` before `given` or `seed`, at that one.
 ///
 /// | status | when | on `out` | on `err`, each line with its LF |
 /// |---|---|---|---|
-/// | 0 | the file has no fault, and was translated, checked, shown or walked to the end; or what is claimed of its model is right | the text | nothing |
+/// | 0 | the file has no fault, and was translated, checked, shown or walked to the end; or what is claimed of its model is right; or the path was carried | the text | nothing |
 /// | 1 | a walk came to a choice that has no distribution, to a number that there is no choice or branch for, or to a branch of probability 0 | the path so far | `bridge: stopped at step K: WHY` |
-/// | 1 | what is claimed of the model isn't right | `no` and why | nothing |
-/// | 2 | a file is longer than 16,777,216 bytes; or a PRISM file has a fault of its tokens, its grammar, its names, its size or its types; or a JANI file has a fault of its JSON, its shape, its names, its types or the profile; or a JANI file to be translated has none and its translation would write a variable where PRISM forbids it, or be too large; or a line breaks the form of PATH, of STATES, of ROWS or of BOUNDS | nothing | `FILE:LINE:COLUMN: reason NO Name`, with the word of that file |
+/// | 1 | what is claimed of the model isn't right; or a line of the path is none that is carried | `no` and why | nothing |
+/// | 2 | a file is longer than 16,777,216 bytes; or a PRISM file has a fault of its tokens, its grammar, its names, its size or its types; or a JANI file has a fault of its JSON, its shape, its names, its types or the profile; or a JANI file to be translated, or whose path is to be carried, has none and its translation would write a variable where PRISM forbids it, or be too large; or a line breaks the form of PATH, of STATES, of ROWS or of BOUNDS | nothing | `FILE:LINE:COLUMN: reason NO Name`, with the word of that file |
 /// | 3 | the words are of no form; or a value is given for no open constant of the model, or is none of its type, or past the bound; or an open constant isn't given; or STATE is no state of the model, or no initial one where a walk starts; or LABEL is no label of the model | nothing | `bridge: word K`, K being the first word with which no form goes on, or that doesn't fit, or the one that is missing |
 /// | 4 | a read failed | nothing | `bridge: read fault FILE`, with the word of that file |
 /// | 5 | a write failed | a front of the text | a front of `bridge: write fault`, or of the line, where `err` failed |
 /// | 6 | memory ran out | nothing | `bridge: no memory` |
 /// | 7 | the model has faults under the given constants | nothing | `instance KIND NAME` for each |
-/// | 8 | a value that is needed passes the bound of fractions, or a state has too many choices or branches | the path so far | `bridge: wide at WHERE` or `bridge: too many at WHERE`, WHERE being `instance`, `step K`, or for rows `state S` |
+/// | 8 | a value that is needed passes the bound of fractions, or a state has too many choices or branches, for `carry-path` also in the model that FILE is translated to | the path so far | `bridge: wide at WHERE` or `bridge: too many at WHERE`, WHERE being `instance`, `step K`, or for rows `state S` |
 ///
 /// All text is built before its first byte is written.
 pub fn run<H: Shelf, K: Sink, E: Sink>(
@@ -82,7 +87,9 @@ pub fn run<H: Shelf, K: Sink, E: Sink>(
         × (IsWrongAt (texts words.now) k ⊎ ((w : _) × (bytes : List ℕ) × IsRequest (texts words.now) (walk w)
         × IsReadWhole (H.left shelf.old) (H.left shelf.new) w.file bytes × EndsOnBytes w.lang w bytes (Ending.Word k))
         ⊎ ((c : _) × (contents : List (List ℕ)) × IsRequest (texts words.now) (check c)
-        × AreWhole (H.left shelf.old) (H.left shelf.new) (files_of (check c)) contents × EndsOnFiles c contents (Ending.Word k))) }
+        × AreWhole (H.left shelf.old) (H.left shelf.new) (files_of (check c)) contents × EndsOnFiles c contents (Ending.Word k))
+        ⊎ ((c : _) × (contents : List (List ℕ)) × IsRequest (texts words.now) (carry c)
+        × AreWhole (H.left shelf.old) (H.left shelf.new) (files_of (carry c)) contents × EndsOnCarryFiles c contents (Ending.Word k))) }
     ensures read_fault { result ≡ 4 → (request : _) × (name : List ℕ) × (mid : _) × IsRequest (texts words.now) request
         × ComesTo (H.left shelf.old) mid (files_of request) name
         × HasFailed (H.faults shelf.old) (H.faults shelf.new) × (H.steady shelf.old name → ⊥) }
@@ -136,6 +143,22 @@ pub fn run<H: Shelf, K: Sink, E: Sink>(
     ensures certified { (c : _) → IsRequest (texts words.now) (check c) → result ≡ 0 → (contents : List (List ℕ))
         × AreWhole (H.left shelf.old) (H.left shelf.new) (files_of (check c)) contents × Certifies c contents }
 
+    // Likewise where the words ask for a path to be carried: it is the end that the contents of both files, the constants, and the processes of
+    // the model and of the one that it is translated to make of it, and no other (`one_ending`).
+    ensures carried { (left : Lefts) (c : _) (contents : List (List ℕ)) (was said : List ℕ) → H.left shelf.old ≡ Some left
+        → AreHeld left (files_of (carry c)) contents
+        → K.taken out.old ≡ Some was → E.taken err.old ≡ Some said → IsRequest (texts words.now) (carry c)
+        → (result ≡ 4 → ⊥) → (result ≡ 5 → ⊥) → (result ≡ 6 → ⊥)
+        → IsEndedAsTold (carry c) contents was said (K.taken out.new) (E.taken err.new) result }
+
+    // For any shelf and any sinks: what was written of a path that is carried is a path file of the translated model, and where neither check passes
+    // a bound it is accepted there exactly where the path is accepted here; and a path with a line that isn't carried isn't accepted here.
+    ensures kept { (c : _) → IsRequest (texts words.now) (carry c) → result ≡ 0 → (model : List ℕ) × (path : List ℕ) × (text : List ℕ)
+        × AreWhole (H.left shelf.old) (H.left shelf.new) (files_of (carry c)) (model ∷ path ∷ [])
+        × Appends (K.taken out.old) (K.taken out.new) text × IsKept c model path text }
+    ensures lost { (c : _) → IsRequest (texts words.now) (carry c) → result ≡ 1 → (model : List ℕ) × (path : List ℕ)
+        × AreWhole (H.left shelf.old) (H.left shelf.new) (files_of (carry c)) (model ∷ path ∷ []) × IsNotAccepted c model path }
+
     // A model that is generated: the status is 0 only where its line was written and nothing else, and any other is that of a failed write or of
     // want of memory.
     ensures generated { (modules : ℕ) → IsRequest (texts words.now) (generate modules)
@@ -145,6 +168,7 @@ pub fn run<H: Shelf, K: Sink, E: Sink>(
     words_law();
     one_list_of_faults();
     certified_law();
+    kept_law();
     answer(alloc, words, shelf, out, err)
 }
 
@@ -264,8 +288,10 @@ fn end_on<'a>(
             }
         }
         Request::Check(checking) => {
-            let made = judge_claim(alloc, next, checking, files);
-            judged(checking, names, files, made)
+            told_of_files(names, files, judge_claim(alloc, next, checking, files))
+        }
+        Request::Carry(carrying) => {
+            told_of_files(names, files, carry_between(alloc, next, carrying, files))
         }
     }
 }
@@ -339,17 +365,16 @@ fn ended(bytes: &[u8], made: Result<Ending, Refused>) -> Outcome
     }
 }
 
-// The same of a claim, at the file that is refused, or else at the model's.
-fn judged<'a>(
-    checking: &Checking,
+// The same of a claim, or of a path that is carried, at the file that is refused, or else at the model's.
+fn told_of_files<'a>(
     names: &[&'a str],
     files: &[List<u8>],
     made: Result<Ending, ClaimRefused>,
 ) -> End<'a>
-    requires names { names_of names.now ≡ files_of (check (checking_of checking.now)) }
+    requires some { 0 < length names.now }
     requires files { length files.now ≡ length names.now }
-    requires made { JudgesOn (checking_of checking.now) files.now made }
-    ensures { IsClaimEnd (checking_of checking.now) files.now result.name.now result.outcome }
+    requires within { (i : ℕ) (f : _) → made ≡ Err (claim.At i f) → i < length files.now }
+    ensures { IsToldOfFiles (names_of names.now) files.now made result.name.now result.outcome }
 {
     match made {
         Ok(ending) => End {

@@ -2,6 +2,7 @@
 
 ghost use Rattle.model_command.specs.OneEnding.{OneEnding};
 
+use model_carrying::one_carry_law;
 use model_files::one_reading_law;
 use model_process::one_end_law;
 use model_translation::{one_list_of_faults, one_text_law};
@@ -15,4 +16,5 @@ pub fn one_ending()
     one_list_of_faults();
     one_text_law();
     one_end_law();
+    one_carry_law();
 }

@@ -43,7 +43,7 @@ texts_no_feed : (mark : List ℕ) → Lacks 10 mark → (i n : ℕ) → Each (La
 texts_no_feed mark h i zero = tt
 texts_no_feed mark h i (suc n) = (lacks_join 10 mark (decimal i) h (decimal_no_feed i), texts_no_feed mark h (i + 1) n)
 
-header_read : (file : File) → Lacks 10 (header_text (column_texts file))
+pub header_read : (file : File) → Lacks 10 (header_text (column_texts file))
 header_read file =
     names_no_feed (column_texts file)
     (each_join (Lacks 10) (texts_from (codes "@") 0 (length file.elements)) (texts_from (codes "#") 0 (length (lasting file)))

@@ -244,7 +244,7 @@ fn bounds_on<S: Steps>(
 }
 
 /// A fault told of the file of this place.
-fn at_file(i: usize, refused: Refused) -> ClaimRefused
+pub fn at_file(i: usize, refused: Refused) -> ClaimRefused
     ensures { result ≡ at_file i refused }
 {
     match refused {

@@ -52,8 +52,8 @@ fn no_state(alloc: Global, i: usize, why: &str) -> Result<Ending, AllocError>
     Ok(Ending::No(List::from_vec(line.into_bytes())))
 }
 
-// It ends so with a verdict on a path or on rows.
-fn judged_ending(alloc: Global, claim: Claim, verdict: Verdict) -> Result<Ending, AllocError>
+/// How it ends with a verdict on a path or on rows that a claim names. `Err` is want of memory.
+pub fn judged_ending(alloc: Global, claim: Claim, verdict: Verdict) -> Result<Ending, AllocError>
     ensures { IfOk result (λ e. e ≡ judged_ending (claim_of claim.entry) verdict) }
 {
     match verdict {

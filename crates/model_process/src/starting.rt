@@ -124,7 +124,8 @@ fn ending_of_fail(
     }
 }
 
-fn wide_instance(alloc: Global) -> Result<Ending, AllocError>
+/// How it ends where something in an instance is wide. `Err` is want of memory.
+pub fn wide_instance(alloc: Global) -> Result<Ending, AllocError>
     ensures { IfOk result (λ o. o ≡ Excess [] wide_instance_line) }
 {
     let line = Text::copy_of(alloc, "bridge: wide at instance\n")?;

@@ -7,7 +7,7 @@ use Rattle.bridge_io.specs.declared.reason.Refused.TheVariants as R
 use Rattle.jani_tree.specs.Syntax as jani
 use Rattle.prop_trees.specs.Trees.{JaniProperty}
 use Rattle.jani_props.specs.Reading.{AreRead, IsFirst}
-use Rattle.prop_to_prism.specs.Laws.{IsWritten}
+use Rattle.prop_to_prism.specs.Laws.{AreWrittenAs}
 use Rattle.model_files.specs.JaniFile.{IsFaultlessJani, IsJaniFault}
 
 -- The bytes are a JANI file without fault, and these are its properties.
@@ -22,7 +22,7 @@ HasProperties bytes = (tree : jani.File) × (ps : List JaniProperty) × HoldsPro
 -- read back as these, and no fault of names and of types is found in it.
 pub record IsPropertiesText (bytes text : List ℕ) (tree : jani.File) (ps : List JaniProperty) : Type 0 where
   pub holds : HoldsProperties bytes tree ps
-  pub written : IsWritten tree ps text
+  pub written : AreWrittenAs tree ps text
 
 abbrev pub TranslatesProperties : List ℕ → List ℕ → Type 0
 TranslatesProperties bytes text = (tree : jani.File) × (ps : List JaniProperty) × IsPropertiesText bytes text tree ps

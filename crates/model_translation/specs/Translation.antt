@@ -13,7 +13,7 @@ use Rattle.jani_table.specs.Faults.{faults as shape_faults}
 use Rattle.jani_tree.specs.Syntax as jani
 use Rattle.jani_tree.specs.Places.{bare_file}
 use Rattle.jani_tree.specs.Text.{jani_text}
-use Rattle.jani_tree.specs.Back.{IsClean, SpellsFile, SpellsAside, SpellsOnly}
+use Rattle.jani_tree.specs.Back.{IsCleanValue, SpellsFile, SpellsAside, SpellsOnly}
 use Rattle.prism_to_jani.specs.Promise.{IsJaniOf}
 use Rattle.model_files.specs.PrismFile.{IsFaultless, IsPrismFault}
 
@@ -23,7 +23,7 @@ use Rattle.model_files.specs.PrismFile.{IsFaultless, IsPrismFault}
 pub record IsShaped (text : List ℕ) : Type 0 where
   pub value : Json
   pub spelled : SpellsValue text value
-  pub clean : IsClean value
+  pub clean : IsCleanValue value
   pub faultless : (other : Json) (tokens : List Mark) → IsJson text other tokens → shape_faults F.Model (node other) ≡ []
 
 -- The text is the canonical one of the tree and a line feed; it spells the tree, places aside, and no other, by a value without fault of shape.

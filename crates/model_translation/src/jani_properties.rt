@@ -3,7 +3,7 @@ ghost use Rattle.std.specs.Prelude.{IfErr, IfOk, List};
 ghost use Rattle.jani_tree.specs.Syntax.{file_of};
 ghost use Rattle.prop_trees.specs.Trees.{JaniProperty};
 ghost use Rattle.jani_props.specs.Reading.{AreRead, IsRefusal};
-ghost use Rattle.prop_to_prism.specs.Laws.{IsWritten};
+ghost use Rattle.prop_to_prism.specs.Laws.{AreWrittenAs};
 ghost use Rattle.model_translation.specs.JaniProperties.{TranslatesHeld};
 
 use bridge_io::{List, Refused};
@@ -26,7 +26,7 @@ pub fn translate_properties(alloc: Global, bytes: &[u8]) -> Result<List<u8>, Ref
 
 // The same of a judged file.
 fn held(alloc: Global, model: &CheckedJani) -> Result<List<u8>, Refused>
-    ensures ok { IfOk result (λ text. (ps : List JaniProperty) × AreRead (file_of model.now) ps × IsWritten (file_of model.now) ps text) }
+    ensures ok { IfOk result (λ text. (ps : List JaniProperty) × AreRead (file_of model.now) ps × AreWrittenAs (file_of model.now) ps text) }
     ensures refused { IfErr result (IsRefusal (file_of model.now)) }
 {
     let props = match read_jani_props(alloc, model) {

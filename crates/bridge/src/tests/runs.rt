@@ -27,7 +27,7 @@ struct Command {
     status: u8,
 }
 
-const COMMANDS: [Command; 9] = [
+const COMMANDS: [Command; 11] = [
     Command {
         words: &["to-jani", "f"],
         files: &[("f", LOCK)],
@@ -74,6 +74,19 @@ const COMMANDS: [Command; 9] = [
             ),
         ],
         status: 0,
+    },
+    Command {
+        words: &["carry-path", "prism", "f", "p"],
+        files: &[("f", COIN), ("p", b"(x)\n(0)\na (1)\n- (1)\n")],
+        status: 0,
+    },
+    Command {
+        words: &["carry-path", "jani", "f", "p"],
+        files: &[
+            ("f", SPLIT),
+            ("p", b"(@0,@1,#0)\n(0,0,0)\nstep (1,0,0)\ngo (0,0,0)\n"),
+        ],
+        status: 1,
     },
     Command {
         words: &["generate", "3"],

@@ -1,12 +1,12 @@
-use Rattle.std.proofs.Common.{rules, ◌≡◌, ◌≢◌, refl, ℕ, ◌+◌, ◌-◌, ◌≤◌, List, ◌∷◌, length, take, drop, length-take, length-drop, inl, inr, arith}
+use Rattle.std.proofs.Common.{rules, ◌≡◌, ℕ, ◌-◌, ◌≤◌, List, ◌∷◌, length, take, drop, length-take, length-drop, inl, inr, arith}
 use Rattle.std.proofs.lemmas.List.{length-map}
 use Rattle.std.specs.Prelude.{String}
 use Rattle.std.specs.Global.{Global}
 use Rattle.std.specs.Prelude.{string_bytes, codes}
 use Rattle.command_words.specs.Words.{HasFileWord, HasForm, IsWrong, texts}
-use Rattle.command_words.specs.Fronts.{GenerateForm, HeadForm, PathForm, RowsForm, BoundsForm, ShowForm, SimulateForm}
-use Rattle.command_words.proofs.Wrong.{read_none, read_first}
-use Rattle.command_words.proofs.Requests.{no_verb, other_verb, behind_to_jani, behind_to_prism, behind_to_prism_props, behind_check, behind_generate, behind_show, behind_simulate, behind_path, behind_rows, behind_bounds}
+use Rattle.command_words.specs.Fronts.{GenerateForm}
+use Rattle.command_words.proofs.Wrong.{first_words, read_none, read_first}
+use Rattle.command_words.proofs.Requests.{no_verb, behind_to_jani, behind_to_prism, behind_to_prism_props, behind_check, behind_generate}
 use Rattle.command_words.proofs.words.request_in.Goals as goal
 
 -- a position among the words behind the first is one of all words
@@ -42,45 +42,13 @@ returns-in-Err-modules_in c =
     let eq : string_bytes c.verb-item.result ≡ codes "generate" = search rules in
     read_first HasForm _ _ c.verb-item.result _ c.in-len1-up.len_at_least c.verb-item.is eq (behind_generate _ _ c.in-Err-modules_in.ensures)
 
-pub returns-in-Err-show_in : goal.returns-in-Err-show_in
-returns-in-Err-show_in c =
-    let eq : string_bytes c.verb-item.result ≡ codes "show" = search rules in
-    read_first HasForm _ _ c.verb-item.result _ c.in-len1-up.len_at_least c.verb-item.is eq (behind_show _ _ c.in-Err-show_in.ensures)
+pub of_process_in-requires-clause-words : goal.of_process_in-requires-clause-words
+of_process_in-requires-clause-words c =
+    let same : string_bytes c.verb-item.result ≡ c.as_str-in_default-as_str.result.now = search rules in
+    first_words c.args.words.now c.verb-item.result _ c.in-len1-up.len_at_least c.verb-item.is same
 
-pub returns-in-Err-At : goal.returns-in-Err-At
-returns-in-Err-At c =
-    let eq : string_bytes c.verb-item.result ≡ codes "simulate" = search rules in
-    rw c.in-Err-At.field-0-is
-    (read_first HasForm (c.in-Err-At.k + 1) _ c.verb-item.result _ c.in-len1-up.len_at_least c.verb-item.is eq (behind_simulate _ _ (rw c.in-Err-At.field-0-is at c.in-Err-At.ensures)))
-
-pub returns-in-Err-path_in : goal.returns-in-Err-path_in
-returns-in-Err-path_in c =
-    let eq : string_bytes c.verb-item.result ≡ codes "check-path" = search rules in
-    read_first HasForm _ _ c.verb-item.result _ c.in-len1-up.len_at_least c.verb-item.is eq (behind_path _ _ c.in-Err-path_in.ensures)
-
-pub returns-in-Err-rows_in : goal.returns-in-Err-rows_in
-returns-in-Err-rows_in c =
-    let eq : string_bytes c.verb-item.result ≡ codes "check-rows" = search rules in
-    read_first HasForm _ _ c.verb-item.result _ c.in-len1-up.len_at_least c.verb-item.is eq (behind_rows _ _ c.in-Err-rows_in.ensures)
-
-pub returns-in-Err-bounds_in : goal.returns-in-Err-bounds_in
-returns-in-Err-bounds_in c =
-    let eq : string_bytes c.verb-item.result ≡ codes "check-bound" = search rules in
-    read_first HasForm _ _ c.verb-item.result _ c.in-len1-up.len_at_least c.verb-item.is eq (behind_bounds _ _ c.in-Err-bounds_in.ensures)
-
-pub returns-in_default-as_str : goal.returns-in_default-as_str
-returns-in_default-as_str c =
-    let not_to_jani : string_bytes c.verb-item.result ≢ codes "to-jani" = search rules in
-    let not_to_prism : string_bytes c.verb-item.result ≢ codes "to-prism" = search rules in
-    let not_props : string_bytes c.verb-item.result ≢ codes "to-prism-props" = search rules in
-    let not_check : string_bytes c.verb-item.result ≢ codes "check" = search rules in
-    let not_generate : string_bytes c.verb-item.result ≢ codes "generate" = search rules in
-    let not_show : string_bytes c.verb-item.result ≢ codes "show" = search rules in
-    let not_simulate : string_bytes c.verb-item.result ≢ codes "simulate" = search rules in
-    let not_path : string_bytes c.verb-item.result ≢ codes "check-path" = search rules in
-    let not_rows : string_bytes c.verb-item.result ≢ codes "check-rows" = search rules in
-    let not_bound : string_bytes c.verb-item.result ≢ codes "check-bound" = search rules in
-    read_first HasForm 1 _ c.verb-item.result _ c.in-len1-up.len_at_least c.verb-item.is refl (other_verb _ _ not_to_jani not_to_prism not_props not_check not_show not_simulate not_generate not_path not_rows not_bound)
+pub of_process_in-requires-clause-others : goal.of_process_in-requires-clause-others
+of_process_in-requires-clause-others c = (search rules, search rules, search rules, search rules, search rules)
 
 pub overflow_add-result : goal.overflow_add-result
 overflow_add-result c = let h = behind_first (λ ws. HasForm (codes "to-jani" ∷ ws)) c.args.words.now c.in-Err.k c.in-len1-up.len_at_least c.in-Err.ensures in omega arith
@@ -96,18 +64,3 @@ overflow_add-result-in-Err-check_in c = let h = behind_first (λ ws. HasForm (co
 
 pub overflow_add-result-in-Err-modules_in : goal.overflow_add-result-in-Err-modules_in
 overflow_add-result-in-Err-modules_in c = let h = behind_first GenerateForm c.args.words.now c.in-Err-modules_in.k c.in-len1-up.len_at_least c.in-Err-modules_in.ensures in omega arith
-
-pub overflow_add-result-in-Err-show_in : goal.overflow_add-result-in-Err-show_in
-overflow_add-result-in-Err-show_in c = let h = behind_first ShowForm c.args.words.now c.in-Err-show_in.k c.in-len1-up.len_at_least c.in-Err-show_in.ensures in omega arith
-
-pub overflow_add-result-in-Err-path_in : goal.overflow_add-result-in-Err-path_in
-overflow_add-result-in-Err-path_in c = let h = behind_first (HeadForm PathForm) c.args.words.now c.in-Err-path_in.k c.in-len1-up.len_at_least c.in-Err-path_in.ensures in omega arith
-
-pub overflow_add-result-in-Err-rows_in : goal.overflow_add-result-in-Err-rows_in
-overflow_add-result-in-Err-rows_in c = let h = behind_first (HeadForm RowsForm) c.args.words.now c.in-Err-rows_in.k c.in-len1-up.len_at_least c.in-Err-rows_in.ensures in omega arith
-
-pub overflow_add-result-in-Err-bounds_in : goal.overflow_add-result-in-Err-bounds_in
-overflow_add-result-in-Err-bounds_in c = let h = behind_first (HeadForm BoundsForm) c.args.words.now c.in-Err-bounds_in.k c.in-len1-up.len_at_least c.in-Err-bounds_in.ensures in omega arith
-
-pub overflow_add-result-in-Err-At : goal.overflow_add-result-in-Err-At
-overflow_add-result-in-Err-At c = let h = behind_first SimulateForm c.args.words.now c.in-Err-At.k c.in-len1-up.len_at_least (rw c.in-Err-At.field-0-is at c.in-Err-At.ensures) in let e = c.in-Err-At.k-is in omega arith

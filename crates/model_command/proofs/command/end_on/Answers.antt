@@ -1,6 +1,7 @@
-use Rattle.std.proofs.Common.{sym, subst, ◌≡◌, [], slice_index_or}
-use Rattle.command_words.specs.Words.{request_of, walking_of, files_of}
-use Rattle.model_command.specs.Run.{IsEndOn, IsTaskEnd, IsWalkEnd, names_of}
+use Rattle.std.proofs.Common.{sym, subst, ◌≡◌, ◌∙◌, [], slice_index_or}
+use Rattle.command_words.specs.Words.{request_of, walking_of, checking_of, carrying_of, files_of}
+use Rattle.model_command.specs.Run.{IsEndOn, IsTaskEnd, IsToldOfFiles, IsWalkEnd, names_of}
+use Rattle.model_command.proofs.FilesEnds.{carry_told, carry_within, claim_told, claim_within, some_named, two_named}
 use Rattle.model_command.proofs.Several.{one_file}
 use Rattle.model_command.proofs.command.end_on.Goals as goal
 
@@ -18,3 +19,36 @@ returns-in-Walk c =
     (one_file (λ bytes. IsWalkEnd w bytes c.ended.result) w.file c.args.names.now _ c.args.files.now _ _
     (subst (λ r. names_of c.args.names.now ≡ files_of (request_of r)) c.in-Walk.is c.requires.names) c.requires.files c.index-files-0-in-Walk.is
     (subst (λ bytes. IsWalkEnd w bytes c.ended.result) c.as_slice-bytes-in-Walk.ensures (c.ended.ensures w c.show_or_walk.ensures)))
+
+-- the names of the files, and what is told of them
+pub told_of_files-requires-clause-some : goal.told_of_files-requires-clause-some
+told_of_files-requires-clause-some c =
+    some_named c.args.names.now _ _ (subst (λ r. names_of c.args.names.now ≡ files_of (request_of r)) c.in-Check.is c.requires.names)
+
+pub told_of_files-requires-clause-within : goal.told_of_files-requires-clause-within
+told_of_files-requires-clause-within c = claim_within (checking_of c.in-Check.checking) c.args.files.now c.judge_claim.result c.judge_claim.ensures
+
+pub returns-in-Check : goal.returns-in-Check
+returns-in-Check c =
+    let names = subst (λ r. names_of c.args.names.now ≡ files_of (request_of r)) c.in-Check.is c.requires.names in
+    subst (λ r. IsEndOn (request_of r) c.args.files.now c.told_of_files.result.name.now c.told_of_files.result.outcome) (sym c.in-Check.is)
+    (claim_told (checking_of c.in-Check.checking) c.args.files.now c.told_of_files.result.name.now c.judge_claim.result c.told_of_files.result.outcome c.judge_claim.ensures
+    (subst (λ ns. IsToldOfFiles ns c.args.files.now c.judge_claim.result c.told_of_files.result.name.now c.told_of_files.result.outcome) names c.told_of_files.ensures))
+
+pub carry_between-requires-clause-files : goal.carry_between-requires-clause-files
+carry_between-requires-clause-files c =
+    c.requires.files ∙ two_named c.args.names.now _ _ (subst (λ r. names_of c.args.names.now ≡ files_of (request_of r)) c.in-Carry.is c.requires.names)
+
+pub told_of_files-requires-in-Carry-clause-some : goal.told_of_files-requires-in-Carry-clause-some
+told_of_files-requires-in-Carry-clause-some c =
+    some_named c.args.names.now _ _ (subst (λ r. names_of c.args.names.now ≡ files_of (request_of r)) c.in-Carry.is c.requires.names)
+
+pub told_of_files-requires-in-Carry-clause-within : goal.told_of_files-requires-in-Carry-clause-within
+told_of_files-requires-in-Carry-clause-within c = carry_within (carrying_of c.in-Carry.carrying) c.args.files.now c.carry_between.result c.carry_between.ensures
+
+pub returns-in-Carry : goal.returns-in-Carry
+returns-in-Carry c =
+    let names = subst (λ r. names_of c.args.names.now ≡ files_of (request_of r)) c.in-Carry.is c.requires.names in
+    subst (λ r. IsEndOn (request_of r) c.args.files.now c.told_of_files-in-Carry.result.name.now c.told_of_files-in-Carry.result.outcome) (sym c.in-Carry.is)
+    (carry_told (carrying_of c.in-Carry.carrying) c.args.files.now c.told_of_files-in-Carry.result.name.now c.carry_between.result c.told_of_files-in-Carry.result.outcome c.carry_between.ensures
+    (subst (λ ns. IsToldOfFiles ns c.args.files.now c.carry_between.result c.told_of_files-in-Carry.result.name.now c.told_of_files-in-Carry.result.outcome) names c.told_of_files-in-Carry.ensures))

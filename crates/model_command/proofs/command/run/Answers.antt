@@ -1,7 +1,8 @@
 use Rattle.std.proofs.Common.{rules, ◌≡◌, ◌⊎◌, ◌∷◌, []}
-use Rattle.command_words.specs.Words.{with_properties, check}
+use Rattle.command_words.specs.Words.{with_properties, carry, check}
 use Rattle.model_command.specs.Outcome.{status_of}
 use Rattle.model_command.specs.Run.{shelf_sides, sink_sides}
+use Rattle.model_command.proofs.CarriedPaths.{kept_of, lost_of}
 use Rattle.model_command.proofs.Causes.{written, of_words, of_read}
 use Rattle.model_command.proofs.CertifiedBounds.{certified_of, status_zero}
 use Rattle.model_command.proofs.Exact.{exact_words}
@@ -72,3 +73,19 @@ returns-clause-certified g c = λ k form zero.
     let status : (c.answer.result ≡ status_of c.answer.ensures.1) ⊎ (c.answer.result ≡ 5) = search rules in
     certified_of (shelf_sides g.H.Shelf.left g.H.Shelf.faults g.H.Shelf.steady c.args.shelf.now c.answer.new.shelf) _ c.words_law.ensures.one c.certified_law.ensures k form c.answer.ensures.0
     c.answer.ensures.1 c.answer.ensures.2 (status_zero c.answer.result (status_of c.answer.ensures.1) status zero)
+
+pub returns-clause-carried : goal.returns-clause-carried
+returns-clause-carried g c = λ left k contents was said told held kept heard form no_read no_write no_memory.
+    let e = written_whole (sink_sides g.K.Sink.taken g.K.Sink.faults c.args.out.now c.answer.new.out) (sink_sides g.E.Sink.taken g.E.Sink.faults c.args.err.now c.answer.new.err) c.answer.result was said kept heard no_write c.answer.ensures.0 c.answer.ensures.1 c.answer.ensures.3 in
+    ended_of (shelf_sides g.H.Shelf.left g.H.Shelf.faults g.H.Shelf.steady c.args.shelf.now c.answer.new.shelf) _ c.answer.ensures.0 c.words_law.ensures.one left told contents was said _ _ c.answer.result no_read no_memory
+    (carry k) form.names held form c.answer.ensures.1 c.answer.ensures.2 e.0 e.1 e.2
+
+pub returns-clause-kept : goal.returns-clause-kept
+returns-clause-kept g c = λ k form zero.
+    kept_of (shelf_sides g.H.Shelf.left g.H.Shelf.faults g.H.Shelf.steady c.args.shelf.now c.answer.new.shelf) (sink_sides g.K.Sink.taken g.K.Sink.faults c.args.out.now c.answer.new.out) (sink_sides g.E.Sink.taken g.E.Sink.faults c.args.err.now c.answer.new.err)
+    c.answer.result _ c.words_law.ensures.one k form c.answer.ensures.0 c.kept_law.ensures.kept c.answer.ensures.1 c.answer.ensures.2 c.answer.ensures.3 zero
+
+pub returns-clause-lost : goal.returns-clause-lost
+returns-clause-lost g c = λ k form status.
+    lost_of (shelf_sides g.H.Shelf.left g.H.Shelf.faults g.H.Shelf.steady c.args.shelf.now c.answer.new.shelf) (sink_sides g.K.Sink.taken g.K.Sink.faults c.args.out.now c.answer.new.out) (sink_sides g.E.Sink.taken g.E.Sink.faults c.args.err.now c.answer.new.err)
+    c.answer.result _ c.words_law.ensures.one k form c.answer.ensures.0 c.kept_law.ensures.lost c.answer.ensures.1 c.answer.ensures.2 c.answer.ensures.3 status

@@ -18,4 +18,7 @@ returns c =
       claim = c.one_end_law.ensures.claim;
       file_fault = c.one_end_law.ensures.file_fault;
       claim_either = c.one_end_law.ensures.claim_either;
+      carried = c.one_carry_law.ensures.one;
+      carried_fault = c.one_carry_law.ensures.fault;
+      carried_either = c.one_carry_law.ensures.apart;
     })

@@ -1,0 +1,12 @@
+pub mod GivenThere
+pub mod Together
+pub mod Fitting
+pub mod Faultless
+pub mod Started
+pub mod PairToJani
+pub mod PairToPrism
+pub mod Ended
+pub mod Files
+pub mod Kept
+pub mod JaniPlaces
+pub mod Once

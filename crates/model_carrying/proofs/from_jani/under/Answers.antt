@@ -1,0 +1,39 @@
+use Rattle.std.proofs.Common.{◌∙◌, ap, subst}
+use Rattle.instance_start.specs.Given.{given_by}
+use Rattle.instance_start.specs.Started.{Starts}
+use Rattle.prism_meaning.specs.Described.{prism_description}
+use Rattle.prism_meaning.specs.Instance as prism
+use Rattle.jani_tree.specs.Syntax.{file_of}
+use Rattle.jani_instance.specs.Described.{jani_description}
+use Rattle.jani_instance.specs.Instance as jani
+use Rattle.command_words.specs.Words.{carrying_of}
+use Rattle.model_carrying.specs.Values.{values_there}
+use Rattle.model_carrying.proofs.PairToPrism.{may_meet, paired_to_prism}
+use Rattle.model_carrying.proofs.from_jani.under.Goals as goal
+
+pub returns : goal.returns
+returns c =
+    let k = carrying_of c.args.carrying.now in
+    let d = jani_description (file_of c.args.model.now) in
+    let e = prism_description c.args.written.now in
+    let begins = (rw c.as_slice-values.ensures at c.begun-here.ensures) d 4 c.requires.behind
+    (subst (λ gs. Starts jani.process_of d gs c.start_jani-started.result) c.requires.front c.start_jani-started.ensures) in
+    let starts = subst (λ ts. Starts prism.process_of e ts c.start_prism-there.result)
+    (c.as_slice.ensures ∙ c.in_ok-values_there.ensures ∙ ap (λ gs. values_there d.constants e.constants (given_by gs)) c.requires.front) c.start_prism-there.ensures in
+    c.through.ensures d e k c.requires.lang
+    (paired_to_prism c.described_law.ensures c.values_law.ensures.fit c.values_law.ensures.alike c.together_law.ensures.prism c.together_law.ensures.back
+    (file_of c.args.model.now) c.requires.pair.0 c.args.written.now c.requires.pair.1 c.args.map.now k.given)
+    begins starts
+
+pub through-requires : goal.through-requires
+through-requires c =
+    let k = carrying_of c.args.carrying.now in
+    let d = jani_description (file_of c.args.model.now) in
+    let e = prism_description c.args.written.now in
+    let begins = (rw c.as_slice-values.ensures at c.begun-here.ensures) d 4 c.requires.behind
+    (subst (λ gs. Starts jani.process_of d gs c.start_jani-started.result) c.requires.front c.start_jani-started.ensures) in
+    let starts = subst (λ ts. Starts prism.process_of e ts c.start_prism-there.result)
+    (c.as_slice.ensures ∙ c.in_ok-values_there.ensures ∙ ap (λ gs. values_there d.constants e.constants (given_by gs)) c.requires.front) c.start_prism-there.ensures in
+    may_meet c.described_law.ensures c.values_law.ensures.fit c.values_law.ensures.alike c.together_law.ensures.prism c.together_law.ensures.back
+    c.carry_law.ensures.same c.carry_law.ensures.header
+    (file_of c.args.model.now) c.requires.pair.0 c.args.written.now c.requires.pair.1 c.args.map.now c.requires.map c.requires.short k jani.process_of prism.process_of c.begun-here.result c.start_prism-there.result begins starts
