@@ -17,14 +17,14 @@ _bridge() {
   case $command in
     to-jani) files=3 ;;
     to-prism | to-prism-props) files=2 ;;
-    check-path) files=4 ;;
+    check-path | carry-path) files=4 ;;
     check-rows) files=5 ;;
     check-bound) files=7 ;;
     generate) files=1 ;;
   esac
   COMPREPLY=()
   if [ "$place" -eq 1 ]; then
-    mapfile -t COMPREPLY < <(compgen -W "to-jani to-prism to-prism-props check show simulate check-path check-rows check-bound generate" -- "$cur")
+    mapfile -t COMPREPLY < <(compgen -W "to-jani to-prism to-prism-props check show simulate check-path check-rows check-bound carry-path generate" -- "$cur")
   elif [ "$place" -eq 2 ] && [[ $command != to-* && $command != generate ]]; then
     mapfile -t COMPREPLY < <(compgen -W "prism jani" -- "$cur")
   elif [ "$place" -eq 6 ] && [ "$command" = check-bound ]; then
