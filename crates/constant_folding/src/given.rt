@@ -43,7 +43,7 @@ fn constants_called<'a, O: Operator>(
 ) -> Result<NameMap<'a, AnyConst<'a, O>>, AllocError>
     ensures { IfOk result (λ m. (x : List ℕ) → option_map (λ c. described (const_of c)) (under m x) ≡ constant_called (map described (map const_of constants.now)) x) }
 {
-    let mut called = NameMap::with_capacity(alloc, constants.len())?;
+    let mut called = NameMap::new(alloc);
     for constant in constants {
         called.put_first(constant.name.name.as_str(), *constant)?;
     }

@@ -5,12 +5,12 @@ ghost use Rattle.process_core.specs.Instance.{only_if};
 ghost use Rattle.gathering.specs.Lists.{list_under};
 
 use bridge_io::List;
-use indexmap::IndexMap;
 use std::alloc::{AllocError, Global};
+use std::collections::BTreeMap;
 
-/// A list for each name; all but some are empty.
+/// A list for each name; all but some are empty. They stand in order of the names.
 pub struct NameLists<'a, T: Drop> {
-    lists: IndexMap<&'a str, List<T>>,
+    lists: BTreeMap<&'a str, List<T>>,
 }
 
 // Written out, so that it is proved here, and not wherever one is held.
@@ -27,7 +27,7 @@ impl<'a, T: Drop> NameLists<'a, T> {
         ensures { (x : ListOf ℕ) → list_under result x ≡ [] }
     {
         NameLists {
-            lists: IndexMap::new(alloc),
+            lists: BTreeMap::new(alloc),
         }
     }
 
@@ -49,7 +49,7 @@ impl<'a, T: Drop> NameLists<'a, T> {
         ensures list { result ≡ list_under self.old name.now }
         ensures rest { (x : ListOf ℕ) → list_under self.new x ≡ (if bytes_eq name.now x then [] else list_under self.old x) }
     {
-        match self.lists.swap_remove(name) {
+        match self.lists.remove(name) {
             Some(list) => list,
             None => List::new(alloc),
         }

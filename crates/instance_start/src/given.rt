@@ -35,7 +35,7 @@ fn constants_called<'a>(
 ) -> Result<NameMap<'a, Constant<'a>>, AllocError>
     ensures { IfOk result (λ m. (x : List ℕ) → option_map constant_of (under m x) ≡ constant_called (map constant_of constants.now) x) }
 {
-    let mut called = NameMap::with_capacity(alloc, constants.len())?;
+    let mut called = NameMap::new(alloc);
     for constant in constants {
         called.put_first(constant.name.as_str(), *constant)?;
     }
@@ -46,7 +46,7 @@ fn constants_called<'a>(
 pub fn given_values<'a>(alloc: Global, given: &'a [Given]) -> Result<NameMap<'a, Value>, AllocError>
     ensures { IfOk result (λ m. under m ≡ given_by given.entry.now) }
 {
-    let mut values = NameMap::with_capacity(alloc, given.len())?;
+    let mut values = NameMap::new(alloc);
     for one in given {
         values.put_first(one.name.as_str(), one.value)?;
     }

@@ -18,11 +18,11 @@ use std::alloc::{AllocError, Global};
 
 /// Edges whose destinations assign different rewards.
 #[derive(Drop)]
-pub(crate) struct BranchRewards<'s, 'g, 'a> {
-    pub(crate) scope: &'s Scope<'g, 'a>,
+pub(crate) struct BranchRewards<'s, 'g, 'a, 'b> {
+    pub(crate) scope: &'s Scope<'g, 'a, 'b>,
 }
 
-impl<'s, 'g, 'a> Rule<JaniEdge> for BranchRewards<'s, 'g, 'a> {
+impl<'s, 'g, 'a, 'b> Rule<JaniEdge> for BranchRewards<'s, 'g, 'a, 'b> {
     ghost use Rattle.jani_tree.specs.Syntax.{Edge, edge_of};
     ghost use Rattle.jani_check.specs.ProfileFaults.{branch_rewards};
     ghost use Rattle.jani_check.specs.Scopes.{scope_thing};

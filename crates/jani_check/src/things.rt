@@ -105,12 +105,12 @@ fn add_vars<'a>(vars: &'a [JaniVar], table: &mut NameMap<'a, Thing>) -> Result<(
 
 /// What names stand for in an automaton: what they stand for outside, and its own variables.
 #[derive(Drop)]
-pub(crate) struct Scope<'s, 'a> {
+pub(crate) struct Scope<'s, 'a, 'b> {
     pub(crate) global: &'s Things<'a>,
-    pub(crate) own: Things<'a>,
+    pub(crate) own: Things<'b>,
 }
 
-impl<'s, 'a> Scope<'s, 'a> {
+impl<'s, 'a, 'b> Scope<'s, 'a, 'b> {
     /// What a name stands for.
     pub(crate) fn thing(&self, name: &str) -> Option<Thing>
         ensures { result ≡ scope_thing self.now name.now }
@@ -122,7 +122,7 @@ impl<'s, 'a> Scope<'s, 'a> {
     }
 }
 
-impl<'s, 'a> Telling for Scope<'s, 'a> {
+impl<'s, 'a, 'b> Telling for Scope<'s, 'a, 'b> {
     ghost use Rattle.jani_check.specs.Scopes.{is_known, scope_thing};
 
     ghost tells = { λ s. is_known (scope_thing s) };
@@ -143,7 +143,7 @@ pub fn thing_type(thing: Thing) -> Ty
     }
 }
 
-impl<'s, 'a> Names for Scope<'s, 'a> {
+impl<'s, 'a, 'b> Names for Scope<'s, 'a, 'b> {
     ghost use Rattle.std.specs.Prelude.{None};
     ghost use Rattle.jani_check.specs.Things.{types_by};
     ghost use Rattle.jani_check.specs.Scopes.{no_value, scope_thing};

@@ -115,11 +115,11 @@ pub fn judge_type<N: Names>(
 
 // Names of variables.
 #[derive(Clone, Copy)]
-struct Variables<'s, 'g, 'a> {
-    scope: &'s Scope<'g, 'a>,
+struct Variables<'s, 'g, 'a, 'b> {
+    scope: &'s Scope<'g, 'a, 'b>,
 }
 
-impl<'s, 'g, 'a> Telling for Variables<'s, 'g, 'a> {
+impl<'s, 'g, 'a, 'b> Telling for Variables<'s, 'g, 'a, 'b> {
     ghost use Rattle.jani_check.specs.Scopes.{scope_thing};
     ghost use Rattle.jani_check.specs.TypeFaults.{is_variable};
 

@@ -15,12 +15,12 @@ use op_trees::{EvalFail, Names, Ty, Value, eval};
 
 /// The names of the constants: where each stands, and their values.
 #[derive(Clone, Copy)]
-pub(crate) struct Run<'a> {
-    pub(crate) places: &'a NameMap<'a, Place>,
+pub(crate) struct Run<'a, 'b> {
+    pub(crate) places: &'a NameMap<'b, Place>,
     pub(crate) constants: &'a [Option<Value>],
 }
 
-impl<'a> Names for Run<'a> {
+impl<'a, 'b> Names for Run<'a, 'b> {
     ghost use Rattle.jani_instance.specs.Views.{types_agree, types_in, values_in};
 
     ghost values = { values_in };

@@ -326,7 +326,10 @@ fn known_columns<'a>(
 }
 
 /// The constants' names alone.
-fn constants_alone<'a>(places: &'a NameMap<'a, Place>, constants: &'a [Option<Value>]) -> Run<'a>
+fn constants_alone<'a, 'b>(
+    places: &'a NameMap<'b, Place>,
+    constants: &'a [Option<Value>],
+) -> Run<'a, 'b>
     ensures { seen_in result ≡ known_names (values_by places.now constants.now) }
 {
     Run { places, constants }

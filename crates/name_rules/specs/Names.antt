@@ -2,7 +2,9 @@
 use Rattle.std.specs.Prelude.{ℕ, List, Bool, false, Option, Some, None, is_some, bytes_eq, ◌||◌, if◌then◌else◌}
 use Rattle.std.specs.List.{list_any}
 use Rattle.std.specs.Option.{option_or}
-use Rattle.indexmap.specs.IndexMap.{get_by}
+use Rattle.std.specs.BTreeMap.{get_by}
+use Rattle.std.specs.Cmp.Lexicographic.{slice_cmp}
+use Rattle.std.specs.Ordering.{nat_cmp}
 use Rattle.bridge_io.specs.declared.reason.Named.{Named}
 use Rattle.op_trees.specs.Names.{is_called}
 use Rattle.name_rules.specs.declared.map.NameMap.{NameMap}
@@ -19,9 +21,9 @@ is_among ns x = list_any (is_called x) ns
 abbrev pub named_by : Entry → Named
 named_by e = record { name = e.name.now; at = e.at }
 
--- ---- what stands under names
-abbrev pub under : {T : Type 0} → NameMap T → Name → Option T
-under m x = get_by (λ k. bytes_eq x k.now) m.entries
+-- ---- what stands under names; a proof that opens this knows more than that the names are found
+unfoldable pub under : {T : Type 0} → NameMap T → Name → Option T
+under m x = get_by (λ k. slice_cmp nat_cmp x k.now) m.entries
 
 abbrev pub nothing : {T : Type 0} → Name → Option T
 nothing x = None

@@ -1,14 +1,14 @@
 // Values by name.
 
-ghost use Rattle.std.specs.Prelude.{◌≡◌, OnOk, IfOk};
+ghost use Rattle.std.specs.Prelude.{◌≡◌, OnOk};
 ghost use Rattle.name_rules.specs.Names.{nothing, put, put_first, under};
 
-use indexmap::IndexMap;
 use std::alloc::{AllocError, Global};
+use std::collections::BTreeMap;
 
-/// At most one value under each name.
+/// At most one value under each name. They stand in order of the names, so that no choice of names makes finding one slow.
 pub struct NameMap<'a, T: Copy> {
-    entries: IndexMap<&'a str, T>,
+    entries: BTreeMap<&'a str, T>,
 }
 
 // Written out, so that it is proved here, and not in each crate that holds one.
@@ -21,24 +21,17 @@ impl<'a, T: Copy> Drop for NameMap<'a, T> {
 
 impl<'a, T: Copy> NameMap<'a, T> {
     /// Nothing under any name.
+    #[tactic(auto, unfolding(crate::specs::Names::under))]
     pub fn new(alloc: Global) -> NameMap<'a, T>
         ensures { under result ≡ nothing }
     {
         NameMap {
-            entries: IndexMap::new(alloc),
+            entries: BTreeMap::new(alloc),
         }
     }
 
-    /// Nothing under any name, with room for so many. `Err` is want of memory.
-    pub fn with_capacity(alloc: Global, count: usize) -> Result<NameMap<'a, T>, AllocError>
-        ensures { IfOk result (λ map. under map ≡ nothing) }
-    {
-        Ok(NameMap {
-            entries: IndexMap::with_capacity(alloc, count)?,
-        })
-    }
-
     /// Puts a value under a name, in place of one that stood there. `Err` is want of memory.
+    #[tactic(auto, unfolding(crate::specs::Names::under))]
     pub fn put(&mut self, name: &'a str, value: T) -> Result<(), AllocError>
         ensures { OnOk result (under self.new ≡ put (under self.old) name.now value) }
     {
@@ -52,13 +45,14 @@ impl<'a, T: Copy> NameMap<'a, T> {
     pub fn put_first(&mut self, name: &'a str, value: T) -> Result<(), AllocError>
         ensures { OnOk result (under self.new ≡ put_first (under self.old) name.now value) }
     {
-        if self.entries.get(name).is_some() {
+        if self.get(name).is_some() {
             return Ok(());
         }
         self.put(name, value)
     }
 
     /// What stands under a name.
+    #[tactic(auto, unfolding(crate::specs::Names::under))]
     pub fn get(&self, name: &str) -> Option<T>
         ensures { result ≡ under self.now name.now }
     {

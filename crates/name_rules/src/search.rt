@@ -141,9 +141,10 @@ struct Places<'a> {
 
 impl<'a> Places<'a> {
     fn of(alloc: Global, all: &[Declaration<'a>]) -> Result<Places<'a>, AllocError> {
-        let first = NameMap::with_capacity(alloc, all.len());
-        let (first, next) = together(first, vec![in alloc; None; all.len()])?;
-        let mut places = Places { first, next };
+        let mut places = Places {
+            first: NameMap::new(alloc),
+            next: vec![in alloc; None; all.len()]?,
+        };
         let noted = places.note_all(all);
         noted.and(Ok(places))
     }

@@ -1,6 +1,6 @@
 -- What the code asks of a token, and what the fields of a table are.
 use Rattle.std.specs.Prelude.{◌≡◌, ℕ, Bool, true, false, ◌&&◌, nat_eq, List, slice_index}
-use Rattle.indexmap.specs.IndexSet.{contains_text}
+use Rattle.std.specs.BTreeSet.{contains_text}
 use Rattle.prism_lex.specs.declared.token.Token.{Token}
 use Rattle.prism_lex.specs.declared.token.TokenKind.{TokenKind}
 use Rattle.prism_lex.specs.declared.token.TokenKind.TheVariants.{Ident}

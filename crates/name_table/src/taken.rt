@@ -1,22 +1,22 @@
 // The names that are taken, by their spaces.
 
 ghost use Rattle.std.specs.Prelude.{◌≡◌, ℕ, List, false, true, OnOk, OnErr, ◌&&◌, bytes_eq, string_bytes, if◌then◌else◌};
-ghost use Rattle.indexmap.specs.IndexSet.{contains_text};
+ghost use Rattle.std.specs.BTreeSet.{contains_text};
 ghost use Rattle.name_table.specs.Rule.{same_space};
 ghost use Rattle.name_table.specs.State.{has_name};
 
 use crate::class::Space;
-use indexmap::IndexSet;
 use std::alloc::{AllocError, Global};
+use std::collections::BTreeSet;
 
-/// The names of each space.
+/// The names of each space, in order.
 pub(crate) struct Taken {
-    values: IndexSet<String>,
-    modules: IndexSet<String>,
-    actions: IndexSet<String>,
-    labels: IndexSet<String>,
-    rewards: IndexSet<String>,
-    properties: IndexSet<String>,
+    values: BTreeSet<String>,
+    modules: BTreeSet<String>,
+    actions: BTreeSet<String>,
+    labels: BTreeSet<String>,
+    rewards: BTreeSet<String>,
+    properties: BTreeSet<String>,
 }
 
 // Written out, so that it is proved here, and not wherever one is held.
@@ -40,7 +40,7 @@ impl Drop for Taken {
 }
 
 /// Adds a name to a set.
-fn insert(names: &mut IndexSet<String>, name: String) -> Result<(), AllocError>
+fn insert(names: &mut BTreeSet<String>, name: String) -> Result<(), AllocError>
     ensures ok { OnOk result ((x : List ℕ) → contains_text names.new x ≡ (if bytes_eq (string_bytes name) x then true else contains_text names.old x)) }
     ensures err { OnErr result ((x : List ℕ) → contains_text names.new x ≡ contains_text names.old x) }
 {
@@ -54,17 +54,17 @@ impl Taken {
         ensures { (s : Space) (x : List ℕ) → has_name result s x ≡ false }
     {
         Taken {
-            values: IndexSet::new(alloc),
-            modules: IndexSet::new(alloc),
-            actions: IndexSet::new(alloc),
-            labels: IndexSet::new(alloc),
-            rewards: IndexSet::new(alloc),
-            properties: IndexSet::new(alloc),
+            values: BTreeSet::new(alloc),
+            modules: BTreeSet::new(alloc),
+            actions: BTreeSet::new(alloc),
+            labels: BTreeSet::new(alloc),
+            rewards: BTreeSet::new(alloc),
+            properties: BTreeSet::new(alloc),
         }
     }
 
     /// The names of a space.
-    fn names(&self, space: Space) -> &IndexSet<String>
+    fn names(&self, space: Space) -> &BTreeSet<String>
         ensures { (x : List ℕ) → contains_text result.now x ≡ has_name self.now space x }
     {
         match space {

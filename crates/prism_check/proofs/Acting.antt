@@ -1,21 +1,25 @@
 -- The different actions of a file, collected in a set.
-use Rattle.std.specs.Prelude.{ℕ, ◌+◌, ◌*◌, ◌≤◌, nat_lt, List, [], ◌∷◌, ◌++◌, map, length, drop, Bool, true, false, Option, Some, None, bytes_eq, if◌then◌else◌}
+use Rattle.std.specs.Prelude.{ℕ, ◌+◌, ◌*◌, ◌<◌, nat_lt, List, [], ◌∷◌, ◌++◌, map, length, take, Bool, true, false, ◌||◌, Option, Some, None, is_some, bytes_eq, if◌then◌else◌}
 use Rattle.std.specs.List.{flat_map, list_any, sum_by}
 use Rattle.std.specs.Option.{option_map}
 use Rattle.std.specs.Borrow.{Bor}
-use Rattle.std.proofs.Common.{◌≡◌, refl, sym, ap, ap₂, ◌∙◌, append_assoc}
+use Rattle.std.proofs.Common.{◌≡◌, refl, sym, ap, ap₂, ◌∙◌, get_or, arith}
 use Rattle.std.proofs.Math.Path.{fun_ext}
-use Rattle.std.proofs.lemmas.List.{append-nil, at_drop_all, length-map, map-append}
-use Rattle.std.proofs.lemmas.List.Folds.{flat_map-map}
+use Rattle.std.specs.BTreeMap.{BTreeMap, get_by, btree_map_len, is_at}
+use Rattle.std.specs.Cmp.Lexicographic.{slice_cmp}
+use Rattle.std.specs.Map.{lookup, update}
+use Rattle.std.specs.Ordering.{nat_cmp}
+use Rattle.std.proofs.lemmas.List.{append-nil, length-append, length-map, map-append, take_more}
+use Rattle.std.proofs.lemmas.List.Concat.{flat_map-append}
+use Rattle.std.proofs.lemmas.List.Folds.{flat_map-map, list_any-append}
 use Rattle.std.proofs.lemmas.Slice.Eq.{bytes_eq-Decides}
-use Rattle.basics.specs.Members.{any-map}
-use Rattle.indexmap.specs.IndexSet.{insert_all, insert_key}
+use Rattle.basics.specs.Texts.{bytes_eq_comm}
 use Rattle.op_trees.specs.Tree.{capped}
 use Rattle.process_core.specs.Equal.{IsEquality}
 use Rattle.process_core.specs.Often.{sum_by-map}
 use Rattle.basics.specs.Options.{if_some}
 use Rattle.process_core.specs.Ready.{Name, firsts}
-use Rattle.process_core.proofs.Targets.{firsts_more}
+use Rattle.process_core.proofs.Targets.{any_firsts, firsts_more}
 use Rattle.prism_tree.specs.declared.syntax.NamePair.{NamePair}
 use Rattle.prism_tree.specs.declared.syntax.PrismFile.{PrismFile}
 use Rattle.prism_tree.specs.declared.syntax.PrismModule.{PrismModule}
@@ -23,36 +27,49 @@ use Rattle.prism_tree.specs.Syntax.{Module, plain, copied, File, file_of, module
 use Rattle.prism_flat.specs.Names.{renaming, module_called, copy_of, part_of}
 use Rattle.prism_check.specs.SizeFaults.{part_actions, command_count, has_many_vectors}
 use Rattle.prism_check.specs.Tables.{pair_for, commands_in}
-use Rattle.prism_check.specs.Counted.{actions_by, commands_by, renamed_action}
+use Rattle.prism_check.specs.Counted.{actions_by, commands_by, renamed_action, HasEach}
 use Rattle.prism_check.proofs.Declared.{renaming_is}
 
 -- ---- a set of names
-abbrev names : List (Bor (List ℕ)) → List Name
-names ks = map (λ k. k.now) ks
-
-pub names_with : (ks : List (Bor (List ℕ))) (k : Bor (List ℕ)) → names (insert_key (λ a b. bytes_eq a.now b.now) ks k) ≡ insert_key bytes_eq (names ks) k.now
-names_with ks k = by_test (list_any (λ j. bytes_eq k.now j.now) ks) ∙ ap (λ b. if b then names ks else names ks ++ k.now ∷ []) (sym (any-map (bytes_eq k.now) (λ j. j.now) ks))
-  where
-    by_test : (b : Bool) → names (if b then ks else ks ++ k ∷ []) ≡ (if b then names ks else names ks ++ k.now ∷ [])
-    by_test true = refl
-    by_test false = map-append (λ j. j.now) ks (k ∷ [])
-
--- ---- inserted in turn, the first of each stays
 same_names : IsEquality bytes_eq
 same_names x y = bytes_eq-Decides x y
 
-inserted_after : (xs ys : List Name) → insert_all bytes_eq (firsts bytes_eq xs) ys ≡ firsts bytes_eq (xs ++ ys)
-inserted_after xs [] = ap (firsts bytes_eq) (sym (append-nil xs))
-inserted_after xs (y ∷ ys) =
-    ap (λ ks. insert_all bytes_eq ks ys) (sym (firsts_more bytes_eq same_names xs y)) ∙ inserted_after (xs ++ y ∷ []) ys ∙ ap (firsts bytes_eq) (append_assoc xs (y ∷ []) ys)
+-- one name more
+pub one_more : (old new : BTreeMap (Bor (List ℕ)) (Unit {0})) (k : Name) (o : Option (Unit {0})) → ((x : Name) → get_by (λ j. slice_cmp nat_cmp x j.now) new ≡ update bytes_eq (λ y. get_by (λ j. slice_cmp nat_cmp y j.now) old) k (Some tt) x) →
+    o ≡ get_by (λ j. slice_cmp nat_cmp k j.now) old → btree_map_len new ≡ btree_map_len old + (if is_some o then 0 else 1) → (ns : List Name) → HasEach old ns → HasEach new (ns ++ k ∷ [])
+one_more old new k o found stood counts ns h = record {
+  has = λ x. ap is_some (found x) ∙ by_test x (bytes_eq k x) refl ∙ sym (list_any-append (bytes_eq x) ns (k ∷ []));
+  count = counts ∙ ap₂ (λ a b. a + (if b then 0 else 1)) h.count (ap is_some stood ∙ h.has k ∙ sym (any_firsts bytes_eq same_names (bytes_eq k) ns)) ∙ longer (list_any (bytes_eq k) (firsts bytes_eq ns)) ∙ sym (ap length (firsts_more bytes_eq same_names ns k));
+}
+  where
+    at_last : (x : Name) (b : Bool) → bytes_eq x k ≡ b → (list_any (bytes_eq x) ns || (b || false)) ≡ (list_any (bytes_eq x) ns || list_any (bytes_eq x) (k ∷ []))
+    at_last x b e = ap (λ c. list_any (bytes_eq x) ns || (c || false)) (sym e)
 
-pub counted : (keys : List (Bor (List ℕ))) (called : Name → Option Module) (all : List PrismModule) (i : ℕ) → length all ≤ i →
-    insert_all bytes_eq (names keys) (flat_map (actions_by called) (map module_of (drop i all))) ≡ insert_all bytes_eq [] (flat_map (actions_by called) (map module_of all)) →
-    length keys ≡ length (firsts bytes_eq (flat_map (actions_by called) (map module_of all)))
-counted keys called all i h so_far =
-    sym (length-map keys (λ k. k.now))
-    ∙ ap length (sym (at_drop_all (λ ms. insert_all bytes_eq (names keys) (flat_map (actions_by called) (map module_of ms))) all i h) ∙ so_far
-    ∙ inserted_after [] (flat_map (actions_by called) (map module_of all)))
+    or_true : (b : Bool) → true ≡ (b || (true || false))
+    or_true true = refl
+    or_true false = refl
+
+    or_false : (b : Bool) → b ≡ (b || (false || false))
+    or_false true = refl
+    or_false false = refl
+
+    by_test : (x : Name) (b : Bool) → bytes_eq k x ≡ b → is_some (if b then Some tt else get_by (λ j. slice_cmp nat_cmp x j.now) old) ≡ (list_any (bytes_eq x) ns || list_any (bytes_eq x) (k ∷ []))
+    by_test x true e = or_true (list_any (bytes_eq x) ns) ∙ at_last x true (bytes_eq_comm x k ∙ e)
+    by_test x false e = h.has x ∙ or_false (list_any (bytes_eq x) ns) ∙ at_last x false (bytes_eq_comm x k ∙ e)
+
+    longer : (b : Bool) → length (firsts bytes_eq ns) + (if b then 0 else 1) ≡ length (if b then firsts bytes_eq ns else firsts bytes_eq ns ++ k ∷ [])
+    longer true = omega arith
+    longer false = sym (length-append (firsts bytes_eq ns) (k ∷ []))
+
+pub none_yet : (set : BTreeMap (Bor (List ℕ)) (Unit {0})) → set.entries ≡ [] → HasEach set []
+none_yet set e = record { has = λ x. ap (λ es. is_some (lookup (is_at (λ k. slice_cmp nat_cmp x k.now)) es)) e; count = ap length e }
+
+-- ---- the names of one thing more
+pub names_more : {A B : Type 0} (f : B → List Name) (view : A → B) (xs : List A) (i : ℕ) (x : A) → i < length xs → x ≡ get_or xs i x →
+    flat_map f (map view (take (i + 1) xs)) ≡ flat_map f (map view (take i xs)) ++ f (view x)
+names_more f view xs i x h e =
+    ap (λ l. flat_map f (map view l)) (take_more xs i x h ∙ ap (λ w. take i xs ++ w ∷ []) (sym e)) ∙ ap (flat_map f) (map-append view (take i xs) (x ∷ []))
+    ∙ flat_map-append f (map view (take i xs)) (view x ∷ []) ∙ ap (λ l. flat_map f (map view (take i xs)) ++ l) (append-nil (f (view x)))
 
 -- ---- the actions of a module
 copy_actions : (ps : List NamePair) (o : Option Module) → flat_map (renamed_action (pair_for ps)) (commands_in o) ≡ part_actions (copy_of (renaming ps) o)

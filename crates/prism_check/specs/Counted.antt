@@ -1,13 +1,15 @@
 -- How large a file is, counted by tables of what its formulas and modules have.
-use Rattle.std.specs.Prelude.{◌≡◌, ℕ, ◌+◌, max, List, [], ◌∷◌, ◌++◌, map, length, Option, unwrap_or, if◌then◌else◌}
-use Rattle.std.specs.List.{flat_map}
+use Rattle.std.specs.Prelude.{◌≡◌, ℕ, ◌+◌, max, List, [], ◌∷◌, ◌++◌, map, length, Option, is_some, unwrap_or, bytes_eq, if◌then◌else◌}
+use Rattle.std.specs.List.{flat_map, list_any}
 use Rattle.std.specs.Option.{option_map}
 use Rattle.std.specs.Borrow.{Bor}
 use Rattle.name_rules.specs.declared.map.NameMap.{NameMap}
-use Rattle.indexmap.specs.IndexSet.{IndexSet}
+use Rattle.std.specs.BTreeMap.{BTreeMap, get_by, btree_map_len}
+use Rattle.std.specs.Cmp.Lexicographic.{slice_cmp}
+use Rattle.std.specs.Ordering.{nat_cmp}
 use Rattle.op_trees.specs.Tree.{capped}
 use Rattle.basics.specs.Options.{if_some}
-use Rattle.process_core.specs.Ready.{Name}
+use Rattle.process_core.specs.Ready.{Name, firsts}
 use Rattle.prism_tree.specs.declared.syntax.NamePair.{NamePair}
 use Rattle.prism_tree.specs.Syntax.{Command, Module, plain, copied, File}
 use Rattle.prism_names.specs.Names.{formula_body}
@@ -96,8 +98,10 @@ renamed_action new c = if_some (option_map (λ a. unwrap_or (new a.name) a.name)
 abbrev pub actions_by : (Name → Option Module) → Module → List Name
 actions_by called m = flat_map (renamed_action (pair_for (pairs_of m))) (commands_by called m)
 
-abbrev pub names_in : {S : Type 0} → IndexSet (Bor (List ℕ)) S → List Name
-names_in set = map (λ k. k.now) set.keys
+-- the keys of the map are these names, each once
+pub record HasEach (set : BTreeMap (Bor (List ℕ)) (Unit {0})) (ns : List Name) : Type 0 where
+  pub has : (x : Name) → is_some (get_by (λ k. slice_cmp nat_cmp x k.now) set) ≡ list_any (bytes_eq x) ns
+  pub count : btree_map_len set ≡ length (firsts bytes_eq ns)
 
 -- ---- a file
 abbrev pub sizes_of : File → Sizes

@@ -1,19 +1,18 @@
 // How many commands the modules of a file have, and how many different actions, copies too.
 
-ghost use Rattle.std.specs.Prelude.{◌≡◌, ◌++◌, List, map, length, unwrap_or, OnOk, IfOk, bytes_eq};
+ghost use Rattle.std.specs.Prelude.{◌≡◌, ◌++◌, ◌∷◌, [], ℕ, List, map, length, unwrap_or, OnOk, IfOk, bytes_eq};
 ghost use Rattle.std.specs.List.{flat_map, sum_by};
-ghost use Rattle.indexmap.specs.IndexSet.{insert_all, insert_key};
 ghost use Rattle.op_trees.specs.Tree.{capped};
 ghost use Rattle.process_core.specs.Ready.{firsts};
 ghost use Rattle.prism_tree.specs.Syntax.{command_of, module_of};
-ghost use Rattle.prism_check.specs.Counted.{actions_by, commands_by, names_in, pairs_of, renamed_action};
+ghost use Rattle.prism_check.specs.Counted.{actions_by, commands_by, pairs_of, renamed_action, HasEach};
 ghost use Rattle.prism_check.specs.Tables.{module_under, new_name};
 
 use crate::tables::{Modules, Renaming};
 use crate::values::commands_in;
-use indexmap::IndexSet;
 use prism_tree::{NamePair, PrismCommand, PrismModule};
 use std::alloc::{AllocError, Global};
+use std::collections::BTreeMap;
 
 /// The number of commands of all modules; it stands at 2^64 - 1 where it would pass that.
 pub(crate) fn count_commands<'a>(all: &'a [PrismModule], modules: &Modules<'a>) -> usize
@@ -45,7 +44,7 @@ pub(crate) fn count_actions<'a>(
     ensures { IfOk result
         (λ n. n ≡ length (firsts bytes_eq (flat_map (actions_by (module_under modules.now)) (map module_of all.now)))) }
 {
-    let mut actions = IndexSet::new(alloc);
+    let mut actions = BTreeMap::new(alloc);
     for entry in all {
         add_actions(alloc, entry, modules, &mut actions)?;
     }
@@ -59,10 +58,10 @@ fn add_actions<'a>(
     alloc: Global,
     entry: &'a PrismModule,
     modules: &Modules<'a>,
-    actions: &mut IndexSet<&'a str>,
+    actions: &mut BTreeMap<&'a str, ()>,
 ) -> Result<(), AllocError>
     ensures { OnOk result
-        (names_in actions.new ≡ insert_all bytes_eq (names_in actions.old) (actions_by (module_under modules.now) (module_of entry.now))) }
+        ((ns : List (List ℕ)) → HasEach actions.old ns → HasEach actions.new (ns ++ actions_by (module_under modules.now) (module_of entry.now))) }
 {
     let renaming = Renaming::of(alloc, pairs_of(entry))?;
     let added = add_renamed(commands_of(entry, modules), &renaming, actions);
@@ -84,11 +83,11 @@ fn pairs_of(entry: &PrismModule) -> &[NamePair]
 fn add_renamed<'a>(
     commands: &'a [PrismCommand],
     renaming: &Renaming<'a>,
-    actions: &mut IndexSet<&'a str>,
+    actions: &mut BTreeMap<&'a str, ()>,
 ) -> Result<(), AllocError>
     ensures { OnOk result
-        (names_in actions.new
-        ≡ insert_all bytes_eq (names_in actions.old) (flat_map (renamed_action (new_name renaming.now)) (map command_of commands.now))) }
+        ((ns : List (List ℕ)) → HasEach actions.old ns
+        → HasEach actions.new (ns ++ flat_map (renamed_action (new_name renaming.now)) (map command_of commands.now))) }
 {
     for command in commands {
         add_action(command, renaming, actions)?;
@@ -99,11 +98,10 @@ fn add_renamed<'a>(
 fn add_action<'a>(
     command: &'a PrismCommand,
     renaming: &Renaming<'a>,
-    actions: &mut IndexSet<&'a str>,
+    actions: &mut BTreeMap<&'a str, ()>,
 ) -> Result<(), AllocError>
     ensures { OnOk result
-        (names_in actions.new
-        ≡ insert_all bytes_eq (names_in actions.old) (renamed_action (new_name renaming.now) (command_of command.now))) }
+        ((ns : List (List ℕ)) → HasEach actions.old ns → HasEach actions.new (ns ++ renamed_action (new_name renaming.now) (command_of command.now))) }
 {
     match &command.action {
         None => Ok(()),
@@ -120,10 +118,10 @@ fn renamed<'a>(name: &'a str, renaming: &Renaming<'a>) -> &'a str
     }
 }
 
-fn add_name<'a>(name: &'a str, actions: &mut IndexSet<&'a str>) -> Result<(), AllocError>
-    ensures { OnOk result (names_in actions.new ≡ insert_key bytes_eq (names_in actions.old) name.now) }
+fn add_name<'a>(name: &'a str, actions: &mut BTreeMap<&'a str, ()>) -> Result<(), AllocError>
+    ensures { OnOk result ((ns : List (List ℕ)) → HasEach actions.old ns → HasEach actions.new (ns ++ name.now ∷ [])) }
 {
-    match actions.insert(name) {
+    match actions.insert(name, ()) {
         Ok(_) => Ok(()),
         Err(_) => Err(AllocError),
     }

@@ -21,7 +21,7 @@ pub(crate) fn formula_sizes<'a>(
     ensures { IfOk result (λ sizes. AreSizes (file_of file.now) (size_in sizes)) }
 {
     let formulas = file.formulas.as_slice();
-    let mut sizes = NameMap::with_capacity(alloc, order.len())?;
+    let mut sizes = NameMap::new(alloc);
     for place in order {
         let formula = &formulas[*place];
         let size = measure(&formula.body, &sizes);

@@ -58,11 +58,11 @@ pub(crate) fn judge_sizes(
 }
 
 // The same by the modules of the file.
-fn judge_by(
+fn judge_by<'a>(
     alloc: Global,
-    file: &PrismFile,
+    file: &'a PrismFile,
     order: &[usize],
-    modules: &Modules,
+    modules: &Modules<'a>,
 ) -> Result<Sizes, AllocError>
     requires order { IsPlaceOrder (file_of file.now) order.now }
     requires modules { (x : List ℕ) → module_under modules.now x ≡ named_module file.now.modules x }

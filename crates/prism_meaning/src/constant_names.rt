@@ -12,12 +12,12 @@ use prism_tree::PrismExpr;
 
 /// The constants, without a state: where names stand, and the values of the constants.
 #[derive(Clone, Copy)]
-pub(crate) struct ConstantNames<'a> {
-    pub(crate) places: &'a NameMap<'a, Place>,
+pub(crate) struct ConstantNames<'a, 'b> {
+    pub(crate) places: &'a NameMap<'b, Place>,
     pub(crate) table: &'a [Option<Value>],
 }
 
-impl<'a> Names for ConstantNames<'a> {
+impl<'a, 'b> Names for ConstantNames<'a, 'b> {
     ghost use Rattle.prism_meaning.specs.Views.{types_agree, types_in, values_in};
 
     ghost values = { values_in };

@@ -106,10 +106,10 @@ fn value_under(
 }
 
 /// The constants, without a state.
-pub(crate) fn constants_alone<'a>(
-    places: &'a NameMap<'a, Place>,
+pub(crate) fn constants_alone<'a, 'b>(
+    places: &'a NameMap<'b, Place>,
     table: &'a [Option<Value>],
-) -> ConstantNames<'a>
+) -> ConstantNames<'a, 'b>
     ensures { seen_in result ≡ names_by places.now table.now }
 {
     ConstantNames { places, table }

@@ -18,7 +18,7 @@ pub(crate) fn constant_places<'a>(
 ) -> Result<NameMap<'a, Place>, AllocError>
     ensures { IfOk result (λ m. (x : List ℕ) → under m x ≡ constant_place 0 (map const_of constants.now) x) }
 {
-    let mut places = NameMap::with_capacity(alloc, constants.len())?;
+    let mut places = NameMap::new(alloc);
     add_constants(constants, &mut places)?;
     Ok(places)
 }

@@ -16,12 +16,12 @@ use std::alloc::AllocError;
 
 /// Where names stand, and the columns.
 #[derive(Clone, Copy)]
-pub(crate) struct StateNames<'a> {
-    pub(crate) places: &'a NameMap<'a, Place>,
-    pub(crate) columns: &'a [Column<'a>],
+pub(crate) struct StateNames<'a, 'b> {
+    pub(crate) places: &'a NameMap<'b, Place>,
+    pub(crate) columns: &'a [Column<'b>],
 }
 
-impl<'a> Scope for StateNames<'a> {
+impl<'a, 'b> Scope for StateNames<'a, 'b> {
     ghost use Rattle.prism_meaning.specs.Views.{places_in};
 
     ghost places = { places_in };

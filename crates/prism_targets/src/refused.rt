@@ -24,10 +24,10 @@ use std::alloc::{AllocError, Global};
 /// and its variables: global variables that edges of several elements assign, one of them with an action or with rewards; else
 /// that the translation would be too large, which is counted and not tried. (The rule is this project's own.) `Err` is want of
 /// memory.
-pub fn least_refused(
+pub fn least_refused<'a>(
     alloc: Global,
-    file: &JaniFile,
-    automata: &[&JaniAutomaton],
+    file: &'a JaniFile,
+    automata: &[&'a JaniAutomaton],
     lasting: &[OwnedVar],
     labels: &[OwnedVar],
     structures: &[OwnedVar],
@@ -62,11 +62,11 @@ fn too_large_if(large: bool) -> Option<Fault>
 }
 
 /// Whether the translation would be too large, by the edges of the elements.
-fn is_too_large(
+fn is_too_large<'a>(
     alloc: Global,
-    file: &JaniFile,
+    file: &'a JaniFile,
     automata: &[&JaniAutomaton],
-    edges: &[ElementEdges],
+    edges: &[ElementEdges<'a>],
     labels: &[OwnedVar],
 ) -> Result<bool, AllocError>
     requires automata { map (λ a. automaton_of a.now) automata.now ≡ elements (file_of file.now) }
@@ -81,10 +81,10 @@ fn is_too_large(
 }
 
 /// Whether the translation would have too many commands or nodes, by the edges of the elements.
-fn has_large_modules(
+fn has_large_modules<'a>(
     alloc: Global,
-    file: &JaniFile,
-    edges: &[ElementEdges],
+    file: &'a JaniFile,
+    edges: &[ElementEdges<'a>],
 ) -> Result<bool, AllocError>
     requires { map table_view edges.now ≡ map (table_in (file_of file.now)) (spec.elements (file_of file.now)) }
     ensures { IfOk result (λ b. b ≡ has_many_commands (file_of file.now)) }

@@ -1,7 +1,9 @@
 -- What the code's tables of the names of a model have. (This project's own.)
 use Rattle.std.specs.Prelude.{◌≡◌, ℕ, List, ◌++◌, map, Bool, true, false, Option, Some, None, is_some, bytes_eq}
 use Rattle.std.specs.List.{position}
-use Rattle.indexmap.specs.IndexMap.{get_by}
+use Rattle.std.specs.BTreeMap.{get_by}
+use Rattle.std.specs.Cmp.Lexicographic.{slice_cmp}
+use Rattle.std.specs.Ordering.{nat_cmp}
 use Rattle.op_trees.specs.declared.tree.Ty.{Ty}
 use Rattle.op_trees.specs.Types.{AgreesWith}
 use Rattle.name_rules.specs.Names.{Name, is_among, under}
@@ -14,7 +16,7 @@ use Rattle.prop_check.specs.declared.scope.Scope.TheInside.{Inside}
 
 -- ---- labels
 abbrev pub has_label : Labels → Name → Bool
-has_label l x = is_some (get_by (λ k. bytes_eq x k.now) l.names)
+has_label l x = is_some (get_by (λ k. slice_cmp nat_cmp x k.now) l.names)
 
 -- ---- reward structures
 abbrev pub first_place : Bool → Option ℕ

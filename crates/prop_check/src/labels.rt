@@ -8,13 +8,13 @@ ghost use Rattle.prism_check.specs.NameFaults.{given_labels};
 ghost use Rattle.prop_grammar.specs.Grammar.{has_quotes};
 ghost use Rattle.prop_check.specs.Tables.{has_label};
 
-use indexmap::IndexMap;
 use prism_tree::PrismLabel;
 use std::alloc::{AllocError, Global};
+use std::collections::BTreeMap;
 
 /// The labels of a model, those that every model has too.
 pub(crate) struct Labels<'a> {
-    names: IndexMap<&'a [u8], ()>,
+    names: BTreeMap<&'a [u8], ()>,
 }
 
 // Written out, so that it is proved here, and not wherever one is held.
@@ -42,7 +42,7 @@ impl<'a> Labels<'a> {
         ensures { has_label result ≡ no_name }
     {
         Labels {
-            names: IndexMap::new(alloc),
+            names: BTreeMap::new(alloc),
         }
     }
 

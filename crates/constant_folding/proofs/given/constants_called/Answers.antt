@@ -10,7 +10,7 @@ use Rattle.constant_folding.proofs.Called.{only_seen, put_seen}
 use Rattle.constant_folding.proofs.given.constants_called.Goals as goal
 
 pub loop-constant-init : goal.loop-constant-init
-loop-constant-init g c = λ x. ap (λ f. option_or (option_map (λ k. described (const_of k)) (f x)) (constant_called (map described (map const_of c.args.constants.now)) x)) c.in_ok-called.ensures
+loop-constant-init g c = λ x. ap (λ f. option_or (option_map (λ k. described (const_of k)) (f x)) (constant_called (map described (map const_of c.args.constants.now)) x)) c.new-called.ensures
 
 pub loop-constant-preserved : goal.loop-constant-preserved
 loop-constant-preserved g c = λ x.

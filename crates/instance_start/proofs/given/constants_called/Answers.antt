@@ -11,7 +11,7 @@ use Rattle.instance_start.proofs.Called.{only_seen}
 use Rattle.instance_start.proofs.given.constants_called.Goals as goal
 
 pub loop-constant-init : goal.loop-constant-init
-loop-constant-init c = λ x. ap (λ f. option_or (option_map constant_of (f x)) (constant_called (map constant_of c.args.constants.now) x)) c.in_ok-called.ensures
+loop-constant-init c = λ x. ap (λ f. option_or (option_map constant_of (f x)) (constant_called (map constant_of c.args.constants.now) x)) c.new-called.ensures
 
 pub loop-constant-preserved : goal.loop-constant-preserved
 loop-constant-preserved c = λ x.

@@ -10,7 +10,7 @@ use Rattle.instance_start.proofs.Called.{only_seen, put_or}
 use Rattle.instance_start.proofs.given.given_values.Goals as goal
 
 pub loop-one-init : goal.loop-one-init
-loop-one-init c = λ x. ap (λ f. option_or (f x) (given_by c.args.given.now x)) c.in_ok-values.ensures
+loop-one-init c = λ x. ap (λ f. option_or (f x) (given_by c.args.given.now x)) c.new-values.ensures
 
 pub loop-one-preserved : goal.loop-one-preserved
 loop-one-preserved c = λ x.

@@ -8,7 +8,7 @@ use Rattle.prism_check.proofs.InOrder.{at_first, noted, place_more, no_place_mor
 use Rattle.prism_check.proofs.formula_sizes.formula_sizes.Goals as goal
 
 pub loop-place-init : goal.loop-place-init
-loop-place-init c = at_first (file_of c.args.file.now) c.args.order.now (size_in c.in_ok-sizes.sizes) c.requires (λ x. ap (λ o. unwrap_or o leaf) (at c.in_ok-sizes.ensures x))
+loop-place-init c = at_first (file_of c.args.file.now) c.args.order.now (size_in c.new-sizes.result) c.requires (λ x. ap (λ o. unwrap_or o leaf) (at c.new-sizes.ensures x))
 
 pub loop-place-preserved : goal.loop-place-preserved
 loop-place-preserved c =

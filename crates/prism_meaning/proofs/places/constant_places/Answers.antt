@@ -5,4 +5,4 @@ use Rattle.prism_meaning.specs.Places.{constant_place}
 use Rattle.prism_meaning.proofs.places.constant_places.Goals as goal
 
 pub returns : goal.returns
-returns c x = c.in_ok-add_constants.ensures x ∙ ap (λ f. option_or (f x) (constant_place 0 (map const_of c.args.constants.now) x)) c.in_ok-places.ensures
+returns c x = c.in_ok-add_constants.ensures x ∙ ap (λ f. option_or (f x) (constant_place 0 (map const_of c.args.constants.now) x)) c.new-places.ensures
