@@ -1,14 +1,21 @@
--- Two states have the same key only where they are the same.
-use Rattle.std.proofs.Common.{◌≡◌, ℤ, pos, List, [], ◌∷◌, ◌++◌, map, Bool, true, false, not, if◌then◌else◌, Vec, Global, refl, sym, ap, ap₂, ◌∙◌, arith, append-nil, append_assoc, length}
-use Rattle.std.proofs.lemmas.Grind.{common_steps}
-use Rattle.std.specs.List.{list_any, position_or_len}
-use Rattle.std.proofs.lemmas.List.{map-append}
-use Rattle.indexmap.specs.IndexSet.{insert_key}
-use Rattle.std.specs.Ordering.{int_eq}
-use Rattle.std.specs.Cmp.Lexicographic.{pointwise}
+-- Two states have the same key only where they are the same; keys in order, and what finds their places.
+use Rattle.std.proofs.Common.{◌≡◌, ◌<◌, ◌+◌, ◌||◌, ℕ, ℤ, pos, List, [], ◌∷◌, ◌++◌, map, Bool, true, false, cond, not, if◌then◌else◌, Option, Some, None, Vec, Global, refl, sym, ap, ap₂, ◌∙◌, arith, append-nil, append_assoc, length, length-append, subst, slice_set, get_or}
+use Rattle.std.specs.List.{list_any, position_or_len, position_from}
+use Rattle.std.proofs.lemmas.List.{map-append, length-map}
+use Rattle.std.proofs.lemmas.Simd.{map-map}
+use Rattle.std.proofs.Math.Seq.{map-set_same}
+use Rattle.std.specs.Option.{option_or}
+use Rattle.std.specs.Ordering.{int_eq, int_cmp, is_eq, ordering_then}
+use Rattle.std.specs.declared.cmp.Ordering.{Ordering}
+use Rattle.std.specs.declared.cmp.Ordering.TheVariants.{Less, Equal, Greater}
+use Rattle.std.specs.Cmp.{int_cmp_total, tied_itself}
+use Rattle.std.proofs.lemmas.Cmp.{lists_total}
+use Rattle.std.specs.Cmp.Lexicographic.{slice_cmp, pointwise}
+use Rattle.std.specs.BTreeMap.{BTreeMap, get, Updates}
+use Rattle.std.proofs.lemmas.Map.Lookups.{CmpEqualImpliesEq, exact_signed}
 use Rattle.std.specs.Cmp.Rules.{signed_items}
 use Rattle.basics.specs.Lists.{cons_same}
-use Rattle.basics.specs.Members.{any-map}
+use Rattle.basics.specs.Members.{none_at_end}
 use Rattle.basics.specs.Booleans.{same_test}
 use Rattle.frac_core.specs.Fraction.{Fraction, nought}
 use Rattle.frac_core.specs.Laws.{same_parts, den_pos}
@@ -20,8 +27,7 @@ use Rattle.process_core.specs.declared.data.State.{State}
 use Rattle.process_core.specs.Seen.{seen_branch}
 use Rattle.process_core.specs.Ready.{Values}
 use Rattle.process_core.specs.Equal.{equal_states, equal_states_is}
-use Rattle.process_core.specs.Merging.{parts_of, key_of}
-use Rattle.process_core.proofs.Targets.{place-map}
+use Rattle.process_core.specs.Merging.{parts_of, key_of, keys_of, by_items, IsIndex}
 
 no_zero : (x : Fraction) → pos x.den ≡ pos 0 → ⊥
 no_zero x h = let e : x.den ≡ 0 = cc in let p = den_pos x in omega arith
@@ -66,57 +72,155 @@ key_more (w ∷ s) v = ap (λ l. parts_of w ++ l) (key_more s v) ∙ sym (append
 pub key_next : (k0 k1 ps : List ℤ) (v : Value) (s0 s1 : Values) → k1 ≡ k0 ++ ps → ps ≡ parts_of v → k0 ≡ key_of s0 → s1 ≡ s0 ++ v ∷ [] → k1 ≡ key_of s1
 key_next k0 k1 ps v s0 s1 p q h e = p ∙ ap₂ (λ a b. a ++ b) h q ∙ sym (ap key_of e ∙ key_more s0 v)
 
--- ---- keys that code holds
-abbrev pub equal_keys : Vec ℤ Global → Vec ℤ Global → Bool
-equal_keys a b = pointwise int_eq a.items b.items
+-- ---- keys in order
+ordering_equal : (a b : Ordering) → ordering_then a b ≡ Equal → (a ≡ Equal) × (b ≡ Equal)
+ordering_equal Less b h = cc
+ordering_equal Equal b h = (refl, h)
+ordering_equal Greater b h = cc
 
-module _ (ks : List (Vec ℤ Global)) (k : Vec ℤ Global) (s : Values) (e : k.items ≡ key_of s) where
-  pub any_key : list_any (equal_keys k) ks ≡ list_any (pointwise int_eq (key_of s)) (map (λ v. v.items) ks)
-  any_key = ap (λ l. list_any (λ v. pointwise int_eq l v.items) ks) e ∙ sym (any-map (pointwise int_eq (key_of s)) (λ v. v.items) ks)
+exact_items : CmpEqualImpliesEq (slice_cmp int_cmp)
+exact_items [] [] h = refl
+exact_items [] (y ∷ ys) h = cc
+exact_items (x ∷ xs) [] h = cc
+exact_items (x ∷ xs) (y ∷ ys) h =
+    let e = ordering_equal (int_cmp x y) (slice_cmp int_cmp xs ys) h in
+    let a = exact_signed x y e.0 in
+    let b = exact_items xs ys e.1 in
+    cc
 
-  pub place_key : position_or_len (equal_keys k) ks ≡ position_or_len (pointwise int_eq (key_of s)) (map (λ v. v.items) ks)
-  place_key =
-      ap (λ l. position_or_len (λ v. pointwise int_eq l v.items) ks) e
-      ∙ sym (place-map (λ v. pointwise int_eq (key_of s) v.items) (pointwise int_eq (key_of s)) (λ v. v.items) (λ v. refl) ks)
+compares_equal : (xs : List ℤ) → slice_cmp int_cmp xs xs ≡ Equal
+compares_equal xs = tied_itself (lists_total int_cmp_total) xs
 
-  pub insert_more : map (λ v. v.items) (insert_key equal_keys ks k) ≡ insert_key (pointwise int_eq) (map (λ v. v.items) ks) (key_of s)
-  insert_more = by_test (list_any (equal_keys k) ks) _ any_key
+pub is_equal : (o : Ordering) → is_eq o ≡ true → o ≡ Equal
+is_equal Less h = cc
+is_equal Equal h = refl
+is_equal Greater h = cc
+
+-- what is at one place is equal
+pub items_compared : (xs ys : List ℤ) → is_eq (slice_cmp int_cmp xs ys) ≡ pointwise int_eq ys xs
+items_compared xs ys =
+    same_test _ _
+    (λ h. (signed_items ys xs).1 (sym (exact_items xs ys (is_equal _ h))))
+    (λ h. ap (λ x. is_eq (slice_cmp int_cmp xs x)) ((signed_items ys xs).0 h) ∙ ap is_eq (compares_equal xs))
+
+-- ---- the first place that passes
+module _ {K : Type 0} (p : K → Bool) where
+  pub place_push : (i : ℕ) (ks : List K) (k : K) → position_from p i (ks ++ k ∷ []) ≡ option_or (position_from p i ks) (cond (p k) (Some (i + length ks)) None)
+  place_push i [] k = let e : i ≡ i + 0 = omega arith in ap (λ n. cond (p k) (Some n) None) e
+  place_push i (x ∷ ks) k = by_test (p x) (place_push (i + 1) ks k)
     where
-      by_test : (a b : Bool) → a ≡ b → map (λ v. v.items) (if a then ks else ks ++ k ∷ []) ≡ (if b then map (λ v. v.items) ks else map (λ v. v.items) ks ++ key_of s ∷ [])
-      by_test true true h = refl
-      by_test true false h = absurd cc
-      by_test false true h = absurd cc
-      by_test false false h = map-append (λ v. v.items) ks (k ∷ []) ∙ ap (λ l. map (λ v. v.items) ks ++ l ∷ []) e
+      further : i + 1 + length ks ≡ i + length (x ∷ ks)
+      further = omega arith
 
-pub told_new : (r b c : Bool) → r ≡ true → r ≡ not b → b ≡ c → c ≡ false
-told_new r true c h e f = absurd cc
-told_new r false c h e f = sym f
+      by_test : (b : Bool) → position_from p (i + 1) (ks ++ k ∷ []) ≡ option_or (position_from p (i + 1) ks) (cond (p k) (Some (i + 1 + length ks)) None) →
+          cond b (Some i) (position_from p (i + 1) (ks ++ k ∷ [])) ≡ option_or (cond b (Some i) (position_from p (i + 1) ks)) (cond (p k) (Some (i + length (x ∷ ks))) None)
+      by_test true ih = refl
+      by_test false ih = ih ∙ ap (λ n. option_or (position_from p (i + 1) ks) (cond (p k) (Some n) None)) further
 
-pub told_old : (r b c : Bool) → r ≡ false → r ≡ not b → b ≡ c → c ≡ true
-told_old r true c h e f = sym f
-told_old r false c h e f = absurd cc
+  pub none_before : (i : ℕ) (ks : List K) → position_from p i ks ≡ None → list_any p ks ≡ false
+  none_before i [] h = refl
+  none_before i (x ∷ ks) h = by_test (p x) (none_before (i + 1) ks) h
+    where
+      by_test : (b : Bool) → (position_from p (i + 1) ks ≡ None → list_any p ks ≡ false) → cond b (Some i) (position_from p (i + 1) ks) ≡ None → (b || list_any p ks) ≡ false
+      by_test true ih e = cc
+      by_test false ih e = ih e
 
--- ---- how many keys there are after one is looked up
-module _ {K B : Type 0} (eq : K → K → Bool) (ks next : List K) (k : K) (old new : List B) (is_new : Bool) (added : is_new ≡ not (list_any (eq k) ks)) (same : length ks ≡ length old) where
-  pub new_length : (b : B) → is_new ≡ true → next ≡ insert_key eq ks k → new ≡ old ++ b ∷ [] → length next ≡ length new
-  new_length b told inserted pushed = grind (arith, common_steps)
+  pub found_at : (i : ℕ) (ks : List K) (j : ℕ) → position_from p i ks ≡ Some j → (list_any p ks ≡ true) × (j ≡ i + position_or_len p ks) × (position_or_len p ks < length ks)
+  found_at i [] j h = cc
+  found_at i (x ∷ ks) j h = by_test (p x) (found_at (i + 1) ks j) h
+    where
+      by_test : (b : Bool) → (position_from p (i + 1) ks ≡ Some j → (list_any p ks ≡ true) × (j ≡ i + 1 + position_or_len p ks) × (position_or_len p ks < length ks)) →
+          cond b (Some i) (position_from p (i + 1) ks) ≡ Some j →
+          ((b || list_any p ks) ≡ true) × (j ≡ i + cond (not b) (1 + position_or_len p ks) 0) × (cond (not b) (1 + position_or_len p ks) 0 < length (x ∷ ks))
+      by_test true ih e = (refl, let f : i ≡ j = cc in omega arith, omega arith)
+      by_test false ih e = let r = ih e in (r.0, let f = r.1 in omega arith, let f = r.2 in omega arith)
 
-  pub old_length : is_new ≡ false → next ≡ insert_key eq ks k → length next ≡ length old
-  old_length told inserted = grind (arith, common_steps)
+-- ---- an index of the keys
+module _ (m n : BTreeMap (Vec ℤ Global) ℕ) (ks : List (List ℤ)) (key : Vec ℤ Global) (is : IsIndex m ks) where
+  pub index_more : (w : ℕ) → get by_items m key ≡ None → w ≡ length ks → Updates by_items m n key (Some w) → IsIndex n (ks ++ key.items ∷ [])
+  index_more w none l u q =
+      u.0 q ∙ ap (λ b. cond b (Some w) (get by_items m q)) (items_compared key.items q.items) ∙ by_test (pointwise int_eq q.items key.items) refl
+      ∙ sym (place_push (pointwise int_eq q.items) 0 ks key.items)
+    where
+      none_here : q.items ≡ key.items → position_from (pointwise int_eq q.items) 0 ks ≡ None
+      none_here e = ap (λ x. position_from (pointwise int_eq x) 0 ks) e ∙ sym (is key) ∙ none
+
+      left : (o : Option ℕ) → o ≡ option_or o None
+      left None = refl
+      left (Some x) = refl
+
+      from_none : (o : Option ℕ) → o ≡ None → Some (length ks) ≡ option_or o (Some (0 + length ks))
+      from_none None h = let e : length ks ≡ 0 + length ks = omega arith in ap Some e
+      from_none (Some x) h = absurd cc
+
+      by_test : (b : Bool) → b ≡ pointwise int_eq q.items key.items → cond b (Some w) (get by_items m q) ≡ option_or (position_from (pointwise int_eq q.items) 0 ks) (cond b (Some (0 + length ks)) None)
+      by_test true h = ap Some l ∙ from_none (position_from (pointwise int_eq q.items) 0 ks) (none_here ((signed_items q.items key.items).0 (sym h)))
+      by_test false h = is q ∙ left (position_from (pointwise int_eq q.items) 0 ks)
 
 -- ---- the sums after a target is looked up
-pub put_new : (old new : List code_branch.Branch) (x : Fraction) (s : State) (rs : List Fraction) (t : Values) (b : Bool) →
-    new ≡ old ++ record { weight = x; target = s; rewards = rs } ∷ [] → x ≡ nought → s.values ≡ t → rs ≡ [] → b ≡ false →
-    map seen_branch new ≡ (if b then map seen_branch old else map seen_branch old ++ record { probability = nought; target = t; rewards = [] } ∷ [])
-put_new old new x s rs t true e p q r h = absurd cc
-put_new old new x s rs t false e p q r h =
+pub opened_sum : (old new : List code_branch.Branch) (x : Fraction) (s : State) (rs : List Fraction) (t : Values) →
+    new ≡ old ++ record { weight = x; target = s; rewards = rs } ∷ [] → x ≡ nought → s.values ≡ t → rs ≡ [] →
+    map seen_branch new ≡ map seen_branch old ++ record { probability = nought; target = t; rewards = [] } ∷ []
+opened_sum old new x s rs t e p q r =
     ap (map seen_branch) e ∙ map-append seen_branch old (record { weight = x; target = s; rewards = rs } ∷ [])
     ∙ ap (λ y. map seen_branch old ++ y ∷ []) (same_entry p q r)
   where
     same_entry : x ≡ nought → s.values ≡ t → rs ≡ [] → ◌≡◌ {A = Branch Fraction Values} (record { probability = x; target = s.values; rewards = rs }) (record { probability = nought; target = t; rewards = [] })
     same_entry u v w = cc
 
-pub put_old : (old : List code_branch.Branch) (t : Values) (b : Bool) → b ≡ true →
-    map seen_branch old ≡ (if b then map seen_branch old else map seen_branch old ++ record { probability = nought; target = t; rewards = [] } ∷ [])
-put_old old t true h = refl
-put_old old t false h = absurd cc
+-- another probability leaves the keys as they are
+pub keys_kept : (next : List code_branch.Branch) (i : ℕ) (x : code_branch.Branch) (w : Fraction) → x ≡ get_or next i x →
+    keys_of (map seen_branch (slice_set next i (record { weight = w; target = x.target; rewards = x.rewards }))) ≡ keys_of (map seen_branch next)
+keys_kept next i x w e =
+    map-map _ seen_branch (slice_set next i (record { weight = w; target = x.target; rewards = x.rewards }))
+    ∙ map-set_same (λ (b : code_branch.Branch). key_of b.target.values) next i (record { weight = w; target = x.target; rewards = x.rewards }) x (ap (λ (b : code_branch.Branch). key_of b.target.values) e)
+    ∙ sym (map-map _ seen_branch next)
+
+-- ---- what a target's look-up comes to
+module _ (m : BTreeMap (Vec ℤ Global) ℕ) (old : List code_branch.Branch) (key : Vec ℤ Global) (t : Values) (e : key.items ≡ key_of t) (is : IsIndex m (keys_of (map seen_branch old))) where
+  seen_at : get by_items m key ≡ position_from (pointwise int_eq (key_of t)) 0 (keys_of (map seen_branch old))
+  seen_at = is key ∙ ap (λ x. position_from (pointwise int_eq x) 0 (keys_of (map seen_branch old))) e
+
+  same_length : length (keys_of (map seen_branch old)) ≡ length old
+  same_length = length-map (map seen_branch old) (λ b. key_of b.target) ∙ length-map old seen_branch
+
+  pub target_found : (i : ℕ) → get by_items m key ≡ Some i →
+      (i ≡ position_or_len (pointwise int_eq (key_of t)) (keys_of (map seen_branch old)))
+      × (map seen_branch old ≡ (if list_any (pointwise int_eq (key_of t)) (keys_of (map seen_branch old)) then map seen_branch old else map seen_branch old ++ record { probability = nought; target = t; rewards = [] } ∷ []))
+      × (i < length old)
+  target_found i h =
+      let r = found_at (pointwise int_eq (key_of t)) 0 (keys_of (map seen_branch old)) i (sym seen_at ∙ h) in
+      let f = r.1 in
+      let p : i ≡ position_or_len (pointwise int_eq (key_of t)) (keys_of (map seen_branch old)) = omega arith in (
+        p,
+        by_test (list_any (pointwise int_eq (key_of t)) (keys_of (map seen_branch old))) r.0,
+        let f = r.2 in let l = same_length in omega arith,
+      )
+    where
+      by_test : (b : Bool) → b ≡ true → map seen_branch old ≡ (if b then map seen_branch old else map seen_branch old ++ record { probability = nought; target = t; rewards = [] } ∷ [])
+      by_test true g = refl
+      by_test false g = absurd cc
+
+  module _ (new : List code_branch.Branch) (opened : map seen_branch new ≡ map seen_branch old ++ record { probability = nought; target = t; rewards = [] } ∷ []) (none : get by_items m key ≡ None) where
+    none_there : list_any (pointwise int_eq (key_of t)) (keys_of (map seen_branch old)) ≡ false
+    none_there = none_before (pointwise int_eq (key_of t)) 0 (keys_of (map seen_branch old)) (sym seen_at ∙ none)
+
+    pub target_opened : (i : ℕ) → i ≡ length old →
+        (i ≡ position_or_len (pointwise int_eq (key_of t)) (keys_of (map seen_branch old)))
+        × (map seen_branch new ≡ (if list_any (pointwise int_eq (key_of t)) (keys_of (map seen_branch old)) then map seen_branch old else map seen_branch old ++ record { probability = nought; target = t; rewards = [] } ∷ []))
+        × (i < length new)
+    target_opened i l = (
+      l ∙ sym same_length ∙ sym (none_at_end (pointwise int_eq (key_of t)) (keys_of (map seen_branch old)) none_there),
+      opened ∙ by_test (list_any (pointwise int_eq (key_of t)) (keys_of (map seen_branch old))) none_there,
+      let a = ap length opened in let b = length-map new seen_branch in let c = length-map old seen_branch in let d = length-append (map seen_branch old) (record { probability = nought; target = t; rewards = [] } ∷ []) in omega arith,
+    )
+      where
+        by_test : (b : Bool) → b ≡ false → map seen_branch old ++ record { probability = nought; target = t; rewards = [] } ∷ [] ≡ (if b then map seen_branch old else map seen_branch old ++ record { probability = nought; target = t; rewards = [] } ∷ [])
+        by_test true g = absurd cc
+        by_test false g = refl
+
+    pub target_indexed : (n : BTreeMap (Vec ℤ Global) ℕ) (i : ℕ) → i ≡ length old → Updates by_items m n key (Some i) → IsIndex n (keys_of (map seen_branch new))
+    target_indexed n i l u =
+        let keys : keys_of (map seen_branch new) ≡ keys_of (map seen_branch old) ++ key.items ∷ [] =
+        ap keys_of opened ∙ map-append (λ b. key_of b.target) (map seen_branch old) (record { probability = nought; target = t; rewards = [] } ∷ []) ∙ ap (λ k. keys_of (map seen_branch old) ++ k ∷ []) (sym e) in
+        subst (IsIndex n) (sym keys) (index_more m n (keys_of (map seen_branch old)) key is i none (l ∙ sym same_length) u)

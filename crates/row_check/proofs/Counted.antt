@@ -11,11 +11,11 @@ use Rattle.basics.specs.Booleans.{same_test}
 use Rattle.frac_core.specs.Fraction.{Fraction}
 use Rattle.frac_core.specs.Laws.{same_parts}
 use Rattle.process_core.specs.Ready.{Name}
+use Rattle.process_core.specs.Merging.{by_items}
+use Rattle.process_core.proofs.Keys.{items_compared}
 use Rattle.row_check.specs.declared.merging.MergedChoice.{MergedChoice}
-use Rattle.row_check.specs.Index.{by_items}
 use Rattle.row_check.specs.Keys.{label_key, entries_key, choice_key, times_of, AreCounted}
 use Rattle.row_check.specs.Merging.{Sums, Keeps, equal_sums}
-use Rattle.row_check.proofs.Numbers.{exact_items, compares_equal, is_equal}
 use Rattle.row_check.proofs.Compared.{sums_from_entries, entries_from_sums, same_sums, equal_sums_is}
 
 -- ---- keys tell choices apart
@@ -77,16 +77,10 @@ pub times_told : (n : ℕ) (d : Sums) (m : MergedChoice) (ds : List Sums) (ms : 
 times_told n d m ds ms t key times c e h f z = h ∙ c key ∙ ap (λ xs. count_by (λ k. pointwise int_eq xs (choice_key k)) ms) e ∙ counts_told n d m ds ms f z
 
 -- ---- one choice more
-at_key : (key q : Vec ℤ Global) → is_at (by_items key) q ≡ pointwise int_eq q.items key.items
-at_key key q =
-    same_test (is_at (by_items key) q) (pointwise int_eq q.items key.items)
-    (λ h. (signed_items q.items key.items).1 (sym (exact_items key.items q.items (is_equal _ h))))
-    (λ h. ap (λ xs. is_eq (slice_cmp int_cmp key.items xs)) ((signed_items q.items key.items).0 h) ∙ ap is_eq (compares_equal key.items))
-
 pub added : (old new : BTreeMap (Vec ℤ Global) ℕ) (key : Vec ℤ Global) (count more : ℕ) → count ≡ times_of old key → more ≡ count + 1 → Updates by_items old new key (Some more) → (q : Vec ℤ Global) →
     times_of new q ≡ (if pointwise int_eq q.items key.items then times_of old q + 1 else times_of old q)
 added old new key count more c m u q =
-    ap (λ o. unwrap_or o 0) (u.0 q ∙ ap (λ b. cond b (Some more) (get by_items old q)) (at_key key q)) ∙ by_test (pointwise int_eq q.items key.items) refl
+    ap (λ o. unwrap_or o 0) (u.0 q ∙ ap (λ b. cond b (Some more) (get by_items old q)) (items_compared key.items q.items)) ∙ by_test (pointwise int_eq q.items key.items) refl
   where
     same_key : q.items ≡ key.items → times_of old key ≡ times_of old q
     same_key e = ap (λ xs. unwrap_or (lookup (is_at (λ (b : Vec ℤ Global). slice_cmp int_cmp xs b.items)) old.entries) 0) (sym e)

@@ -15,7 +15,8 @@ use Rattle.row_check.specs.declared.data.Row.{Row}
 use Rattle.row_check.specs.Index.{values_at, number_from, IsIndex}
 use Rattle.row_check.specs.Merging.{later, held, held_below, held_row, unless_nought}
 use Rattle.basics.specs.Booleans.{same_test}
-use Rattle.row_check.proofs.Numbers.{number_is, is_equal}
+use Rattle.process_core.proofs.Keys.{is_equal}
+use Rattle.row_check.proofs.Numbers.{number_is}
 
 pub at_number : (k q : ℕ) → is_eq (nat_cmp k q) ≡ nat_eq q k
 at_number k q =

@@ -11,10 +11,10 @@ use Rattle.std.specs.BTreeMap.{BTreeMap, get, Updates}
 use Rattle.std.proofs.lemmas.Map.Lookups.{CmpEqualImpliesEq, exact_signed}
 use Rattle.process_core.specs.Ready.{Values}
 use Rattle.process_core.specs.Equal.{equal_states, equal_states_is}
-use Rattle.process_core.specs.Merging.{key_of}
+use Rattle.process_core.specs.Merging.{key_of, by_items}
 use Rattle.process_core.specs.declared.data.State.{State}
-use Rattle.row_check.specs.Index.{stands_in, values_at, number_from, by_items, IsIndex, AddsState}
-use Rattle.process_core.proofs.Keys.{key_same}
+use Rattle.row_check.specs.Index.{stands_in, values_at, number_from, IsIndex, AddsState}
+use Rattle.process_core.proofs.Keys.{key_test, items_compared}
 use Rattle.std.proofs.lemmas.Bool.{cases_lt}
 use Rattle.std.proofs.lemmas.List.{get_or_push, get_or_append_left}
 
@@ -64,35 +64,9 @@ number_push k t (x ∷ ss) s = by_test (number_push (k + 1) t ss s ∙ same_push
     by_test ih false = ih
 
 -- ---- keys
-ordering_equal : (a b : Ordering) → ordering_then a b ≡ Equal → (a ≡ Equal) × (b ≡ Equal)
-ordering_equal Less b h = cc
-ordering_equal Equal b h = (refl, h)
-ordering_equal Greater b h = cc
-
-pub exact_items : CmpEqualImpliesEq (slice_cmp int_cmp)
-exact_items [] [] h = refl
-exact_items [] (y ∷ ys) h = cc
-exact_items (x ∷ xs) [] h = cc
-exact_items (x ∷ xs) (y ∷ ys) h =
-    let e = ordering_equal (int_cmp x y) (slice_cmp int_cmp xs ys) h in
-    let a = exact_signed x y e.0 in
-    let b = exact_items xs ys e.1 in
-    cc
-
-pub compares_equal : (xs : List ℤ) → slice_cmp int_cmp xs xs ≡ Equal
-compares_equal xs = tied_itself (lists_total int_cmp_total) xs
-
-pub is_equal : (o : Ordering) → is_eq o ≡ true → o ≡ Equal
-is_equal Less h = cc
-is_equal Equal h = refl
-is_equal Greater h = cc
-
 -- the keys of two states are compared as the states are
 key_compared : (s t : Values) → is_eq (slice_cmp int_cmp (key_of s) (key_of t)) ≡ equal_states t s
-key_compared s t =
-    same_test _ _
-    (λ h. (equal_states_is t s).1 (sym (key_same s t (exact_items (key_of s) (key_of t) (is_equal _ h)))))
-    (λ h. ap (λ x. is_eq (slice_cmp int_cmp (key_of s) (key_of x))) ((equal_states_is t s).0 h) ∙ ap is_eq (compares_equal (key_of s)))
+key_compared s t = items_compared (key_of s) (key_of t) ∙ key_test t s
 
 push_other : (k : ℕ) (t : Values) (s : State) (n : ℕ) (o : Option ℕ) → equal_states t s.values ≡ false → number_push_at k t s n o ≡ o
 unfolding number_push_at

@@ -8,7 +8,7 @@ use Rattle.std.specs.BTreeMap.{BTreeMap, get}
 use Rattle.frac_core.specs.Fraction.{Fraction}
 use Rattle.process_core.specs.Ready.{Name}
 use Rattle.row_check.specs.declared.merging.MergedChoice.{MergedChoice}
-use Rattle.row_check.specs.Index.{by_items}
+use Rattle.process_core.specs.Merging.{by_items}
 
 abbrev pub name_key : Name → List ℤ
 name_key name = pos 1 ∷ pos (length name) ∷ map (λ b. pos b) name
