@@ -24,7 +24,7 @@ _bridge() {
   esac
   COMPREPLY=()
   if [ "$place" -eq 1 ]; then
-    mapfile -t COMPREPLY < <(compgen -W "to-jani to-prism to-prism-props check show simulate check-path check-rows check-bound carry-path generate" -- "$cur")
+    mapfile -t COMPREPLY < <(compgen -W "to-jani to-prism to-prism-props check show simulate check-path check-rows check-bound carry-path specialise generate" -- "$cur")
   elif [ "$place" -eq 2 ] && [[ $command != to-* && $command != generate ]]; then
     mapfile -t COMPREPLY < <(compgen -W "prism jani" -- "$cur")
   elif [ "$place" -eq 6 ] && [ "$command" = check-bound ]; then
@@ -33,7 +33,7 @@ _bridge() {
     mapfile -t COMPREPLY < <(compgen -f -- "$cur")
   elif [ "$place" -eq 4 ] && [ "$command" = simulate ]; then
     mapfile -t COMPREPLY < <(compgen -W "from given seed" -- "$cur")
-  elif [ "$place" -gt 4 ] && [[ $command != to-* && $command != check && $command != generate && ${COMP_WORDS[2]} == prism ]]; then
+  elif { [ "$place" -gt 4 ] || [ "$command" = specialise ]; } && [[ $command != to-* && $command != check && $command != generate && ${COMP_WORDS[2]} == prism ]]; then
     mapfile -t COMPREPLY < <(compgen -W "$(_bridge_constants "${COMP_WORDS[3]}")" -- "$cur")
     compopt +o filenames -o nospace # the value comes right behind the sign, and no part of these is quoted
   fi

@@ -11,7 +11,7 @@ use Rattle.process_texts.specs.declared.given.GivenText.{GivenText}
 use Rattle.process_texts.specs.declared.given.GivenText.TheVariants.{Good, Past, NoForm}
 use Rattle.command_words.specs.Numbers.{IsSmall, numbers_of, pairs_text}
 use Rattle.command_words.specs.Given.{Assignment, IsAssignment, IsGivenText}
-use Rattle.command_words.specs.Words.{Job, showing, along, seeded, Walking, Claim, of_path, of_rows, of_bounds, Checking, Carrying, on_file, with_properties, generate, walk, check, carry, claim_words, claim_verb, IsCheck, IsCarry, AreWithProperties, AreGenerate, verb_of, lang_word, from_words, job_verb, job_words, IsJob, IsWalk, OneRequest, WordsCount}
+use Rattle.command_words.specs.Words.{Job, showing, along, seeded, Walking, Claim, of_path, of_rows, of_bounds, Checking, Carrying, Specialising, on_file, with_properties, generate, walk, check, carry, specialise, claim_words, claim_verb, IsCheck, IsCarry, IsSpecialise, AreWithProperties, AreGenerate, verb_of, lang_word, from_words, job_verb, job_words, IsJob, IsWalk, OneRequest, WordsCount}
 use Rattle.command_words.specs.declared.request.Lang.{Lang}
 use Rattle.command_words.specs.declared.request.Lang.TheVariants.{Prism, Jani}
 use Rattle.command_words.specs.declared.request.Task.{Task}
@@ -219,6 +219,25 @@ carry_properties words c f p h k = differ _ _ refl (heads _ _ _ _ (sym h.words_a
 generate_carry : (words : List (List ℕ)) (n : ℕ) (c : Carrying) → AreGenerate words n → IsCarry words c → ⊥
 generate_carry words n c h k = differ _ _ refl (heads _ _ _ _ (sym h.words_are ∙ k.words_are))
 
+-- and so does a file that is specialised
+task_specialise : (words : List (List ℕ)) (t : Task) (f : List ℕ) (q : Specialising) → words ≡ verb_of t ++ f ∷ [] → IsSpecialise words q → ⊥
+task_specialise words t f q e h = not_task _ _ t f (differ _ _ refl) (differ _ _ refl) (differ _ _ refl) (differ _ _ refl) (sym h.words_are ∙ e)
+
+walk_specialise : (words : List (List ℕ)) (w : Walking) (q : Specialising) → IsWalk words w → IsSpecialise words q → ⊥
+walk_specialise words w q h k = not_walk _ _ w (differ _ _ refl) (differ _ _ refl) (subst (λ ws. IsWalk ws w) k.words_are h)
+
+check_specialise : (words : List (List ℕ)) (b : Checking) (q : Specialising) → IsCheck words b → IsSpecialise words q → ⊥
+check_specialise words b q h k = not_check _ _ b (differ _ _ refl) (differ _ _ refl) (differ _ _ refl) (subst (λ ws. IsCheck ws b) k.words_are h)
+
+properties_specialise : (words : List (List ℕ)) (q : Specialising) (f p : List ℕ) → IsSpecialise words q → AreWithProperties words f p → ⊥
+properties_specialise words q f p h k = differ _ _ refl (heads _ _ _ _ (sym h.words_are ∙ k.words_are))
+
+generate_specialise : (words : List (List ℕ)) (n : ℕ) (q : Specialising) → AreGenerate words n → IsSpecialise words q → ⊥
+generate_specialise words n q h k = differ _ _ refl (heads _ _ _ _ (sym h.words_are ∙ k.words_are))
+
+carry_specialise : (words : List (List ℕ)) (c : Carrying) (q : Specialising) → IsCarry words c → IsSpecialise words q → ⊥
+carry_specialise words c q h k = differ _ _ refl (heads _ _ _ _ (sym h.words_are ∙ k.words_are))
+
 same_bounds : (s t r u n m b d : List ℕ) → s ≡ t → r ≡ u → n ≡ m → b ≡ d → of_bounds s r n b ≡ of_bounds t u m d
 same_bounds s t r u n m b d e f g h = cc
 
@@ -249,6 +268,10 @@ same_checking l m f g i j xs ys a b c d = cc
 same_carrying : (l m : Lang) (f g p q : List ℕ) (xs ys : List Assignment) → l ≡ m → f ≡ g → p ≡ q → xs ≡ ys
     → ◌≡◌ {A = Carrying} (record { lang = l; file = f; path = p; given = xs }) (record { lang = m; file = g; path = q; given = ys })
 same_carrying l m f g p q xs ys a b c d = cc
+
+same_specialising : (l m : Lang) (f g : List ℕ) (xs ys : List Assignment) → l ≡ m → f ≡ g → xs ≡ ys
+    → ◌≡◌ {A = Specialising} (record { lang = l; file = f; given = xs }) (record { lang = m; file = g; given = ys })
+same_specialising l m f g xs ys a b c = cc
 
 pub one_request : OneValueText → OneRequest
 one_request one words (on_file s f) (on_file t g) h k = let e = same_task s t f g (sym h.1 ∙ k.1) in ap₂ on_file e.0 e.1
@@ -293,6 +316,23 @@ one_request one words (carry c) (carry b) h k =
     let e3 = tails _ _ _ _ e2 in
     ap carry (same_carrying c.lang b.lang c.file b.file c.path b.path c.given b.given (same_lang c.lang b.lang (heads _ _ _ _ e1)) (heads _ _ _ _ e2) (heads _ _ _ _ e3)
     (same_given one h.rest c.given b.given h.given.are (subst (λ ws. AllZip IsAssignment ws b.given) (sym (tails _ _ _ _ e3)) k.given.are)))
+one_request one words (on_file s f) (specialise q) h k = absurd (task_specialise words s f q h.1 k)
+one_request one words (specialise q) (on_file t g) h k = absurd (task_specialise words t g q k.1 h)
+one_request one words (with_properties f p) (specialise q) h k = absurd (properties_specialise words q f p k h)
+one_request one words (specialise q) (with_properties f p) h k = absurd (properties_specialise words q f p h k)
+one_request one words (generate n) (specialise q) h k = absurd (generate_specialise words n q h k)
+one_request one words (specialise q) (generate n) h k = absurd (generate_specialise words n q k h)
+one_request one words (walk w) (specialise q) h k = absurd (walk_specialise words w q h k)
+one_request one words (specialise q) (walk w) h k = absurd (walk_specialise words w q k h)
+one_request one words (check b) (specialise q) h k = absurd (check_specialise words b q h k)
+one_request one words (specialise q) (check b) h k = absurd (check_specialise words b q k h)
+one_request one words (carry c) (specialise q) h k = absurd (carry_specialise words c q h k)
+one_request one words (specialise q) (carry c) h k = absurd (carry_specialise words c q k h)
+one_request one words (specialise q) (specialise r) h k =
+    let e1 = tails _ _ _ _ (sym h.words_are ∙ k.words_are) in
+    let e2 = tails _ _ _ _ e1 in
+    ap specialise (same_specialising q.lang r.lang q.file r.file q.given r.given (same_lang q.lang r.lang (heads _ _ _ _ e1)) (heads _ _ _ _ e2)
+    (same_given one h.rest q.given r.given h.given.are (subst (λ ws. AllZip IsAssignment ws r.given) (sym (tails _ _ _ _ e2)) k.given.are)))
 one_request one words (check c) (check b) h k =
     let e = sym h.words_are ∙ k.words_are in
     let e1 = tails _ _ _ _ e in
@@ -340,4 +380,8 @@ words_count words (check c) h =
 words_count words (carry c) h =
     let a = ap length h.words_are in
     let b = length-zip h.rest c.given h.given.are in
+    omega (arith, a, b)
+words_count words (specialise q) h =
+    let a = ap length h.words_are in
+    let b = length-zip h.rest q.given h.given.are in
     omega (arith, a, b)

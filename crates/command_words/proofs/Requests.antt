@@ -6,13 +6,13 @@ use Rattle.std.specs.Fmt.{decimal}
 use Rattle.std.specs.List.{AllByRecursion}
 use Rattle.command_words.specs.Numbers.{IsSmall, pairs_text}
 use Rattle.command_words.specs.Given.{Assignment, HasGiven, AreGiven}
-use Rattle.command_words.specs.Words.{texts, Begins, IsWrong, Job, showing, along, seeded, Walking, Claim, of_path, of_rows, of_bounds, Checking, on_file, with_properties, generate, walk, check, carry, IsNameBehind, AreNamesBehind, claim_files, claim_words, claim_verb, IsClaim, HasFileWord, verb_of, lang_word, IsStateWord, IsFrom, from_words, job_verb, job_words, IsJob, IsWalk, IsCheck, HasForm, job_count}
-use Rattle.command_words.specs.Fronts.{Then, One, IsNameWrong, IsFileName, IsPairsWord, IsSeedWord, IsStepsWord, IsModulesWord, GenerateForm, GivenForm, SeedForm, WayForm, WalkForm, StateForm, PathForm, RowsForm, LabelForm, BoundsForm, HeadForm, ShowForm, SimulateForm}
+use Rattle.command_words.specs.Words.{texts, Begins, IsWrong, Job, showing, along, seeded, Walking, Claim, of_path, of_rows, of_bounds, Checking, on_file, with_properties, generate, walk, check, carry, specialise, IsNameBehind, AreNamesBehind, claim_files, claim_words, claim_verb, IsClaim, HasFileWord, verb_of, lang_word, IsStateWord, IsFrom, from_words, job_verb, job_words, IsJob, IsWalk, IsCheck, HasForm, job_count}
+use Rattle.command_words.specs.Fronts.{Then, One, IsNameWrong, IsFileName, IsPairsWord, IsSeedWord, IsStepsWord, IsModulesWord, GenerateForm, GivenForm, SeedForm, WayForm, WalkForm, StateForm, PathForm, RowsForm, LabelForm, BoundsForm, HeadForm, ShowForm, SimulateForm, SpecialiseForm}
 use Rattle.command_words.specs.declared.request.Lang.{Lang}
 use Rattle.command_words.specs.declared.request.Task.{Task}
 use Rattle.command_words.specs.declared.request.Task.TheVariants.{ToJani, ToPrism, ToPrismProps, CheckPrism, CheckJani}
 use Rattle.command_words.proofs.Wrong.{wrong_end, wrong_first, wrong_same, wrong_behind, wrong_next, then_begins, then_end, then_first, then_next, one_begins, one_end, one_first, one_next}
-use Rattle.command_words.proofs.Forms.{differ, way_given, way_seed, walk_from, walk_way, behind_head, state_begins, walk_begins, path_begins, rows_begins, bounds_begins}
+use Rattle.command_words.proofs.Forms.{differ, way_given, way_seed, walk_from, walk_way, behind_head, state_begins, walk_begins, given_begins, path_begins, rows_begins, bounds_begins}
 
 pub heads : (x y : List ℕ) (xs ys : List (List ℕ)) → x ∷ xs ≡ y ∷ ys → x ≡ y
 heads x y xs ys e = cc
@@ -95,6 +95,7 @@ to_jani_words ws (generate n, h) = absurd (differ _ _ refl (heads _ _ _ _ h.word
 to_jani_words ws (walk w, h) = absurd (not_walk _ ws w (differ _ _ refl) (differ _ _ refl) h)
 to_jani_words ws (check c, h) = absurd (not_check _ ws c (differ _ _ refl) (differ _ _ refl) (differ _ _ refl) h)
 to_jani_words ws (carry c, h) = absurd (differ _ _ refl (heads _ _ _ _ h.words_are))
+to_jani_words ws (specialise q, h) = absurd (differ _ _ refl (heads _ _ _ _ h.words_are))
 
 behind_to_jani_words : (ws : List (List ℕ)) (k : ℕ) → IsWrong (Then IsFileName PropertiesForm) ws k → IsWrong ToJaniForm ws k
 behind_to_jani_words ws k e = wrong_same (Then IsFileName PropertiesForm) ToJaniForm ws k to_jani_form to_jani_words e
@@ -152,6 +153,7 @@ to_prism_file ws (generate n, h) = absurd (differ _ _ refl (heads _ _ _ _ h.word
 to_prism_file ws (walk w, h) = absurd (not_walk _ ws w (differ _ _ refl) (differ _ _ refl) h)
 to_prism_file ws (check c, h) = absurd (not_check _ ws c (differ _ _ refl) (differ _ _ refl) (differ _ _ refl) h)
 to_prism_file ws (carry c, h) = absurd (differ _ _ refl (heads _ _ _ _ h.words_are))
+to_prism_file ws (specialise q, h) = absurd (differ _ _ refl (heads _ _ _ _ h.words_are))
 
 pub behind_to_prism : (ws : List (List ℕ)) (k : ℕ) → IsWrong HasFileWord ws k → IsWrong HasForm (codes "to-prism" ∷ ws) (k + 1)
 behind_to_prism ws k e = wrong_behind HasFileWord HasForm (codes "to-prism") ws k to_prism_form to_prism_file e
@@ -171,6 +173,7 @@ to_prism_props_file ws (generate n, h) = absurd (differ _ _ refl (heads _ _ _ _ 
 to_prism_props_file ws (walk w, h) = absurd (not_walk _ ws w (differ _ _ refl) (differ _ _ refl) h)
 to_prism_props_file ws (check c, h) = absurd (not_check _ ws c (differ _ _ refl) (differ _ _ refl) (differ _ _ refl) h)
 to_prism_props_file ws (carry c, h) = absurd (differ _ _ refl (heads _ _ _ _ h.words_are))
+to_prism_props_file ws (specialise q, h) = absurd (differ _ _ refl (heads _ _ _ _ h.words_are))
 
 pub behind_to_prism_props : (ws : List (List ℕ)) (k : ℕ) → IsWrong HasFileWord ws k → IsWrong HasForm (codes "to-prism-props" ∷ ws) (k + 1)
 behind_to_prism_props ws k e = wrong_behind HasFileWord HasForm (codes "to-prism-props") ws k to_prism_props_form to_prism_props_file e
@@ -193,6 +196,7 @@ prism_file ws (generate n, h) = absurd (differ _ _ refl (heads _ _ _ _ h.words_a
 prism_file ws (walk w, h) = absurd (not_walk _ _ w (differ _ _ refl) (differ _ _ refl) h)
 prism_file ws (check c, h) = absurd (not_check _ _ c (differ _ _ refl) (differ _ _ refl) (differ _ _ refl) h)
 prism_file ws (carry c, h) = absurd (differ _ _ refl (heads _ _ _ _ h.words_are))
+prism_file ws (specialise q, h) = absurd (differ _ _ refl (heads _ _ _ _ h.words_are))
 
 jani_form : (ws : List (List ℕ)) → HasFileWord ws → CheckForm (codes "jani" ∷ ws)
 jani_form ws f = (on_file CheckJani f.0, (f.1.0, ap (λ v. codes "check" ∷ codes "jani" ∷ v) f.1.1))
@@ -208,6 +212,7 @@ jani_file ws (generate n, h) = absurd (differ _ _ refl (heads _ _ _ _ h.words_ar
 jani_file ws (walk w, h) = absurd (not_walk _ _ w (differ _ _ refl) (differ _ _ refl) h)
 jani_file ws (check c, h) = absurd (not_check _ _ c (differ _ _ refl) (differ _ _ refl) (differ _ _ refl) h)
 jani_file ws (carry c, h) = absurd (differ _ _ refl (heads _ _ _ _ h.words_are))
+jani_file ws (specialise q, h) = absurd (differ _ _ refl (heads _ _ _ _ h.words_are))
 
 pub behind_jani : (ws : List (List ℕ)) (k : ℕ) → IsWrong HasFileWord ws k → IsWrong CheckForm (codes "jani" ∷ ws) (k + 1)
 behind_jani ws k e = wrong_behind HasFileWord CheckForm (codes "jani") ws k jani_form jani_file e
@@ -232,6 +237,7 @@ not_check_end (generate n, h) = differ _ _ refl (heads _ _ _ _ h.words_are)
 not_check_end (walk w, h) = not_walk _ _ w (differ _ _ refl) (differ _ _ refl) h
 not_check_end (check c, h) = not_check _ _ c (differ _ _ refl) (differ _ _ refl) (differ _ _ refl) h
 not_check_end (carry c, h) = differ _ _ refl (heads _ _ _ _ h.words_are)
+not_check_end (specialise q, h) = differ _ _ refl (heads _ _ _ _ h.words_are)
 
 pub no_language : IsWrong CheckForm [] 1
 no_language = wrong_end CheckForm check_begins not_check_end
@@ -247,6 +253,7 @@ language lang (more, (generate n, h)) = absurd (differ _ _ refl (heads _ _ _ _ h
 language lang (more, (walk w, h)) = absurd (not_walk _ _ w (differ _ _ refl) (differ _ _ refl) h)
 language lang (more, (check c, h)) = absurd (not_check _ _ c (differ _ _ refl) (differ _ _ refl) (differ _ _ refl) h)
 language lang (more, (carry c, h)) = absurd (differ _ _ refl (heads _ _ _ _ h.words_are))
+language lang (more, (specialise q, h)) = absurd (differ _ _ refl (heads _ _ _ _ h.words_are))
 
 pub other_language : (lang : List ℕ) (ws : List (List ℕ)) → lang ≢ codes "prism" → lang ≢ codes "jani" → IsWrong CheckForm (lang ∷ ws) 1
 other_language lang ws a b = wrong_first CheckForm lang ws check_begins (λ begins. neither (language lang begins))
@@ -267,6 +274,7 @@ generate_rest ws (generate n, h) = subst GenerateForm (sym (tails _ _ _ _ h.word
 generate_rest ws (walk w, h) = absurd (not_walk _ ws w (differ _ _ refl) (differ _ _ refl) h)
 generate_rest ws (check c, h) = absurd (not_check _ ws c (differ _ _ refl) (differ _ _ refl) (differ _ _ refl) h)
 generate_rest ws (carry c, h) = absurd (differ _ _ refl (heads _ _ _ _ h.words_are))
+generate_rest ws (specialise q, h) = absurd (differ _ _ refl (heads _ _ _ _ h.words_are))
 
 pub behind_generate : (ws : List (List ℕ)) (k : ℕ) → IsWrong GenerateForm ws k → IsWrong HasForm (codes "generate" ∷ ws) (k + 1)
 behind_generate ws k e = wrong_behind GenerateForm HasForm (codes "generate") ws k generate_form generate_rest e
@@ -315,6 +323,7 @@ show_rest ws (generate n, h) = absurd (differ _ _ refl (heads _ _ _ _ h.words_ar
 show_rest ws (walk w, h) = show_parts ws h.rest w.lang w.file w.job w.given h.file h.job h.given h.words_are
 show_rest ws (check c, h) = absurd (not_check _ ws c (differ _ _ refl) (differ _ _ refl) (differ _ _ refl) h)
 show_rest ws (carry c, h) = absurd (differ _ _ refl (heads _ _ _ _ h.words_are))
+show_rest ws (specialise q, h) = absurd (differ _ _ refl (heads _ _ _ _ h.words_are))
 
 pub behind_show : (ws : List (List ℕ)) (k : ℕ) → IsWrong ShowForm ws k → IsWrong HasForm (codes "show" ∷ ws) (k + 1)
 behind_show ws k e = wrong_behind ShowForm HasForm (codes "show") ws k show_form show_rest e
@@ -397,6 +406,7 @@ simulate_rest ws (walk w, h) =
     subst SimulateForm (sym (tails _ _ _ _ h.words_are)) ((w.lang, refl), (h.file, walk_rest h.rest w.job (sym (heads _ _ _ _ h.words_are)) h.job (w.given, h.given)))
 simulate_rest ws (check c, h) = absurd (not_check _ ws c (differ _ _ refl) (differ _ _ refl) (differ _ _ refl) h)
 simulate_rest ws (carry c, h) = absurd (differ _ _ refl (heads _ _ _ _ h.words_are))
+simulate_rest ws (specialise q, h) = absurd (differ _ _ refl (heads _ _ _ _ h.words_are))
 
 pub behind_simulate : (ws : List (List ℕ)) (k : ℕ) → IsWrong SimulateForm ws k → IsWrong HasForm (codes "simulate" ∷ ws) (k + 1)
 behind_simulate ws k e = wrong_behind SimulateForm HasForm (codes "simulate") ws k simulate_form simulate_rest e
@@ -462,6 +472,7 @@ path_rest ws (generate n, h) = absurd (differ _ _ refl (heads _ _ _ _ h.words_ar
 path_rest ws (walk w, h) = absurd (not_walk _ ws w (differ _ _ refl) (differ _ _ refl) h)
 path_rest ws (check c, h) = path_parts ws h.rest c.lang c.file c.given h.given c.claim h.names h.words_are
 path_rest ws (carry c, h) = absurd (differ _ _ refl (heads _ _ _ _ h.words_are))
+path_rest ws (specialise q, h) = absurd (differ _ _ refl (heads _ _ _ _ h.words_are))
 
 rows_rest : (ws : List (List ℕ)) → HasForm (codes "check-rows" ∷ ws) → HeadForm RowsForm ws
 rows_rest ws (on_file task name, f) = absurd (not_task _ ws task name (differ _ _ refl) (differ _ _ refl) (differ _ _ refl) (differ _ _ refl) f.1)
@@ -470,6 +481,7 @@ rows_rest ws (generate n, h) = absurd (differ _ _ refl (heads _ _ _ _ h.words_ar
 rows_rest ws (walk w, h) = absurd (not_walk _ ws w (differ _ _ refl) (differ _ _ refl) h)
 rows_rest ws (check c, h) = rows_parts ws h.rest c.lang c.file c.given h.given c.claim h.names h.words_are
 rows_rest ws (carry c, h) = absurd (differ _ _ refl (heads _ _ _ _ h.words_are))
+rows_rest ws (specialise q, h) = absurd (differ _ _ refl (heads _ _ _ _ h.words_are))
 
 bounds_rest : (ws : List (List ℕ)) → HasForm (codes "check-bound" ∷ ws) → HeadForm BoundsForm ws
 bounds_rest ws (on_file task name, f) = absurd (not_task _ ws task name (differ _ _ refl) (differ _ _ refl) (differ _ _ refl) (differ _ _ refl) f.1)
@@ -478,6 +490,7 @@ bounds_rest ws (generate n, h) = absurd (differ _ _ refl (heads _ _ _ _ h.words_
 bounds_rest ws (walk w, h) = absurd (not_walk _ ws w (differ _ _ refl) (differ _ _ refl) h)
 bounds_rest ws (check c, h) = bounds_parts ws h.rest c.lang c.file c.given h.given c.claim h.names h.claim h.words_are
 bounds_rest ws (carry c, h) = absurd (differ _ _ refl (heads _ _ _ _ h.words_are))
+bounds_rest ws (specialise q, h) = absurd (differ _ _ refl (heads _ _ _ _ h.words_are))
 
 pub behind_path : (ws : List (List ℕ)) (k : ℕ) → IsWrong (HeadForm PathForm) ws k → IsWrong HasForm (codes "check-path" ∷ ws) (k + 1)
 behind_path ws k e = wrong_behind (HeadForm PathForm) HasForm (codes "check-path") ws k path_form path_rest e
@@ -505,9 +518,31 @@ carry_rest ws (generate n, h) = absurd (differ _ _ refl (heads _ _ _ _ h.words_a
 carry_rest ws (walk w, h) = absurd (not_walk _ ws w (differ _ _ refl) (differ _ _ refl) h)
 carry_rest ws (check c, h) = absurd (not_check _ ws c (differ _ _ refl) (differ _ _ refl) (differ _ _ refl) h)
 carry_rest ws (carry c, h) = subst (HeadForm PathForm) (sym (tails _ _ _ _ h.words_are)) ((c.lang, refl), (h.names.0.0, (h.names.1.0, (c.given, h.given))))
+carry_rest ws (specialise q, h) = absurd (differ _ _ refl (heads _ _ _ _ h.words_are))
 
 pub behind_carry : (ws : List (List ℕ)) (k : ℕ) → IsWrong (HeadForm PathForm) ws k → IsWrong HasForm (codes "carry-path" ∷ ws) (k + 1)
 behind_carry ws k e = wrong_behind (HeadForm PathForm) HasForm (codes "carry-path") ws k carry_form carry_rest e
+
+-- ---- behind `specialise`
+specialise_form : (ws : List (List ℕ)) → SpecialiseForm ws → HasForm (codes "specialise" ∷ ws)
+specialise_form [] h = absurd h
+specialise_form (l ∷ []) h = absurd h.1
+specialise_form (l ∷ f ∷ ws) h = (
+  specialise (record { lang = h.0.0; file = f; given = h.1.1.0 }),
+  record { file = h.1.0; rest = ws; words_are = ap (λ v. codes "specialise" ∷ v ∷ f ∷ ws) h.0.1; given = h.1.1.1 },
+)
+
+specialise_rest : (ws : List (List ℕ)) → HasForm (codes "specialise" ∷ ws) → SpecialiseForm ws
+specialise_rest ws (on_file task name, f) = absurd (not_task _ ws task name (differ _ _ refl) (differ _ _ refl) (differ _ _ refl) (differ _ _ refl) f.1)
+specialise_rest ws (with_properties f p, h) = absurd (differ _ _ refl (heads _ _ _ _ h.words_are))
+specialise_rest ws (generate n, h) = absurd (differ _ _ refl (heads _ _ _ _ h.words_are))
+specialise_rest ws (walk w, h) = absurd (not_walk _ ws w (differ _ _ refl) (differ _ _ refl) h)
+specialise_rest ws (check c, h) = absurd (not_check _ ws c (differ _ _ refl) (differ _ _ refl) (differ _ _ refl) h)
+specialise_rest ws (carry c, h) = absurd (differ _ _ refl (heads _ _ _ _ h.words_are))
+specialise_rest ws (specialise q, h) = subst SpecialiseForm (sym (tails _ _ _ _ h.words_are)) ((q.lang, refl), (h.file, (q.given, h.given)))
+
+pub behind_specialise : (ws : List (List ℕ)) (k : ℕ) → IsWrong SpecialiseForm ws k → IsWrong HasForm (codes "specialise" ∷ ws) (k + 1)
+behind_specialise ws k e = wrong_behind SpecialiseForm HasForm (codes "specialise") ws k specialise_form specialise_rest e
 
 -- ---- the first word
 form_begins : Begins HasForm []
@@ -524,12 +559,13 @@ not_form_end (generate n, h) = let e = h.words_are in cc
 not_form_end (walk w, h) = let e = h.words_are in cc
 not_form_end (check c, h) = let e = h.words_are in cc
 not_form_end (carry c, h) = let e = h.words_are in cc
+not_form_end (specialise q, h) = let e = h.words_are in cc
 
 pub no_verb : IsWrong HasForm [] 1
 no_verb = wrong_end HasForm form_begins not_form_end
 
 module _ (v : List ℕ) (ws : List (List ℕ)) (a : v ≢ codes "to-jani") (b : v ≢ codes "to-prism") (p : v ≢ codes "to-prism-props") (c : v ≢ codes "check") (d : v ≢ codes "show") (e : v ≢ codes "simulate") (z : v ≢ codes "generate")
-    (f : v ≢ codes "check-path") (g : v ≢ codes "check-rows") (i : v ≢ codes "check-bound") (j : v ≢ codes "carry-path") where
+    (f : v ≢ codes "check-path") (g : v ≢ codes "check-rows") (i : v ≢ codes "check-bound") (j : v ≢ codes "carry-path") (k : v ≢ codes "specialise") where
   not_begun : Begins HasForm (v ∷ []) → ⊥
   not_begun (more, (on_file task name, h)) = not_task v more task name a b p c h.1
   not_begun (more, (with_properties file second, h)) = a (heads _ _ _ _ h.words_are)
@@ -537,6 +573,7 @@ module _ (v : List ℕ) (ws : List (List ℕ)) (a : v ≢ codes "to-jani") (b : 
   not_begun (more, (walk w, h)) = not_walk v more w d e h
   not_begun (more, (check m, h)) = not_check v more m f g i h
   not_begun (more, (carry m, h)) = j (heads _ _ _ _ h.words_are)
+  not_begun (more, (specialise m, h)) = k (heads _ _ _ _ h.words_are)
 
   pub other_verb : IsWrong HasForm (v ∷ ws) 1
   other_verb = wrong_first HasForm v ws form_begins not_begun
@@ -628,3 +665,11 @@ wrong_given_carry ws rest l f p k n a e c h =
     subst (λ vs. IsWrong HasForm vs (n + k)) (sym e)
     (more HasForm _ _ _ (let i : k + 1 + 2 + 1 ≡ n + k = omega (arith, c, d) in i)
     (behind_carry _ _ (behind_head PathForm (path_begins (codes "f")) (lang_word l) f _ _ (l, refl) a.0.0 (one_next (IsNameBehind (f ∷ [])) HasGiven p rest k a.1.0 h))))
+
+-- ---- behind a file that is specialised
+pub wrong_given_specialise : (ws rest : List (List ℕ)) (l : Lang) (f : List ℕ) (k n : ℕ) → IsFileName f → ws ≡ codes "specialise" ∷ lang_word l ∷ f ∷ rest → n + length rest ≡ length ws → IsWrong HasGiven rest k → IsWrong HasForm ws (n + k)
+wrong_given_specialise ws rest l f k n a e c h =
+    let d = ap length e in
+    subst (λ vs. IsWrong HasForm vs (n + k)) (sym e)
+    (more HasForm _ _ _ (let i : k + 2 + 1 ≡ n + k = omega (arith, c, d) in i)
+    (behind_specialise _ _ (behind_head (λ file. HasGiven) given_begins (lang_word l) f _ _ (l, refl) a h)))

@@ -95,6 +95,10 @@ ShowForm ws = HeadForm (λ file. StateForm) ws
 abbrev pub SimulateForm : List (List ℕ) → Type 0
 SimulateForm ws = HeadForm (λ file. WalkForm) ws
 
+-- behind `specialise`
+abbrev pub SpecialiseForm : List (List ℕ) → Type 0
+SpecialiseForm ws = HeadForm (λ file. HasGiven) ws
+
 -- a first word that none of the forms without a process begins with
 abbrev pub IsOfProcess : List ℕ → Type 0
 IsOfProcess verb = (verb ≢ codes "to-jani") × (verb ≢ codes "to-prism") × (verb ≢ codes "to-prism-props") × (verb ≢ codes "check") × (verb ≢ codes "generate")
@@ -158,6 +162,11 @@ pub record IsClaimFront (ws : List (List ℕ)) (c : ClaimFront) : Type 0 where
 pub record IsCarryFront (ws : List (List ℕ)) (c : CarryFront) : Type 0 where
   pub names : AreNamesBehind [] (c.file.now ∷ c.path.now ∷ [])
   pub words_are : ws ≡ codes "carry-path" ∷ lang_word c.lang ∷ c.file.now ∷ c.path.now ∷ texts c.rest.now
+
+-- A file that is specialised, and what stands behind it.
+pub record IsSpecialiseHead (ws : List (List ℕ)) (h : Head) : Type 0 where
+  pub name : IsFileName h.file.now
+  pub words_are : ws ≡ codes "specialise" ∷ lang_word h.lang ∷ h.file.now ∷ texts h.rest.now
 
 -- all words before those of the constants, and what stands behind them
 pub record IsStart (ws : List (List ℕ)) (s : Start) : Type 0 where

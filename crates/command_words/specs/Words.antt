@@ -17,6 +17,7 @@ use Rattle.command_words.specs.declared.request.Claim as code_claim
 use Rattle.command_words.specs.declared.request.Claim.TheVariants as code_claim_case
 use Rattle.command_words.specs.declared.request.Checking as code_checking
 use Rattle.command_words.specs.declared.request.Carrying as code_carrying
+use Rattle.command_words.specs.declared.request.Specialising as code_specialising
 use Rattle.command_words.specs.declared.request.Request as code_request
 use Rattle.command_words.specs.declared.request.Request.TheVariants as code_request_case
 use Rattle.command_words.specs.declared.request.WordsFail.{WordsFail}
@@ -72,6 +73,12 @@ pub record Carrying : Type 0 where
   pub path : List ℕ
   pub given : List Assignment
 
+-- the model in this file is specialised to the constants that are given
+pub record Specialising : Type 0 where
+  pub lang : Lang
+  pub file : List ℕ
+  pub given : List Assignment
+
 pub data Request : Type 0 where
   on_file : (task : Task) (file : List ℕ) → Request
   with_properties : (file properties : List ℕ) → Request
@@ -79,6 +86,7 @@ pub data Request : Type 0 where
   walk : (walking : Walking) → Request
   check : (checking : Checking) → Request
   carry : (carrying : Carrying) → Request
+  specialise : (specialising : Specialising) → Request
 
 -- ---- the words of files
 abbrev pub claim_files : Claim → List (List ℕ)
@@ -94,6 +102,7 @@ file_of (generate modules) = []
 file_of (walk w) = w.file
 file_of (check c) = c.file
 file_of (carry c) = c.file
+file_of (specialise p) = p.file
 
 -- all files, in the order of their words
 abbrev pub files_of : Request → List (List ℕ)
@@ -103,6 +112,7 @@ files_of (generate modules) = []
 files_of (walk w) = w.file ∷ []
 files_of (check c) = c.file ∷ claim_files c.claim
 files_of (carry c) = c.file ∷ c.path ∷ []
+files_of (specialise p) = p.file ∷ []
 
 -- a word of a file behind these: it isn't empty, and it is none of them
 abbrev pub IsNameBehind : List (List ℕ) → List ℕ → Type 0
@@ -219,6 +229,13 @@ pub record IsCarry (words : List (List ℕ)) (c : Carrying) : Type 0 where
   pub words_are : words ≡ codes "carry-path" ∷ lang_word c.lang ∷ c.file ∷ c.path ∷ rest
   pub given : AreGiven rest c.given
 
+-- ---- the form with constants alone: `specialise LANG FILE`; then any number of words NAME=VALUE
+pub record IsSpecialise (words : List (List ℕ)) (p : Specialising) : Type 0 where
+  pub file : p.file ≢ []
+  pub rest : List (List ℕ)
+  pub words_are : words ≡ codes "specialise" ∷ lang_word p.lang ∷ p.file ∷ rest
+  pub given : AreGiven rest p.given
+
 -- ---- all forms
 abbrev pub IsRequest : List (List ℕ) → Request → Type 0
 IsRequest words (on_file task name) = (name ≢ []) × (words ≡ verb_of task ++ name ∷ [])
@@ -227,6 +244,7 @@ IsRequest words (generate modules) = AreGenerate words modules
 IsRequest words (walk w) = IsWalk words w
 IsRequest words (check c) = IsCheck words c
 IsRequest words (carry c) = IsCarry words c
+IsRequest words (specialise p) = IsSpecialise words p
 
 abbrev pub HasForm : List (List ℕ) → Type 0
 HasForm words = (r : Request) × IsRequest words r
@@ -257,6 +275,7 @@ word_count (generate modules) = 2
 word_count (walk w) = words_before w + length w.given
 word_count (check c) = words_before_given c + length c.given
 word_count (carry c) = 4 + length c.given
+word_count (specialise p) = 3 + length p.given
 
 abbrev pub WordsCount : Type 0
 WordsCount = (words : List (List ℕ)) (request : Request) → IsRequest words request → length words ≡ word_count request
@@ -285,6 +304,9 @@ checking_of c = record { lang = c.lang; file = c.file.now; claim = claim_of c.cl
 abbrev pub carrying_of : code_carrying.Carrying → Carrying
 carrying_of c = record { lang = c.lang; file = c.file.now; path = c.path.now; given = assignments_of c.given }
 
+abbrev pub specialising_of : code_specialising.Specialising → Specialising
+specialising_of p = record { lang = p.lang; file = p.file.now; given = assignments_of p.given }
+
 abbrev pub request_of : code_request.Request → Request
 request_of (code_request_case.OnFile task file) = on_file task file.now
 request_of (code_request_case.WithProperties file properties) = with_properties file.now properties.now
@@ -292,6 +314,7 @@ request_of (code_request_case.Generate modules) = generate modules
 request_of (code_request_case.Walk w) = walk (walking_of w)
 request_of (code_request_case.Check c) = check (checking_of c)
 request_of (code_request_case.Carry c) = carry (carrying_of c)
+request_of (code_request_case.Specialise p) = specialise (specialising_of p)
 
 -- what is answered: what the words ask for, or where they leave every form
 abbrev pub AnswersWords : {X : Type 0} → (X → Type 0) → (List (List ℕ) → Type 0) → List (List ℕ) → Result X WordsFail → Type 0

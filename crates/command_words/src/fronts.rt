@@ -1,8 +1,8 @@
-// The words before those of the constants, behind `show` and `simulate`.
+// The words before those of the constants, behind `show`, `simulate` and `specialise`.
 
 ghost use Rattle.std.specs.Prelude.{◌∷◌, MatchBool, MatchResult, None, codes, option_map};
 ghost use Rattle.command_words.specs.Words.{AnswersWords, IsStateWord, IsWrong, texts};
-ghost use Rattle.command_words.specs.Fronts.{FromForm, GivenForm, SeedForm, WayForm, WalkForm, ReadsLang, ReadsState, IsHead, IsHeadWrong, IsFront};
+ghost use Rattle.command_words.specs.Fronts.{FromForm, GivenForm, SeedForm, SpecialiseForm, WayForm, WalkForm, ReadsLang, ReadsState, IsHead, IsHeadWrong, IsFront, IsSpecialiseHead};
 
 use crate::numbers::{number_in, pairs_in};
 use crate::request::{Job, Lang, WordsFail};
@@ -45,6 +45,16 @@ pub(crate) fn head_in(words: &[String]) -> Result<Head<'_>, usize>
         return Err(2);
     }
     Ok(Head { lang, file, rest })
+}
+
+/// What words of the form `LANG FILE ..` of a file that is specialised begin with, or the position of the word that isn't so.
+pub(crate) fn specialise_in(words: &[String]) -> Result<Head<'_>, usize>
+    ensures { MatchResult result (IsSpecialiseHead (codes "specialise" ∷ texts words.now)) (λ k. IsWrong SpecialiseForm (texts words.now) k) }
+{
+    match head_in(words) {
+        Ok(head) => Ok(head),
+        Err(k) => Err(k),
+    }
 }
 
 /// Whether a word begins with `(` and ends with `)`.

@@ -11,6 +11,7 @@ mod words;
 
 pub use laws::words_law;
 pub use request::{
-    Assignment, Carrying, Checking, Claim, Job, Lang, Request, Task, Walking, WordsFail,
+    Assignment, Carrying, Checking, Claim, Job, Lang, Request, Specialising, Task, Walking,
+    WordsFail,
 };
 pub use words::request_in;

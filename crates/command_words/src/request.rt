@@ -102,6 +102,17 @@ pub struct Carrying<'a> {
     pub given: List<Assignment<'a>>,
 }
 
+/// The model of a file, which is to be specialised to given constants.
+#[derive(Drop)]
+pub struct Specialising<'a> {
+    /// The language of the file.
+    pub lang: Lang,
+    /// The word of the file.
+    pub file: &'a str,
+    /// The given constants in their order, no two of one name.
+    pub given: List<Assignment<'a>>,
+}
+
 /// What words ask for.
 #[derive(Drop)]
 pub enum Request<'a> {
@@ -117,6 +128,8 @@ pub enum Request<'a> {
     Check(Checking<'a>),
     /// A path of the process of a file, to be carried.
     Carry(Carrying<'a>),
+    /// `specialise LANG FILE`: the model of a file, to be specialised to given constants.
+    Specialise(Specialising<'a>),
 }
 
 impl<'a> Request<'a> {
@@ -141,6 +154,7 @@ impl<'a> Request<'a> {
                 }
             },
             Request::Carry(carrying) => { Vec::from_slice(alloc, &[carrying.file, carrying.path]) }
+            Request::Specialise(specialising) => Vec::from_slice(alloc, &[specialising.file]),
         };
         Ok(List::from_vec(files?))
     }

@@ -1,13 +1,15 @@
 // All words.
 ghost use Rattle.std.specs.Prelude.{◌≡◌, ◌∷◌, MatchResult, codes};
 ghost use Rattle.command_words.specs.Words.{AnswersWords, HasFileWord, HasForm, IsFileWord, IsRequest, IsWrong, generate, on_file, request_of, texts};
-ghost use Rattle.command_words.specs.Fronts.{GenerateForm, IsCarryFront, IsClaimFront, IsOfProcess, IsStart, ShowForm, SimulateForm};
+ghost use Rattle.command_words.specs.Fronts.{GenerateForm, IsCarryFront, IsClaimFront, IsOfProcess, IsSpecialiseHead, IsStart, ShowForm, SimulateForm};
 
 use crate::claims::{CarryFront, ClaimFront, bounds_in, carry_in, name_in, path_in, rows_in};
-use crate::fronts::{Front, head_in, state_in, walk_in};
+use crate::fronts::{Front, Head, head_in, specialise_in, state_in, walk_in};
 use crate::given::assignments_in;
 use crate::numbers::number_in;
-use crate::request::{Carrying, Checking, Job, Lang, Request, Task, Walking, WordsFail};
+use crate::request::{
+    Carrying, Checking, Job, Lang, Request, Specialising, Task, Walking, WordsFail,
+};
 use std::alloc::Global;
 
 /// What the words ask for; or, where they are of no form, the position of the first word with which no form goes on, or of the
@@ -78,6 +80,10 @@ fn of_process_in<'a>(
         },
         "carry-path" => match carry_in(rest) {
             Ok(front) => carry_with_given(alloc, words, front),
+            Err(k) => Err(WordsFail::At(k + 1)),
+        },
+        "specialise" => match specialise_in(rest) {
+            Ok(head) => specialise_with_given(alloc, words, head),
             Err(k) => Err(WordsFail::At(k + 1)),
         },
         _ => Err(WordsFail::At(1)),
@@ -278,6 +284,27 @@ fn carry_with_given<'a>(
             lang: front.lang,
             file: front.file,
             path: front.path,
+            given,
+        })),
+        Err(WordsFail::At(k)) => Err(WordsFail::At(before + k)),
+        Err(WordsFail::Memory(e)) => Err(WordsFail::Memory(e)),
+    }
+}
+
+// The request to specialise the file in these words, to the constants that stand behind.
+fn specialise_with_given<'a>(
+    alloc: Global,
+    words: &[String],
+    head: Head<'a>,
+) -> Result<Request<'a>, WordsFail>
+    requires { IsSpecialiseHead (texts words.now) head }
+    ensures { AnswersWords (λ r. IsRequest (texts words.now) (request_of r)) HasForm (texts words.now) result }
+{
+    let before = words.len() - head.rest.len();
+    match assignments_in(alloc, head.rest) {
+        Ok(given) => Ok(Request::Specialise(Specialising {
+            lang: head.lang,
+            file: head.file,
             given,
         })),
         Err(WordsFail::At(k)) => Err(WordsFail::At(before + k)),

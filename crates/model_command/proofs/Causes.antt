@@ -2,16 +2,17 @@
 use Rattle.std.proofs.Common.{arith, ◌≡◌, ◌⊎◌, ◌∙◌, refl, ap, ℕ, ◌+◌, List, [], ◌∷◌, length, Option, inl, inr}
 use Rattle.std.specs.Io.KnownBytes.{Appends}
 use Rattle.bridge_io.specs.Outside.{HasFailed, Lefts}
-use Rattle.command_words.specs.Words.{Request, Walking, Checking, Carrying, WordsCount, on_file, with_properties, generate, walk, check, carry, files_of, IsRequest, IsWrongAt}
+use Rattle.command_words.specs.Words.{Request, Walking, Checking, Carrying, Specialising, WordsCount, on_file, with_properties, generate, walk, check, carry, specialise, files_of, IsRequest, IsWrongAt}
 use Rattle.model_process.specs.Walks.{EndsOnBytes}
 use Rattle.model_process.specs.declared.ending.Ending.TheVariants as Ends
 use Rattle.model_command.specs.Outcome.{status_of, line_of, text_of, word_line}
 use Rattle.model_process.specs.Claims.{EndsOnFiles}
 use Rattle.model_carrying.specs.Ends.{EndsOnCarryFiles}
+use Rattle.model_specialising.specs.Ends.{EndsOnSpecialise}
 use Rattle.model_command.specs.Run.{IsCause, IsNext, IsEnd, IsTaskEnd, IsPair, IsPairEnd, IsReadWhole, AreWhole, ComesTo, IsReadEnd, IsCarriedOut, EndsWith, EndsWithOrNoMemory, ShelfSides, SinkSides}
 use Rattle.model_command.specs.declared.outcome.Outcome.{Outcome}
 use Rattle.model_command.specs.declared.outcome.Outcome.TheVariants.{Done, Ended, Refused, Words, ReadFault, NoMemory}
-use Rattle.model_command.proofs.Several.{alone, walk_read}
+use Rattle.model_command.proofs.Several.{alone, specialise_read, walk_read}
 
 -- the statuses of what is carried out
 abbrev IsOfWork : ℕ → Type 0
@@ -68,7 +69,8 @@ module _ (shelf : ShelfSides) (words : List (List ℕ)) where
     IsOfWords = (k : ℕ) × Appends out.taken out.taken_after [] × Appends err.taken err.taken_after (word_line k)
         × (IsWrongAt words k ⊎ ((w : Walking) × (bytes : List ℕ) × IsRequest words (walk w) × IsReadWhole shelf.left shelf.left_after w.file bytes × EndsOnBytes w.lang w bytes (Ends.Word k))
         ⊎ ((c : Checking) × (contents : List (List ℕ)) × IsRequest words (check c) × AreWhole shelf.left shelf.left_after (files_of (check c)) contents × EndsOnFiles c contents (Ends.Word k))
-        ⊎ ((c : Carrying) × (contents : List (List ℕ)) × IsRequest words (carry c) × AreWhole shelf.left shelf.left_after (files_of (carry c)) contents × EndsOnCarryFiles c contents (Ends.Word k)))
+        ⊎ ((c : Carrying) × (contents : List (List ℕ)) × IsRequest words (carry c) × AreWhole shelf.left shelf.left_after (files_of (carry c)) contents × EndsOnCarryFiles c contents (Ends.Word k))
+        ⊎ ((p : Specialising) × (bytes : List ℕ) × IsRequest words (specialise p) × IsReadWhole shelf.left shelf.left_after p.file bytes × EndsOnSpecialise p bytes (Ends.Word k)))
 
     of_word : (request : Request) (name : List ℕ) (k : ℕ) → IsRequest words request → IsReadEnd request name shelf.left shelf.left_after (Ended (Ends.Word k)) → Appends out.taken out.taken_after [] → Appends err.taken err.taken_after (word_line k) → IsOfWords
     of_word (on_file task file) name k form end text line = absurd (alone (λ bytes. IsTaskEnd task bytes (Ended (Ends.Word k))) shelf.left shelf.left_after file end.0 end.1 end.2.1).2
@@ -76,7 +78,9 @@ module _ (shelf : ShelfSides) (words : List (List ℕ)) where
     of_word (generate modules) name k form end text line = absurd end.2
     of_word (walk w) name k form end text line = let r = (walk_read w name shelf.left shelf.left_after (Ended (Ends.Word k)) end).1 in (k, text, line, inr (inl (w, r.0, form, r.1, r.2)))
     of_word (check c) name k form end text line = (k, text, line, inr (inr (inl (c, end.0, form, end.1, end.2))))
-    of_word (carry c) name k form end text line = (k, text, line, inr (inr (inr (c, end.0, form, end.1, end.2))))
+    of_word (carry c) name k form end text line = (k, text, line, inr (inr (inr (inl (c, end.0, form, end.1, end.2)))))
+    of_word (specialise p) name k form end text line =
+        let r = (specialise_read p name shelf.left shelf.left_after (Ended (Ends.Word k)) end).1 in (k, text, line, inr (inr (inr (inr (p, r.0, form, r.1, r.2)))))
 
     not_three : (answer n : ℕ) → (n ≡ 0) ⊎ (n ≡ 1) ⊎ (n ≡ 2) ⊎ (n ≡ 4) ⊎ (n ≡ 5) ⊎ (n ≡ 6) ⊎ (n ≡ 7) ⊎ (n ≡ 8) → answer ≡ n → answer ≡ 3 → ⊥
     not_three answer n other e three = grind (arith, other, e, three)

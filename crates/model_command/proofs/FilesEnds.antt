@@ -1,17 +1,23 @@
--- What is made of several files, as it is told: at the first of them, or at the one that is refused.
+-- What is made of files, as it is told: of several at the first of them, or at the one that is refused.
 use Rattle.std.proofs.Common.{arith, ◌≡◌, refl, sym, subst, ℕ, zero, suc, ◌<◌, List, [], ◌∷◌, length, slice_index_or, Some, Result, Ok, Err}
 use Rattle.std.specs.Borrow.{Bor}
 use Rattle.std.specs.Prelude.{slice_get}
 use Rattle.bridge_io.specs.declared.reason.Fault.{Fault}
-use Rattle.command_words.specs.Words.{Checking, Carrying, check, carry, files_of}
+use Rattle.bridge_io.specs.declared.reason.Refused as reading
+use Rattle.bridge_io.specs.declared.reason.Refused.TheVariants as R
+use Rattle.command_words.specs.declared.request.Lang.{Lang}
+use Rattle.command_words.specs.Words.{Walking, Checking, Carrying, Specialising, check, carry, files_of}
 use Rattle.model_process.specs.Claims.{JudgesOn}
+use Rattle.model_process.specs.Models.{IsModelFault}
+use Rattle.model_process.specs.Walks.{WalksOn}
 use Rattle.model_process.specs.declared.ending.Ending.{Ending}
 use Rattle.model_process.specs.declared.judging.ClaimRefused.{ClaimRefused}
 use Rattle.model_process.specs.declared.judging.ClaimRefused.TheVariants.{Memory, At}
 use Rattle.model_process.proofs.Within.{fault_within}
 use Rattle.model_carrying.specs.Ends.{CarriesOn, IsCarryFileFault}
-use Rattle.model_command.specs.Outcome.{place_in}
-use Rattle.model_command.specs.Run.{IsCarryEnd, IsClaimEnd, IsToldOfFiles, names_of}
+use Rattle.model_specialising.specs.Ends.{EndsIn, SpecialisesIn, SpecialisesOn}
+use Rattle.model_command.specs.Outcome.{ended_by, place_in}
+use Rattle.model_command.specs.Run.{IsCarryEnd, IsClaimEnd, IsFileEnd, IsSpecialiseEnd, IsToldOfFiles, IsWalkEnd, names_of}
 use Rattle.model_command.specs.declared.outcome.Outcome.{Outcome}
 use Rattle.model_command.specs.declared.outcome.Outcome.TheVariants.{Refused}
 
@@ -70,3 +76,17 @@ pub carry_told : (c : Carrying) (files : List (List ℕ)) (name : List ℕ) (mad
 carry_told c files name (Ok e) o h t = subst (IsCarryEnd c files name) (sym t) h
 carry_told c files name (Err (Memory e)) o h t = subst (IsCarryEnd c files name) (sym t) tt
 carry_told c files name (Err (At i f)) o h t = subst (IsCarryEnd c files name) (sym t.3) (i, t.0, f, h, t.1, t.2, refl, refl)
+
+-- ---- of one file
+pub walk_told : (w : Walking) (bytes : List ℕ) (made : Result Ending reading.Refused) → WalksOn w.lang w bytes made → IsWalkEnd w bytes (ended_by bytes made)
+walk_told w bytes (Ok e) h = h
+walk_told w bytes (Err (R.Memory e)) h = tt
+walk_told w bytes (Err (R.At f)) h = (f, h, refl, refl)
+
+pub specialise_told : (p : Specialising) (bytes : List ℕ) (made : Result Ending reading.Refused) → SpecialisesOn p bytes made → IsSpecialiseEnd p bytes (ended_by bytes made)
+specialise_told p bytes made h = by_lang p.lang made h
+  where
+    by_lang : (l : Lang) (made : Result Ending reading.Refused) → SpecialisesIn l p.given bytes made → IsFileEnd (EndsIn l p.given bytes) (IsModelFault l bytes) bytes (ended_by bytes made)
+    by_lang l (Ok e) h = h
+    by_lang l (Err (R.Memory e)) h = tt
+    by_lang l (Err (R.At f)) h = (f, h, refl, refl)

@@ -4,7 +4,6 @@ pub mod Fit
 pub mod Generated
 pub mod Halts
 pub mod OneEnding
-pub mod PrismTexts
 pub mod SeveralTold
 pub mod Paired
 pub mod Place

@@ -17,7 +17,7 @@ use Rattle.prism_translation.specs.Refused.{refused}
 use Rattle.prism_translation.specs.Translated.{translated}
 use Rattle.command_words.specs.declared.request.Task.{Task}
 use Rattle.command_words.specs.declared.request.Task.TheVariants.{ToJani, ToPrism, ToPrismProps, CheckPrism, CheckJani}
-use Rattle.command_words.specs.Words.{carry, check, files_of, generate, on_file, walk, Walking, with_properties}
+use Rattle.command_words.specs.Words.{carry, check, files_of, generate, on_file, specialise, walk, with_properties}
 use Rattle.model_files.specs.Once.{OnePrismFault}
 use Rattle.model_files.specs.PrismFile.{IsPrismFault}
 use Rattle.model_files.proofs.Once.{faulty_or_jani, faulty_or_prism, one_jani_fault, one_jani_tree, one_least, one_prism_tree}
@@ -25,22 +25,26 @@ use Rattle.model_translation.specs.Once.{OnePropertiesFault, OnePropertiesRefuse
 use Rattle.model_translation.specs.WithProperties.{IsPropertiesFault}
 use Rattle.model_translation.specs.Laws.{OneListOfFaults}
 use Rattle.model_process.specs.Claims.{EndsOnFiles, IsFileFault}
+use Rattle.model_process.specs.Models.{IsModelFault}
+use Rattle.model_process.specs.Walks.{EndsOnBytes}
 use Rattle.model_process.specs.declared.ending.Ending.{Ending}
 use Rattle.model_carrying.specs.Ends.{EndsOnCarryFiles, IsCarryFileFault}
 use Rattle.model_carrying.specs.Once.{CarryEndOrFault, OneCarryEnd, OneCarryFault}
+use Rattle.model_specialising.specs.Ends.{EndsOnSpecialise}
+use Rattle.model_specialising.specs.Once.{OneSpecialiseEnd, SpecialiseEndOrFault}
 use Rattle.model_process.specs.Once.{ClaimEndOrFault, EndOrFault, OneClaimEnd, OneEnd, OneFileFault, OneModelFault}
 use Rattle.model_command.specs.Checking.{jani_line, prism_line}
 use Rattle.model_command.specs.ToPrism.{IsPrismRefused, of_file, of_result, TranslatesToPrism}
 use Rattle.model_command.specs.Generating.{generated_line}
 use Rattle.model_command.specs.Tasks.{IsLeastFor, Makes}
 use Rattle.model_command.specs.Outcome.{line_of, place_in}
-use Rattle.model_command.specs.Run.{IsAlone, IsFilesEnd, IsGenerateEnd, IsPair, IsPairEnd, IsRefusedAt, IsTaskEnd, IsWalkEnd}
+use Rattle.model_command.specs.Run.{IsAlone, IsFileEnd, IsFilesEnd, IsGenerateEnd, IsPair, IsPairEnd, IsRefusedAt, IsSpecialiseEnd, IsTaskEnd, IsWalkEnd}
 use Rattle.model_command.specs.OneEnding.{OneEnding}
 use Rattle.model_command.specs.declared.outcome.Outcome.{Outcome}
 use Rattle.model_command.specs.declared.outcome.Outcome.TheVariants.{Done, Ended, Refused, Words, ReadFault, NoMemory}
 use Rattle.model_command.proofs.Exact.{least_not_fit}
 use Rattle.model_command.proofs.Paired.{no_model_fault, no_properties_fault, translated_faultless}
-use Rattle.model_command.proofs.PrismTexts.{one_prism_text}
+use Rattle.model_specialising.proofs.PrismTexts.{one_prism_text}
 use Rattle.model_command.proofs.Told.{makes_fit}
 
 -- ---- what a JANI file is translated to
@@ -122,24 +126,25 @@ module _ (one_translation : OneTranslation) where
   one_generate_end modules name other NoMemory p h k m n = absurd (m refl)
   one_generate_end modules name other o NoMemory h k m n = absurd (n refl)
 
--- ---- one state, and walks
-module _ (one_end : OneEnd) (one_fault : OneModelFault) (either : EndOrFault) where
-  one_walk_end : (w : Walking) (bytes : List ℕ) (o p : Outcome) → IsWalkEnd w bytes o → IsWalkEnd w bytes p → o ≢ NoMemory → p ≢ NoMemory → o ≡ p
-  one_walk_end w bytes (Done text) p h k m n = absurd h
-  one_walk_end w bytes (Ended e) (Done text) h k m n = absurd k
-  one_walk_end w bytes (Ended e) (Ended g) h k m n = ap Ended (one_end w.lang w bytes e g h k)
-  one_walk_end w bytes (Ended e) (Refused r a) h (f, k, u, v) m n = absurd (either w.lang w bytes e f h k)
-  one_walk_end w bytes (Ended e) (Words i) h k m n = absurd k
-  one_walk_end w bytes (Ended e) ReadFault h k m n = absurd k
-  one_walk_end w bytes (Refused r a) (Done text) h k m n = absurd k
-  one_walk_end w bytes (Refused r a) (Ended e) (f, h, u, v) k m n = absurd (either w.lang w bytes e f k h)
-  one_walk_end w bytes (Refused r a) (Refused q b) (f, h, u, v) (g, k, x, y) m n = refused_so bytes f g r q a b (one_fault w.lang bytes f g h k) (u, v) (x, y)
-  one_walk_end w bytes (Refused r a) (Words i) h k m n = absurd k
-  one_walk_end w bytes (Refused r a) ReadFault h k m n = absurd k
-  one_walk_end w bytes (Words i) p h k m n = absurd h
-  one_walk_end w bytes ReadFault p h k m n = absurd h
-  one_walk_end w bytes NoMemory p h k m n = absurd (m refl)
-  one_walk_end w bytes o NoMemory h k m n = absurd (n refl)
+-- ---- one file, of which an end is made
+module _ (IsEnding : Ending → Type 0) (IsFaulty : Fault → Type 0) (one_end : (e g : Ending) → IsEnding e → IsEnding g → e ≡ g) (one_fault : (f g : Fault) → IsFaulty f → IsFaulty g → f ≡ g)
+    (either : (e : Ending) (f : Fault) → IsEnding e → IsFaulty f → ⊥) (bytes : List ℕ) where
+  one_file_end : (o p : Outcome) → IsFileEnd IsEnding IsFaulty bytes o → IsFileEnd IsEnding IsFaulty bytes p → o ≢ NoMemory → p ≢ NoMemory → o ≡ p
+  one_file_end (Done text) p h k m n = absurd h
+  one_file_end (Ended e) (Done text) h k m n = absurd k
+  one_file_end (Ended e) (Ended g) h k m n = ap Ended (one_end e g h k)
+  one_file_end (Ended e) (Refused r a) h (f, k, u, v) m n = absurd (either e f h k)
+  one_file_end (Ended e) (Words i) h k m n = absurd k
+  one_file_end (Ended e) ReadFault h k m n = absurd k
+  one_file_end (Refused r a) (Done text) h k m n = absurd k
+  one_file_end (Refused r a) (Ended e) (f, h, u, v) k m n = absurd (either e f k h)
+  one_file_end (Refused r a) (Refused q b) (f, h, u, v) (g, k, x, y) m n = refused_so bytes f g r q a b (one_fault f g h k) (u, v) (x, y)
+  one_file_end (Refused r a) (Words i) h k m n = absurd k
+  one_file_end (Refused r a) ReadFault h k m n = absurd k
+  one_file_end (Words i) p h k m n = absurd h
+  one_file_end ReadFault p h k m n = absurd h
+  one_file_end NoMemory p h k m n = absurd (m refl)
+  one_file_end o NoMemory h k m n = absurd (n refl)
 
 -- ---- a model with its properties
 module _ (one_fault : OnePrismFault) (one_text : OneTranslationWith) (one_properties : OnePropertiesFault) (lists : OneListOfFaults) (file properties model second : List ℕ) where
@@ -225,6 +230,8 @@ pub record Laws : Type 0 where
   pub carried : OneCarryEnd
   pub carried_fault : OneCarryFault
   pub carried_either : CarryEndOrFault
+  pub specialised : OneSpecialiseEnd
+  pub specialised_either : SpecialiseEndOrFault
 
 pub one_ending : Laws → OneEnding
 one_ending laws (on_file task file) contents name other o p h k m n =
@@ -238,8 +245,12 @@ one_ending laws (generate modules) contents name other o p h k m n = one_generat
 one_ending laws (walk w) contents name other o p h k m n =
     of_one name other o p (h.0 ∙ sym k.0)
     (alone_both (λ bytes. IsWalkEnd w bytes o) (λ bytes. IsWalkEnd w bytes p) (o ≡ p)
-    (λ bytes a b. one_walk_end laws.end laws.model_fault laws.either w bytes o p a b m n) contents h.1 k.1)
+    (λ bytes a b. one_file_end (EndsOnBytes w.lang w bytes) (IsModelFault w.lang bytes) (laws.end w.lang w bytes) (laws.model_fault w.lang bytes) (laws.either w.lang w bytes) bytes o p a b m n) contents h.1 k.1)
 one_ending laws (check c) contents name other o p h k m n =
     one_files_end (EndsOnFiles c contents) (IsFileFault c contents) (laws.claim c contents) (laws.file_fault c contents) (laws.claim_either c contents) (files_of (check c)) contents name other o p h k m n
 one_ending laws (carry c) contents name other o p h k m n =
     one_files_end (EndsOnCarryFiles c contents) (IsCarryFileFault c contents) (laws.carried c contents) (laws.carried_fault c contents) (laws.carried_either c contents) (files_of (carry c)) contents name other o p h k m n
+one_ending laws (specialise q) contents name other o p h k m n =
+    of_one name other o p (h.0 ∙ sym k.0)
+    (alone_both (λ bytes. IsSpecialiseEnd q bytes o) (λ bytes. IsSpecialiseEnd q bytes p) (o ≡ p)
+    (λ bytes a b. one_file_end (EndsOnSpecialise q bytes) (IsModelFault q.lang bytes) (laws.specialised q bytes) (laws.model_fault q.lang bytes) (laws.specialised_either q bytes) bytes o p a b m n) contents h.1 k.1)

@@ -9,8 +9,8 @@ use Rattle.bridge_io.specs.declared.reason.Reason.{Reason}
 use Rattle.bridge_io.specs.declared.reason.Reason.TheVariants.{TooLong}
 use Rattle.bridge_io.specs.declared.place.Place.{Place}
 use Rattle.command_words.specs.declared.request.Task.{Task}
-use Rattle.command_words.specs.Words.{Walking, on_file, walk, AreNamesBehind}
-use Rattle.model_command.specs.Run.{IsReadWhole, AreWhole, ComesTo, IsAlone, IsPair, IsTaskEnd, IsWalkEnd, IsReadEnd, names_of}
+use Rattle.command_words.specs.Words.{Walking, Specialising, on_file, walk, specialise, AreNamesBehind}
+use Rattle.model_command.specs.Run.{IsReadWhole, AreWhole, ComesTo, IsAlone, IsPair, IsTaskEnd, IsWalkEnd, IsSpecialiseEnd, IsReadEnd, names_of}
 use Rattle.model_command.specs.Headline.{AreHeld, AreShort, IsFirstLong}
 use Rattle.model_command.specs.declared.outcome.Outcome.{Outcome}
 use Rattle.model_command.proofs.Exact.{whole_bytes}
@@ -30,12 +30,15 @@ comes_alone before mid name named h = by_front h.front h.contents h.among h.read
     by_front (x ∷ []) contents e w = absurd cc
     by_front (x ∷ y ∷ front) contents e w = absurd cc
 
--- a task's file, and that of a walk
+-- a task's file, that of a walk, and that of a model that is specialised
 pub task_read : (task : Task) (name named : List ℕ) (before after : Option Lefts) (o : Outcome) → IsReadEnd (on_file task name) named before after o → (named ≡ name) × ((bytes : List ℕ) × IsReadWhole before after name bytes × IsTaskEnd task bytes o)
 task_read task name named before after o h = (h.2.0, alone (λ bytes. IsTaskEnd task bytes o) before after name h.0 h.1 h.2.1)
 
 pub walk_read : (w : Walking) (named : List ℕ) (before after : Option Lefts) (o : Outcome) → IsReadEnd (walk w) named before after o → (named ≡ w.file) × ((bytes : List ℕ) × IsReadWhole before after w.file bytes × IsWalkEnd w bytes o)
 walk_read w named before after o h = (h.2.0, alone (λ bytes. IsWalkEnd w bytes o) before after w.file h.0 h.1 h.2.1)
+
+pub specialise_read : (p : Specialising) (named : List ℕ) (before after : Option Lefts) (o : Outcome) → IsReadEnd (specialise p) named before after o → (named ≡ p.file) × ((bytes : List ℕ) × IsReadWhole before after p.file bytes × IsSpecialiseEnd p bytes o)
+specialise_read p named before after o h = (h.2.0, alone (λ bytes. IsSpecialiseEnd p bytes o) before after p.file h.0 h.1 h.2.1)
 
 pub long_alone : (name named : List ℕ) (before after : Option Lefts) (reason : Reason) (place : Place) →
     (reason ≡ TooLong) × ((mid : Option Lefts) × ComesTo before mid (name ∷ []) named × IsTooLong mid after named 16777216 (TooLongAt place)) →

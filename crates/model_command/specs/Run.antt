@@ -11,7 +11,7 @@ use Rattle.bridge_io.specs.declared.reason.Reason.TheVariants.{TooLong}
 use Rattle.bridge_io.specs.declared.reason.Fault.{Fault}
 use Rattle.bridge_io.specs.declared.place.Place.{Place}
 use Rattle.command_words.specs.declared.request.Task.{Task}
-use Rattle.command_words.specs.Words.{Request, Walking, Checking, Carrying, on_file, with_properties, generate, walk, check, carry, files_of, word_count, IsRequest, IsWrongAt}
+use Rattle.command_words.specs.Words.{Request, Walking, Checking, Carrying, Specialising, on_file, with_properties, generate, walk, check, carry, specialise, files_of, word_count, IsRequest, IsWrongAt}
 use Rattle.model_command.specs.Tasks.{Makes, IsLeastFor}
 use Rattle.model_files.specs.PrismFile.{IsPrismFault}
 use Rattle.model_translation.specs.WithProperties.{TranslatesWith, IsPropertiesFault}
@@ -24,6 +24,7 @@ use Rattle.model_process.specs.declared.ending.Ending.{Ending}
 use Rattle.model_process.specs.declared.judging.ClaimRefused.{ClaimRefused}
 use Rattle.model_process.specs.declared.judging.ClaimRefused.TheVariants as claim
 use Rattle.model_carrying.specs.Ends.{EndsOnCarryFiles, IsCarryFileFault}
+use Rattle.model_specialising.specs.Ends.{EndsOnSpecialise}
 use Rattle.model_command.specs.Generating.{IsGenerated}
 use Rattle.model_command.specs.Outcome.{status_of, line_of, text_of, place_in}
 use Rattle.model_command.specs.declared.outcome.Outcome.{Outcome}
@@ -136,14 +137,22 @@ IsGenerateEnd modules (Words k) = ⊥
 IsGenerateEnd modules ReadFault = ⊥
 IsGenerateEnd modules NoMemory = Unit {0}
 
+-- how a request over one file of these bytes ends: with such an end; or the file is refused for such a fault
+abbrev pub IsFileEnd : (Ending → Type 0) → (Fault → Type 0) → List ℕ → Outcome → Type 0
+IsFileEnd IsEnding IsFaulty bytes (Done text) = ⊥
+IsFileEnd IsEnding IsFaulty bytes (Ended e) = IsEnding e
+IsFileEnd IsEnding IsFaulty bytes (Refused reason place) = (f : Fault) × IsFaulty f × (reason ≡ f.reason) × (place ≡ place_in bytes f.at)
+IsFileEnd IsEnding IsFaulty bytes (Words k) = ⊥
+IsFileEnd IsEnding IsFaulty bytes ReadFault = ⊥
+IsFileEnd IsEnding IsFaulty bytes NoMemory = Unit {0}
+
 -- how a state is shown, or a walk ends
 abbrev pub IsWalkEnd : Walking → List ℕ → Outcome → Type 0
-IsWalkEnd w bytes (Done text) = ⊥
-IsWalkEnd w bytes (Ended e) = EndsOnBytes w.lang w bytes e
-IsWalkEnd w bytes (Refused reason place) = (f : Fault) × IsModelFault w.lang bytes f × (reason ≡ f.reason) × (place ≡ place_in bytes f.at)
-IsWalkEnd w bytes (Words k) = ⊥
-IsWalkEnd w bytes ReadFault = ⊥
-IsWalkEnd w bytes NoMemory = Unit {0}
+IsWalkEnd w bytes o = IsFileEnd (EndsOnBytes w.lang w bytes) (IsModelFault w.lang bytes) bytes o
+
+-- how a model is specialised
+abbrev pub IsSpecialiseEnd : Specialising → List ℕ → Outcome → Type 0
+IsSpecialiseEnd p bytes o = IsFileEnd (EndsOnSpecialise p bytes) (IsModelFault p.lang bytes) bytes o
 
 -- how a request over files of these names and contents ends: with such an end; or it is refused at the file of this name, which has this place
 -- among all, for such a fault
@@ -192,6 +201,7 @@ IsEndOn (generate modules) contents name o = IsGenerateEnd modules o
 IsEndOn (walk w) contents name o = (name ≡ w.file) × IsAlone (λ bytes. IsWalkEnd w bytes o) contents
 IsEndOn (check c) contents name o = IsClaimEnd c contents name o
 IsEndOn (carry c) contents name o = IsCarryEnd c contents name o
+IsEndOn (specialise p) contents name o = (name ≡ p.file) × IsAlone (λ bytes. IsSpecialiseEnd p bytes o) contents
 
 -- it ends so once its files are read whole
 abbrev pub IsReadEnd : Request → List ℕ → Option Lefts → Option Lefts → Outcome → Type 0

@@ -2,16 +2,17 @@
 ghost use Rattle.std.specs.Prelude.{◌≡◌, ◌<◌, ◌≤◌, ◌⊎◌, ◌+◌, ◌∷◌, ℕ, List, [], Some, Err, length};
 ghost use Rattle.std.specs.Io.KnownBytes.{Appends};
 ghost use Rattle.bridge_io.specs.Outside.{HasFailed, Lefts};
-ghost use Rattle.command_words.specs.Words.{Walking, texts, on_file, with_properties, generate, walk, check, carry, files_of, request_of, IsRequest, IsWrongAt};
-ghost use Rattle.model_command.specs.Outcome.{halted, status_of, word_line};
-ghost use Rattle.model_process.specs.Walks.{EndsOnBytes, WalksOn};
+ghost use Rattle.command_words.specs.Words.{texts, on_file, with_properties, generate, walk, check, carry, specialise, files_of, request_of, IsRequest, IsWrongAt};
+ghost use Rattle.model_command.specs.Outcome.{ended_by, halted, status_of, word_line};
+ghost use Rattle.model_process.specs.Walks.{EndsOnBytes};
 ghost use Rattle.model_process.specs.declared.ending.Ending.TheVariants as Ending;
 ghost use Rattle.model_process.specs.Certified.{Certifies};
 ghost use Rattle.model_process.specs.Claims.{EndsOnFiles};
 ghost use Rattle.model_process.specs.declared.judging.ClaimRefused.TheVariants as claim;
 ghost use Rattle.model_carrying.specs.Ends.{EndsOnCarryFiles};
+ghost use Rattle.model_specialising.specs.Ends.{EndsOnSpecialise};
 ghost use Rattle.model_carrying.specs.Kept.{IsKept, IsNotAccepted};
-ghost use Rattle.model_command.specs.Run.{AreWhole, ComesTo, IsCause, IsEnd, IsEndOn, IsNext, IsDelivered, IsTaskEnd, IsWalkEnd, IsReadWhole, IsTold, IsToldOfFiles, EndsWith, EndsWithOrNoMemory, IsCarriedOut, names_of, pair_name, pair_outcome, shelf_sides, sink_sides};
+ghost use Rattle.model_command.specs.Run.{AreWhole, ComesTo, IsCause, IsEnd, IsEndOn, IsNext, IsDelivered, IsTaskEnd, IsReadWhole, IsTold, IsToldOfFiles, EndsWith, EndsWithOrNoMemory, IsCarriedOut, names_of, pair_name, pair_outcome, shelf_sides, sink_sides};
 ghost use Rattle.model_command.specs.Tasks.{Makes, IsFit, Judged};
 ghost use Rattle.model_command.specs.Headline.{AreHeld, IsHeadline, IsEndedAsTold, IsShownAsTold, IsTranslatedAsTold};
 
@@ -24,6 +25,7 @@ use bridge_io::{List, ReadFail, Reason, Refused, Shelf, Sink, write_whole};
 use command_words::{Request, Task, WordsFail, request_in, words_law};
 use model_carrying::{carry_between, kept_law};
 use model_process::{ClaimRefused, Ending, certified_law, judge_claim, show_or_walk};
+use model_specialising::specialise_model;
 use model_translation::{
     FilesRefused, one_list_of_faults, translate, translate_properties, translate_with_properties,
 };
@@ -49,17 +51,18 @@ const WRITE_FAULT: u8 = 5;
 /// | `check-rows LANG FILE STATES ROWS NAME=VALUE ..` | `yes`: STATES holds states of the model, each once and an initial one among them, and ROWS their choices, which lead to no others |
 /// | `check-bound LANG FILE STATES ROWS LABEL BOUNDS NAME=VALUE ..` | `yes`: so they do, and no way to choose reaches the label LABEL from a listed state with more probability than BOUNDS gives it |
 /// | `carry-path LANG FILE PATH NAME=VALUE ..` | the path that PATH holds as one of the model that FILE is translated to |
+/// | `specialise LANG FILE NAME=VALUE ..` | the model of FILE specialised to the given constants, in its language; those that aren't given stay open |
 /// | `generate N` | `modules N commands C jani L prism B`, of a model of N modules that is generated: how many commands it has, and how long the texts are that `to-jani` writes for it, and `to-prism` for that |
 ///
 /// LANG is `prism` or `jani`. A walk starts at the model's first state; with `from STATE` before `given` or `seed`, at that one.
 ///
 /// | status | when | on `out` | on `err`, each line with its LF |
 /// |---|---|---|---|
-/// | 0 | the file has no fault, and was translated, checked, shown or walked to the end; or what is claimed of its model is right; or the path was carried | the text | nothing |
+/// | 0 | the file has no fault, and was translated, checked, shown or walked to the end; or what is claimed of its model is right; or the path was carried, or the model specialised | the text | nothing |
 /// | 1 | a walk came to a choice that has no distribution, to a number that there is no choice or branch for, or to a branch of probability 0 | the path so far | `bridge: stopped at step K: WHY` |
 /// | 1 | what is claimed of the model isn't right; or a line of the path is none that is carried | `no` and why | nothing |
 /// | 2 | a file is longer than 16,777,216 bytes; or a PRISM file has a fault of its tokens, its grammar, its names, its size or its types; or a JANI file has a fault of its JSON, its shape, its names, its types or the profile; or a JANI file to be translated, or whose path is to be carried, has none and its translation would write a variable where PRISM forbids it, or be too large; or a line breaks the form of PATH, of STATES, of ROWS or of BOUNDS | nothing | `FILE:LINE:COLUMN: reason NO Name`, with the word of that file |
-/// | 3 | the words are of no form; or a value is given for no open constant of the model, or is none of its type, or past the bound; or an open constant isn't given; or STATE is no state of the model, or no initial one where a walk starts; or LABEL is no label of the model | nothing | `bridge: word K`, K being the first word with which no form goes on, or that doesn't fit, or the one that is missing |
+/// | 3 | the words are of no form; or a value is given for no open constant of the model, or is none of its type, or past the bound; or, but for `specialise`, an open constant isn't given; or STATE is no state of the model, or no initial one where a walk starts; or LABEL is no label of the model | nothing | `bridge: word K`, K being the first word with which no form goes on, or that doesn't fit, or the one that is missing |
 /// | 4 | a read failed | nothing | `bridge: read fault FILE`, with the word of that file |
 /// | 5 | a write failed | a front of the text | a front of `bridge: write fault`, or of the line, where `err` failed |
 /// | 6 | memory ran out | nothing | `bridge: no memory` |
@@ -89,7 +92,9 @@ pub fn run<H: Shelf, K: Sink, E: Sink>(
         ⊎ ((c : _) × (contents : List (List ℕ)) × IsRequest (texts words.now) (check c)
         × AreWhole (H.left shelf.old) (H.left shelf.new) (files_of (check c)) contents × EndsOnFiles c contents (Ending.Word k))
         ⊎ ((c : _) × (contents : List (List ℕ)) × IsRequest (texts words.now) (carry c)
-        × AreWhole (H.left shelf.old) (H.left shelf.new) (files_of (carry c)) contents × EndsOnCarryFiles c contents (Ending.Word k))) }
+        × AreWhole (H.left shelf.old) (H.left shelf.new) (files_of (carry c)) contents × EndsOnCarryFiles c contents (Ending.Word k))
+        ⊎ ((p : _) × (bytes : List ℕ) × IsRequest (texts words.now) (specialise p)
+        × IsReadWhole (H.left shelf.old) (H.left shelf.new) p.file bytes × EndsOnSpecialise p bytes (Ending.Word k))) }
     ensures read_fault { result ≡ 4 → (request : _) × (name : List ℕ) × (mid : _) × IsRequest (texts words.now) request
         × ComesTo (H.left shelf.old) mid (files_of request) name
         × HasFailed (H.faults shelf.old) (H.faults shelf.new) × (H.steady shelf.old name → ⊥) }
@@ -158,6 +163,13 @@ pub fn run<H: Shelf, K: Sink, E: Sink>(
         × Appends (K.taken out.old) (K.taken out.new) text × IsKept c model path text }
     ensures lost { (c : _) → IsRequest (texts words.now) (carry c) → result ≡ 1 → (model : List ℕ) × (path : List ℕ)
         × AreWhole (H.left shelf.old) (H.left shelf.new) (files_of (carry c)) (model ∷ path ∷ []) × IsNotAccepted c model path }
+
+    // Likewise where the words ask for a model to be specialised: what is answered and written is the end that the file and the given constants make
+    // of it, and no other (`one_ending`): the text of a file that means the same wherever these have their given values.
+    ensures specialised { (left : Lefts) (p : _) (bytes was said : List ℕ) → H.left shelf.old ≡ Some left → left p.file ≡ Some bytes
+        → K.taken out.old ≡ Some was → E.taken err.old ≡ Some said → IsRequest (texts words.now) (specialise p)
+        → (result ≡ 4 → ⊥) → (result ≡ 5 → ⊥) → (result ≡ 6 → ⊥)
+        → IsEndedAsTold (specialise p) (bytes ∷ []) was said (K.taken out.new) (E.taken err.new) result }
 
     // A model that is generated: the status is 0 only where its line was written and nothing else, and any other is that of a failed write or of
     // want of memory.
@@ -293,6 +305,13 @@ fn end_on<'a>(
         Request::Carry(carrying) => {
             told_of_files(names, files, carry_between(alloc, next, carrying, files))
         }
+        Request::Specialise(specialising) => {
+            let bytes = files[0].as_slice();
+            End {
+                name: names[0],
+                outcome: ended(bytes, specialise_model(alloc, next, specialising, bytes)),
+            }
+        }
     }
 }
 
@@ -355,9 +374,9 @@ fn told_of_pair<'a>(
     }
 }
 
-// The same of a state that is shown, or of a walk.
+// The same of a state that is shown, of a walk, or of a model that is specialised.
 fn ended(bytes: &[u8], made: Result<Ending, Refused>) -> Outcome
-    ensures { (w : Walking) → WalksOn w.lang w bytes.now made → IsWalkEnd w bytes.now result }
+    ensures { result ≡ ended_by bytes.now made }
 {
     match made {
         Ok(ending) => Outcome::Ended(ending),

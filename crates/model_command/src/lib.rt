@@ -2,7 +2,7 @@
 //! texts and the status that say how it ended. The contract of `run` says that what is written denotes what was read.
 //! The words are `to-jani FILE`, `to-prism FILE`, `check LANG FILE`, `show LANG FILE STATE ..`, `simulate LANG FILE ..`,
 //! `check-path LANG FILE PATH ..`, `check-rows LANG FILE STATES ROWS ..`, `check-bound LANG FILE STATES ROWS LABEL BOUNDS ..`,
-//! `carry-path LANG FILE PATH ..` and `generate N`.
+//! `carry-path LANG FILE PATH ..`, `specialise LANG FILE ..` and `generate N`.
 #![tactic(auto)]
 
 mod checking;

@@ -11,7 +11,7 @@ use std::alloc::{AllocError, Global};
 pub enum Outcome {
     /// The file is translated or checked: this is to be written.
     Done(List<u8>),
-    /// A state was to be shown, a walk taken, a claim judged or a path carried, and that ended so.
+    /// A state was to be shown, a walk taken, a claim judged, a path carried or a model specialised, and that ended so.
     Ended(Ending),
     /// A file is refused for a reason, at a place.
     Refused(Reason, Place),

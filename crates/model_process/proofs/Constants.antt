@@ -20,7 +20,7 @@ position_step p x xs = by_test (p x) (position_or_len p xs)
     by_test true n = refl
     by_test false n = refl
 
-position_within : {X : Type 0} (p : X → Bool) (xs : List X) → position_or_len p xs ≤ length xs
+pub position_within : {X : Type 0} (p : X → Bool) (xs : List X) → position_or_len p xs ≤ length xs
 position_within p [] = omega arith
 position_within p (x ∷ xs) = subst (λ n. n ≤ suc (length xs)) (sym (position_step p x xs)) (by_test (position_within p xs) (p x))
   where
@@ -30,12 +30,12 @@ position_within p (x ∷ xs) = subst (λ n. n ≤ suc (length xs)) (sym (positio
 
 -- ---- the front
 -- a value that is past the bound, or one behind it
-abbrev late_value : GivenText → Bool → Bool
+abbrev pub late_value : GivenText → Bool → Bool
 late_value (Good v) late = late
 late_value Past late = true
 late_value NoForm late = true
 
-abbrev is_late : List Assignment → Bool
+abbrev pub is_late : List Assignment → Bool
 is_late [] = false
 is_late (a ∷ values) = late_value a.value (is_late values)
 
@@ -58,7 +58,7 @@ late_length (a ∷ values) h = by_value (late_length values) (length-front value
     by_value ih le Past h = omega arith
     by_value ih le NoForm h = omega arith
 
-front_whole : (values : List Assignment) → is_late values ≡ false → (good_front values ≡ givens values) × (length (good_front values) ≡ length values)
+pub front_whole : (values : List Assignment) → is_late values ≡ false → (good_front values ≡ givens values) × (length (good_front values) ≡ length values)
 front_whole [] h = (refl, refl)
 front_whole (a ∷ values) h = by_value (front_whole values) a.value h
   where
@@ -69,11 +69,11 @@ front_whole (a ∷ values) h = by_value (front_whole values) a.value h
     by_value ih NoForm h = absurd cc
 
 module _ (cs : List Constant) where
-  abbrev unfit_given : Given → Bool
+  abbrev pub unfit_given : Given → Bool
   unfit_given g = not (fits cs g)
 
   -- the first wrong value stands where the first is that no constant takes, or at the first that is past the bound
-  position_is : (values : List Assignment) → position_or_len (is_unfit cs) values ≡ position_or_len unfit_given (good_front values)
+  pub position_is : (values : List Assignment) → position_or_len (is_unfit cs) values ≡ position_or_len unfit_given (good_front values)
   position_is [] = refl
   position_is (a ∷ values) = position_step (is_unfit cs) a values ∙ by_value (position_is values) a.value
     where
@@ -85,7 +85,7 @@ module _ (cs : List Constant) where
       by_value ih Past = refl
       by_value ih NoForm = refl
 
-  any_is : (values : List Assignment) → list_any (is_unfit cs) values ≡ (list_any unfit_given (good_front values) || is_late values)
+  pub any_is : (values : List Assignment) → list_any (is_unfit cs) values ≡ (list_any unfit_given (good_front values) || is_late values)
   any_is [] = refl
   any_is (a ∷ values) = by_value (any_is values) a.value
     where
@@ -129,7 +129,7 @@ module _ (cs : List Constant) where
     none_cases false true m n p f k g o t = ap Some (g refl)
     none_cases false false m n p f k g o t = absurd cc
 
-    late_is : length (good_front values) < length values → is_late values ≡ true
+    pub late_is : length (good_front values) < length values → is_late values ≡ true
     late_is h = by_late (is_late values) refl
       where
         by_late : (b : Bool) → is_late values ≡ b → is_late values ≡ true
@@ -150,7 +150,7 @@ module _ (cs : List Constant) where
     fit_cases false false true n p f k g o t = absurd cc
     fit_cases false false false n p f k g o t = ap (λ b. if b then Some k else None) g
 
-    not_late_is : (length (good_front values) < length values → ⊥) → is_late values ≡ false
+    pub not_late_is : (length (good_front values) < length values → ⊥) → is_late values ≡ false
     not_late_is h = by_late (is_late values) refl
       where
         by_late : (b : Bool) → is_late values ≡ b → is_late values ≡ false

@@ -27,6 +27,10 @@ is_unfit_value cs x NoForm = true
 abbrev pub is_unfit : List Constant → Assignment → Bool
 is_unfit cs a = is_unfit_value cs a.name a.value
 
+-- The place of the first such value; or none.
+abbrev pub unfit_value : List Constant → List Assignment → Option ℕ
+unfit_value cs values = if list_any (is_unfit cs) values then Some (position_or_len (is_unfit cs) values) else None
+
 -- The place of the first wrong one; at their count, that an open constant isn't given; or none.
 abbrev pub wrong_value : List Constant → List Assignment → Option ℕ
 wrong_value cs values =

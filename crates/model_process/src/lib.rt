@@ -14,5 +14,5 @@ pub use ending::Ending;
 pub use judging::{ClaimRefused, at_file, judge_claim};
 pub use laws::{certified_law, one_end_law, process_law, walk_law};
 pub use lines::judged_ending;
-pub use starting::{Unstarted, begun, good_front, read_flat, wide_instance};
+pub use starting::{Unstarted, begun, good_front, read_flat, wide_instance, wrong_value};
 pub use walking::show_or_walk;

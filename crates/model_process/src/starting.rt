@@ -132,8 +132,9 @@ pub fn wide_instance(alloc: Global) -> Result<Ending, AllocError>
     Ok(Ending::Excess(List::new(alloc), line))
 }
 
-/// The position of the word of the value that is wrong, of words the last so many of which give values.
-fn wrong_value(next: usize, all: usize, i: usize) -> Ending
+/// How it ends where a value is wrong: with the position of its word, of words the last so many of which give values. `next` is the position behind
+/// these words.
+pub fn wrong_value(next: usize, all: usize, i: usize) -> Ending
     requires { all ≤ next }
     ensures { (next - all) + i < 2 ^ 64 → result ≡ Word ((next - all) + i) }
 {

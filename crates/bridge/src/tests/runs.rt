@@ -27,7 +27,7 @@ struct Command {
     status: u8,
 }
 
-const COMMANDS: [Command; 11] = [
+const COMMANDS: [Command; 13] = [
     Command {
         words: &["to-jani", "f"],
         files: &[("f", LOCK)],
@@ -87,6 +87,16 @@ const COMMANDS: [Command; 11] = [
             ("p", b"(@0,@1,#0)\n(0,0,0)\nstep (1,0,0)\ngo (0,0,0)\n"),
         ],
         status: 1,
+    },
+    Command {
+        words: &["specialise", "prism", "f"],
+        files: &[("f", LOCK)],
+        status: 0,
+    },
+    Command {
+        words: &["specialise", "jani", "f", "q=1"],
+        files: &[("f", SPLIT)],
+        status: 3,
     },
     Command {
         words: &["generate", "3"],

@@ -1,7 +1,7 @@
 use Rattle.std.proofs.Common.{sym, subst, ◌≡◌, ◌∙◌, [], slice_index_or}
-use Rattle.command_words.specs.Words.{request_of, walking_of, checking_of, carrying_of, files_of}
-use Rattle.model_command.specs.Run.{IsEndOn, IsTaskEnd, IsToldOfFiles, IsWalkEnd, names_of}
-use Rattle.model_command.proofs.FilesEnds.{carry_told, carry_within, claim_told, claim_within, some_named, two_named}
+use Rattle.command_words.specs.Words.{request_of, walking_of, checking_of, carrying_of, specialising_of, files_of}
+use Rattle.model_command.specs.Run.{IsEndOn, IsSpecialiseEnd, IsTaskEnd, IsToldOfFiles, IsWalkEnd, names_of}
+use Rattle.model_command.proofs.FilesEnds.{carry_told, carry_within, claim_told, claim_within, some_named, specialise_told, two_named, walk_told}
 use Rattle.model_command.proofs.Several.{one_file}
 use Rattle.model_command.proofs.command.end_on.Goals as goal
 
@@ -18,7 +18,7 @@ returns-in-Walk c =
     subst (λ r. IsEndOn (request_of r) c.args.files.now (slice_index_or c.args.names.now 0 (record { ref_ptr = (0, 0); now = [] })).now c.ended.result) (sym c.in-Walk.is)
     (one_file (λ bytes. IsWalkEnd w bytes c.ended.result) w.file c.args.names.now _ c.args.files.now _ _
     (subst (λ r. names_of c.args.names.now ≡ files_of (request_of r)) c.in-Walk.is c.requires.names) c.requires.files c.index-files-0-in-Walk.is
-    (subst (λ bytes. IsWalkEnd w bytes c.ended.result) c.as_slice-bytes-in-Walk.ensures (c.ended.ensures w c.show_or_walk.ensures)))
+    (subst (λ bytes. IsWalkEnd w bytes c.ended.result) c.as_slice-bytes-in-Walk.ensures (subst (IsWalkEnd w _) (sym c.ended.ensures) (walk_told w _ c.show_or_walk.result c.show_or_walk.ensures))))
 
 -- the names of the files, and what is told of them
 pub told_of_files-requires-clause-some : goal.told_of_files-requires-clause-some
@@ -52,3 +52,12 @@ returns-in-Carry c =
     subst (λ r. IsEndOn (request_of r) c.args.files.now c.told_of_files-in-Carry.result.name.now c.told_of_files-in-Carry.result.outcome) (sym c.in-Carry.is)
     (carry_told (carrying_of c.in-Carry.carrying) c.args.files.now c.told_of_files-in-Carry.result.name.now c.carry_between.result c.told_of_files-in-Carry.result.outcome c.carry_between.ensures
     (subst (λ ns. IsToldOfFiles ns c.args.files.now c.carry_between.result c.told_of_files-in-Carry.result.name.now c.told_of_files-in-Carry.result.outcome) names c.told_of_files-in-Carry.ensures))
+
+pub returns-in-Specialise : goal.returns-in-Specialise
+returns-in-Specialise c =
+    let p = specialising_of c.in-Specialise.specialising in
+    subst (λ r. IsEndOn (request_of r) c.args.files.now (slice_index_or c.args.names.now 0 (record { ref_ptr = (0, 0); now = [] })).now c.ended-in-Specialise.result) (sym c.in-Specialise.is)
+    (one_file (λ bytes. IsSpecialiseEnd p bytes c.ended-in-Specialise.result) p.file c.args.names.now _ c.args.files.now _ _
+    (subst (λ r. names_of c.args.names.now ≡ files_of (request_of r)) c.in-Specialise.is c.requires.names) c.requires.files c.index-files-0-in-Specialise.is
+    (subst (λ bytes. IsSpecialiseEnd p bytes c.ended-in-Specialise.result) c.as_slice-bytes-in-Specialise.ensures
+    (subst (IsSpecialiseEnd p _) (sym c.ended-in-Specialise.ensures) (specialise_told p _ c.specialise_model.result c.specialise_model.ensures))))

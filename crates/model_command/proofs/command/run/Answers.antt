@@ -1,5 +1,5 @@
 use Rattle.std.proofs.Common.{rules, ◌≡◌, ◌⊎◌, ◌∷◌, []}
-use Rattle.command_words.specs.Words.{with_properties, carry, check}
+use Rattle.command_words.specs.Words.{with_properties, carry, check, specialise}
 use Rattle.model_command.specs.Outcome.{status_of}
 use Rattle.model_command.specs.Run.{shelf_sides, sink_sides}
 use Rattle.model_command.proofs.CarriedPaths.{kept_of, lost_of}
@@ -89,3 +89,9 @@ pub returns-clause-lost : goal.returns-clause-lost
 returns-clause-lost g c = λ k form status.
     lost_of (shelf_sides g.H.Shelf.left g.H.Shelf.faults g.H.Shelf.steady c.args.shelf.now c.answer.new.shelf) (sink_sides g.K.Sink.taken g.K.Sink.faults c.args.out.now c.answer.new.out) (sink_sides g.E.Sink.taken g.E.Sink.faults c.args.err.now c.answer.new.err)
     c.answer.result _ c.words_law.ensures.one k form c.answer.ensures.0 c.kept_law.ensures.lost c.answer.ensures.1 c.answer.ensures.2 c.answer.ensures.3 status
+
+pub returns-clause-specialised : goal.returns-clause-specialised
+returns-clause-specialised g c = λ left p bytes was said told held kept heard form no_read no_write no_memory.
+    let e = written_whole (sink_sides g.K.Sink.taken g.K.Sink.faults c.args.out.now c.answer.new.out) (sink_sides g.E.Sink.taken g.E.Sink.faults c.args.err.now c.answer.new.err) c.answer.result was said kept heard no_write c.answer.ensures.0 c.answer.ensures.1 c.answer.ensures.3 in
+    ended_of (shelf_sides g.H.Shelf.left g.H.Shelf.faults g.H.Shelf.steady c.args.shelf.now c.answer.new.shelf) _ c.answer.ensures.0 c.words_law.ensures.one left told (bytes ∷ []) was said _ _ c.answer.result no_read no_memory
+    (specialise p) ((form.file, tt), tt) (held, tt) form c.answer.ensures.1 c.answer.ensures.2 e.0 e.1 e.2

@@ -21,4 +21,6 @@ returns c =
       carried = c.one_carry_law.ensures.one;
       carried_fault = c.one_carry_law.ensures.fault;
       carried_either = c.one_carry_law.ensures.apart;
+      specialised = c.one_specialise_law.ensures.one;
+      specialised_either = c.one_specialise_law.ensures.apart;
     })

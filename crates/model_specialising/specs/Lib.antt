@@ -1,0 +1,4 @@
+pub mod Specialised
+pub mod Ends
+pub mod Values
+pub mod Once

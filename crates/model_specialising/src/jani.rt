@@ -1,0 +1,92 @@
+//! JANI models specialised.
+ghost use Rattle.std.specs.Prelude.{◌≡◌, ◌++◌, ◌∷◌, [], IfOk, map};
+ghost use Rattle.jani_tree.specs.Syntax.{file_of};
+ghost use Rattle.jani_tree.specs.Back.{SpellsOnly};
+ghost use Rattle.jani_tree.specs.Text.{jani_text};
+ghost use Rattle.jani_check.specs.Faults.{IsChecked};
+ghost use Rattle.command_words.specs.Given.{assignment_of};
+ghost use Rattle.command_words.specs.declared.request.Lang.TheVariants.{Jani};
+ghost use Rattle.model_process.specs.Constants.{good_front};
+ghost use Rattle.model_process.specs.Starts.{IsBehind};
+ghost use Rattle.model_specialising.specs.Ends.{EndsOnJani, SpecialisesIn};
+
+use crate::ending::{failed, finished};
+use bridge_io::{List, Refused};
+use command_words::Assignment;
+use decimal_json::line_feed_law;
+use jani_check::{CheckedJani, writable_law};
+use jani_tree::{JaniFile, write_jani, written_law};
+use model_files::read_jani;
+use model_process::{Ending, good_front};
+use process_core::Given;
+use specialise_jani::specialise_jani;
+use std::alloc::{AllocError, Global};
+
+/// How it ends on the bytes of a JANI file.
+pub(crate) fn in_jani(
+    alloc: Global,
+    next: usize,
+    values: &[Assignment],
+    bytes: &[u8],
+) -> Result<Ending, Refused>
+    requires { IsBehind 3 (map assignment_of values.now) next }
+    ensures { SpecialisesIn Jani (map assignment_of values.now) bytes.now result }
+{
+    let checked = match read_jani(alloc, bytes) {
+        Ok(checked) => checked,
+        Err(refused) => return Err(refused),
+    };
+    let ending = on_jani(alloc, next, values, &checked, bytes.len())?;
+    Ok(ending)
+}
+
+/// How it ends on a judged file, whose text takes so many bytes. `Err` is want of memory.
+fn on_jani(
+    alloc: Global,
+    next: usize,
+    values: &[Assignment],
+    checked: &CheckedJani,
+    room: usize,
+) -> Result<Ending, AllocError>
+    requires { IsBehind 3 (map assignment_of values.now) next }
+    ensures { IfOk result (EndsOnJani (file_of checked.now) (map assignment_of values.now)) }
+{
+    let given = good_front(alloc, values)?;
+    by_values(alloc, next, values, given.as_slice(), checked, room)
+}
+
+/// The same, where these values stand before the first that is past the bound.
+fn by_values(
+    alloc: Global,
+    next: usize,
+    values: &[Assignment],
+    given: &[Given],
+    checked: &CheckedJani,
+    room: usize,
+) -> Result<Ending, AllocError>
+    requires behind { IsBehind 3 (map assignment_of values.now) next }
+    requires front { given.now ≡ good_front (map assignment_of values.now) }
+    ensures { IfOk result (EndsOnJani (file_of checked.now) (map assignment_of values.now)) }
+{
+    match specialise_jani(alloc, checked, given) {
+        Ok(file) => {
+            let text = text_of(alloc, room, file)?;
+            Ok(finished(next, values, given.len(), text))
+        }
+        Err(fail) => failed(next, values, fail),
+    }
+}
+
+/// The canonical text of a file of the profile, which is let go, and a line feed; so many bytes are set aside for it at first. `Err` is want of memory.
+fn text_of(alloc: Global, room: usize, file: JaniFile) -> Result<List<u8>, AllocError>
+    requires { IsChecked (file_of file) }
+    ensures text { IfOk result (λ text. text ≡ jani_text (file_of file) ++ 10 ∷ []) }
+    ensures spells { IfOk result (λ text. SpellsOnly text (file_of file)) }
+{
+    writable_law();
+    written_law();
+    line_feed_law();
+    let mut text = write_jani(alloc, room, &file)?;
+    text.push(b'\n')?;
+    Ok(text)
+}
