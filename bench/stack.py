@@ -23,7 +23,7 @@ def guard(text, items=""):
     return "mdp\n%smodule M x : [0..1]; [] %s -> true; endmodule\n" % (items, text)
 
 
-FORMULAS = "formula f0 = x;\n" + "".join("formula f%d = f%d+1;\n" % (k + 1, k) for k in range(1021))
+FORMULAS = "formula f0 = x;\n" + "".join("formula f%d = f%d+1;\n" % (k + 1, k) for k in range(2046))
 
 PRISM_FILES = {
     "1,023 negations": guard("!" * 1023 + "true"),
@@ -32,13 +32,22 @@ PRISM_FILES = {
     "512 implications": guard("true" + "=>true" * 511),
     "conditionals in parentheses": guard("(true?" * 170 + "true" + ":true)" * 170),
     "minimum of minimum": guard("min(" * 204 + "x" + ",x)" * 204 + ">=0"),
-    "a chain of 1,022 formulas": guard("f1021>=0", FORMULAS),
+    "a chain of 2,047 formulas": guard("f2046>0", FORMULAS),
 }
+
+# A label to which each of 1,024 locations gives a value, the first one a deep one: the value of the label's translation is a chain of them all.
+PARTS = '{"jani-version":1,"name":"m","type":"mdp","variables":[{"name":"r","type":"bool","transient":true,"initial-value":false}],"automata":[' \
+    '{"name":"A","locations":[{"name":"l0","transient-values":[{"ref":"r","value":%s}]}%s],"initial-locations":["l0"],"edges":[]}],' \
+    '"system":{"elements":[{"automaton":"A"}]}}' % (
+        '{"op":"¬","exp":' * 1010 + "true" + "}" * 1010,
+        "".join(',{"name":"l%d","transient-values":[{"ref":"r","value":true}]}' % k for k in range(1, 1024)),
+    )
 
 JANI_FILES = {
     "1,018 negations": JANI % ('{"op":"¬","exp":' * 1018 + "true" + "}" * 1018, ""),
     "sums to the left": JANI % ('{"op":">","right":-1,"left":' + '{"op":"+","right":0,"left":' * 1017 + "1" + "}" * 1018, ""),
     "conditions of conditions": JANI % ('{"op":"ite","then":true,"else":false,"if":' * 1018 + "true" + "}" * 1018, ""),
+    "a chain of 1,024 parts": PARTS,
     "1,022 lists in metadata": JANI % ("true", ',"metadata":{"a":' + "[" * 1022 + "]" * 1022 + "}"),
     "1,024 opening brackets": "[" * 1024,
 }
@@ -49,8 +58,10 @@ BESIDE = {
 }
 
 COMMANDS = {
-    "prism": ["check prism f", "to-jani f", "to-jani f q", "show prism f (0)", "simulate prism f seed 1 2", "check-path prism f p", "check-rows prism f s r"],
-    "jani": ["check jani f", "to-prism f", "to-prism-props f", "show jani f (0)", "simulate jani f seed 1 2", "check-path jani f p", "check-rows jani f s r"],
+    "prism": ["check prism f", "to-jani f", "to-jani f q", "show prism f (0)", "simulate prism f seed 1 2", "check-path prism f p", "check-rows prism f s r",
+              "carry-path prism f p", "specialise prism f"],
+    "jani": ["check jani f", "to-prism f", "to-prism-props f", "show jani f (0)", "simulate jani f seed 1 2", "check-path jani f p", "check-rows jani f s r",
+             "carry-path jani f p", "specialise jani f"],
 }
 
 

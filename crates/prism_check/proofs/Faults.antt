@@ -35,7 +35,7 @@ use Rattle.name_rules.specs.Uses.{used}
 use Rattle.name_rules.specs.Unknown.{unless_known}
 use Rattle.name_rules.proofs.Placeless.{placeless, at_nought, tested, first-bare, doubled-bare, among-bare, unknown-bare as unless_known-bare}
 use Rattle.name_rules.specs.Circles.{Declared, uses_of, leads_to, is_circular, circular}
-use Rattle.prism_check.specs.SizeFaults.{nodes, height, command_count, part_actions, action_count, has_long_rewards, has_many_vectors, passes_limit, size_faults}
+use Rattle.prism_check.specs.SizeFaults.{nodes, height, command_count, part_actions, action_count, has_long_rewards, has_many_vectors, height_limit, passes_limit, size_faults}
 use Rattle.op_trees.specs.Wanted.{is_unwanted, wanted_by}
 use Rattle.prism_check.specs.TypeFaults.{part_variables, numbered_variables, variables, variable_called, declared_types, types, misfits, type_faults_of, is_variable, has_variable, Target, own, global, foreign, target_of, target, wanted_at, write_faults, demand_faults, repeated_writes, part_faults, module_faults, numbered_faults, type_faults}
 use Rattle.prism_check.specs.Faults.{faults}
@@ -297,7 +297,7 @@ module _ (file : File) where
   passes-bare : passes_limit (bare_file file) ≡ passes_limit file
   passes-bare =
       ap₂ (λ n b. nat_lt 2000000 n || b) nodes-bare
-      (ap₂ (λ n b. nat_lt 1024 n || b) tallest-bare
+      (ap₂ (λ n b. nat_lt height_limit n || b) tallest-bare
       (ap₂ (λ n b. nat_lt 200000 n || b) command_count-bare (ap₂ (λ a b. a || b) long_rewards-bare many_vectors-bare)))
 
 -- a file without its places is as large once it is written out

@@ -18,7 +18,7 @@ use Rattle.prism_tree.specs.Syntax.{Command, Rewards, File}
 use Rattle.prism_flat.specs.Names.{Part, parts}
 use Rattle.prism_flat.specs.Flat.{flat, flat_name, flat_command, flat_rewards, flat_item, flat_module}
 use Rattle.prism_flat.specs.Laws.{flat_part, parts-flat}
-use Rattle.prism_check.specs.SizeFaults.{command_count, part_actions, action_count, passes_limit, counted_nodes, counted_height, has_long_rewards, has_many_vectors, size_faults, LimitsCounted}
+use Rattle.prism_check.specs.SizeFaults.{command_count, part_actions, action_count, height_limit, passes_limit, counted_nodes, counted_height, has_long_rewards, has_many_vectors, size_faults, LimitsCounted}
 use Rattle.prism_check.specs.declared.sizes.Sizes.TheVariants.{TooLarge, Within}
 use Rattle.name_rules.specs.Least.{fault, fault_if}
 use Rattle.prism_check.specs.Counted.{sizes_of}
@@ -56,9 +56,9 @@ vectors_counted file =
 
 pub limits_counted : LimitsCounted
 limits_counted file =
-    ap₂ (λ n h. nat_lt 2000000 n || (nat_lt 1024 h || (nat_lt 200000 (command_count (flat file)) || (has_long_rewards (flat file) || has_many_vectors (flat file)))))
+    ap₂ (λ n h. nat_lt 2000000 n || (nat_lt height_limit h || (nat_lt 200000 (command_count (flat file)) || (has_long_rewards (flat file) || has_many_vectors (flat file)))))
     (nodes_counted file) (height_counted file)
-    ∙ ap₂ (λ c b. nat_lt 2000000 (counted_nodes file) || (nat_lt 1024 (counted_height file) || (nat_lt 200000 c || b)))
+    ∙ ap₂ (λ c b. nat_lt 2000000 (counted_nodes file) || (nat_lt height_limit (counted_height file) || (nat_lt 200000 c || b)))
     (commands_counted file) (ap₂ (λ r v. r || v) (rewards_counted file) (vectors_counted file))
 
 -- ---- what follows from one limit that is passed, and from none
@@ -73,7 +73,7 @@ module _ (file : File) where
   many_nodes = nat_lt 2000000 (counted_nodes file)
 
   abbrev high : Bool
-  high = nat_lt 1024 (counted_height file)
+  high = nat_lt height_limit (counted_height file)
 
   abbrev many_commands : Bool
   many_commands = nat_lt 200000 (command_count file)
@@ -84,8 +84,8 @@ module _ (file : File) where
   pub nodes_pass : (k : ℕ) → k ≡ capped (counted_nodes file) → 2000000 < k → TooLarge ≡ sizes_of file
   nodes_pass k e h = too_large (or_left many_nodes _ (passed 2000000 k (counted_nodes file) e h))
 
-  pub height_passes : (k : ℕ) → k ≡ capped (counted_height file) → 1024 < k → TooLarge ≡ sizes_of file
-  height_passes k e h = too_large (or_right many_nodes _ (or_left high _ (passed 1024 k (counted_height file) e h)))
+  pub height_passes : (k : ℕ) → k ≡ capped (counted_height file) → height_limit < k → TooLarge ≡ sizes_of file
+  height_passes k e h = too_large (or_right many_nodes _ (or_left high _ (passed height_limit k (counted_height file) e h)))
 
   pub commands_pass : (k : ℕ) → k ≡ capped (command_count file) → 200000 < k → TooLarge ≡ sizes_of file
   commands_pass k e h = too_large (or_right many_nodes _ (or_right high _ (or_left many_commands _ (passed 200000 k (command_count file) e h))))
@@ -96,14 +96,14 @@ module _ (file : File) where
   pub vectors_pass : has_many_vectors file ≡ true → TooLarge ≡ sizes_of file
   vectors_pass h = too_large (or_right many_nodes _ (or_right high _ (or_right many_commands _ (or_right (has_long_rewards file) _ h))))
 
-  pub none_passes : (n h k : ℕ) → n ≡ capped (counted_nodes file) → n ≤ 2000000 → h ≡ capped (counted_height file) → h ≤ 1024 →
+  pub none_passes : (n h k : ℕ) → n ≡ capped (counted_nodes file) → n ≤ 2000000 → h ≡ capped (counted_height file) → h ≤ height_limit →
       k ≡ capped (command_count file) → k ≤ 200000 → has_long_rewards file ≡ false → has_many_vectors file ≡ false → Within k ≡ sizes_of file
   none_passes n h k en ln eh lh ek lk r v =
       let same : command_count file ≡ k = omega (arith, ek, lk) in
       ap₂ (λ b c. if b then TooLarge else Within c)
       (sym (limits_counted file
       ∙ or_from many_nodes _ (kept 2000000 n (counted_nodes file) en (omega arith) ln)
-      (or_from high _ (kept 1024 h (counted_height file) eh (omega arith) lh)
+      (or_from high _ (kept height_limit h (counted_height file) eh (omega arith) lh)
       (or_from many_commands _ (kept 200000 k (command_count file) ek (omega arith) lk)
       (or_from (has_long_rewards file) (has_many_vectors file) r v)))))
       (sym same)

@@ -43,11 +43,15 @@ has_long_rewards file = list_any (λ r. nat_lt 1024 (length r.items)) file.rewar
 abbrev pub has_many_vectors : File → Bool
 has_many_vectors file = nat_lt 4000000 ((length file.modules + 1) * (length file.modules + action_count file))
 
+-- so high at most is an expression that is written out
+abbrev pub height_limit : ℕ
+height_limit = 2048
+
 -- a file without formulas and copies passes a limit
 abbrev pub passes_limit : File → Bool
 passes_limit file =
     nat_lt 2000000 (nodes file)
-    || (nat_lt 1024 (height file)
+    || (nat_lt height_limit (height file)
     || (nat_lt 200000 (command_count file)
     || (has_long_rewards file || has_many_vectors file)))
 
@@ -72,6 +76,6 @@ abbrev pub LimitsCounted : Type 0
 LimitsCounted =
     (file : File) → passes_limit (flat file)
     ≡ (nat_lt 2000000 (counted_nodes file)
-    || (nat_lt 1024 (counted_height file)
+    || (nat_lt height_limit (counted_height file)
     || (nat_lt 200000 (command_count file)
     || (has_long_rewards file || has_many_vectors file))))

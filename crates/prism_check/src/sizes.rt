@@ -23,7 +23,7 @@ use std::alloc::{AllocError, Global};
 pub const NODE_LIMIT: u64 = 2_000_000;
 
 /// So high at most is each of them.
-pub const HEIGHT_LIMIT: u64 = 1_024;
+pub const HEIGHT_LIMIT: u64 = 2_048;
 
 // The other limits on a file that is written out.
 const COMMAND_LIMIT: usize = 200_000;

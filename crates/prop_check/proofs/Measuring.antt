@@ -11,6 +11,7 @@ use Rattle.prism_tree.specs.Syntax.{Expression, File}
 use Rattle.prism_names.specs.Names.{formula_body}
 use Rattle.prism_names.specs.Order.{whole}
 use Rattle.prism_names.specs.Sizes.{height-written_out, nodes-written_out}
+use Rattle.prism_check.specs.SizeFaults.{height_limit}
 use Rattle.prop_grammar.specs.Syntax.{WrittenProperty}
 use Rattle.prop_trees.specs.Trees.{Role}
 use Rattle.prop_trees.specs.PrismFaults.{all_parts, size_faults}
@@ -51,8 +52,8 @@ module _ (file : File) where
       by_order false h = let within = ltb-false limit n h in le-ltb limit count (omega (arith, e, within)) ∙ sym h
 
   pub too_large_is : (ps : List WrittenProperty) (nodes_found height_found : ℕ) → nodes_found ≡ capped (nodes file (all_parts ps)) →
-      height_found ≡ capped (highest file (all_parts ps)) → fault_if (nat_lt 2000000 nodes_found || nat_lt 1024 height_found) 0 TooLarge ≡ size_faults file ps
+      height_found ≡ capped (highest file (all_parts ps)) → fault_if (nat_lt 2000000 nodes_found || nat_lt height_limit height_found) 0 TooLarge ≡ size_faults file ps
   too_large_is ps n h p q =
       ap₂ (λ a b. fault_if (a || b) 0 TooLarge)
       (limit_is 2000000 n (nodes file (all_parts ps)) p (omega arith) ∙ ap (nat_lt 2000000) (sym (nodes_are (all_parts ps))))
-      (limit_is 1024 h (highest file (all_parts ps)) q (omega arith) ∙ ap (nat_lt 1024) (sym (heights_are (all_parts ps))))
+      (limit_is height_limit h (highest file (all_parts ps)) q (omega arith) ∙ ap (nat_lt height_limit) (sym (heights_are (all_parts ps))))

@@ -3,6 +3,7 @@
 ghost use Rattle.std.specs.Prelude.{◌≡◌, ◌||◌, List, map, nat_lt, None};
 ghost use Rattle.op_trees.specs.Tree.{capped};
 ghost use Rattle.name_rules.specs.Least.{soonest};
+ghost use Rattle.prism_check.specs.SizeFaults.{height_limit};
 ghost use Rattle.prop_grammar.specs.Syntax.{WrittenProperty};
 ghost use Rattle.prop_trees.specs.PrismFaults.{all_parts, size_faults};
 ghost use Rattle.prop_check.specs.Views.{part_of};
@@ -24,7 +25,7 @@ pub(crate) fn judge_sizes(scope: &Scope, parts: &[Part]) -> Option<Fault>
 
 // Whether this passes a limit.
 fn is_too_large(size: Size) -> bool
-    ensures { result ≡ (nat_lt 2000000 size.nodes || nat_lt 1024 size.height) }
+    ensures { result ≡ (nat_lt 2000000 size.nodes || nat_lt height_limit size.height) }
 {
     size.nodes > NODE_LIMIT || size.height > HEIGHT_LIMIT
 }

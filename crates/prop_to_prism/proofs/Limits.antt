@@ -19,6 +19,7 @@ use Rattle.prop_grammar.specs.Syntax.{WrittenProperty}
 use Rattle.prop_grammar.specs.Grammar.{as_name}
 use Rattle.prop_grammar.specs.Faults as grammar
 use Rattle.prop_grammar.specs.Faults.{Spells, IsReason, too_deep, left_out, no_form, IsGrammarFault, at_token, at_end, SyntaxFaults, of_tokens, of_grammar, none}
+use Rattle.prism_check.specs.SizeFaults.{height_limit}
 use Rattle.prop_trees.specs.PrismFaults.{expressions, name_faults, size_faults, type_faults, faults}
 use Rattle.prop_check.specs.Read.{FaultsOf, of_text, of_properties}
 use Rattle.prop_to_prism.specs.Laws.{is_limit}
@@ -85,7 +86,7 @@ module _ (text : List ℕ) (written : List WrittenProperty) (spells : Spells tex
     of_sizes =
         let es = expressions model written in
         subst (λ ns. Each IsOfLimit (or_else ns (or_else (size_faults model written) (type_faults model written)))) (sym names)
-        (subst (λ ts. Each IsOfLimit (or_else (size_faults model written) ts)) (sym types) (of_size (nat_lt 2000000 (sum (map node_count es)) || nat_lt 1024 (fold max 0 (map height_of es)))))
+        (subst (λ ts. Each IsOfLimit (or_else (size_faults model written) ts)) (sym types) (of_size (nat_lt 2000000 (sum (map node_count es)) || nat_lt height_limit (fold max 0 (map height_of es)))))
 
     pub of_limits : (fs : List Fault) → FaultsOf text model fs → Each IsOfLimit fs
     of_limits fs (of_text f others h) = of_syntax (f ∷ others) h

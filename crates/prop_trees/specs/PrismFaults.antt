@@ -22,6 +22,7 @@ use Rattle.op_trees.specs.declared.wanted.Wanted.TheVariants as W
 use Rattle.prism_check.specs.NameFaults.{is_among, doubled, given_labels, values, names_of, unless_known}
 use Rattle.op_trees.specs.Wanted.{is_unwanted}
 use Rattle.prism_check.specs.TypeFaults.{types, has_variable}
+use Rattle.prism_check.specs.SizeFaults.{height_limit}
 use Rattle.prop_grammar.specs.declared.syntax.Structure.{Structure}
 use Rattle.prop_grammar.specs.Syntax.{WrittenProperty}
 use Rattle.prop_grammar.specs.Grammar.{has_quotes}
@@ -81,7 +82,7 @@ module _ (file : File) where
 
   abbrev pub size_faults : List WrittenProperty → List Fault
   size_faults ps =
-      fault_if (nat_lt 2000000 (sum (map node_count (expressions ps))) || nat_lt 1024 (fold max 0 (map height_of (expressions ps)))) 0 TooLarge
+      fault_if (nat_lt 2000000 (sum (map node_count (expressions ps))) || nat_lt height_limit (fold max 0 (map height_of (expressions ps)))) 0 TooLarge
 
   -- ---- types
 
