@@ -28,7 +28,7 @@ first_thing g p s xs i d b v old new whole h is put test same so_far =
     ∙ sym (at_drop_more (λ ys. option_or old (option_map g (find p (map s ys)))) xs i d h)
     ∙ so_far
 
-put_mapped : {A T : Type 0} (f : A → T) (old : Option A) (b : Bool) (x : A) → option_map f (option_or old (if b then Some x else None)) ≡ option_or (option_map f old) (if b then Some (f x) else None)
+pub put_mapped : {A T : Type 0} (f : A → T) (old : Option A) (b : Bool) (x : A) → option_map f (option_or old (if b then Some x else None)) ≡ option_or (option_map f old) (if b then Some (f x) else None)
 put_mapped f None true x = refl
 put_mapped f None false x = refl
 put_mapped f (Some y) b x = refl

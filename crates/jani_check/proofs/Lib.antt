@@ -6,6 +6,7 @@ pub mod First
 pub mod Misfits
 pub mod Anys
 pub mod SameRewards
+pub mod KeptRewards
 pub mod Growing
 pub mod Givens
 pub mod Taking

@@ -13,7 +13,6 @@ use Rattle.frac_core.specs.declared.decimal.Decimal.{Decimal}
 use Rattle.op_trees.specs.Tree.{Truth, Number, Name as At, One, Two, Three, bare}
 use Rattle.op_trees.specs.Standard.{same_truth}
 use Rattle.jani_table.specs.declared.operator.JaniOp.{JaniOp}
-use Rattle.jani_table.specs.declared.operator.JaniOp.TheVariants.{Ite, Or, And, Not, Equal, Unequal, Less, AtMost, Greater, AtLeast, Add, Sub, Mul, Rem, Div, Floor, Ceil, Implies, Min, Max}
 use Rattle.jani_table.specs.Operators.{op_of, op_text}
 use Rattle.jani_tree.specs.Syntax.{Expression, Write, Destination}
 use Rattle.jani_tree.proofs.Again.{op_again}
@@ -119,11 +118,11 @@ decided a b false h = by_test (same_tree a b) refl
     by_test false e = refl
     by_test true e = absurd (let no : false ≡ true = h.1 (same_forth a b e) in cc)
 
-same_trans : (a b c : Expression) → same_tree a b ≡ true → same_tree b c ≡ true → same_tree a c ≡ true
+pub same_trans : (a b c : Expression) → same_tree a b ≡ true → same_tree b c ≡ true → same_tree a c ≡ true
 same_trans a b c h k = same_back a c (same_forth a b h ∙ same_forth b c k)
 
 -- ---- rewards that are lacking
-not_lacking : (values : Name → Option Expression) (w : Write) → lacks values w ≡ false → (v : Expression) × (values w.target.name ≡ Some v) × (same_tree w.value v ≡ true)
+pub not_lacking : (values : Name → Option Expression) (w : Write) → lacks values w ≡ false → (v : Expression) × (values w.target.name ≡ Some v) × (same_tree w.value v ≡ true)
 not_lacking values w h = by_value (values w.target.name) refl h
   where
     by_value : (o : Option Expression) → values w.target.name ≡ o → not (list_any (same_tree w.value) (if_some o)) ≡ false → (v : Expression) × (values w.target.name ≡ Some v) × (same_tree w.value v ≡ true)
@@ -134,7 +133,7 @@ not_lacking values w h = by_value (values w.target.name) refl h
         is true j = refl
         is false j = absurd cc
 
-lacking : (values : Name → Option Expression) (w : Write) (v : Expression) → values w.target.name ≡ Some v → same_tree w.value v ≡ true → lacks values w ≡ false
+pub lacking : (values : Name → Option Expression) (w : Write) (v : Expression) → values w.target.name ≡ Some v → same_tree w.value v ≡ true → lacks values w ≡ false
 lacking values w v e h = ap (λ o. not (list_any (same_tree w.value) (if_some o))) e ∙ ap (λ b. not (b || false)) h
 
 module _ (things : Name → Option Thing) where
