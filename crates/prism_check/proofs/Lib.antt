@@ -5,7 +5,8 @@ pub mod Pairs
 pub mod Declared
 pub mod Asked
 pub mod CopyParts
-pub mod Rounds
+pub mod Levels
+pub mod MetNames
 pub mod LostNames
 pub mod KnownNames
 pub mod Measured

@@ -28,7 +28,7 @@ use Rattle.prism_check.specs.Typing.{owned, IsDeclared, declared_type, is_declar
 use Rattle.name_rules.proofs.Append.{soonest_then, three_parts}
 use Rattle.prism_check.proofs.TypesInOrder.{formula_known, whole_known, reads_type, reads_varies, known_whole}
 use Rattle.prism_check.proofs.TypesPlaced.{unplaced}
-use Rattle.prism_check.proofs.Rounds.{in_written_out}
+use Rattle.prism_check.proofs.Levels.{in_written_out}
 
 -- ---- what is declared
 declared_is : (d : Declared) (file : File) → IsDeclared d file → (x : Name) → declared_type d x ≡ declared_types file x

@@ -4,8 +4,9 @@ ghost use Rattle.std.specs.Prelude.{◌≡◌, List, ◌++◌, map, IfOk, OnOk};
 ghost use Rattle.std.specs.List.{flat_map};
 ghost use Rattle.prism_tree.specs.Syntax.{branch_of, command_of, file_of, var_of, write_of};
 ghost use Rattle.prism_check.specs.Views.{demand_by};
+ghost use Rattle.op_trees.specs.Tree.{tree};
 ghost use Rattle.op_trees.specs.Wanted.{wanted_by};
-ghost use Rattle.prism_check.specs.Demands.{Demand as Asked, branch_demands, command_demands, outer_demands, var_demands, written};
+ghost use Rattle.prism_check.specs.Demands.{Demand as Asked, branch_demands, command_demands, expression_of, outer_demands, var_demands, written};
 
 use op_trees::{Wanted, wanted_by};
 use prism_tree::{
@@ -21,6 +22,19 @@ pub(crate) enum Demand<'a> {
     Fixed(Wanted, &'a PrismExpr),
     Varying(Wanted, &'a PrismExpr),
     Written(bool, &'a PrismWrite),
+}
+
+impl<'a> Demand<'a> {
+    /// Its expression.
+    pub(crate) fn expression(&self) -> &'a PrismExpr
+        ensures { tree result.now ≡ expression_of (demand_by self.now) }
+    {
+        match self {
+            Demand::Fixed(_, e) => e,
+            Demand::Varying(_, e) => e,
+            Demand::Written(_, write) => &write.value,
+        }
+    }
 }
 
 /// A part of a file that has expressions.

@@ -1,6 +1,6 @@
 // Names that are not declared, of a whole file.
 
-ghost use Rattle.std.specs.Prelude.{◌≡◌, ◌++◌, [], map, length, not, is_some, true, None, IfOk};
+ghost use Rattle.std.specs.Prelude.{◌≡◌, ◌++◌, [], List, ℕ, map, length, not, is_some, true, None, IfOk};
 ghost use Rattle.std.specs.List.{flat_map, list_any};
 ghost use Rattle.std.specs.Option.{option_map};
 ghost use Rattle.op_trees.specs.Tree.{written_out};
@@ -13,7 +13,7 @@ ghost use Rattle.prism_check.specs.Views.{demand_by};
 ghost use Rattle.name_rules.specs.Least.{soonest};
 ghost use Rattle.name_rules.specs.Names.{has_name};
 ghost use Rattle.prism_check.specs.NameFaults.{loses_name, some_used, unknown_in, unknown_names};
-ghost use Rattle.prism_check.specs.Tables.{IsScope, body_in, commands_in, module_under, vars_in};
+ghost use Rattle.prism_check.specs.Tables.{IsScope, body_in, body_under, commands_in, module_under, vars_in};
 
 use crate::demands::{Demand, add_all, contents_demands, outer_demands};
 use crate::lost_names::{Reading, loses_name};
@@ -205,10 +205,11 @@ fn copy_loses_name(
 // Whether some name in the contents of a module is lost.
 fn contents_lose_name<'b>(
     alloc: Global,
-    formulas: &'b [PrismFormula],
-    from: Option<&PrismModule>,
-    reading: &Reading,
+    formulas: &[PrismFormula],
+    from: Option<&'b PrismModule>,
+    reading: &Reading<'_, 'b, '_>,
 ) -> Result<bool, AllocError>
+    requires { (x : List ℕ) → body_under reading.now.formulas.now x ≡ body_in formulas.now x }
     ensures { let contents = option_map (λ m. module_of m.now) from.entry in
         IfOk result
         (λ b. b

@@ -1,11 +1,12 @@
 // Tables by name in which the first of one name counts.
-ghost use Rattle.std.specs.Prelude.{◌≡◌, is_some, List, ℕ, IfOk, if◌then◌else◌, Some, None};
+ghost use Rattle.std.specs.Prelude.{◌≡◌, ◌++◌, is_some, List, ℕ, map, IfOk, OnOk, if◌then◌else◌, Some, None};
 ghost use Rattle.std.specs.Option.{option_map};
 ghost use Rattle.prism_tree.specs.Syntax.{module_of};
 ghost use Rattle.prism_flat.specs.Names.{module_name};
+ghost use Rattle.name_rules.specs.Uses.{used};
 ghost use Rattle.prism_check.specs.Tables.{body_in, body_under, module_under, new_name, pair_for, name_under, named_module};
 
-use name_rules::NameMap;
+use name_rules::{NameMap, add_names};
 use prism_tree::{NamePair, PrismExpr, PrismFormula, PrismModule};
 use std::alloc::{AllocError, Global};
 
@@ -129,5 +130,16 @@ impl<'a> Formulas<'a> {
         ensures { result ≡ is_some (body_under self.now name.now) }
     {
         self.bodies.get(name).is_some()
+    }
+
+    /// Adds the names in the body of the formula of this name, if there is one. `Err` is want of memory.
+    pub(crate) fn add_names(&self, name: &str, list: &mut Vec<&'a str>) -> Result<(), AllocError>
+        ensures { OnOk result
+            (map (λ s. s.now) list.new.items ≡ map (λ s. s.now) list.old.items ++ used (body_under self.now name.now)) }
+    {
+        match self.bodies.get(name) {
+            Some(body) => add_names(body, list),
+            None => Ok(()),
+        }
     }
 }

@@ -4,7 +4,6 @@ ghost use Rattle.std.specs.Prelude.{◌≡◌, ◌+◌, map, max, unwrap_or};
 ghost use Rattle.op_trees.specs.Tree.{capped, tree};
 ghost use Rattle.prism_flat.specs.Sizes.{height_by, nodes_by};
 ghost use Rattle.prism_check.specs.Counted.{height_in, highest, leaf, nodes_in, nodes_of, nothing};
-ghost use Rattle.prism_check.specs.Demands.{expression_of};
 ghost use Rattle.name_rules.specs.Names.{under};
 ghost use Rattle.prism_check.specs.Views.{demand_by};
 
@@ -102,17 +101,7 @@ pub(crate) fn measure_all(demands: &[Demand], names: &NameMap<Size>) -> Size
 {
     let mut all = Size::nothing();
     for demand in demands {
-        all = all.beside(measure(expression(demand), names));
+        all = all.beside(measure(demand.expression(), names));
     }
     all
-}
-
-fn expression<'a>(demand: &Demand<'a>) -> &'a PrismExpr
-    ensures { tree result.now ≡ expression_of (demand_by demand.now) }
-{
-    match demand {
-        Demand::Fixed(_, e) => e,
-        Demand::Varying(_, e) => e,
-        Demand::Written(_, write) => &write.value,
-    }
 }
