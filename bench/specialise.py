@@ -1,5 +1,5 @@
 #!/usr/bin/env python3
-"""Times `bridge specialise` on PRISM files of 1 to 8 MB whose commands name an open constant, and on what `to-jani` writes for them, beside `check`.
+"""Times `bridge specialise` on PRISM files of 0.5 to 4 MB whose commands name an open constant, and on what `to-jani` writes for them, beside `check`.
 
     bench/specialise.py [--program crates/bridge/out/bridge] [--runs 3]
 
@@ -12,6 +12,8 @@ import subprocess
 import tempfile
 
 from timing import MEGA, growth, timed, words
+
+LONGEST = 16777216  # of the files that are read
 
 
 def commands(size):
@@ -28,13 +30,15 @@ def main():
     with tempfile.TemporaryDirectory() as room:
         os.chdir(room)
         before = {}
-        for size in (1, 2, 4, 8):
+        for size in (0.5, 1, 2, 4):
             with open("prism", "w") as f:
-                f.write(commands(size * MEGA))
+                f.write(commands(int(size * MEGA)))
             with open("jani", "w") as f:
                 subprocess.run([program, "to-jani", "prism"], stdout=f, check=True)
             for lang in ("prism", "jani"):
                 length = os.path.getsize(lang)
+                if length > LONGEST:
+                    continue
                 seconds, memory = min(timed([program, "specialise", lang, lang, "p=1/3", "N=5"]) for _ in range(runs))
                 check, _ = min(timed([program, "check", lang, lang]) for _ in range(runs))
                 print("%-10s %7.2f %11.4f %7s %6.1fx %9.4f %6.1f" % (
