@@ -162,8 +162,9 @@ def actions_beside_structures(n):
 
 @kind("simulate prism f seed 1 1", most=200000)
 def rewards_of_actions_beside_structures(n):
-    """As many actions as reward structures, all but one without items, and an item of that for each action."""
-    return prism("", "module M x : [0..2];\n" + each(n, "[a@] x=1 -> true;\n") + "endmodule\n" + "rewards " + each(n, "[a@] true : 1;\n") + "endrewards\n" + "rewards endrewards\n" * n)
+    """As many actions as reward structures, all but one without items, and an item of that for each of the first thousand actions."""
+    items = "rewards " + each(min(n, 1000), "[a@] true : 1;\n") + "endrewards\n"
+    return prism("", "module M x : [0..2];\n" + each(n, "[a@] x=1 -> true;\n") + "endmodule\n" + items + "rewards endrewards\n" * n)
 
 
 @kind("simulate prism f seed 1 1")
@@ -519,7 +520,7 @@ def row(it, command, sizes):
         size = written(files)
         spent, memory, status = measured(command + words, "out")
         out, growth = os.path.getsize("out"), None
-        if status == it.status and before and before[1] >= LEAST and count > before[0]:
+        if status == it.status and before and before[1] >= LEAST and count > 1.4 * before[0]:
             growth = (spent / before[1]) ** (1 / math.log2(count / before[0]))
         before = count, spent
         print("%-42s %8d %7.2f %8.3f %6s %8.1f %7.1f %9.1f %6d  %s" % (
