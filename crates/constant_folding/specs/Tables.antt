@@ -1,4 +1,5 @@
 -- What the table of known constants stands for.
+-- (PRISM manual, "The PRISM Language": "Constants"; jani-model specification, "Models": "constants".)
 use Rattle.std.specs.Prelude.{◌≡◌, List, None, unwrap_or}
 use Rattle.name_rules.specs.Names.{under}
 use Rattle.op_trees.specs.Meaning.{Meaning}

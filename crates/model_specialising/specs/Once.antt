@@ -1,4 +1,5 @@
 -- How specialising a model ends is fixed by the bytes of its file and the words: statements, which are proved of a function of this crate.
+-- (A rule of this project.)
 use Rattle.std.specs.Prelude.{◌≡◌, ℕ, List}
 use Rattle.bridge_io.specs.declared.reason.Fault.{Fault}
 use Rattle.command_words.specs.Words.{Specialising}

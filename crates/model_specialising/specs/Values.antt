@@ -1,4 +1,5 @@
 -- What comes of the given values, of which those before the first that is past the bound are looked at.
+-- (The bound is that of exact fractions; which value is told first is a rule of this project.)
 use Rattle.std.specs.Prelude.{◌≡◌, ◌⊎◌, ℕ, ◌+◌, List, Some, None}
 use Rattle.instance_start.specs.Description.{Constant}
 use Rattle.command_words.specs.Given.{Assignment}

@@ -1,4 +1,5 @@
 -- A specialised file of the profile is of the profile.
+-- (jani-model specification, "Models"; the faults are those of this project's profile.)
 use Rattle.process_core.specs.Instance.{Valuation}
 use Rattle.jani_tree.specs.Syntax.{File}
 use Rattle.jani_check.specs.Faults.{IsChecked}

@@ -1,4 +1,6 @@
 -- A specialised JANI file means the same wherever the given constants have their given values.
+-- (jani-model specification, "Models": a constant without "value" is a parameter of the model, which is given its value later. That giving it
+-- in the file changes nothing else is what is proved.)
 use Rattle.std.specs.Prelude.{◌≡◌, ℕ, map, Some, None}
 use Rattle.op_trees.specs.Seen.{known}
 use Rattle.op_trees.specs.declared.tree.Value.{Value}

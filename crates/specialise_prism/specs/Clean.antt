@@ -1,4 +1,5 @@
 -- A specialised file has no fault of names and none of types, and texts spell it.
+-- (PRISM manual, "The PRISM Language"; the faults are those of this project's profile.)
 use Rattle.process_core.specs.Instance.{Valuation}
 use Rattle.prism_tree.specs.Syntax.{File}
 use Rattle.prism_check.specs.Flattened.{IsFlat}

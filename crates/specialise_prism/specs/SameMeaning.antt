@@ -1,4 +1,6 @@
 -- A specialised file means the same wherever the given constants have their given values.
+-- (PRISM manual, "The PRISM Language": "Constants": a constant that is left undefined is given its value later. That giving it in the file
+-- changes nothing else is what is proved.)
 use Rattle.std.specs.Prelude.{◌≡◌, map, false, Some, None, bytes_eq}
 use Rattle.std.specs.List.{list_any}
 use Rattle.op_trees.specs.Seen.{known}
