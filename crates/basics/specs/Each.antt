@@ -1,6 +1,6 @@
 -- A fact of each member of a list, as a walk over it: `AllByRecursion` of std, which computes. `List.Elements` of std's lemmas
 -- goes between it and `All`.
-use Rattle.std.proofs.Common.{◌≡◌, ℕ, zero, suc, Bool, true, false, ◌||◌, List, [], ◌∷◌, ◌++◌, map, take, drop, zip, filter, flat_map, slice_get, find, option_map, cond, Option, Some, None, if◌then◌else◌, refl, ap₂}
+use Rattle.std.proofs.Common.{◌≡◌, ℕ, zero, suc, Bool, true, false, ◌||◌, List, [], ◌∷◌, ◌++◌, map, take, drop, zip, filter, flat_map, slice_get, find, option_map, cond, Option, Some, None, if◌then◌else◌, refl, ap₂, subst}
 use Rattle.std.specs.List.{list_any, AllByRecursion as Each}
 use Rattle.std.proofs.lemmas.Bool.{or_parts}
 use Rattle.basics.specs.Lists.{append_parts, append_both}
@@ -21,6 +21,11 @@ each_unit (x ∷ xs) = (tt, each_unit xs)
 pub each_at : {A : Type 0} (P : A → Type 0) (xs : List A) → ((i : ℕ) (x : A) → slice_get xs i ≡ Some x → P x) → Each P xs
 each_at P [] h = tt
 each_at P (x ∷ xs) h = (h 0 x refl, each_at P xs (λ i y e. h (suc i) y e))
+
+pub at_each : {A : Type 0} (P : A → Type 0) (xs : List A) (i : ℕ) (x : A) → Each P xs → slice_get xs i ≡ Some x → P x
+at_each P [] i x h e = absurd cc
+at_each P (y ∷ xs) zero x h e = let q : y ≡ x = cc in subst P q h.0
+at_each P (y ∷ xs) (suc i) x h e = at_each P xs i x h.1 e
 
 -- ---- of lists made of others
 

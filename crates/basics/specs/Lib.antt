@@ -1,6 +1,7 @@
 pub mod Booleans
 pub mod Numbers
 pub mod Options
+pub mod Results
 pub mod Lists
 pub mod Each
 pub mod Mapped

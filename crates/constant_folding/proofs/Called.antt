@@ -8,7 +8,3 @@ pub put_seen : {A B : Type 0} (f : A → B) (old : Option A) (b : Bool) (a : A) 
 put_seen f None true a rest = refl
 put_seen f None false a rest = refl
 put_seen f (Some y) b a rest = refl
-
-pub only_seen : {A : Type 0} (o : Option A) → o ≡ option_or o None
-only_seen None = refl
-only_seen (Some y) = refl

@@ -1,5 +1,5 @@
 -- What follows where all given values fit.
-use Rattle.std.specs.Prelude.{◌≡◌, ℕ, List, [], ◌∷◌, map, Bool, true, false, not, Some, None, Result, Ok, Err, IfOk, IsTrue, is_none, bytes_eq, if◌then◌else◌}
+use Rattle.std.specs.Prelude.{◌≡◌, ℕ, List, [], ◌∷◌, map, Bool, true, false, not, Some, None, Result, Ok, Err, IfOk, is_none, bytes_eq, if◌then◌else◌}
 use Rattle.std.specs.List.{list_any, AllByRecursion as Each}
 use Rattle.std.specs.Option.{option_map}
 use Rattle.std.proofs.Common.{refl, sym, subst, ap, ap₂, ◌∙◌}
@@ -7,30 +7,21 @@ use Rattle.std.proofs.Math.Path.{fun_ext}
 use Rattle.std.proofs.lemmas.Slice.Eq.{bytes_eq-Decides}
 use Rattle.basics.specs.Booleans.{first_false, second_false, second_true}
 use Rattle.basics.specs.Mapped.{found_mapped}
-use Rattle.op_trees.specs.declared.tree.Ty.{Ty}
 use Rattle.op_trees.specs.declared.tree.Ty.TheVariants as T
 use Rattle.op_trees.specs.declared.tree.Value.{Value}
 use Rattle.op_trees.specs.declared.tree.Value.TheVariants as V
 use Rattle.op_trees.specs.Meaning.{Meaning, is_wide_value}
 use Rattle.op_trees.specs.Names.{is_called}
-use Rattle.op_trees.specs.Types.{has_type}
 use Rattle.process_core.specs.Ready.{Name}
 use Rattle.process_core.specs.Instance.{Valuation}
 use Rattle.process_core.specs.declared.data.Given.{Given}
 use Rattle.instance_start.specs.Description.{Constant}
+use Rattle.instance_start.proofs.Givens.{taken_typed}
 use Rattle.instance_start.specs.Given.{given_by, takes, constant_called, is_taken, fits}
 use Rattle.constant_folding.specs.declared.table.KnownTable.{KnownTable}
 use Rattle.constant_folding.specs.Constants.{AnyConst, described, known_constants}
 use Rattle.constant_folding.specs.Tables.{IsKnownUnder, given_in, known_in}
 use Rattle.constant_folding.specs.Unfit.{AreFitting, IsSmall, unfit}
-
-takes_typed : (t : Ty) (v : Value) → takes t v ≡ true → IsTrue (has_type t v)
-takes_typed T.Bool (V.Truth b) h = refl
-takes_typed T.Bool (V.Number q) h = cc
-takes_typed T.Int (V.Truth b) h = cc
-takes_typed T.Int (V.Number q) h = h
-takes_typed T.Real (V.Truth b) h = cc
-takes_typed T.Real (V.Number q) h = refl
 
 not_not : (b : Bool) → not b ≡ false → b ≡ true
 not_not true h = refl
@@ -60,7 +51,7 @@ all_fitting cs given h = record {
       let taken = given_fits (map described cs) given (none_unfit _ _ h) x y e in
       let found : is_taken (Some (described c)) y ≡ true =
       sym (ap (λ o. is_taken o y) (found_mapped described (λ d. bytes_eq d.name x) (λ d. is_called x d.name) (λ d. refl) cs ∙ ap (option_map described) k)) ∙ taken in
-      takes_typed c.ty y (second_true (is_none c.value) (takes c.ty y) found);
+      taken_typed c.ty y (second_true (is_none c.value) (takes c.ty y) found);
 }
 
 pub all_are_small : (given : List Given) → Each (λ g. is_wide_value (Some g.value) ≡ false) given → IsSmall (given_by given)

@@ -24,7 +24,8 @@ use Rattle.constant_folding.specs.declared.constants.AnyConst as code
 use Rattle.constant_folding.specs.Known.{Known, worth}
 use Rattle.constant_folding.specs.Constants.{AnyConst, const_of, called, declared, RanksBelow, IsRank, fixed_as, known_by, known_const, known_within, known_constants}
 use Rattle.constant_folding.proofs.Kept.{summary_agree_on}
-use Rattle.constant_folding.proofs.Turns.{each_name, const_at, found_const, declared_there, left_in_turn, turn_of, ranked}
+use Rattle.name_rules.proofs.InTurn.{left_in_turn, turn_of}
+use Rattle.constant_folding.proofs.Turns.{each_name, const_at, found_const, declared_there, ranked}
 
 -- the constant that has its turn
 pub const_there : {O : Type 0} (cs : List (code.AnyConst O)) (turns : List ℕ) → All (λ t. t < length (map declared (map const_of cs))) turns → (k : ℕ) → k < length turns →

@@ -15,11 +15,11 @@ use Rattle.frac_core.specs.Results.{narrow, narrow_small, narrow_wide_den}
 use Rattle.frac_core.proofs.Parts.{lowest_wide_size, nat_abs-signed}
 use Rattle.frac_core.specs.declared.fraction.FracFail.TheVariants.{Wide}
 
-signed-zero : (b : Bool) → signed b 0 ≡ pos 0
+pub signed-zero : (b : Bool) → signed b 0 ≡ pos 0
 signed-zero true = refl
 signed-zero false = refl
 
-signed-mul : (b : Bool) (n m : ℕ) → signed b (n * m) ≡ signed b n *ℤ pos m
+pub signed-mul : (b : Bool) (n m : ℕ) → signed b (n * m) ≡ signed b n *ℤ pos m
 signed-mul true n m = sym (neg_ℤ-*ℤ (pos n) (pos m))
 signed-mul false n m = refl
 

@@ -1,5 +1,5 @@
 pub mod Parts
-mod Decimals
+pub mod Decimals
 pub mod Digits
 pub mod Readings
 pub mod Worth

@@ -27,7 +27,7 @@ strip_product left zeros n h e =
     let r : left / 10 * (10 ^ zeros * 10) ≡ left / 10 * 10 * 10 ^ zeros = ap (λ (u : ℕ). left / 10 * u) (mul_comm (10 ^ zeros) 10) ∙ sym (mul_assoc (left / 10) 10 (10 ^ zeros)) in
     ap (λ (u : ℕ). left / 10 * u) p ∙ r ∙ ap (λ (u : ℕ). u * 10 ^ zeros) q ∙ e
 
-at_most : (left zeros n : ℕ) → 0 < left → left * 10 ^ zeros ≡ n → 10 ^ zeros ≤ n
+pub at_most : (left zeros n : ℕ) → 0 < left → left * 10 ^ zeros ≡ n → 10 ^ zeros ≤ n
 at_most left zeros n l e = let a = mul_one_le (10 ^ zeros) left l in let b : 10 ^ zeros * left ≡ left * 10 ^ zeros = mul_comm (10 ^ zeros) left in omega arith
 
 pub few_zeros : (left zeros n : ℕ) → 0 < left → left * 10 ^ zeros ≡ n → n < 10 ^ 38 → zeros ≤ 38
@@ -37,12 +37,12 @@ few_zeros left zeros n l e h = few (nat_le 38 zeros) refl
     few true f = let a : 38 ≤ zeros = grind (arith, nat_tests) in let b : 10 ^ 38 ≤ 10 ^ zeros = pow-le-pow_right (omega arith) a in absurd (let c = at_most left zeros n l e in omega arith)
     few false f = grind (arith, nat_tests)
 
-strip_stop : (k n : ℕ) (m : Bool) (e : ℤ) → n % 10 ≢ 0 → stripped k m n e ≡ literal true m n e
+pub strip_stop : (k n : ℕ) (m : Bool) (e : ℤ) → n % 10 ≢ 0 → stripped k m n e ≡ literal true m n e
 strip_stop zero n m e h = refl
 strip_stop (suc k) n m e h = let f : nat_eq (n % 10) 0 ≡ false = grind (arith, nat_tests) in ap (λ (b : Bool). if b then stripped k m (n / 10) (e +ℤ pos 1) else literal true m n e) f
 
 -- so many zeros at the end of the digits
-strip_zeros : (k d j : ℕ) (m : Bool) (e : ℤ) → j ≤ k → d % 10 ≢ 0 → stripped k m (d * 10 ^ j) e ≡ literal true m d (e +ℤ pos j)
+pub strip_zeros : (k d j : ℕ) (m : Bool) (e : ℤ) → j ≤ k → d % 10 ≢ 0 → stripped k m (d * 10 ^ j) e ≡ literal true m d (e +ℤ pos j)
 strip_zeros k d zero m e l h =
     let a : d * 10 ^ 0 ≡ d = omega arith in
     let b : e ≡ e +ℤ pos 0 = omega (arith, ints) in
@@ -123,7 +123,7 @@ beyond_none w h = go (is_beyond w) h
     go true h = refl
     go false h = absurd cc
 
-stripped_sign : (k n : ℕ) (m : Bool) (e : ℤ) → (stripped k m n e).negative ≡ m
+pub stripped_sign : (k n : ℕ) (m : Bool) (e : ℤ) → (stripped k m n e).negative ≡ m
 stripped_sign zero n m e = refl
 stripped_sign (suc k) n m e = go (nat_eq (n % 10) 0) (stripped_sign k (n / 10) m (e +ℤ pos 1))
   where
@@ -208,7 +208,7 @@ module _ (w : List ℕ) (r : Reading) (read : r ≡ capped (reading_of w)) where
 
 -- ---- the normal form
 
-stripped_normal : (k n : ℕ) (m : Bool) (e : ℤ) → 0 < n → n < 10 ^ k → is_normal (stripped k m n e) ≡ true
+pub stripped_normal : (k n : ℕ) (m : Bool) (e : ℤ) → 0 < n → n < 10 ^ k → is_normal (stripped k m n e) ≡ true
 stripped_normal zero n m e l h = absurd (omega (arith, l, h))
 stripped_normal (suc k) n m e l h = go (nat_eq (n % 10) 0) refl (λ p q. stripped_normal k (n / 10) m (e +ℤ pos 1) p q)
   where

@@ -16,7 +16,7 @@ use Rattle.instance_start.specs.Description.{Constant}
 use Rattle.instance_start.specs.Firsts.{begins_right}
 use Rattle.instance_start.specs.Given.{given_by, misfit, fits, takes, is_taken, is_missing, constant_called}
 
-taken_typed : (t : Ty) (v : Value) → takes t v ≡ true → IsTrue (has_type t v)
+pub taken_typed : (t : Ty) (v : Value) → takes t v ≡ true → IsTrue (has_type t v)
 taken_typed T.Bool (V.Truth b) h = refl
 taken_typed T.Bool (V.Number q) h = absurd cc
 taken_typed T.Int (V.Truth b) h = absurd cc

@@ -1,5 +1,5 @@
 mod Places
 mod Settled
-mod Called
+pub mod Called
 pub mod Givens
 pub mod Numbered

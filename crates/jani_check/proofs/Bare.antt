@@ -255,7 +255,7 @@ name_faults-bare file =
     (joined placeless (circles (bare_file file)) _ (circles file) _ (circles-bare file) (composition-bare file)))
 
 -- ---- what names stand for
-var_thing-bare : (x : Var) → var_thing (bare_var x) ≡ var_thing x
+pub var_thing-bare : (x : Var) → var_thing (bare_var x) ≡ var_thing x
 var_thing-bare x = ap (λ t. if x.transient then Transient t else Variable t) (type_of_kind-bare x.kind)
 
 thing_found : (xs : List Var) (x : Name) → option_map var_thing (var_called (map bare_var xs) x) ≡ option_map var_thing (var_called xs x)

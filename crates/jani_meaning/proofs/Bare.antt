@@ -1,5 +1,5 @@
 -- What a JANI file means does not depend on the places that its tree keeps.
-use Rattle.std.specs.Prelude.{◌≡◌, ℕ, zero, suc, ◌+◌, ◌-◌, List, [], ◌∷◌, ◌++◌, map, length, Bool, not, ◌&&◌, Option, Some, None, unwrap_or, slice_get, if◌then◌else◌}
+use Rattle.std.specs.Prelude.{◌≡◌, ℕ, zero, suc, ◌+◌, ◌-◌, List, [], ◌∷◌, ◌++◌, map, length, Bool, false, not, ◌&&◌, Option, Some, None, unwrap_or, slice_get, if◌then◌else◌}
 use Rattle.std.specs.List.{find, filter, flat_map}
 use Rattle.std.specs.Option.{option_map, option_or}
 use Rattle.std.proofs.Common.{refl, sym, ap, ap₂, ◌∙◌}
@@ -20,7 +20,7 @@ use Rattle.jani_tree.specs.Syntax.{Expression, Const, VarKind, boolean, integer,
 use Rattle.jani_tree.specs.Syntax as syntax
 use Rattle.op_trees.specs.Names.{bare_name, is_called}
 use Rattle.jani_tree.specs.Places.{bare_const, bare_kind, bare_var, bare_write, bare_location, bare_destination, bare_edge, bare_automaton, bare_vector, bare_part, bare_file}
-use Rattle.process_core.specs.Instance.{Valuation, Between, numbered, models_alike}
+use Rattle.process_core.specs.Instance.{Valuation, Between, numbered, models_alike, no_condition}
 use Rattle.basics.specs.Mapped.{found_mapped, kept_mapped, position_mapped}
 use Rattle.jani_meaning.specs.Elements.{nothing_called, automaton_called, elements, location_number, first_number, initial_number, Owned, owned_by, variables, is_boolean, is_lasting, lasting, is_label, labels, is_structure, structures, is_own, is_global, place_of, column_number, structure_number}
 use Rattle.jani_meaning.specs.Scene.{see, counted, constant_called, constant_seen, constant_value, constant_within, constant, constant_names, location_column, domain_of, start_of, column, columns_of, scene}
@@ -44,7 +44,7 @@ unfolding see
 see-bare e names = seen-bare jani_meaning e names
 
 -- ---- elements
-abbrev bare_owned : Owned → Owned
+abbrev pub bare_owned : Owned → Owned
 bare_owned o = record { owner = o.owner; var = bare_var o.var }
 
 number-bare : (a : Automaton) (x : Name) → location_number (bare_automaton a) x ≡ location_number a x
@@ -59,7 +59,7 @@ initial-bare a = of_list a.initial
 
 location-bare : (a : Automaton) → location_column (bare_automaton a) ≡ location_column a
 location-bare a =
-    ap₂ (λ n i. record { name = a.name.name; domain = Between (counted 0) (counted (n - 1)); first = counted i })
+    ap₂ (λ n i. record { name = a.name.name; domain = Between (counted 0) (counted (n - 1)); first = Some (counted i) })
     (length-map a.locations bare_location) (initial-bare a)
 
 boolean-bare : (k : VarKind) → is_boolean (bare_kind k) ≡ is_boolean k
@@ -110,13 +110,13 @@ module _ (file : File) where
   chosen-bare : (p : Owned → Bool) → ((o : Owned) → p (bare_owned o) ≡ p o) → filter p (variables (bare_file file)) ≡ map bare_owned (filter p (variables file))
   chosen-bare p h = ap (filter p) variables-bare ∙ kept_mapped bare_owned p p h (variables file)
 
-  lasting-bare : lasting (bare_file file) ≡ map bare_owned (lasting file)
+  pub lasting-bare : lasting (bare_file file) ≡ map bare_owned (lasting file)
   lasting-bare = chosen-bare is_lasting (λ o. refl)
 
-  labels-bare : labels (bare_file file) ≡ map bare_owned (labels file)
+  pub labels-bare : labels (bare_file file) ≡ map bare_owned (labels file)
   labels-bare = chosen-bare is_label (λ o. ap (λ b. o.var.transient && b) (boolean-bare o.var.kind))
 
-  structures-bare : structures (bare_file file) ≡ map bare_owned (structures file)
+  pub structures-bare : structures (bare_file file) ≡ map bare_owned (structures file)
   structures-bare = chosen-bare is_structure (λ o. ap (λ b. o.var.transient && not b) (boolean-bare o.var.kind))
 
   column_number-bare : (i : ℕ) (x : Name) → column_number (bare_file file) i x ≡ column_number file i x
@@ -150,7 +150,7 @@ start-bare names None = refl
 start-bare names (Some e) = see-bare e names
 
 column-bare : (names : Name → Seen) (x : Var) → column names (bare_var x) ≡ column names x
-column-bare names x = ap₂ (λ d f. record { name = x.name.name; domain = d; first = f }) (domain-bare names x.kind) (start-bare names x.start)
+column-bare names x = ap₂ (λ d f. record { name = x.name.name; domain = d; first = Some f }) (domain-bare names x.kind) (start-bare names x.start)
 
 module _ (file : File) (v : Valuation) where
   called_const-bare : (x : Name) → constant_called (bare_file file) x ≡ option_map bare_const (constant_called file x)
@@ -178,9 +178,9 @@ module _ (file : File) (v : Valuation) where
       ∙ map_agree _ _ (λ o. column-bare (constant_names (bare_file file) v) o.var) (lasting file)
       ∙ ap (λ names. map (λ o. column names o.var) (lasting file)) names-bare)
 
-  scene-bare : scene (bare_file file) v ≡ scene file v
+  pub scene-bare : scene (bare_file file) v ≡ scene file v
   scene-bare =
-      ap₂ (λ a b. record { constants = a; columns = b })
+      ap₂ (λ a b. record { constants = a; columns = b; has_condition = false })
       (map-map (λ c. constant_seen (v c.name.name) (constant_names (bare_file file) v) c.value) bare_const file.constants
       ∙ map_agree _ _ (λ c. constant_seen-bare (v c.name.name) (constant_names (bare_file file) v) c.value) file.constants
       ∙ ap (λ names. map (λ c. constant_seen (v c.name.name) names c.value) file.constants) names-bare)
@@ -283,18 +283,18 @@ module _ (file : File) (v : Valuation) where
         ap₂ (λ ps r. record { parts = ps; result = r })
         (map-map (option_map (λ x. x.name)) bare_part x.parts ∙ map_agree _ _ parts-bare x.parts) (action-bare x.result)
 
-    moment-bare : moment (bare_file file) v s ≡ moment file v s
+    pub moment-bare : moment (bare_file file) v s ≡ moment file v s
     moment-bare =
         ap₂ {B = List Vector → List Seen → List Seen → Moment} (λ vs g. g vs (map (transient_at (bare_file file) v s) (labels (bare_file file))) (map (transient_at (bare_file file) v s) (structures (bare_file file))))
         (map-map vector_of bare_vector file.vectors ∙ map_agree _ _ vector-bare file.vectors)
-        (ap (λ es vs ls rs. record { elements = es; vectors = vs; labels = ls; rewards = rs })
+        (ap (λ es vs ls rs. record { condition = no_condition; elements = es; vectors = vs; labels = ls; rewards = rs })
         (gathered-bare file (λ i a. element_at (bare_file file) v s i a ∷ []) (λ i a. element_at file v s i a ∷ []) (λ i a. ap (λ r. r ∷ []) (element-bare i a))))
-        ∙ ap₂ (λ ls rs. record { elements = numbered (λ i a. element_at file v s i a ∷ []) 0 (elements file); vectors = map vector_of file.vectors; labels = ls; rewards = rs })
+        ∙ ap₂ (λ ls rs. record { condition = no_condition; elements = numbered (λ i a. element_at file v s i a ∷ []) 0 (elements file); vectors = map vector_of file.vectors; labels = ls; rewards = rs })
         (transients-bare (labels (bare_file file)) (labels file) (labels-bare file)) (transients-bare (structures (bare_file file)) (structures file) (structures-bare file))
 
 -- ---- the process
 pub model-bare : (file : File) → model (bare_file file) ≡ model file
-model-bare file = models_alike _ _ _ _ _ _ (scene-bare file) (λ v s. ap marks (moment-bare file v s)) (λ v s. ap (λ k. choices k s) (moment-bare file v s))
+model-bare file = models_alike _ _ _ _ _ _ _ _ (scene-bare file) (λ v s. ap (λ k. k.condition) (moment-bare file v s)) (λ v s. ap marks (moment-bare file v s)) (λ v s. ap (λ k. choices k s) (moment-bare file v s))
 
 pub places_mean_nothing : (f g : File) → PlacesMeanNothing f g
 places_mean_nothing f g e = sym (model-bare f) ∙ ap model e ∙ model-bare g

@@ -1,13 +1,13 @@
 // A copy of a value, whose lists are its own.
-ghost use Rattle.std.specs.Prelude.{◌≡◌, IfOk, map};
-ghost use Rattle.jani_table.specs.Node.{named_node, node};
+ghost use Rattle.std.specs.Prelude.{◌≡◌, IfOk, IsOkAnd, map};
+ghost use Rattle.jani_table.specs.Node.{array, fields, named_node, node, nodes, object, text};
 
 use bridge_io::{List, Named, Text, together};
 use decimal_json::{Json, Member};
 use std::alloc::{AllocError, Global};
 
-/// The same name, offset too.
-fn copy_name(alloc: Global, name: &Named) -> Result<Named, AllocError>
+/// The same name, offset too. `Err` is want of memory.
+pub fn copy_name(alloc: Global, name: &Named) -> Result<Named, AllocError>
     ensures { IfOk result (λ copy. copy ≡ name.now) }
 {
     let text = Text::copy_of(alloc, name.name.as_str())?;
@@ -46,18 +46,42 @@ fn copy_members(alloc: Global, members: &[Member]) -> Result<List<Member>, Alloc
 
 /// The same value, offsets too. `Err` is want of memory.
 #[cycle(copy_json)]
-pub(crate) fn copy_json(alloc: Global, value: &Json) -> Result<Json, AllocError>
+pub fn copy_json(alloc: Global, value: &Json) -> Result<Json, AllocError>
     ensures { IfOk result (λ copy. node copy ≡ node value.now) }
 {
     match value {
         Json::Null(at) => Ok(Json::Null(*at)),
         Json::Truth(at, b) => Ok(Json::Truth(*at, *b)),
         Json::Number(at, d) => Ok(Json::Number(*at, *d)),
-        Json::Str(at, s) => Ok(Json::Str(*at, Text::copy_of(alloc, s.as_str())?)),
-        Json::Array(at, items) => Ok(Json::Array(*at, copy_items(alloc, items.as_slice())?)),
+        Json::Str(at, s) => text_of(*at, Text::copy_of(alloc, s.as_str())),
+        Json::Array(at, items) => array_of(*at, copy_items(alloc, items.as_slice())),
         Json::Object(at, members, close) => {
-            let copies = copy_members(alloc, members.as_slice())?;
-            Ok(Json::Object(*at, copies, *close))
+            object_of(*at, copy_members(alloc, members.as_slice()), *close)
         }
     }
+}
+
+/// A text that was copied, as a value.
+fn text_of(at: usize, made: Result<Text, AllocError>) -> Result<Json, AllocError>
+    ensures { IfOk result (λ copy. IsOkAnd made (λ s. node copy ≡ text at s)) }
+{
+    Ok(Json::Str(at, made?))
+}
+
+/// Items that were copied, as a value.
+fn array_of(at: usize, made: Result<List<Json>, AllocError>) -> Result<Json, AllocError>
+    ensures { IfOk result (λ copy. IsOkAnd made (λ items. node copy ≡ array at (nodes items))) }
+{
+    Ok(Json::Array(at, made?))
+}
+
+/// Members that were copied, as a value.
+fn object_of(
+    at: usize,
+    made: Result<List<Member>, AllocError>,
+    close: usize,
+) -> Result<Json, AllocError>
+    ensures { IfOk result (λ copy. IsOkAnd made (λ members. node copy ≡ object at (fields members) close)) }
+{
+    Ok(Json::Object(at, made?, close))
 }

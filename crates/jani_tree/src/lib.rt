@@ -11,6 +11,7 @@ mod spell;
 mod syntax;
 mod write;
 
+pub use copy::{copy_json, copy_name};
 pub use jani_table::JaniOp;
 pub use laws::{places_law, reads_back_law, written_law};
 pub use read::from_json;

@@ -1,7 +1,8 @@
 -- How carrying a path ends is fixed by the bytes of both files and the words.
-use Rattle.std.specs.Prelude.{◌≡◌, ◌≢◌, ◌||◌, ℕ, zero, suc, ◌+◌, List, [], ◌∷◌, false, Result, Ok, Err}
+use Rattle.std.specs.Prelude.{◌≡◌, ◌≢◌, ◌||◌, ℕ, zero, suc, ◌+◌, List, [], ◌∷◌, false, Ok, Err}
 use Rattle.std.proofs.Common.{refl, sym, ap, ap₂, subst, ◌∙◌}
 use Rattle.std.proofs.lemmas.Option.{same_Some}
+use Rattle.basics.specs.Results.{err_same, not_ok, ok_same}
 use Rattle.bridge_io.specs.declared.reason.Fault.{Fault}
 use Rattle.name_rules.specs.Least.{IsLeast}
 use Rattle.name_rules.proofs.Plain.{no_least}
@@ -36,15 +37,6 @@ use Rattle.model_carrying.specs.Counterparts.{Counterpart, HasCounterpart, IsCar
 use Rattle.model_carrying.specs.Ends.{ArePairStartable, EndsOnCarry, IsCarried, IsPathFault, carried, carry_ending, faulty, is_wide_pair, process_there, unfit, wide}
 use Rattle.model_carrying.specs.Once.{CarryEndOrFault, OneCarryEnd, OneCarryFault}
 use Rattle.model_carrying.proofs.JaniPlaces.{jani_alike}
-
-ok_same : {A E : Type 0} (x y : A) → ◌≡◌ {A = Result A E} (Ok x) (Ok y) → x ≡ y
-ok_same x y e = cc
-
-err_same : {A E : Type 0} (x y : E) → ◌≡◌ {A = Result A E} (Err x) (Err y) → x ≡ y
-err_same x y e = cc
-
-not_ok : {A E : Type 0} (x : A) (y : E) → ◌≡◌ {A = Result A E} (Ok x) (Err y) → ⊥
-not_ok x y e = cc
 
 -- ---- counterparts
 same_counterpart : (o p : Counterpart) → o.description ≡ p.description → o.map ≡ p.map → o ≡ p

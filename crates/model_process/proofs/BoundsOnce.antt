@@ -3,6 +3,7 @@ use Rattle.std.specs.Prelude.{◌≡◌, ◌≢◌, ℕ, zero, suc, ◌<◌, Lis
 use Rattle.std.proofs.Common.{refl, sym, ap, subst, ◌∙◌, arith}
 use Rattle.std.proofs.lemmas.Option.{same_Some}
 use Rattle.std.specs.declared.alloc.AllocError.{AllocError}
+use Rattle.basics.specs.Results.{err_same, not_ok, ok_same}
 use Rattle.bridge_io.specs.declared.reason.Fault.{Fault}
 use Rattle.process_core.specs.Steps.{Process}
 use Rattle.command_words.specs.Words.{of_bounds}
@@ -37,15 +38,6 @@ same_place (suc zero) (suc (suc j)) f g l m e = absurd cc
 same_place (suc (suc i)) zero f g l m e = absurd cc
 same_place (suc (suc i)) (suc zero) f g l m e = absurd cc
 same_place (suc (suc i)) (suc (suc j)) f g l m e = (omega (arith, l, m), cc)
-
-err_same : (x y : BoundRefused) → ◌≡◌ {A = Result BoundVerdict BoundRefused} (Err x) (Err y) → x ≡ y
-err_same x y e = cc
-
-ok_same : (x y : BoundVerdict) → ◌≡◌ {A = Result BoundVerdict BoundRefused} (Ok x) (Ok y) → x ≡ y
-ok_same x y e = cc
-
-not_ok : (x : BoundVerdict) (y : BoundRefused) → ◌≡◌ {A = Result BoundVerdict BoundRefused} (Ok x) (Err y) → ⊥
-not_ok x y e = cc
 
 module _ (one : OneAnswer) (p : Process) (states rows name bounds first second third : List ℕ) where
   abbrev Found : Finding → Type 0

@@ -6,7 +6,7 @@ use Rattle.std.proofs.lemmas.Bool.{ne_eqb}
 use Rattle.decimal_json.specs.Text.{behind_commas, with_commas}
 use Rattle.process_core.specs.Ready.{Name}
 use Rattle.process_texts.specs.Texts.{header_text}
-use Rattle.model_process.proofs.StateTexts.{Lacks, lacks_join}
+use Rattle.process_texts.proofs.StateTexts.{Lacks, lacks_join}
 
 glyph_no_feed : (d : ℕ) → nat_eq 10 (digit_glyph false d) ≡ false
 glyph_no_feed d = by_test (nat_lt d 10)

@@ -36,7 +36,7 @@ use Rattle.model_process.proofs.ColumnTexts.{decimal_no_feed, names_no_feed}
 use Rattle.model_process.proofs.Constants.{none_wrong}
 use Rattle.model_process.proofs.ReadNames.{IsReadName}
 use Rattle.model_process.proofs.ReadableProcess.{IsReadableProcess, states_whole}
-use Rattle.model_process.proofs.StateTexts.{Lacks, lacks_join}
+use Rattle.process_texts.proofs.StateTexts.{Lacks, lacks_join}
 
 -- ---- columns
 texts_no_feed : (mark : List ℕ) → Lacks 10 mark → (i n : ℕ) → Each (Lacks 10) (texts_from mark i n)

@@ -4,8 +4,6 @@ pub mod Walks
 pub mod Files
 pub mod Judged
 pub mod Within
-pub mod StateTexts
-pub mod NameTexts
 pub mod ReadNames
 pub mod ColumnTexts
 pub mod ReadableProcess

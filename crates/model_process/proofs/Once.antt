@@ -1,7 +1,8 @@
 -- How a state is shown, a walk ends or a claim is judged is fixed by the bytes of the files and the words.
-use Rattle.std.specs.Prelude.{◌≡◌, ℕ, zero, suc, ◌+◌, List, [], ◌∷◌, Option, Some, None, Result, Ok, Err}
+use Rattle.std.specs.Prelude.{◌≡◌, ℕ, zero, suc, ◌+◌, List, [], ◌∷◌, Option, Some, None, Ok, Err}
 use Rattle.std.proofs.Common.{refl, sym, ap, subst, ◌∙◌}
 use Rattle.std.proofs.lemmas.Option.{same_Some}
+use Rattle.basics.specs.Results.{err_same, not_ok, ok_same}
 use Rattle.bridge_io.specs.declared.reason.Fault.{Fault}
 use Rattle.process_core.specs.Steps.{Process}
 use Rattle.process_core.specs.declared.data.State.{State}
@@ -112,15 +113,6 @@ back (TooMany k) = refl
 
 one_judged : (A : Option Verdict → Type 0) → ((o q : Option Verdict) → A o → A q → o ≡ q) → (v w : Verdict) → Judges A v → Judges A w → v ≡ w
 one_judged A once v w h k = sym (back v) ∙ ap verdict_of (once (answer_of v) (answer_of w) (answered A v h) (answered A w k)) ∙ back w
-
-ok_same : {A E : Type 0} (x y : A) → ◌≡◌ {A = Result A E} (Ok x) (Ok y) → x ≡ y
-ok_same x y e = cc
-
-err_same : {A E : Type 0} (x y : E) → ◌≡◌ {A = Result A E} (Err x) (Err y) → x ≡ y
-err_same x y e = cc
-
-not_ok : {A E : Type 0} (x : A) (y : E) → ◌≡◌ {A = Result A E} (Ok x) (Err y) → ⊥
-not_ok x y e = cc
 
 module _ (path_once : PathOnce) (rows_once : RowsOnce) (path_read : PathReadOnce) (states_read : StatesReadOnce) (rows_read : RowsReadOnce) (bounds_once : OneAnswer) where
   one_path : (p : Process) (file : List ℕ) (a b : ReadPath) → ReadsPath p file (Ok a) → ReadsPath p file (Ok b) → b ≡ a

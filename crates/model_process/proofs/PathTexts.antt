@@ -1,11 +1,7 @@
 -- The text of a walk is a file of its path.
-use Rattle.std.proofs.Common.{◌≡◌, ℕ, ◌+◌, nat_eq, List, [], ◌∷◌, ◌++◌, map, length, Bool, true, false, Option, Some, None, Ok, if◌then◌else◌, All, refl, sym, ap, ap₂, ◌∙◌, subst, append-nil, append_assoc}
+use Rattle.std.proofs.Common.{◌≡◌, ℕ, ◌+◌, nat_eq, List, [], ◌∷◌, ◌++◌, map, length, Bool, true, false, Option, Some, None, Ok, if◌then◌else◌, All, refl, sym, ap, ap₂, ◌∙◌, subst, append_assoc}
 use Rattle.std.specs.List.{list_any, flat_map, slice_index}
-use Rattle.std.specs.Str.{is_utf8}
 use Rattle.std.proofs.lemmas.List.Elements.{All-head, All-tail}
-use Rattle.std.proofs.lemmas.Str.{IsUtf8-from_ascii, is_utf8-from_IsUtf8}
-use Rattle.basics.specs.Booleans.{first_false, second_false}
-use Rattle.basics.specs.Numbers.{nat_eq_comm}
 use Rattle.prism_lex.specs.Tokens.{is_name}
 use Rattle.decimal_json.specs.Text.{escaped, quoted}
 use Rattle.process_core.specs.Product.{map-map}
@@ -14,7 +10,6 @@ use Rattle.process_core.specs.Steps.{Process}
 use Rattle.process_core.specs.declared.data.State.{State}
 use Rattle.process_texts.specs.Given.{is_wide_value}
 use Rattle.process_texts.specs.Laws.{AllWhole, StateReadsBack}
-use Rattle.process_texts.specs.Names.{SpellsName, plain, string}
 use Rattle.process_texts.specs.Texts.{header_text, state_text, name_text}
 use Rattle.step_sim.specs.declared.walk.Step.{Step}
 use Rattle.step_sim.specs.declared.walk.Walk.{Walk}
@@ -25,25 +20,15 @@ use Rattle.row_check.specs.Forms.{IsHeader, IsStepLabel, IsStepLine, ReadsFirst,
 use Rattle.row_check.specs.Texts.{IsStateText}
 use Rattle.walk_texts.specs.Jobs.{IsNarrowStep, IsNarrowWalk}
 use Rattle.walk_texts.specs.Lines.{label_text, step_line, path_text}
-use Rattle.process_texts.proofs.Reading.{string_utf8}
-use Rattle.prism_lex.proofs.NameTexts.{name_ascii}
 use Rattle.model_process.specs.ReadBack.{SpellsLabel, IsReadableStep, IsReadable, path_along}
-use Rattle.model_process.proofs.StateTexts.{Lacks, lacks_join, state_no_feed, state_no_space, state_utf8}
-use Rattle.model_process.proofs.NameTexts.{name_no_feed}
-
--- ---- lines
-one_line : (at : ℕ) (line w rest : List ℕ) → Lacks 10 w → lines_from at line (w ++ 10 ∷ rest) ≡ record { at = at; text = line ++ w } ∷ lines_from (at + length (line ++ w) + 1) [] rest
-one_line at line [] rest h = ap (λ t. record { at = at; text = t } ∷ lines_from (at + length t + 1) [] rest) (sym (append-nil line))
-one_line at line (b ∷ w) rest h =
-    ap (λ c. if c then record { at = at; text = line } ∷ lines_from (at + length line + 1) [] (w ++ 10 ∷ rest) else lines_from at (line ++ b ∷ []) (w ++ 10 ∷ rest))
-    (nat_eq_comm b 10 ∙ first_false (nat_eq 10 b) _ h)
-    ∙ one_line at (line ++ b ∷ []) w rest (second_false (nat_eq 10 b) _ h)
-    ∙ ap (λ t. record { at = at; text = t } ∷ lines_from (at + length t + 1) [] rest) (append_assoc line (b ∷ []) w)
+use Rattle.process_texts.proofs.StateTexts.{Lacks, lacks_join, state_no_feed, state_no_space, state_utf8}
+use Rattle.process_texts.proofs.NameTexts.{name_lacks, spelled_utf8}
+use Rattle.row_check.proofs.OneLine.{line_then, one_line}
 
 -- ---- labels
 label_no_feed : (l : Option Name) → Lacks 10 (label_text l)
 label_no_feed None = refl
-label_no_feed (Some x) = name_no_feed x
+label_no_feed (Some x) = name_lacks x
 
 dash_no_name : is_name (45 ∷ []) ≡ true → ⊥
 dash_no_name e = cc
@@ -62,13 +47,6 @@ no_dash x e = by_test (is_name x) refl e
 abbrev step_of : Step → PathStep
 step_of t = record { label = t.label; state = t.target }
 
--- a line and those behind it
-line_then : (L S R : List ℕ) → (L ++ (32 ∷ (S ++ 10 ∷ []))) ++ R ≡ (L ++ 32 ∷ S) ++ 10 ∷ R
-line_then L S R =
-    append_assoc L (32 ∷ (S ++ 10 ∷ [])) R
-    ∙ ap (λ t. L ++ (32 ∷ t)) (append_assoc S (10 ∷ []) R)
-    ∙ sym (append_assoc L (32 ∷ S) (10 ∷ R))
-
 path_is : (s : State) (ts : List Step) → ◌≡◌ {A = ReadPath} (record { states = s ∷ map (λ t. t.target) ts; labels = map (λ t. t.label) ts }) (path_of s (map step_of ts))
 path_is s ts =
     ap₂ (λ (a : List State) (b : List (Option Name)). let r : ReadPath = record { states = s ∷ a; labels = b } in r) (sym (map-map (λ (t : PathStep). t.state) step_of ts))
@@ -78,10 +56,6 @@ head_then : (H S R : List ℕ) → (H ++ (10 ∷ (S ++ 10 ∷ []))) ++ R ≡ H +
 head_then H S R = append_assoc H (10 ∷ (S ++ 10 ∷ [])) R ∙ ap (λ t. H ++ 10 ∷ t) (append_assoc S (10 ∷ []) R)
 
 -- ---- it is one
-spelled_utf8 : (w : List ℕ) (x : Name) → SpellsName w x → is_utf8 w ≡ true
-spelled_utf8 w x (plain n l e) = is_utf8-from_IsUtf8 w (IsUtf8-from_ascii w (name_ascii w n))
-spelled_utf8 w x (string s) = is_utf8-from_IsUtf8 w (string_utf8 w x s)
-
 label_reads : (l : Option Name) → SpellsLabel l → IsStepLabel (label_text l) l
 label_reads None h = refl
 label_reads (Some x) h = (no_dash x, record { utf8 = spelled_utf8 (name_text x) x h; spells = h })

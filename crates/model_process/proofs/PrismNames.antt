@@ -19,8 +19,8 @@ use Rattle.prism_check.specs.Moment.{command_at, names_in, moment, part_at}
 use Rattle.prism_check.specs.Process.{choices, choice_rewards}
 use Rattle.short_names.specs.ShortNames.{HasShortNames, ShortBody, ShortCommand, ShortModule, ShortNamed, ShortPair, ShortVar}
 use Rattle.model_process.proofs.ChoiceLabels.{IsActing, modules_labelled}
-use Rattle.model_process.proofs.NameTexts.{name_no_feed}
-use Rattle.model_process.proofs.StateTexts.{Lacks}
+use Rattle.process_texts.proofs.NameTexts.{name_lacks}
+use Rattle.process_texts.proofs.StateTexts.{Lacks}
 use Rattle.model_process.proofs.ReadNames.{IsReadName, identifier_read}
 use Rattle.model_process.proofs.ColumnTexts.{names_no_feed}
 
@@ -115,7 +115,7 @@ module _ (file : File) (form : IsPrintable file) (short : HasShortNames file) wh
       (each_flat IsGoodPart IsGoodColumn (part_columns file v) (part_named v) (parts file) parts_good)
 
   no_feed : (x : Name) → is_name x ≡ true → Lacks 10 x
-  no_feed x e = subst (Lacks 10) (ap (λ b. if b then x else quoted x) e) (name_no_feed x)
+  no_feed x e = subst (Lacks 10) (ap (λ b. if b then x else quoted x) e) (name_lacks x)
 
   pub header_read : (v : Valuation) → Lacks 10 (header_text (map (λ c. c.name) (columns_of file v)))
   header_read v =

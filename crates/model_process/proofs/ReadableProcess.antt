@@ -16,7 +16,7 @@ use Rattle.process_core.specs.Steps.{Process}
 use Rattle.process_texts.specs.Laws.{AllWhole}
 use Rattle.process_texts.specs.Texts.{header_text}
 use Rattle.model_process.proofs.ReadNames.{IsReadName}
-use Rattle.model_process.proofs.StateTexts.{Lacks}
+use Rattle.process_texts.proofs.StateTexts.{Lacks}
 
 pub record IsReadableProcess (p : Process) : Type 0 where
   pub header : Lacks 10 (header_text p.columns)

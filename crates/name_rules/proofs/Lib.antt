@@ -13,3 +13,4 @@ pub mod Walk
 pub mod Turns
 pub mod Ranked
 pub mod Ordered
+pub mod InTurn

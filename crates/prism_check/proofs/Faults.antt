@@ -53,7 +53,7 @@ use Rattle.prism_check.specs.PlacesLaws.{NamesFaultAlike, SizesFaultAlike, Types
 has_pair-bare : (ps : List NamePair) → has_pair (map bare_pair ps) ≡ has_pair ps
 has_pair-bare ps = fun_ext (λ x. any_mapped bare_pair _ _ (λ p. refl) ps)
 
-renamed_var-bare : (m : CopiedModule) (x : Var) → renamed_var (bare_copy m) (bare_var x) ≡ map bare_name (renamed_var m x)
+pub renamed_var-bare : (m : CopiedModule) (x : Var) → renamed_var (bare_copy m) (bare_var x) ≡ map bare_name (renamed_var m x)
 renamed_var-bare m x =
     ap₂ (λ (p : Name → Bool) (r : Name → Name). if p x.name.name then record { name = r x.name.name; at = 0 } ∷ [] else []) (has_pair-bare m.pairs) (renaming-bare m.pairs)
     ∙ chosen_mapped (map bare_name) (has_pair m.pairs x.name.name) (record { name = renaming m.pairs x.name.name; at = m.name.at } ∷ []) []
@@ -107,7 +107,7 @@ range_demands-bare : (r : Option Range) → range_demands (option_map bare_range
 range_demands-bare None = refl
 range_demands-bare (Some r) = refl
 
-var_type-bare : (x : Var) → var_type (bare_var x) ≡ var_type x
+pub var_type-bare : (x : Var) → var_type (bare_var x) ≡ var_type x
 var_type-bare x = of_range x.range
   where
     of_range : (r : Option Range) → type_by (option_map bare_range r) ≡ type_by r
@@ -310,7 +310,7 @@ part_variables-bare i p =
     mapped bare_var _ _
     (λ x. ap (λ t. record { owner = Some i; name = p.rename x.name.name; ty = t }) (var_type-bare x)) p.vars
 
-numbered_variables-bare : (i : ℕ) (ps : List Part) → numbered_variables i (map bare_part ps) ≡ numbered_variables i ps
+pub numbered_variables-bare : (i : ℕ) (ps : List Part) → numbered_variables i (map bare_part ps) ≡ numbered_variables i ps
 numbered_variables-bare i [] = refl
 numbered_variables-bare i (p ∷ ps) = ap₂ (λ a b. a ++ b) (part_variables-bare i p) (numbered_variables-bare (i + 1) ps)
 

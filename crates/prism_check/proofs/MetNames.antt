@@ -13,7 +13,7 @@ use Rattle.name_rules.proofs.Leads.{any_weaker}
 use Rattle.name_rules.proofs.Maps.{at}
 use Rattle.name_rules.specs.Names.{add, no_name}
 use Rattle.name_rules.specs.Uses.{used}
-use Rattle.op_trees.specs.Names.{is_called, some_name}
+use Rattle.op_trees.specs.Names.{is_called}
 use Rattle.process_core.specs.Ready.{Name}
 use Rattle.prism_tree.specs.declared.syntax.PrismFormula.{PrismFormula}
 use Rattle.prism_tree.specs.Syntax.{Expression, Formula, formula_of}

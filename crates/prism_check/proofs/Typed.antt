@@ -87,7 +87,7 @@ module _ (file : File) (flat : IsFlat file) where
       (numbered_any x 0 file.modules flat.form.modules)
       ∙ sym (list_any-append (λ (v : Variable). bytes_eq v.name x) (map (λ y. record { owner = None; name = y.name.name; ty = var_type y }) file.globals) (numbered_variables 0 (parts file)))
 
-  known_typed : (x : Name) → IsKnown file x → IsTrue (is_some (types file x))
+  pub known_typed : (x : Name) → IsKnown file x → IsTrue (is_some (types file x))
   known_typed x h =
       subst (λ o. IsTrue (is_some o)) (sym (types_declared file flat x))
       (elim (or_cases (list_any (is_called x) (map (λ c. c.name) file.constants)) (list_any (is_called x) rest) (sym (list_any-append (is_called x) (map (λ c. c.name) file.constants) rest) ∙ h)) [
@@ -104,7 +104,7 @@ typed_name : (at : ℕ) (o : Option Ty) → IsTrue (is_some o) → misfit_at at 
 typed_name at None h = absurd cc
 typed_name at (Some t) h = refl
 
-same_misfits : (ty : Types) (e : Expression) → AllNames (λ x. IsTrue (is_some (ty x))) e → trees.misfits prism_meaning ty e ≡ misfits ty e
+pub same_misfits : (ty : Types) (e : Expression) → AllNames (λ x. IsTrue (is_some (ty x))) e → trees.misfits prism_meaning ty e ≡ misfits ty e
 same_misfits ty (Truth at b) h = refl
 same_misfits ty (Number at d) h = refl
 same_misfits ty (At at x) h = typed_name at (ty x) h

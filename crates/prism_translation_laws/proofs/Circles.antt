@@ -15,7 +15,7 @@ use Rattle.std.proofs.Math.Bool.{and_comm}
 use Rattle.basics.specs.Booleans.{not_both}
 use Rattle.basics.specs.Texts.{bytes_ne, bytes_eq-self}
 use Rattle.basics.specs.Lists.{append_parts, append_both}
-use Rattle.basics.specs.Each.{each_then, each_map, each_parts, empty_each}
+use Rattle.basics.specs.Each.{each_then, each_map, each_parts, empty_each, at_each}
 use Rattle.basics.specs.Members.{any-map, none_passes, none_at_end}
 use Rattle.frac_core.specs.declared.decimal.Decimal.{Decimal}
 use Rattle.bridge_io.specs.declared.reason.Named.{Named}
@@ -50,7 +50,6 @@ use Rattle.prism_translation.specs.Sound.{IsConstant}
 use Rattle.prism_translation.proofs.ColumnNames.{entries_differ, entries_long, constant_entry}
 use Rattle.prism_translation.proofs.Follows.{variable_name}
 use Rattle.prism_translation.proofs.Clean.{once_here, no_circles}
-use Rattle.prism_translation_laws.proofs.Lists.{at_each}
 use Rattle.prism_translation_laws.proofs.Segments.{constants_part, constant_spelled}
 use Rattle.prism_translation_laws.proofs.Values.{Differ, column_named, nowhere, constant_differs, constant_becomes, variable_becomes, place_below}
 

@@ -10,7 +10,7 @@ use Rattle.std.proofs.lemmas.Bool.{or_parts}
 use Rattle.basics.specs.Booleans.{not_both}
 use Rattle.basics.specs.Texts.{bytes_ne, bytes_eq-self}
 use Rattle.basics.specs.Lists.{append_both}
-use Rattle.basics.specs.Each.{each_empty, each_any}
+use Rattle.basics.specs.Each.{each_empty, each_any, at_each}
 use Rattle.bridge_io.specs.declared.reason.Named.{Named}
 use Rattle.bridge_io.specs.declared.reason.Reason.{Reason}
 use Rattle.bridge_io.specs.declared.reason.Reason.TheVariants.{TwiceNamed}
@@ -37,7 +37,6 @@ use Rattle.prism_translation.specs.Names.{new_names}
 use Rattle.prism_translation.specs.Modules.{module_of}
 use Rattle.prism_translation.specs.Marks.{label, structure}
 use Rattle.prism_translation.specs.Translated.{translated}
-use Rattle.prism_translation_laws.proofs.Lists.{at_each}
 use Rattle.prism_translation_laws.proofs.Entries.{IsValidName}
 use Rattle.prism_translation_laws.proofs.Segments.{modules_part, labels_part, rewards_part, labels_spelled, is_of_label}
 use Rattle.prism_translation_laws.proofs.Values.{Differ, zip_named, values_differ}

@@ -1,6 +1,6 @@
 -- Facts of each member of a list.
-use Rattle.std.proofs.Common.{refl, sym, subst, ◌∙◌, arith}
-use Rattle.std.specs.Prelude.{◌≡◌, ℕ, zero, suc, ◌+◌, List, [], ◌∷◌, Bool, true, false, Option, Some, None, slice_get}
+use Rattle.std.proofs.Common.{refl, subst, arith}
+use Rattle.std.specs.Prelude.{◌≡◌, ℕ, suc, ◌+◌, List, [], ◌∷◌, Bool, true, false, Option, Some, None, slice_get}
 use Rattle.basics.specs.Each.{each_join}
 use Rattle.process_core.specs.Instance.{numbered, only_if}
 use Rattle.std.specs.List.{AllByRecursion as Each}
@@ -13,11 +13,6 @@ any_then P Q h (Some x) p = h x p
 pub each_only : {A : Type 0} (P : A → Type 0) (b : Bool) (x : A) → (b ≡ true → P x) → Each P (only_if b x)
 each_only P true x h = (h refl, tt)
 each_only P false x h = tt
-
-pub at_each : {A : Type 0} (P : A → Type 0) (xs : List A) (i : ℕ) (x : A) → Each P xs → slice_get xs i ≡ Some x → P x
-at_each P [] i x h e = absurd cc
-at_each P (y ∷ xs) zero x h e = let q : y ≡ x = cc in subst P q h.0
-at_each P (y ∷ xs) (suc i) x h e = at_each P xs i x h.1 e
 
 -- each member of a list under its number, where a fact hangs on both
 pub each_numbered : {A B : Type 0} (Q : B → Type 0) (f : ℕ → A → List B) (i : ℕ) (xs : List A) → ((j : ℕ) (x : A) → slice_get xs j ≡ Some x → Each Q (f (i + j) x)) → Each Q (numbered f i xs)

@@ -4,7 +4,7 @@ use Rattle.std.proofs.Common.{refl, sym, ap, subst, ◌∙◌, arith, append-nil
 use Rattle.std.specs.Option.{option_map}
 use Rattle.std.proofs.lemmas.Option.{slice_get-get_or}
 use Rattle.std.proofs.lemmas.List.{length-map}
-use Rattle.basics.specs.Each.{each_take, each_drop}
+use Rattle.basics.specs.Each.{each_take, each_drop, at_each}
 use Rattle.basics.specs.Lists.{slice_get-append_add, slice_get-front}
 use Rattle.prism_lex.specs.declared.token.TokenKind.TheVariants.{Ident}
 use Rattle.prism_lex.specs.Tokens.{IsKind}
@@ -23,7 +23,6 @@ use Rattle.prism_translation.proofs.Parts.{first_have, IsPart, part}
 use Rattle.prism_translation.specs.Targets.{targets}
 use Rattle.prism_translation.specs.Names.{action_ask, all_asks, entries, new_names}
 use Rattle.prism_translation.proofs.Apart.{asks_length}
-use Rattle.prism_translation_laws.proofs.Lists.{at_each}
 use Rattle.prism_translation_laws.proofs.Entries.{IsValidName, all_valid}
 
 -- what is read past the end of a list of entries

@@ -7,7 +7,7 @@ use Rattle.std.proofs.lemmas.Option.{slice_get_within}
 use Rattle.std.proofs.lemmas.List.Elements.{recursion_from_All}
 use Rattle.std.proofs.lemmas.Bool.{and_parts}
 use Rattle.basics.specs.Lists.{append_parts, IsNotEmpty as HasItems}
-use Rattle.basics.specs.Each.{each_with, each_map, each_join, each_any, each_flat, each_filter, each_zip, each_found, any_map}
+use Rattle.basics.specs.Each.{each_with, each_map, each_join, each_any, each_flat, each_filter, each_zip, each_found, any_map, at_each}
 use Rattle.bridge_io.specs.declared.reason.Named.{Named}
 use Rattle.op_trees.specs.declared.tree.Ty.TheVariants as T
 use Rattle.op_trees.specs.Tree.{Truth, Number, Name as At, One, Two, Three}
@@ -42,7 +42,7 @@ use Rattle.prism_translation.specs.Translated.{translated}
 use Rattle.prism_translation.specs.Sound.{IsKnown}
 use Rattle.prism_translation.proofs.ColumnNames.{below}
 use Rattle.prism_translation.proofs.Clean.{has_element}
-use Rattle.prism_translation_laws.proofs.Lists.{each_only, each_numbered, at_each}
+use Rattle.prism_translation_laws.proofs.Lists.{each_only, each_numbered}
 use Rattle.prism_translation_laws.proofs.Good.{Good, GoodConst, GoodRange, GoodVar, GoodLabel, GoodWrite, GoodBranch, GoodCommand, GoodBody, GoodModule, GoodItem, GoodRewards, is_value, IsGood}
 use Rattle.prism_translation_laws.proofs.Images.{counted_good, name_good, two_good, three_good, image_good, GoodName}
 use Rattle.prism_translation_laws.proofs.Entries.{IsValidName}

@@ -12,3 +12,5 @@ pub mod Reading
 pub mod Once
 pub mod Printed
 pub mod PlainNames
+pub mod StateTexts
+pub mod NameTexts

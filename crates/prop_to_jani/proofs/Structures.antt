@@ -1,6 +1,6 @@
 -- The reward structures of the JANI file are those of the model, by their names; each has its number. What names stand for in a file does not
 -- depend on places.
-use Rattle.std.proofs.Common.{◌≡◌, ℕ, zero, suc, ◌<◌, refl, sym, ap, ap₂, ◌∙◌, arith, List, [], ◌∷◌, ◌++◌, map, length, filter, find, position, get_or, cond, Some, Bool, false, if◌then◌else◌}
+use Rattle.std.proofs.Common.{◌≡◌, ℕ, zero, suc, ◌<◌, refl, sym, ap, ap₂, ◌∙◌, arith, List, [], ◌∷◌, ◌++◌, map, length, filter, find, position, get_or, cond, Some, Bool, false}
 use Rattle.std.specs.Prelude.{bytes_eq}
 use Rattle.std.specs.List.{AllByRecursion as Each, IsDistinct, zip}
 use Rattle.std.specs.Option.{option_map, option_or}
@@ -9,11 +9,12 @@ use Rattle.basics.specs.Mapped.{found_mapped, kept_mapped, mapped, some_mapped}
 use Rattle.basics.specs.Members.{position_cons}
 use Rattle.basics.specs.Texts.{bytes_eq-self}
 use Rattle.prism_tree.specs.Syntax as prism
-use Rattle.jani_tree.specs.Syntax.{VarKind, boolean, integer, number, real_bounded, one_sided, bounded, Var, File}
-use Rattle.jani_tree.specs.Places.{bare_const, bare_kind, bare_var, bare_file}
+use Rattle.jani_tree.specs.Syntax.{Var, File}
+use Rattle.jani_tree.specs.Places.{bare_const, bare_var, bare_file}
+use Rattle.jani_check.proofs.Bare.{var_thing-bare}
 use Rattle.jani_check.specs.declared.things.Thing.{Thing}
 use Rattle.jani_check.specs.declared.things.Thing.TheVariants as H
-use Rattle.jani_check.specs.Things.{is_called, is_reward, kind_type, const_thing, var_thing, global_thing}
+use Rattle.jani_check.specs.Things.{is_called, is_reward, const_thing, var_thing, global_thing}
 use Rattle.name_table.specs.declared.entry.Entry.{Entry}
 use Rattle.name_table.specs.Asks.{new_names, variables}
 use Rattle.jani_translation.specs.Parts.{label, structure, variable}
@@ -46,17 +47,6 @@ structures_named file =
     ∙ map-zip-right (λ v. v.name.name) structure (λ e. e.name) structure_name file.rewards n.rewards (for_rewards file)
 
 -- ---- places
-
-kind_type-bare : (k : VarKind) → kind_type (bare_kind k) ≡ kind_type k
-kind_type-bare boolean = refl
-kind_type-bare integer = refl
-kind_type-bare number = refl
-kind_type-bare real_bounded = refl
-kind_type-bare one_sided = refl
-kind_type-bare (bounded low high) = refl
-
-var_thing-bare : (x : Var) → var_thing (bare_var x) ≡ var_thing x
-var_thing-bare x = ap (λ t. if x.transient then H.Transient t else H.Variable t) (kind_type-bare x.kind)
 
 structures-bare : (file : File) → structures (bare_file file) ≡ structures file
 structures-bare file =

@@ -7,8 +7,8 @@ use Rattle.std.proofs.lemmas.Bool.Decides.{nat_tests}
 use Rattle.std.proofs.lemmas.Fmt.{length-decimal-le_wide}
 use Rattle.std.proofs.lemmas.List.{length-take-le}
 use Rattle.std.proofs.lemmas.List.Sums.{count_by-le-length}
-use Rattle.std.proofs.lemmas.Option.{same_Some, slice_get_within}
-use Rattle.basics.specs.Each.{each_at}
+use Rattle.std.proofs.lemmas.Option.{slice_get_within}
+use Rattle.basics.specs.Each.{each_at, at_each}
 use Rattle.basics.specs.Lists.{slice_get-drop, slice_get-append_add}
 use Rattle.basics.specs.Options.{if_some, IfAny}
 use Rattle.bridge_io.specs.declared.reason.Named.{Named}
@@ -53,11 +53,6 @@ property_class (p ∷ ps) (suc i) a h = property_class ps i a h
 not_empty : (es : List Entry) (c : NameClass) (o : Option (List ℕ)) (e : Entry) → Comes Jani es c o e → e.name ≡ [] → ⊥
 not_empty es c o e (was_kept x p k h) q = let no : true ≡ false = sym k.valid ∙ ap (is_valid Jani c) (sym (ap (λ (u : Entry). u.name) h) ∙ q) in cc
 not_empty es c o e (was_made h) q = let no : true ≡ false = sym (made_begins c (count_of c es)) ∙ ap begins_zz (sym (ap (λ (u : Entry). u.name) h) ∙ q) in cc
-
-each_here : {A : Type 0} (P : A → Type 0) (xs : List A) (i : ℕ) (x : A) → Each P xs → slice_get xs i ≡ Some x → P x
-each_here P [] i x h g = absurd cc
-each_here P (y ∷ ys) zero x h g = subst P (same_Some y x g) h.0
-each_here P (y ∷ ys) (suc i) x h g = each_here P ys i x h.1 g
 
 made_short : (c : NameClass) (n : ℕ) → n < 10 ^ 20 → length (made_name c n) ≤ 255
 made_short c n h =
@@ -112,7 +107,7 @@ module _ (file : File) (ps : List PrismProperty) where
       let within = slice_get_within (entries_of Jani wanted) i e h in
       let m = length-take-le i (entries_of Jani wanted) (omega arith) in
       let few = s.few in
-      length_by (take i (entries_of Jani wanted)) p.asked.0 p.asked.1 e (omega (arith, few, n, m, within)) (each_here (λ a. IfAny (λ x. length x ≤ 255) a.1) wanted i p.asked s.names p.ask) p.comes)
+      length_by (take i (entries_of Jani wanted)) p.asked.0 p.asked.1 e (omega (arith, few, n, m, within)) (at_each (λ a. IfAny (λ x. length x ≤ 255) a.1) wanted i p.asked s.names p.ask) p.comes)
 
   -- the first entries are the file's
   pub first_entries : take (length (asks file)) (all_entries file ps) ≡ entries file

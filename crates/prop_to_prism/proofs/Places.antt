@@ -1,11 +1,11 @@
 -- The places that the tree of a model keeps mean nothing to its properties: names are known, and have types, with them as without them.
-use Rattle.std.specs.Prelude.{◌≡◌, ℕ, ◌+◌, List, [], ◌∷◌, ◌++◌, map, length, Bool, not, ◌&&◌, ◌||◌, Option, Some, None, is_some, bytes_eq, if◌then◌else◌}
+use Rattle.std.specs.Prelude.{◌≡◌, ◌+◌, ◌++◌, map, length, Bool, not, ◌&&◌, ◌||◌, Option, Some, None, is_some, bytes_eq, if◌then◌else◌}
 use Rattle.std.specs.List.{find, flat_map}
 use Rattle.std.specs.Option.{option_map, option_or as or_other}
 use Rattle.std.proofs.Common.{refl, sym, ap, ap₂, ◌∙◌}
 use Rattle.std.proofs.lemmas.List.{length-map}
 use Rattle.std.proofs.Math.Path.{fun_ext}
-use Rattle.basics.specs.Mapped.{chosen_mapped, some_mapped, mapped, any_mapped, found_mapped, joined, turned, gathered}
+use Rattle.basics.specs.Mapped.{some_mapped, mapped, found_mapped, joined, turned, gathered}
 use Rattle.bridge_io.specs.declared.reason.Named.{Named}
 use Rattle.op_trees.specs.declared.tree.Ty.TheVariants as T
 use Rattle.op_trees.specs.Tree.{bare}
@@ -15,18 +15,16 @@ use Rattle.op_trees.specs.NameLaws.{some_name-bare}
 use Rattle.name_rules.specs.Names.{is_among}
 use Rattle.name_rules.proofs.Placeless.{among-bare}
 use Rattle.name_table.specs.Asks.{called}
-use Rattle.prism_tree.specs.declared.syntax.NamePair.{NamePair}
-use Rattle.prism_tree.specs.declared.syntax.CopiedModule.{CopiedModule}
 use Rattle.prism_tree.specs.Operators.{prism_meaning}
 use Rattle.prism_tree.specs.Grammar.{unquoted}
-use Rattle.prism_tree.specs.Syntax.{Expression, Range, Var, Module, plain, copied, File}
-use Rattle.prism_names.specs.Names.{renaming, Part, part_of, parts, formula_body}
+use Rattle.prism_tree.specs.Syntax.{Expression, Module, plain, copied, File}
+use Rattle.prism_names.specs.Names.{part_of, parts, formula_body}
 use Rattle.prism_names.specs.Order.{whole}
-use Rattle.prism_print.specs.Same.{bare_const, bare_range, bare_var, bare_formula, bare_label, bare_pair, bare_copy, bare_module, bare_rewards, bare_file}
-use Rattle.prism_check.specs.Demands.{type_by, var_type}
-use Rattle.prism_check.specs.NameFaults.{has_pair, renamed_var, module_vars, values, given_labels}
-use Rattle.prism_check.specs.TypeFaults.{part_variables, numbered_variables, variable_called, declared_types, types, is_variable, has_variable}
-use Rattle.prism_check.proofs.SameNames.{bare_part, renaming-bare, is_formula-bare, part-bare, parts-bare, bodies-bare}
+use Rattle.prism_print.specs.Same.{bare_const, bare_var, bare_formula, bare_label, bare_copy, bare_module, bare_rewards, bare_file}
+use Rattle.prism_check.specs.NameFaults.{renamed_var, module_vars, values, given_labels}
+use Rattle.prism_check.specs.TypeFaults.{numbered_variables, variable_called, declared_types, types, is_variable, has_variable}
+use Rattle.prism_check.proofs.Faults.{renamed_var-bare, var_type-bare, numbered_variables-bare}
+use Rattle.prism_check.proofs.SameNames.{is_formula-bare, part-bare, parts-bare, bodies-bare}
 use Rattle.prism_check.proofs.Flat.{whole-bare}
 use Rattle.prism_check.proofs.Trees.{types-bare}
 use Rattle.prop_grammar.specs.Grammar.{has_quotes}
@@ -34,30 +32,6 @@ use Rattle.prop_trees.specs.Trees.{Name}
 use Rattle.prop_trees.specs.PrismFaults.{is_known, name_types, varies}
 
 -- ---- names that are known
-has_pair-bare : (ps : List NamePair) → has_pair (map bare_pair ps) ≡ has_pair ps
-has_pair-bare ps = fun_ext (λ x. any_mapped bare_pair _ _ (λ p. refl) ps)
-
-renamed_var-bare : (m : CopiedModule) (x : Var) → renamed_var (bare_copy m) (bare_var x) ≡ map bare_name (renamed_var m x)
-renamed_var-bare m x =
-    ap₂ (λ (p : Name → Bool) (r : Name → Name). if p x.name.name then record { name = r x.name.name; at = 0 } ∷ [] else []) (has_pair-bare m.pairs) (renaming-bare m.pairs)
-    ∙ chosen_mapped (map bare_name) (has_pair m.pairs x.name.name) (record { name = renaming m.pairs x.name.name; at = m.name.at } ∷ []) []
-
-var_type-bare : (x : Var) → var_type (bare_var x) ≡ var_type x
-var_type-bare x = of_range x.range
-  where
-    of_range : (r : Option Range) → type_by (option_map bare_range r) ≡ type_by r
-    of_range None = refl
-    of_range (Some r) = refl
-
-part_variables-bare : (i : ℕ) (p : Part) → part_variables i (bare_part p) ≡ part_variables i p
-part_variables-bare i p =
-    mapped bare_var _ _
-    (λ x. ap (λ t. record { owner = Some i; name = p.rename x.name.name; ty = t }) (var_type-bare x)) p.vars
-
-numbered_variables-bare : (i : ℕ) (ps : List Part) → numbered_variables i (map bare_part ps) ≡ numbered_variables i ps
-numbered_variables-bare i [] = refl
-numbered_variables-bare i (p ∷ ps) = ap₂ (λ a b. a ++ b) (part_variables-bare i p) (numbered_variables-bare (i + 1) ps)
-
 module _ (file : File) where
   module_vars-bare : (m : Module) → module_vars (bare_file file) (bare_module m) ≡ map bare_name (module_vars file m)
   module_vars-bare (plain m) = turned bare_name bare_var _ _ (λ x. refl) m.vars

@@ -4,6 +4,7 @@ use Rattle.std.specs.List.{All}
 use Rattle.std.proofs.Common.{refl, sym, ap, subst, ◌∙◌, arith, inl, inr}
 use Rattle.std.proofs.lemmas.Bool.{not-true}
 use Rattle.std.proofs.lemmas.Option.{slice_get-get_or}
+use Rattle.basics.specs.Each.{at_each}
 use Rattle.basics.specs.Texts.{bytes_eq-true}
 use Rattle.process_core.specs.Ready.{Name}
 use Rattle.prism_lex.specs.declared.token.TokenKind.TheVariants.{Ident}
@@ -24,7 +25,6 @@ use Rattle.name_table.proofs.EntryLemmas.{first_alone}
 use Rattle.prism_translation_laws.specs.Targets.{targets}
 use Rattle.prism_translation_laws.specs.Names.{action_ask}
 use Rattle.prism_translation_laws.proofs.Entries.{IsValidName}
-use Rattle.prism_translation_laws.proofs.Lists.{at_each}
 use Rattle.prism_translation_laws.proofs.Segments.{name_there, labels_part, is_of_label}
 use Rattle.prop_trees.specs.Names.{quoted, marked, filed_label, filed_name, initial_name, deadlock_name, Meant, of_model, is_initial, is_deadlock, nothing, meant, IsMeant}
 use Rattle.jani_props.specs.Faults.{is_known, is_read, meaning_by, name_types, type_of}

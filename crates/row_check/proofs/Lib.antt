@@ -23,3 +23,4 @@ pub mod OneForm
 pub mod NotNegative
 pub mod Formed
 pub mod BoundLines
+pub mod OneLine

@@ -1,11 +1,11 @@
 -- The new names of short ones are short.
-use Rattle.std.proofs.Common.{◌≡◌, ℕ, ◌<◌, ◌≤◌, ◌^◌, sym, ap, subst, arith, List, [], ◌∷◌, ◌++◌, length, take, Option, Some, slice_get, zero, suc, length-append, codes}
+use Rattle.std.proofs.Common.{◌≡◌, ℕ, ◌<◌, ◌≤◌, ◌^◌, sym, ap, subst, arith, List, ◌++◌, length, take, Option, Some, slice_get, length-append, codes}
 use Rattle.std.specs.List.{AllByRecursion as Each}
 use Rattle.std.proofs.lemmas.Fmt.{length-decimal-le_wide}
 use Rattle.std.proofs.lemmas.List.{length-take-le}
 use Rattle.std.proofs.lemmas.List.Sums.{count_by-le-length}
-use Rattle.std.proofs.lemmas.Option.{same_Some, slice_get_within}
-use Rattle.basics.specs.Each.{each_at}
+use Rattle.std.proofs.lemmas.Option.{slice_get_within}
+use Rattle.basics.specs.Each.{each_at, at_each}
 use Rattle.basics.specs.Options.{IfAny}
 use Rattle.frac_core.specs.Text.{digits}
 use Rattle.frac_core.proofs.Digits.{digits_decimal}
@@ -41,11 +41,6 @@ length_by es c o e l s (was_made h) =
     let n = count_by-le-length (λ (u : Entry). same_class u.class c) es in
     subst IsShort (sym (ap (λ (u : Entry). u.name) h)) (made_short c (count_of c es) (omega arith))
 
-each_here : {A : Type 0} (P : A → Type 0) (xs : List A) (i : ℕ) (x : A) → Each P xs → slice_get xs i ≡ Some x → P x
-each_here P [] i x h g = absurd cc
-each_here P (y ∷ ys) zero x h g = subst P (same_Some y x g) h.0
-each_here P (y ∷ ys) (suc i) x h g = each_here P ys i x h.1 g
-
 module _ (file : File) (few : length (asks file) < 2 ^ 66) (short : AsksAreShort (asks file)) where
   length_of : (i : ℕ) (e : Entry) → slice_get (entries file) i ≡ Some e → IsShort e.name
   length_of i e h =
@@ -53,7 +48,7 @@ module _ (file : File) (few : length (asks file) < 2 ^ 66) (short : AsksAreShort
       let within = slice_get_within (entries file) i e h in
       let n = one_each Jani (asks file) in
       let m = length-take-le i (entries file) (omega arith) in
-      length_by (take i (entries file)) p.asked.0 p.asked.1 e (omega (arith, few, n, m, within)) (each_here (λ a. IfAny IsShort a.1) (asks file) i p.asked short p.ask) p.comes
+      length_by (take i (entries file)) p.asked.0 p.asked.1 e (omega (arith, few, n, m, within)) (at_each (λ a. IfAny IsShort a.1) (asks file) i p.asked short p.ask) p.comes
 
   pub short_entries : Each (λ e. IsShortName e.name) (entries file)
   short_entries = each_at (λ e. IsShortName e.name) (entries file) (λ i e h. let l = length_of i e h in record { some = entry_name file i e h; short = omega (arith, l) })

@@ -6,12 +6,11 @@ ghost use Rattle.jani_tree.specs.Syntax.{file_of};
 ghost use Rattle.constant_folding.specs.Tables.{given_in, known_in};
 ghost use Rattle.specialise_jani.specs.Specialised.{specialised_by};
 
-use crate::copy::copy_json;
 use crate::numerals::JaniNumerals;
 use crate::parts::all_folded;
 use bridge_io::{List, together};
 use constant_folding::KnownTable;
-use jani_tree::JaniFile;
+use jani_tree::{JaniFile, copy_json};
 use std::alloc::{AllocError, Global};
 
 /// The file with all its parts folded. `Err` is want of memory.

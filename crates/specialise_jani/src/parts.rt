@@ -10,13 +10,13 @@ ghost use Rattle.constant_folding.specs.Known.{Known};
 ghost use Rattle.constant_folding.specs.Tables.{given_in, known_in};
 ghost use Rattle.specialise_jani.specs.Specialised.{folded, folded_kind};
 
-use crate::copy::{copy_action, copy_name, copy_note};
+use crate::copy::{copy_action, copy_note};
 use crate::numerals::JaniNumerals;
 use bridge_io::{List, Named, together};
 use constant_folding::{KnownTable, fold, specialised_value};
 use jani_tree::{
     JaniAutomaton, JaniConst, JaniDestination, JaniEdge, JaniExpr, JaniKind, JaniLocation, JaniVar,
-    JaniVector, JaniWrite,
+    JaniVector, JaniWrite, copy_name,
 };
 use std::alloc::{AllocError, Global};
 

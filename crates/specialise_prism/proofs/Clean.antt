@@ -49,8 +49,7 @@ use Rattle.prism_check.specs.Flattened.{IsFlat}
 use Rattle.prism_check.proofs.CleanTypes.{AllUsed}
 use Rattle.prism_check.proofs.NamesIn.{names_listed}
 use Rattle.prism_check.proofs.NoFaults.{NoNameFaults, IsKnown, known_one, all_known}
-use Rattle.prism_check.proofs.Typed.{no_name_fault, no_type_fault, types_declared, has_wanted_type}
-use Rattle.specialise_prism.proofs.KnownTypes.{known_typed, same_misfits}
+use Rattle.prism_check.proofs.Typed.{has_wanted_type, known_typed, no_name_fault, no_type_fault, same_misfits, types_declared}
 use Rattle.constant_folding.specs.Known.{Known}
 use Rattle.constant_folding.specs.Kept.{AreTyped, GivesTypes}
 use Rattle.constant_folding.proofs.Kept.{fold_names, fold_names_no_more}

@@ -4,5 +4,4 @@ pub mod Meaning
 pub mod Once
 pub mod Printed
 pub mod Demanding
-pub mod KnownTypes
 pub mod Clean

@@ -1,5 +1,6 @@
 -- On the same files there is one answer.
-use Rattle.std.proofs.Common.{◌≡◌, ℕ, List, Result, Ok, Err, length, refl, sym, ap, ap₂, subst, ◌∙◌}
+use Rattle.std.proofs.Common.{◌≡◌, ℕ, List, Ok, Err, length, refl, sym, ap, ap₂, subst, ◌∙◌}
+use Rattle.basics.specs.Results.{err_same, not_ok, ok_same}
 use Rattle.bridge_io.specs.declared.reason.Fault.{Fault}
 use Rattle.frac_core.specs.Fraction.{Fraction}
 use Rattle.process_core.specs.Steps.{Process}
@@ -12,15 +13,6 @@ use Rattle.value_bound.specs.declared.data.BoundRefused.TheVariants.{Memory, Sta
 use Rattle.value_bound.specs.Bounds.{JudgesBounds}
 use Rattle.value_bound.specs.Checks.{ChecksBound, IsBoundsBreak}
 use Rattle.value_bound.specs.Laws.{BoundsOnce, OneAnswer}
-
-ok_same : {A E : Type 0} (x y : A) → ◌≡◌ {A = Result A E} (Ok x) (Ok y) → x ≡ y
-ok_same x y e = cc
-
-err_same : {A E : Type 0} (x y : E) → ◌≡◌ {A = Result A E} (Err x) (Err y) → x ≡ y
-err_same x y e = cc
-
-not_ok : {A E : Type 0} (x : A) (y : E) → ◌≡◌ {A = Result A E} (Ok x) (Err y) → ⊥
-not_ok x y e = cc
 
 same_fault : (f g : Fault) → f.reason ≡ g.reason → f.at ≡ g.at → f ≡ g
 same_fault f g r a = ap₂ (λ x y. record { reason = x; at = y }) r a

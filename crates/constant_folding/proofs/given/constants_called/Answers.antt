@@ -6,7 +6,8 @@ use Rattle.basics.specs.Lists.{drop_item}
 use Rattle.name_rules.specs.Names.{under}
 use Rattle.constant_folding.specs.Constants.{const_of, described}
 use Rattle.instance_start.specs.Given.{constant_called}
-use Rattle.constant_folding.proofs.Called.{only_seen, put_seen}
+use Rattle.instance_start.proofs.Called.{only_seen}
+use Rattle.constant_folding.proofs.Called.{put_seen}
 use Rattle.constant_folding.proofs.given.constants_called.Goals as goal
 
 pub loop-constant-init : goal.loop-constant-init
