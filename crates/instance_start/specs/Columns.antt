@@ -1,6 +1,7 @@
 -- What the program's constants, variables and columns stand for, where names stand, and which columns a scene is to have.
 -- (This project's own rule.)
-use Rattle.std.specs.Prelude.{◌≡◌, ℕ, List, [], map, false, Option, Some, None, Result, slice_get, unwrap_or}
+use Rattle.std.specs.Prelude.{◌≡◌, ℕ, List, [], map, Bool, false, Option, Some, None, Result, Ok, Err, slice_get, unwrap_or}
+use Rattle.std.specs.Option.{option_map}
 use Rattle.std.proofs.Common.{sym, ap₂}
 use Rattle.op_trees.specs.Seen.{Seen}
 use Rattle.op_trees.specs.Types.{AgreesWith, has_type}
@@ -25,6 +26,8 @@ use Rattle.instance_start.specs.declared.data.Place.{Place}
 use Rattle.instance_start.specs.declared.data.Place.TheVariants.{Constant, Variable}
 use Rattle.instance_start.specs.declared.data.Domain.{Domain}
 use Rattle.instance_start.specs.declared.data.Domain.TheVariants as D
+use Rattle.instance_start.specs.declared.data.First.{First}
+use Rattle.instance_start.specs.declared.data.First.TheVariants as F
 use Rattle.instance_start.specs.declared.data.Column.{Column}
 
 abbrev pub constant_of : code_constant.Constant → description.Constant
@@ -36,7 +39,7 @@ bounds_of None = core.Truths
 bounds_of (Some b) = core.Between (seen_of b.low) (seen_of b.high)
 
 abbrev pub variable_of : code_variable.Variable → core.Column
-variable_of v = record { name = v.name.now; domain = bounds_of v.bounds; first = seen_of v.first }
+variable_of v = record { name = v.name.now; domain = bounds_of v.bounds; first = option_map seen_of v.first }
 
 abbrev pub range_seen : code_range.Range → Range
 range_seen r = record { low = r.low; high = r.high }
@@ -47,7 +50,7 @@ trimmed_domain core.Truths = core.Truths
 trimmed_domain (core.Between low high) = core.Between (trimmed_seen low) (trimmed_seen high)
 
 abbrev pub trimmed_column : core.Column → core.Column
-trimmed_column c = record { name = c.name; domain = trimmed_domain c.domain; first = trimmed_seen c.first }
+trimmed_column c = record { name = c.name; domain = trimmed_domain c.domain; first = option_map trimmed_seen c.first }
 
 -- ---- columns
 -- a value that is known, and not wide
@@ -58,10 +61,15 @@ abbrev pub domain_of : Domain → core.Domain
 domain_of D.Truths = core.Truths
 domain_of (D.Between low high) = core.Between (narrow (V.Number low)) (narrow (V.Number high))
 
-abbrev pub column_of : Column → core.Column
-column_of c = record { name = c.name.now; domain = domain_of c.domain; first = narrow c.first }
+abbrev pub first_of : First → Option Seen
+first_of F.Any = None
+first_of F.Nothing = Some (record { value = None; wide = false })
+first_of (F.Only v) = Some (narrow v)
 
--- the column that a variable gets: the right one where its bounds and its first value are defined
+abbrev pub column_of : Column → core.Column
+column_of c = record { name = c.name.now; domain = domain_of c.domain; first = first_of c.first }
+
+-- the column that a variable gets: the right one where its bounds are defined, and nothing of it is wide
 abbrev pub range_of : core.Domain → Option Range
 range_of core.Truths = None
 range_of (core.Between low high) = range_from low high
@@ -70,12 +78,17 @@ abbrev pub settled_domain : Option Range → Domain
 settled_domain None = D.Truths
 settled_domain (Some r) = D.Between r.low r.high
 
-abbrev pub settled_column : code_variable.Variable → Column
-settled_column v = record { name = v.name; domain = settled_domain (range_of (bounds_of v.bounds)); first = unwrap_or (seen_of v.first).value (V.Truth false) }
+abbrev pub settled_first : Option (Result Value EvalFail) → First
+settled_first None = F.Any
+settled_first (Some (Ok v)) = F.Only v
+settled_first (Some (Err e)) = F.Nothing
 
--- what the values of constants and the variables make up
-abbrev pub scene_of : List (Result Value EvalFail) → List code_variable.Variable → Scene
-scene_of values variables = record { constants = map seen_of values; columns = map variable_of variables }
+abbrev pub settled_column : code_variable.Variable → Column
+settled_column v = record { name = v.name; domain = settled_domain (range_of (bounds_of v.bounds)); first = settled_first v.first }
+
+-- what the values of constants and the variables make up, with an initial condition or without
+abbrev pub scene_of : Bool → List (Result Value EvalFail) → List code_variable.Variable → Scene
+scene_of has_condition values variables = record { constants = map seen_of values; columns = map variable_of variables; has_condition = has_condition }
 
 -- nothing is wide, there is no fault, and these are the columns
 pub record AreColumns (k : Scene) (cs : List core.Column) : Type 0 where

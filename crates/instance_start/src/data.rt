@@ -19,13 +19,13 @@ pub struct Bounds {
     pub high: Result<Value, EvalFail>,
 }
 
-/// A variable of a model: its name, what its bounds come out as, and its first value. Without bounds its values are the
-/// truth values.
+/// A variable of a model: its name, what its bounds come out as, and its first value, if it has one. Without bounds its values
+/// are the truth values.
 #[derive(Clone, Copy)]
 pub struct Variable<'a> {
     pub name: &'a Text,
     pub bounds: Option<Bounds>,
-    pub first: Result<Value, EvalFail>,
+    pub first: Option<Result<Value, EvalFail>>,
 }
 
 /// The whole numbers between two bounds.
@@ -49,10 +49,18 @@ pub enum Domain {
     Between(Frac, Frac),
 }
 
-/// A variable: its name, its values, and the one that it begins with.
+/// What a variable may begin with: any value, none at all, since its first value is undefined, or this one.
+#[derive(Clone, Copy)]
+pub enum First {
+    Any,
+    Nothing,
+    Only(Value),
+}
+
+/// A variable: its name, its values, and what it may begin with.
 #[derive(Clone, Copy)]
 pub struct Column<'a> {
     pub name: &'a Text,
     pub domain: Domain,
-    pub first: Value,
+    pub first: First,
 }

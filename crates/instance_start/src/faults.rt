@@ -1,12 +1,12 @@
 //! What is wide or wrong in a model under given constants.
-ghost use Rattle.std.specs.Prelude.{◌≡◌, ◌++◌, ◌||◌, ℕ, [], Some, IfOk, length, map};
+ghost use Rattle.std.specs.Prelude.{◌≡◌, ◌++◌, Bool, Some, IfOk, length, map};
 ghost use Rattle.std.specs.List.{flat_map, list_any};
 ghost use Rattle.std.specs.Option.{option_map};
 ghost use Rattle.process_core.specs.Choices.{number_of};
-ghost use Rattle.process_core.specs.Instance.{is_outside, is_wide_domain, is_wide_instance, range_from, range_lacks};
+ghost use Rattle.process_core.specs.Instance.{is_outside, is_wide_column, is_wide_domain, is_wide_first, is_wide_instance, range_from, range_lacks};
 ghost use Rattle.state_choices.specs.Views.{seen_of};
 ghost use Rattle.instance_start.specs.Columns.{bounds_of, range_seen, scene_of, variable_of};
-ghost use Rattle.instance_start.specs.Kinds.{column_named, constant_kind, constants_named, domain_kind, first_kind, named, range_kind};
+ghost use Rattle.instance_start.specs.Kinds.{column_named, constant_kind, constants_named, domain_kind, first_kind, named, range_kind, value_kind};
 
 use crate::answers::is_wide;
 use crate::data::{Bounds, Constant, Range, Variable};
@@ -19,7 +19,7 @@ use std::alloc::{AllocError, Global};
 
 /// Whether something is wide.
 pub(crate) fn has_wide(values: &[Result<Value, EvalFail>], variables: &[Variable]) -> bool
-    ensures { result ≡ is_wide_instance (scene_of values.now variables.now) }
+    ensures { (has_condition : Bool) → result ≡ is_wide_instance (scene_of has_condition values.now variables.now) }
 {
     has_wide_value(values) || has_wide_variable(variables)
 }
@@ -36,7 +36,7 @@ fn has_wide_value(values: &[Result<Value, EvalFail>]) -> bool
 }
 
 fn has_wide_variable(variables: &[Variable]) -> bool
-    ensures { result ≡ list_any (λ c. is_wide_domain c.domain || c.first.wide) (map variable_of variables.now) }
+    ensures { result ≡ list_any is_wide_column (map variable_of variables.now) }
 {
     for variable in variables {
         if is_wide_variable(variable) {
@@ -47,9 +47,18 @@ fn has_wide_variable(variables: &[Variable]) -> bool
 }
 
 fn is_wide_variable(variable: &Variable) -> bool
-    ensures { result ≡ (is_wide_domain (bounds_of variable.now.bounds) || (seen_of variable.now.first).wide) }
+    ensures { result ≡ is_wide_column (variable_of variable.now) }
 {
-    has_wide_bound(&variable.bounds) || is_wide(&variable.first)
+    has_wide_bound(&variable.bounds) || is_wide_first(&variable.first)
+}
+
+fn is_wide_first(first: &Option<Result<Value, EvalFail>>) -> bool
+    ensures { result ≡ is_wide_first (option_map seen_of first.now) }
+{
+    match first {
+        None => false,
+        Some(value) => is_wide(value),
+    }
 }
 
 fn has_wide_bound(bounds: &Option<Bounds>) -> bool
@@ -61,19 +70,21 @@ fn has_wide_bound(bounds: &Option<Bounds>) -> bool
     }
 }
 
-/// The faults in order, with the names of the constants and variables that have them.
+/// The faults in order, with the names of the constants and variables that have them; with an initial condition none of
+/// first values.
 pub(crate) fn faults(
     alloc: Global,
+    has_condition: bool,
     constants: &[Constant],
     values: &[Result<Value, EvalFail>],
     variables: &[Variable],
 ) -> Result<List<InstanceFault>, AllocError>
     requires { length constants.now ≡ length values.now }
-    ensures { IfOk result (λ fs. fs ≡ constants_named (map (λ c. c.name.now) constants.now) (map seen_of values.now) ++ flat_map column_named (map variable_of variables.now)) }
+    ensures { IfOk result (λ fs. fs ≡ constants_named (map (λ c. c.name.now) constants.now) (map seen_of values.now) ++ flat_map (column_named has_condition) (map variable_of variables.now)) }
 {
     let mut all = List::new(alloc);
     add_constants(alloc, constants, values, &mut all)?;
-    add_variables(alloc, variables, &mut all)?;
+    add_variables(alloc, has_condition, variables, &mut all)?;
     Ok(all)
 }
 
@@ -96,26 +107,28 @@ fn add_constants(
 /// Adds those of the variables.
 fn add_variables(
     alloc: Global,
+    has_condition: bool,
     variables: &[Variable],
     faults: &mut List<InstanceFault>,
 ) -> Result<(), AllocError>
-    ensures { IfOk result (λ u. faults.new ≡ faults.old ++ flat_map column_named (map variable_of variables.now)) }
+    ensures { IfOk result (λ u. faults.new ≡ faults.old ++ flat_map (column_named has_condition) (map variable_of variables.now)) }
 {
     for variable in variables {
-        add_variable(alloc, variable, faults)?;
+        add_variable(alloc, has_condition, variable, faults)?;
     }
     Ok(())
 }
 
 fn add_variable(
     alloc: Global,
+    has_condition: bool,
     variable: &Variable,
     faults: &mut List<InstanceFault>,
 ) -> Result<(), AllocError>
-    ensures { IfOk result (λ u. faults.new ≡ faults.old ++ column_named (variable_of variable.now)) }
+    ensures { IfOk result (λ u. faults.new ≡ faults.old ++ column_named has_condition (variable_of variable.now)) }
 {
     add_if(alloc, domain_kind(&variable.bounds), variable.name, faults)?;
-    let first = first_kind(&variable.bounds, &variable.first);
+    let first = first_kind(has_condition, &variable.bounds, &variable.first);
     add_if(alloc, first, variable.name, faults)
 }
 
@@ -168,10 +181,26 @@ fn empty_kind(range: Range) -> Option<FaultKind>
     }
 }
 
-fn first_kind(bounds: &Option<Bounds>, first: &Result<Value, EvalFail>) -> Option<FaultKind>
-    ensures { result ≡ first_kind (bounds_of bounds.now) (seen_of first.now).value }
+fn first_kind(
+    has_condition: bool,
+    bounds: &Option<Bounds>,
+    first: &Option<Result<Value, EvalFail>>,
+) -> Option<FaultKind>
+    ensures { result ≡ first_kind has_condition (bounds_of bounds.now) (option_map seen_of first.now) }
 {
+    if has_condition {
+        return None;
+    }
     match first {
+        None => None,
+        Some(value) => value_kind(bounds, value),
+    }
+}
+
+fn value_kind(bounds: &Option<Bounds>, value: &Result<Value, EvalFail>) -> Option<FaultKind>
+    ensures { result ≡ value_kind (bounds_of bounds.now) (seen_of value.now).value }
+{
+    match value {
         Err(_) => Some(FaultKind::InitUndef),
         Ok(value) => {
             if is_outside(bounds, *value) {

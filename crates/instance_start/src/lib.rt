@@ -11,8 +11,8 @@ mod start;
 mod values;
 
 pub use answers::{is_false, is_wide, truth_in};
-pub use data::{Bounds, Column, Constant, Domain, Place, Variable};
+pub use data::{Bounds, Column, Constant, Domain, First, Place, Variable};
 pub use given::{given_values, misfit};
-pub use ranges::{domain_at, equal_values, first_values, fits_in, is_in, is_initial, is_state};
+pub use ranges::{domain_at, equal_values, first_values, fits_in, is_in, is_state, may_begin};
 pub use start::columns;
 pub use values::{type_of, value_at};

@@ -1,13 +1,13 @@
 //! Which values a variable may have.
-ghost use Rattle.std.specs.Prelude.{◌≡◌, IfOk, Some, map};
+ghost use Rattle.std.specs.Prelude.{◌≡◌, IfOk, map};
 ghost use Rattle.frac_core.specs.Fraction.{is_whole};
 ghost use Rattle.process_core.specs.Choices.{all_defined};
 ghost use Rattle.process_core.specs.Equal.{equal_values};
-ghost use Rattle.process_core.specs.Instance.{has_value, is_above, is_in, domain_at, fits_in, is_initial, is_state};
+ghost use Rattle.process_core.specs.Instance.{begin_all, domain_at, first_value, fits_in, has_value, is_above, is_first, is_in, is_state, may_begin};
 ghost use Rattle.state_choices.specs.Views.{seen_of};
-ghost use Rattle.instance_start.specs.Columns.{column_of, domain_of};
+ghost use Rattle.instance_start.specs.Columns.{column_of, domain_of, first_of};
 
-use crate::data::{Column, Domain};
+use crate::data::{Column, Domain, First};
 use bridge_io::List;
 use frac_core::Frac;
 use op_trees::{EvalFail, Value};
@@ -106,28 +106,59 @@ pub fn is_state(columns: &[Column], s: &[Value]) -> bool
     true
 }
 
-/// Whether each variable has its first value.
-pub fn is_initial(columns: &[Column], s: &[Value]) -> bool
-    ensures { result ≡ is_initial (map column_of columns.now) s.now }
+/// Whether a variable may begin with a value.
+fn is_first(first: &First, value: Value) -> bool
+    ensures { result ≡ is_first (first_of first.now) value }
+{
+    match first {
+        First::Any => true,
+        First::Nothing => false,
+        First::Only(one) => equal_values(*one, value),
+    }
+}
+
+/// Whether each variable may begin with its value.
+fn begin_all(columns: &[Column], s: &[Value]) -> bool
+    ensures { result ≡ begin_all (map column_of columns.now) s.now }
 {
     if columns.len() != s.len() {
         return false;
     }
     for (i, column) in columns.iter().enumerate() {
-        if !equal_values(column.first, s[i]) {
+        if !is_first(&column.first, s[i]) {
             return false;
         }
     }
     true
 }
 
-/// The values that the variables begin with.
-pub fn first_values(alloc: Global, columns: &[Column]) -> Result<List<Value>, AllocError>
-    ensures { IfOk result (λ s. all_defined (map (λ c. c.first.value) (map column_of columns.now)) ≡ Some s) }
+/// Whether this is a state that is initial if the initial condition holds there.
+pub fn may_begin(columns: &[Column], s: &[Value]) -> bool
+    ensures { result ≡ may_begin (map column_of columns.now) s.now }
+{
+    is_state(columns, s) && begin_all(columns, s)
+}
+
+/// The one value that a variable may begin with, if there is one.
+fn first_value(column: &Column) -> Option<Value>
+    ensures { result ≡ first_value (column_of column.now) }
+{
+    match column.first {
+        First::Only(value) => Some(value),
+        _ => None,
+    }
+}
+
+/// The values that the variables begin with, where each has one.
+pub fn first_values(alloc: Global, columns: &[Column]) -> Result<Option<List<Value>>, AllocError>
+    ensures { IfOk result (λ s. s ≡ all_defined (map first_value (map column_of columns.now))) }
 {
     let mut values = List::with_capacity(alloc, columns.len())?;
     for column in columns {
-        values.push(column.first)?;
+        match first_value(column) {
+            None => return Ok(None),
+            Some(value) => values.push(value)?,
+        }
     }
-    Ok(values)
+    Ok(Some(values))
 }

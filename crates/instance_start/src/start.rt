@@ -1,34 +1,34 @@
 //! The columns of a model that starts, or why it doesn't.
-ghost use Rattle.std.specs.Prelude.{◌≡◌, IfOk, MatchResult, false, length, map, unwrap_or};
-ghost use Rattle.op_trees.specs.declared.tree.Value.TheVariants.{Truth};
+ghost use Rattle.std.specs.Prelude.{◌≡◌, IfOk, MatchResult, length, map};
 ghost use Rattle.process_core.specs.Instance.{Scene};
 ghost use Rattle.state_choices.specs.Trimmed.{trimmed_seen};
 ghost use Rattle.state_choices.specs.Views.{seen_of};
-ghost use Rattle.instance_start.specs.Columns.{AreColumns, bounds_of, column_of, constant_of, range_of, settled_column, settled_domain, IsMemory, trimmed_column, variable_of};
+ghost use Rattle.instance_start.specs.Columns.{AreColumns, bounds_of, column_of, constant_of, range_of, settled_column, settled_domain, settled_first, IsMemory, trimmed_column, variable_of};
 ghost use Rattle.instance_start.specs.Started.{FailsIn};
 
-use crate::data::{Bounds, Column, Constant, Domain, Variable};
+use crate::data::{Bounds, Column, Constant, Domain, First, Variable};
 use crate::faults::{faults, has_wide, range_of};
 use op_trees::{EvalFail, Value};
 use process_core::StartFail;
 use std::alloc::{AllocError, Global};
 
-/// The columns of a model, from what its constants and its variables come out as. `Wide` where something is wide, else the
-/// faults in order, if there are any.
+/// The columns of a model, from what its constants and its variables come out as, and whether it has an initial condition.
+/// `Wide` where something is wide, else the faults in order, if there are any.
 pub fn columns<'a>(
     alloc: Global,
+    has_condition: bool,
     constants: &[Constant<'a>],
     values: &[Result<Value, EvalFail>],
     variables: &[Variable<'a>],
 ) -> Result<Vec<Column<'a>>, StartFail>
     requires { length constants.now ≡ length values.now }
-    ensures { (k : Scene) → map seen_of values.now ≡ map trimmed_seen k.constants → map variable_of variables.now ≡ map trimmed_column k.columns →
+    ensures { (k : Scene) → has_condition ≡ k.has_condition → map seen_of values.now ≡ map trimmed_seen k.constants → map variable_of variables.now ≡ map trimmed_column k.columns →
         MatchResult result (λ cs. AreColumns k (map column_of cs.items)) (λ fail. FailsIn (map constant_of constants.now) k fail) }
 {
     if has_wide(values, variables) {
         return Err(StartFail::Wide);
     }
-    match faults(alloc, constants, values, variables) {
+    match faults(alloc, has_condition, constants, values, variables) {
         Err(e) => Err(StartFail::Memory(e)),
         Ok(faults) => {
             if faults.len() == 0 {
@@ -40,7 +40,7 @@ pub fn columns<'a>(
     }
 }
 
-/// The columns, where nothing is undefined.
+/// The columns, where no bound is undefined.
 fn settled_columns<'a>(
     alloc: Global,
     variables: &[Variable<'a>],
@@ -68,7 +68,7 @@ fn settled_column<'a>(variable: &Variable<'a>) -> Column<'a>
     Column {
         name: variable.name,
         domain: settled_domain(&variable.bounds),
-        first: first_value(&variable.first),
+        first: settled_first(&variable.first),
     }
 }
 
@@ -84,11 +84,12 @@ fn settled_domain(bounds: &Option<Bounds>) -> Domain
     }
 }
 
-fn first_value(first: &Result<Value, EvalFail>) -> Value
-    ensures { result ≡ unwrap_or (seen_of first.now).value (Truth false) }
+fn settled_first(first: &Option<Result<Value, EvalFail>>) -> First
+    ensures { result ≡ settled_first first.now }
 {
     match first {
-        Ok(value) => *value,
-        Err(_) => Value::Truth(false),
+        None => First::Any,
+        Some(Ok(value)) => First::Only(*value),
+        Some(Err(_)) => First::Nothing,
     }
 }

@@ -24,7 +24,7 @@ use Rattle.op_trees.specs.TypeLaws.{misfits_none, value_agrees}
 use Rattle.name_rules.specs.Least.{fault, fault_if, or_else}
 use Rattle.name_rules.proofs.Plain.{no_fault}
 use Rattle.process_core.specs.Ready.{Name}
-use Rattle.process_core.specs.Instance.{Truths, Column, numbered}
+use Rattle.process_core.specs.Instance.{Truths, Column, numbered, first_value}
 use Rattle.process_core.specs.declared.data.Given.{Given}
 use Rattle.instance_start.specs.Description.{Constant}
 use Rattle.instance_start.specs.Firsts.{BeginRight, begins_right}
@@ -281,7 +281,7 @@ module _ (file : File) where
 
       -- ---- columns begin right
       abbrev IsRightColumn : Column → Type 0
-      IsRightColumn c = begins_right c.domain c.first.value ≡ true
+      IsRightColumn c = begins_right c.domain (first_value c) ≡ true
 
       start_right : (o : Option Expression) → OfSome (HasType values T.Bool) o → begins_right Truths (start_of (constant_names file (given_by given)) o).value ≡ true
       start_right None h = refl

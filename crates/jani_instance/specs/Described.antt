@@ -1,10 +1,10 @@
 -- The process that a JANI file describes under a valuation, as it is seen by whoever steps it (jani-model specification, version
 -- 1: "Models", "Automata", "Transient variables"). The texts of columns are this project's own rule: the location of the element
 -- k is `@k`, the variable i among those that last is `#i`, both counted from 0.
-use Rattle.std.specs.Prelude.{ℕ, zero, suc, ◌+◌, List, [], ◌∷◌, ◌++◌, map, length, false, is_none, codes}
+use Rattle.std.specs.Prelude.{ℕ, zero, suc, ◌+◌, List, [], ◌∷◌, ◌++◌, map, length, is_none, codes}
 use Rattle.std.specs.Fmt.{decimal}
 use Rattle.process_core.specs.Ready.{Name}
-use Rattle.process_core.specs.Instance.{Valuation, is_state, is_initial, first_values}
+use Rattle.process_core.specs.Instance.{Valuation, is_state, is_initial, first_values, is_wide_initial}
 use Rattle.process_core.specs.Steps.{Process}
 use Rattle.jani_tree.specs.Syntax.{File}
 use Rattle.jani_meaning.specs.Elements.{labels, structures, lasting}
@@ -31,9 +31,9 @@ described file v = record {
   mark_names = mark_names file;
   labels = length (labels file);
   is_state = is_state (scene file v).columns;
-  is_initial = is_initial (scene file v).columns;
-  has_wide_initial = λ s. false;
-  has_condition = false;
+  is_initial = λ s. is_initial (scene file v).columns (moment file v s).condition s;
+  has_wide_initial = λ s. is_wide_initial (scene file v).columns (moment file v s).condition s;
+  has_condition = (scene file v).has_condition;
   first = first_values (scene file v);
   choices = λ s. choices (moment file v s) s;
   excess = λ s. excess (moment file v s);

@@ -1,16 +1,18 @@
 -- The process that a file describes keeps the laws of processes, where its instance has no fault and what begins with a value of
 -- the right type. (jani-model specification, version 1: "Models" for type "mdp".)
-use Rattle.std.specs.Prelude.{◌≡◌, ℕ, zero, suc, ◌+◌, List, [], length, true, false, codes}
+use Rattle.std.specs.Prelude.{◌≡◌, ℕ, zero, suc, ◌+◌, List, [], map, length, codes}
 use Rattle.std.proofs.Common.{refl, sym, ap, ap₂, ◌∙◌, length-append}
-use Rattle.basics.specs.Lists.{append_parts}
-use Rattle.process_core.specs.Instance.{Valuation, constant_faults, column_faults, numbered, instance_faults, first_values}
+use Rattle.std.proofs.lemmas.List.Elements.{All-append, All-map}
+use Rattle.basics.specs.Members.{all_each}
+use Rattle.process_core.specs.Instance.{Valuation, instance_faults}
 use Rattle.process_core.specs.Steps.{IsProcess}
 use Rattle.jani_tree.specs.Syntax.{File, file_of}
-use Rattle.jani_meaning.specs.Elements.{labels, structures, lasting}
-use Rattle.jani_meaning.specs.Scene.{scene, columns_of}
+use Rattle.jani_meaning.specs.Elements.{elements, labels, structures, lasting}
+use Rattle.jani_meaning.specs.Moment.{moment}
+use Rattle.jani_meaning.specs.Scene.{scene, column, columns_of, constant_names, location_column}
 use Rattle.jani_meaning.proofs.Columns.{states_have_columns}
 use Rattle.jani_meaning.proofs.Proper.{choices_are_proper}
-use Rattle.instance_start.specs.Firsts.{BeginRight, first_known, first_is, initial_states}
+use Rattle.instance_start.specs.Firsts.{BeginRight, HasFirst, HaveFirsts, initial_states, wide_states, condition_is, first_is}
 use Rattle.instance_start.specs.Marks.{first_names, marks_length, mark_kinds}
 use Rattle.instance_start.specs.Given.{given_by}
 use Rattle.jani_instance.specs.Described.{described, texts_from, column_texts}
@@ -26,6 +28,13 @@ column_count file =
     length-append (texts_from (codes "@") 0 (length file.elements)) (texts_from (codes "#") 0 (length (lasting file)))
     ∙ ap₂ (λ a b. a + b) (texts_length (codes "@") 0 (length file.elements)) (texts_length (codes "#") 0 (length (lasting file)))
 
+-- ---- first values
+have_firsts : (file : File) (v : Valuation) → HaveFirsts (scene file v)
+have_firsts file v e =
+    All-append HasFirst (map location_column (elements file)) (map (λ o. column (constant_names file v) o.var) (lasting file))
+    (All-map HasFirst location_column (elements file) (all_each (λ a. HasFirst (location_column a)) (λ a. refl) (elements file)))
+    (All-map HasFirst (λ o. column (constant_names file v) o.var) (lasting file) (all_each (λ o. HasFirst (column (constant_names file v) o.var)) (λ o. refl) (lasting file)))
+
 module _ (file : File) (v : Valuation) (t : BeginRight (columns_of file v)) (h : instance_faults (scene file v) ≡ []) where
   pub described_is : IsProcess (described file v)
   described_is = record {
@@ -33,10 +42,10 @@ module _ (file : File) (v : Valuation) (t : BeginRight (columns_of file v)) (h :
     marks = λ s k. marks_length _ _ _ _ _ _ (labels file) (structures file);
     labels = first_names _ _ (labels file) (structures file);
     kinds = λ s i m k e. mark_kinds _ _ _ _ (λ l. refl) (λ l. refl) (labels file) (structures file) i m e;
-    initial = initial_states 0 (columns_of file v) t (append_parts (numbered constant_faults 0 (scene file v).constants) (numbered column_faults 0 (columns_of file v)) h).1;
-    wide_initial = λ s k. absurd (let z : false ≡ true = k in cc);
-    condition = (λ e. absurd (first_known 0 (columns_of file v) (append_parts (numbered constant_faults 0 (scene file v).constants) (numbered column_faults 0 (columns_of file v)) h).1 e), λ k. absurd (let z : false ≡ true = k in cc));
-    first = first_is (columns_of file v) (first_values (scene file v)) refl;
+    initial = λ s k. initial_states (columns_of file v) (moment file v s).condition s k;
+    wide_initial = λ s k. wide_states (columns_of file v) (moment file v s).condition s k;
+    condition = condition_is (scene file v) (have_firsts file v) h;
+    first = first_is (scene file v) (λ s. (moment file v s).condition) t (λ e s. refl) h;
     proper = choices_are_proper file v;
   }
 

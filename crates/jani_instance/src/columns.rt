@@ -91,7 +91,7 @@ fn location_variable<'a>(part: Part<'a>) -> Variable<'a>
     Variable {
         name: name_of(part),
         bounds: Some(Bounds { low, high }),
-        first: counted(initial_number(part)),
+        first: Some(counted(initial_number(part))),
     }
 }
 
@@ -102,7 +102,7 @@ fn variable<'a>(var: &'a JaniVar, run: &Run) -> Variable<'a>
     Variable {
         name: &var.name.name,
         bounds: bounds(&var.kind, run),
-        first: start_of(&var.start, run),
+        first: Some(start_of(&var.start, run)),
     }
 }
 

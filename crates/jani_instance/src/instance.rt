@@ -20,7 +20,7 @@ use crate::run::Here;
 use bridge_io::{List, Text};
 use expr_store::{Evaluation, ExprId, ExprStore};
 use frac_core::Frac;
-use instance_start::{Column, first_values, is_initial, is_state};
+use instance_start::{Column, first_values, is_state, may_begin};
 use itoa::Buffer;
 use jani_check::CheckedJani;
 use jani_table::JaniOp;
@@ -72,12 +72,14 @@ impl<'a> Steps for JaniInstance<'a> {
     }
 
     fn initial(&self, s: &State) -> Result<bool, InitialWide> {
-        Ok(is_initial(self.columns.as_slice(), s.values.as_slice()))
+        Ok(may_begin(self.columns.as_slice(), s.values.as_slice()))
     }
 
     fn first(&self, alloc: Global) -> Result<Option<State>, AllocError> {
-        let values = first_values(alloc, self.columns.as_slice())?;
-        Ok(Some(State { values }))
+        match first_values(alloc, self.columns.as_slice())? {
+            Some(values) => Ok(Some(State { values })),
+            None => Ok(None),
+        }
     }
 
     fn choices(&self, alloc: Global, s: &State) -> Result<List<Choice>, StepFail> {

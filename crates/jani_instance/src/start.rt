@@ -321,7 +321,7 @@ fn known_columns<'a>(
         &run,
     ) {
         Err(e) => Err(StartFail::Memory(e)),
-        Ok(variables) => columns(alloc, opens, values.as_slice(), variables.as_slice()),
+        Ok(variables) => columns(alloc, false, opens, values.as_slice(), variables.as_slice()),
     }
 }
 

@@ -90,13 +90,13 @@ neither true c x y h k = absurd cc
 neither false true x y h k = refl
 neither false false x y h k = absurd cc
 
-location_faults : (i : ℕ) (a : Automaton) → column_faults i (location_column a) ≡ []
+location_faults : (i : ℕ) (a : Automaton) → column_faults false i (location_column a) ≡ []
 location_faults i a =
     let m = length a.locations - 1 in
     neither (is_above (whole (pos 0)) (whole (pos m))) (is_in (location_column a).domain (V.Number (whole (pos (initial_number a))))) _ _
     (not_above_whole 0 m (omega arith)) (has_count (initial_number a) m (first_within a a.initial))
 
-all_locations : (i : ℕ) (as_ : List Automaton) → numbered column_faults i (map location_column as_) ≡ []
+all_locations : (i : ℕ) (as_ : List Automaton) → numbered (column_faults false) i (map location_column as_) ≡ []
 all_locations i [] = refl
 all_locations i (a ∷ as_) = ap₂ (λ p q. p ++ q) (location_faults i a) (all_locations (i + 1) as_)
 
@@ -114,8 +114,8 @@ locations_have_no_fault file v =
     let places = map location_column (elements file) in
     let vars = map (λ o. column (constant_names file v) o.var) (lasting file) in
     ap (λ l. numbered constant_faults 0 (scene file v).constants ++ l)
-    (numbered-append column_faults 0 places vars
-    ∙ ap₂ (λ p n. p ++ numbered column_faults n vars) (all_locations 0 (elements file))
+    (numbered-append (column_faults false) 0 places vars
+    ∙ ap₂ (λ p n. p ++ numbered (column_faults false) n vars) (all_locations 0 (elements file))
     (let e = length-map (elements file) location_column in let f = length-map file.elements (automaton_called file) in omega arith))
 
 -- ---- the only value of the location of an automaton with one location

@@ -31,7 +31,7 @@ ChoicesAreProper file =
 abbrev pub LocationsHaveNoFault : File → Type 0
 LocationsHaveNoFault file =
     (v : Valuation) → (model file).faults v
-    ≡ numbered constant_faults 0 (scene file v).constants ++ numbered column_faults (length file.elements) (map (λ o. column (constant_names file v) o.var) (lasting file))
+    ≡ numbered constant_faults 0 (scene file v).constants ++ numbered (column_faults (scene file v).has_condition) (length file.elements) (map (λ o. column (constant_names file v) o.var) (lasting file))
 
 -- ---- constants that lead round in no circle
 -- a name that, if it is a constant's, is ranked below n

@@ -14,13 +14,15 @@ use Rattle.basics.specs.Options.{if_some}
 use Rattle.process_core.specs.Ready.{Values, Name, Write, Reward, Update, Ready, Vector}
 use Rattle.jani_tree.specs.Syntax.{Expression, Location, Destination, Edge, Automaton, File}
 use Rattle.jani_tree.specs.Syntax as syntax
-use Rattle.process_core.specs.Instance.{Valuation, Column, numbered, write_to}
+use Rattle.process_core.specs.Instance.{Valuation, Column, numbered, write_to, no_condition}
 use Rattle.op_trees.specs.Names.{is_called}
 use Rattle.jani_meaning.specs.Elements.{elements, location_number, Owned, labels, structures, column_number, structure_number}
 use Rattle.jani_meaning.specs.Scene.{see, constant, constant_names, counted, start_of, columns_of}
 
--- a file at a state: the edges of each element at its current location, the vectors, the labels and the rewards
+-- a file at a state: its initial condition, the edges of each element at its current location, the vectors, the labels and the
+-- rewards
 pub record Moment : Type 0 where
+  pub condition : Seen
   pub elements : List (List Ready)
   pub vectors : List Vector
   pub labels : List Seen
@@ -131,6 +133,7 @@ vector_of v = record { parts = map (option_map (λ x. x.name)) v.parts; result =
 
 abbrev pub moment : File → Valuation → Values → Moment
 moment file v s = record {
+  condition = no_condition;
   elements = numbered (λ i a. element_at file v s i a ∷ []) 0 (elements file);
   vectors = map vector_of file.vectors;
   labels = map (transient_at file v s) (labels file);

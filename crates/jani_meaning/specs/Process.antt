@@ -42,4 +42,4 @@ has_wide_mark k = list_any (λ l. l.wide) k.labels || list_any (λ r. r.wide) k.
 
 -- ---- the process that a file describes
 abbrev pub model : File → Model Valuation Fault Name Fraction Mark Values
-model file = model_of (scene file) (λ v s. marks (moment file v s)) (λ v s. choices (moment file v s) s)
+model file = model_of (scene file) (λ v s. (moment file v s).condition) (λ v s. marks (moment file v s)) (λ v s. choices (moment file v s) s)

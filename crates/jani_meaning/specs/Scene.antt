@@ -1,7 +1,7 @@
 -- A JANI file under a valuation (jani-model specification, version 1: "Models", "Automata", "Types"). A valuation gives a
 -- value for each constant that the file gives none. That constants may stand in any order, and the order of the columns,
 -- are rules of this project.
-use Rattle.std.specs.Prelude.{ℕ, zero, suc, ◌-◌, pos, List, ◌++◌, map, length, Option, Some, None}
+use Rattle.std.specs.Prelude.{ℕ, zero, suc, ◌-◌, pos, List, ◌++◌, map, length, Option, Some, None, false}
 use Rattle.std.specs.List.{find}
 use Rattle.frac_core.specs.Fraction.{whole}
 use Rattle.op_trees.specs.Seen.{Seen, known, seen}
@@ -54,7 +54,7 @@ abbrev pub location_column : Automaton → Column
 location_column a = record {
   name = a.name.name;
   domain = Between (counted 0) (counted (length a.locations - 1));
-  first = counted (initial_number a);
+  first = Some (counted (initial_number a));
 }
 
 -- the numbers between the bounds, or truth values; a file without fault has no variable of another kind that lasts
@@ -72,7 +72,7 @@ start_of names None = known None
 start_of names (Some e) = see e names
 
 abbrev pub column : (Name → Seen) → Var → Column
-column names x = record { name = x.name.name; domain = domain_of names x.kind; first = start_of names x.start }
+column names x = record { name = x.name.name; domain = domain_of names x.kind; first = Some (start_of names x.start) }
 
 -- the locations of the elements, then the variables that are not transient
 abbrev pub columns_of : File → Valuation → List Column
@@ -84,4 +84,5 @@ abbrev pub scene : File → Valuation → Scene
 scene file v = record {
   constants = map (λ c. constant_seen (v c.name.name) (constant_names file v) c.value) file.constants;
   columns = columns_of file v;
+  has_condition = false;
 }

@@ -58,7 +58,7 @@ pub same_constants : (file : prism.File) → SameConstants file
 same_constants file v w sound alike x = constant_same file v w sound alike x
 
 -- ---- columns
-same_column : (n m : Name) (d e : Domain) (f g : Seen) → n ≡ m → d ≡ e → f ≡ g →
+same_column : (n m : Name) (d e : Domain) (f g : Option Seen) → n ≡ m → d ≡ e → f ≡ g →
     ◌≡◌ {A = Column} (record { name = n; domain = d; first = f }) (record { name = m; domain = e; first = g })
 same_column n m d e f g p q r = cc
 
@@ -82,7 +82,7 @@ module _ (new : Name → Name) (old env : Name → Seen) (n : (x : Name) → env
   columns_alike (x ∷ vs) (e ∷ es) t s =
       let here = All-head (λ x. IfSome x.range (λ r. IsSound old r.low × IsSound old r.high) × IfSome x.start (IsSound old)) x vs s in
       let rest = All-tail (λ x. IfSome x.range (λ r. IsSound old r.low × IsSound old r.high) × IfSome x.start (IsSound old)) x vs s in
-      ap₂ (λ c r. c ∷ r) (same_column _ _ _ _ _ _ t.0 (domain_alike x.range here.0) (first_alike x.start x.range here.0 here.1)) (columns_alike vs es t.1 rest)
+      ap₂ (λ c r. c ∷ r) (same_column _ _ _ _ _ _ t.0 (domain_alike x.range here.0) (ap Some (first_alike x.start x.range here.0 here.1))) (columns_alike vs es t.1 rest)
 
 -- ---- the columns of a written out file
 module _ (file : prism.File) (v : Valuation) where
@@ -182,13 +182,13 @@ columns_seen_alike file v w sound alike =
     ap (λ r. map location_column (elements (translated file)) ++ r) (variables_seen file v w sound alike)
 
 -- ---- faults do not tell the names of columns
-faults_renamed : (new : Name → Name) (i : ℕ) (cs : List Column) → numbered column_faults i (map (renamed_column new) cs) ≡ numbered column_faults i cs
-faults_renamed new i [] = refl
-faults_renamed new i (c ∷ cs) = ap (λ r. column_faults i c ++ r) (faults_renamed new (i + 1) cs)
+faults_renamed : (r : Bool) (new : Name → Name) (i : ℕ) (cs : List Column) → numbered (column_faults r) i (map (renamed_column new) cs) ≡ numbered (column_faults r) i cs
+faults_renamed r new i [] = refl
+faults_renamed r new i (c ∷ cs) = ap (λ l. column_faults r i c ++ l) (faults_renamed r new (i + 1) cs)
 
 pub faults_alike : (file : prism.File) → FaultsAlike file
 faults_alike file v w sound alike =
     let n = length (translated file).elements in
     locations_have_no_fault (translated file) w
-    ∙ ap₂ (λ cs vs. numbered constant_faults 0 cs ++ numbered column_faults n vs) (constants_seen_alike file v w sound alike) (variables_seen file v w sound alike)
-    ∙ ap (λ r. numbered constant_faults 0 (prism_scene.scene file v).constants ++ r) (faults_renamed (new_names file).value n (prism_scene.columns_of file v))
+    ∙ ap₂ (λ cs vs. numbered constant_faults 0 cs ++ numbered (column_faults false) n vs) (constants_seen_alike file v w sound alike) (variables_seen file v w sound alike)
+    ∙ ap (λ r. numbered constant_faults 0 (prism_scene.scene file v).constants ++ r) (faults_renamed false (new_names file).value n (prism_scene.columns_of file v))

@@ -7,7 +7,7 @@ use Rattle.std.proofs.lemmas.List.{append_cancel_left}
 use Rattle.op_trees.specs.declared.tree.Value.{Value}
 use Rattle.process_core.specs.Ready.{Values, Name}
 use Rattle.prism_tree.specs.Syntax as prism
-use Rattle.process_core.specs.Instance.{Valuation, Between, Column, is_in, is_first, is_state, is_initial}
+use Rattle.process_core.specs.Instance.{Valuation, Between, Column, is_in, begins, is_state, begin_all}
 use Rattle.prism_flat.specs.Scene as prism_scene
 use Rattle.jani_tree.specs.Syntax.{Automaton}
 use Rattle.jani_meaning.specs.Scene as jani_scene
@@ -28,10 +28,10 @@ module _ (names : NewNames) (cs : List Column) (s : Values) where
       ap₂ (λ x y. x && y) (ap (λ (b : Automaton). is_in (location_column b).domain at_home) h.0.1) (home_states as_ h.1)
 
   home_initial : (as_ : List Automaton) → AllByRecursion (IsOne names) as_ →
-      is_initial (map location_column as_ ++ cs) (map (λ n. at_home) (map (λ a. a.name) as_) ++ s) ≡ is_initial cs s
+      begin_all (map location_column as_ ++ cs) (map (λ n. at_home) (map (λ a. a.name) as_) ++ s) ≡ begin_all cs s
   home_initial [] h = refl
   home_initial (a ∷ as_) h =
-      ap₂ (λ x y. x && y) (ap (λ (b : Automaton). is_first (location_column b).first.value at_home) h.0.1) (home_initial as_ h.1)
+      ap₂ (λ x y. x && y) (ap (λ (b : Automaton). begins (location_column b) at_home) h.0.1) (home_initial as_ h.1)
 
 renamed_states : (new : Name → Name) (cs : List Column) (s : Values) → is_state (map (renamed_column new) cs) s ≡ is_state cs s
 renamed_states new [] [] = refl
@@ -39,11 +39,11 @@ renamed_states new [] (u ∷ s) = refl
 renamed_states new (c ∷ cs) [] = refl
 renamed_states new (c ∷ cs) (u ∷ s) = ap (λ b. is_in c.domain u && b) (renamed_states new cs s)
 
-renamed_initial : (new : Name → Name) (cs : List Column) (s : Values) → is_initial (map (renamed_column new) cs) s ≡ is_initial cs s
+renamed_initial : (new : Name → Name) (cs : List Column) (s : Values) → begin_all (map (renamed_column new) cs) s ≡ begin_all cs s
 renamed_initial new [] [] = refl
 renamed_initial new [] (u ∷ s) = refl
 renamed_initial new (c ∷ cs) [] = refl
-renamed_initial new (c ∷ cs) (u ∷ s) = ap (λ b. is_first c.first.value u && b) (renamed_initial new cs s)
+renamed_initial new (c ∷ cs) (u ∷ s) = ap (λ b. begins c u && b) (renamed_initial new cs s)
 
 -- the columns are those of the locations of the automata, and then those of the file
 pub columns_are : (file : prism.File) (v w : Valuation) → IsSoundUnder file v → GivesAlike file v w →
@@ -62,9 +62,10 @@ states_alike file v w sound alike s =
 pub initial_alike : (file : prism.File) → InitialAlike file
 initial_alike file v w sound alike s =
     let cs = map (renamed_column (new_names file).value) (prism_scene.columns_of file v) in
-    ap (λ k. is_initial k (state_of file s)) (columns_are file v w sound alike)
+    ap₂ (λ a b. a && b) (states_alike file v w sound alike s)
+    (ap (λ k. begin_all k (state_of file s)) (columns_are file v w sound alike)
     ∙ home_initial (new_names file) cs s (translated file).automata (automata_one file)
-    ∙ renamed_initial (new_names file).value (prism_scene.columns_of file v) s
+    ∙ renamed_initial (new_names file).value (prism_scene.columns_of file v) s)
 
 -- ---- the states of the translated file
 

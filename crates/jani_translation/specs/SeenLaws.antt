@@ -74,4 +74,4 @@ abbrev pub FaultsAlike : prism.File → Type 0
 FaultsAlike file = (v w : Valuation) → IsSoundUnder file v → GivesAlike file v w →
     (jani.model (translated file)).faults w
     ≡ numbered constant_faults 0 (prism_scene.scene file v).constants
-    ++ numbered column_faults (length (translated file).elements) (prism_scene.scene file v).columns
+    ++ numbered (column_faults (prism_scene.scene file v).has_condition) (length (translated file).elements) (prism_scene.scene file v).columns

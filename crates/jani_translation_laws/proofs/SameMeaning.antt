@@ -15,7 +15,7 @@ use Rattle.process_core.specs.declared.data.Mark.{Mark}
 use Rattle.process_core.specs.Product.{map-map}
 use Rattle.process_core.specs.Ready.{Values, Name}
 use Rattle.prism_tree.specs.Syntax as prism
-use Rattle.process_core.specs.Instance.{Valuation, Fault, Domain, Truths, Between, Range, Column, is_empty, is_outside, fault_of, numbered, only_if, range_from, constant_faults, range_faults, domain_faults, first_faults, column_faults}
+use Rattle.process_core.specs.Instance.{Valuation, Fault, Domain, Truths, Between, Range, Column, is_empty, is_outside, fault_of, numbered, only_if, range_from, constant_faults, range_faults, domain_faults, value_faults, column_faults, first_faults}
 use Rattle.prism_flat.specs.Scene as prism_scene
 use Rattle.prism_flat.specs.Process as prism_process
 use Rattle.prism_names.specs.Names.{unchanged}
@@ -68,17 +68,22 @@ module _ (n : ℕ) where
   domain_placed i Truths = refl
   domain_placed i (Between l h) = range_placed i (range_from l h)
 
-  first_placed : (i : ℕ) (d : Domain) (v : Option Value) → map (placed n) (first_faults i d v) ≡ first_faults (n + i) d v
-  first_placed i d None = refl
-  first_placed i d (Some v) = one_placed (is_outside d v) (fault_of InitOutside i) (fault_of InitOutside (n + i)) refl
+  value_placed : (i : ℕ) (d : Domain) (v : Option Value) → map (placed n) (value_faults i d v) ≡ value_faults (n + i) d v
+  value_placed i d None = refl
+  value_placed i d (Some v) = one_placed (is_outside d v) (fault_of InitOutside i) (fault_of InitOutside (n + i)) refl
 
-  columns_placed : (i j : ℕ) (cs : List Column) → j ≡ n + i → map (placed n) (numbered column_faults i cs) ≡ numbered column_faults j cs
-  columns_placed i j [] e = refl
-  columns_placed i j (c ∷ cs) e =
-      both_placed (column_faults i c) (numbered column_faults (i + 1) cs) (column_faults j c) (numbered column_faults (j + 1) cs)
-      (both_placed (domain_faults i c.domain) (first_faults i c.domain c.first.value) (domain_faults (n + i) c.domain) (first_faults (n + i) c.domain c.first.value) (domain_placed i c.domain) (first_placed i c.domain c.first.value)
-      ∙ ap (λ k. column_faults k c) (sym e))
-      (columns_placed (i + 1) (j + 1) cs (on i j e))
+  first_placed : (r : Bool) (i : ℕ) (d : Domain) (o : Option Seen) → map (placed n) (first_faults r i d o) ≡ first_faults r (n + i) d o
+  first_placed true i d o = refl
+  first_placed false i d None = refl
+  first_placed false i d (Some s) = value_placed i d s.value
+
+  columns_placed : (r : Bool) (i j : ℕ) (cs : List Column) → j ≡ n + i → map (placed n) (numbered (column_faults r) i cs) ≡ numbered (column_faults r) j cs
+  columns_placed r i j [] e = refl
+  columns_placed r i j (c ∷ cs) e =
+      both_placed (column_faults r i c) (numbered (column_faults r) (i + 1) cs) (column_faults r j c) (numbered (column_faults r) (j + 1) cs)
+      (both_placed (domain_faults i c.domain) (first_faults r i c.domain c.first) (domain_faults (n + i) c.domain) (first_faults r (n + i) c.domain c.first) (domain_placed i c.domain) (first_placed r i c.domain c.first)
+      ∙ ap (λ k. column_faults r k c) (sym e))
+      (columns_placed r (i + 1) (j + 1) cs (on i j e))
     where
       on : (i j : ℕ) → j ≡ n + i → j + 1 ≡ n + (i + 1)
       on i j e = omega (arith, e)
@@ -93,9 +98,10 @@ module _ (file : prism.File) (flat : IsFlat file) (v w : Valuation) (gives : Giv
 
   same_faults : map (placed elements) ((prism_process.model file).faults v) ≡ (jani_process.model (translated file)).faults w
   same_faults =
-      both_placed elements (numbered constant_faults 0 (prism_scene.scene file v).constants) (numbered column_faults 0 (prism_scene.scene file v).columns)
-      (numbered constant_faults 0 (prism_scene.scene file v).constants) (numbered column_faults elements (prism_scene.scene file v).columns)
-      (constants_placed elements 0 (prism_scene.scene file v).constants) (columns_placed elements 0 elements (prism_scene.scene file v).columns (none elements))
+      let condition = (prism_scene.scene file v).has_condition in
+      both_placed elements (numbered constant_faults 0 (prism_scene.scene file v).constants) (numbered (column_faults condition) 0 (prism_scene.scene file v).columns)
+      (numbered constant_faults 0 (prism_scene.scene file v).constants) (numbered (column_faults condition) elements (prism_scene.scene file v).columns)
+      (constants_placed elements 0 (prism_scene.scene file v).constants) (columns_placed elements condition 0 elements (prism_scene.scene file v).columns (none elements))
       ∙ sym (faults_alike file v w (flat_is_sound file flat v gives) alike)
 
   fault_there : (f : Fault) → IsIn f (map (placed elements) ((prism_process.model file).faults v)) → IsIn f ((jani_process.model (translated file)).faults w)

@@ -1,5 +1,5 @@
 -- What a PRISM file means does not depend on the places that its tree keeps.
-use Rattle.std.specs.Prelude.{◌≡◌, ℕ, zero, suc, List, [], ◌++◌, map, length, Option, Some, None}
+use Rattle.std.specs.Prelude.{◌≡◌, ℕ, zero, suc, List, [], ◌++◌, map, length, false, Option, Some, None}
 use Rattle.std.specs.List.{flat_map}
 use Rattle.std.specs.Option.{option_map}
 use Rattle.std.proofs.Common.{refl, sym, ap, ap₂, ◌∙◌}
@@ -18,7 +18,7 @@ use Rattle.prism_tree.specs.Syntax as syntax
 use Rattle.op_trees.specs.Names.{bare_name}
 use Rattle.prism_flat.specs.Same.{bare_const, bare_range, bare_var, bare_label, bare_write, bare_branch, bare_command, bare_on, bare_item, bare_rewards, bare_file}
 use Rattle.prism_flat.specs.Names.{unchanged, Part, parts, see, reading}
-use Rattle.process_core.specs.Instance.{Valuation, Between, Column, write_to}
+use Rattle.process_core.specs.Instance.{Valuation, Between, Column, write_to, no_condition}
 use Rattle.prism_flat.specs.Scene.{constant_called, constant_seen, constant_value, constant_within, constant, constant_names, domain_of, first_of, column, part_columns, columns_of, scene}
 use Rattle.prism_flat.specs.Moment.{Moment, value_in, names_in, place_of, weight_seen, action_of, write_at, update_at, command_at, part_at, adds_of, item_at, moment}
 use Rattle.prism_flat.specs.FlatLaws.{model_alike, meaning_alike}
@@ -56,7 +56,7 @@ first-bare names None None = refl
 
 column-bare : (rename : Name → Name) (names : Name → Seen) (x : Var) → column rename names (bare_var x) ≡ column rename names x
 column-bare rename names x =
-    ap₂ (λ d f. record { name = rename x.name.name; domain = d; first = f }) (domain-bare names x.range) (first-bare names x.start x.range)
+    ap₂ (λ d f. record { name = rename x.name.name; domain = d; first = Some f }) (domain-bare names x.range) (first-bare names x.start x.range)
 
 -- ---- commands and rewards, by what is written where and by what names are seen as
 action-bare : (rename : Name → Name) (c : Command) → action_of rename (bare_command c) ≡ action_of rename c
@@ -121,7 +121,7 @@ module _ (file : File) (v : Valuation) where
 
   pub scene-bare : scene (bare_file file) v ≡ scene file v
   scene-bare =
-      ap₂ (λ a b. record { constants = a; columns = b })
+      ap₂ (λ a b. record { constants = a; columns = b; has_condition = false })
       (ap (λ names. map (λ c. constant_seen (v c.name.name) (names unchanged) c.value) (map bare_const file.constants)) names-bare
       ∙ mapped bare_const _ _
       (λ c. constant_seen-bare (v c.name.name) (constant_names file v unchanged) c.value) file.constants) columns-bare
@@ -144,11 +144,12 @@ module _ (file : File) (v : Valuation) where
         ap₂ {B = List (List Ready) → Moment} (λ m g. g m)
         (ap (map (part_at (bare_file file) v s)) (parts-bare file) ∙ mapped bare_part _ _ commands-bare (parts file))
         (ap {B = List (List Ready) → Moment} (λ (names : (Name → Name) → Name → Seen) ms. record {
+          condition = no_condition;
           modules = ms;
           labels = map (λ l. see l.body (names unchanged)) (map bare_label file.labels);
           rewards = map (λ r. map (item_at (names unchanged)) r.items) (map bare_rewards file.rewards);
         }) state_names-bare
-        ∙ ap₂ (λ ls rs ms. record { modules = ms; labels = ls; rewards = rs })
+        ∙ ap₂ (λ ls rs ms. record { condition = no_condition; modules = ms; labels = ls; rewards = rs })
         (mapped bare_label _ _ (λ l. see-bare l.body (names_in file v s unchanged)) file.labels)
         (mapped bare_rewards _ _
         (λ r. mapped bare_item _ _ (item-bare (names_in file v s unchanged)) r.items) file.rewards))

@@ -19,7 +19,7 @@ use Rattle.op_trees.specs.Names.{is_called}
 use Rattle.prism_names.specs.Names.{unchanged, parts, module_name, written_name, see, reading, reading_in}
 use Rattle.prism_names.specs.Flat.{flat_expression, flat_name, flat_range, flat_var, flat_write, flat_branch, flat_command, flat_module, flat_constant, flat_label, flat_item, flat_rewards, flat}
 use Rattle.prism_names.specs.Laws.{seen_written_out, flat_part, parts-flat}
-use Rattle.process_core.specs.Instance.{Valuation, Between, Column, instance_faults, is_wide_instance, is_state, is_initial, write_to, models_alike}
+use Rattle.process_core.specs.Instance.{Valuation, Between, Column, first_values, instance_faults, is_wide_initial, is_wide_instance, is_state, is_initial, no_condition, write_to, models_alike}
 use Rattle.prism_flat.specs.Scene.{constant_called, constant_seen, constant_value, constant_within, constant, constant_names, domain_of, first_of, column, part_columns, columns_of, scene}
 use Rattle.prism_flat.specs.Moment.{Moment, value_in, place_of, weight_seen, action_of, write_at, update_at, command_at, part_at, adds_of, item_at, moment}
 use Rattle.prism_flat.specs.Process.{choices, marks, has_wide_mark, excess, model}
@@ -38,7 +38,7 @@ found_after p q f h (x ∷ xs) = ap (λ b. if b then Some (f x) else find p (map
 module _ (old new : File) (scenes : (v : Valuation) → scene new v ≡ scene old v) (moments : (v : Valuation) (s : Values) → moment new v s ≡ moment old v s) where
   -- both describe one process
   pub model_alike : model new ≡ model old
-  model_alike = models_alike _ _ _ _ _ _ scenes (λ v s. ap marks (moments v s)) (λ v s. ap (λ k. choices k s) (moments v s))
+  model_alike = models_alike _ _ _ _ _ _ _ _ scenes (λ v s. ap (λ k. k.condition) (moments v s)) (λ v s. ap marks (moments v s)) (λ v s. ap (λ k. choices k s) (moments v s))
 
   pub meaning_alike : SameMeaning old new
   meaning_alike = record {
@@ -46,7 +46,9 @@ module _ (old new : File) (scenes : (v : Valuation) → scene new v ≡ scene ol
     wide_instance = λ v. ap is_wide_instance (scenes v);
     columns = λ v. ap (λ k. map (λ c. c.name) k.columns) (scenes v);
     states = λ v s. ap (λ k. is_state k.columns s) (scenes v);
-    initial = λ v s. ap (λ k. is_initial k.columns s) (scenes v);
+    initial = λ v s. ap₂ (λ k m. is_initial k.columns m.condition s) (scenes v) (moments v s);
+    wide_initial = λ v s. ap₂ (λ k m. is_wide_initial k.columns m.condition s) (scenes v) (moments v s);
+    first = λ v. ap first_values (scenes v);
     choices = λ v s. ap (λ k. choices k s) (moments v s);
     marks = λ v s. ap marks (moments v s);
     wide_marks = λ v s. ap has_wide_mark (moments v s);
@@ -106,7 +108,7 @@ module _ (file : File) where
   column-flat : (rename : Name → Name) (names : Name → Seen) (x : Var) →
       column unchanged names (flat_var file rename x) ≡ column rename (reading_in file names rename) x
   column-flat rename names x =
-      ap₂ (λ d f. record { name = rename x.name.name; domain = d; first = f }) (domain-flat rename names x.range) (first-flat rename names x.start x.range)
+      ap₂ (λ d f. record { name = rename x.name.name; domain = d; first = Some f }) (domain-flat rename names x.range) (first-flat rename names x.start x.range)
 
   some_columns-flat : (rename : Name → Name) (names : Name → Seen) (xs : List Var) →
       map (column unchanged names) (map (flat_var file rename) xs) ≡ map (column rename (reading_in file names rename)) xs
@@ -137,7 +139,7 @@ module _ (file : File) where
   unfolding reading
   scene-flat v =
       let k = constant (flat file) v in
-      ap₂ (λ a b. record { constants = a; columns = b })
+      ap₂ (λ a b. record { constants = a; columns = b; has_condition = false })
       (map-map (λ c. constant_seen (v c.name.name) (constant_names (flat file) v unchanged) c.value) (flat_constant file) file.constants
       ∙ map_agree _ _ (λ c. constant_seen-flat (v c.name.name) (λ x. known (k x)) c.value) file.constants
       ∙ ap (constants_from v) (constant-flat v)) (columns-flat v)
@@ -172,6 +174,7 @@ module _ (file : File) where
   moment_from cs k =
       let names : Name → Seen = λ x. known (k x) in
       record {
+        condition = no_condition;
         modules = map (λ p. map (command_at file cs p.rename (reading_in file names p.rename)) p.commands) (parts file);
         labels = map (λ l. see l.body (reading_in file names unchanged)) file.labels;
         rewards = map (λ r. map (item_at (reading_in file names unchanged)) r.items) file.rewards;
@@ -191,7 +194,7 @@ module _ (file : File) where
         (ap (map (part_at (flat file) v s)) (parts-flat file)
         ∙ map-map (part_at (flat file) v s) (flat_part file) (parts file)
         ∙ map_agree _ _ (λ p. commands-flat cs p.rename names p.commands) (parts file))
-        (ap₂ (λ ls rs ms. record { modules = ms; labels = ls; rewards = rs })
+        (ap₂ (λ ls rs ms. record { condition = no_condition; modules = ms; labels = ls; rewards = rs })
         (map-map (λ l. see l.body names) (flat_label file) file.labels ∙ map_agree _ _ (λ l. seen_written_out file unchanged names l.body) file.labels)
         (map-map (λ r. map (item_at names) r.items) (flat_rewards file) file.rewards
         ∙ map_agree _ _ (λ r. map-map (item_at names) (flat_item file) r.items ∙ map_agree _ _ (item-flat names) r.items) file.rewards))

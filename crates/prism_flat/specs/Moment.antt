@@ -14,7 +14,7 @@ use Rattle.prism_tree.specs.Syntax as syntax
 use Rattle.prism_tree.specs.declared.syntax.ItemOn.{ItemOn}
 use Rattle.prism_tree.specs.declared.syntax.ItemOn.TheVariants as On
 use Rattle.prism_names.specs.Names.{unchanged, written_name, Part, parts, see, reading_in}
-use Rattle.process_core.specs.Instance.{Valuation, Column, write_to}
+use Rattle.process_core.specs.Instance.{Valuation, Column, no_condition, write_to}
 use Rattle.prism_flat.specs.Scene.{constant, columns_of}
 
 -- what an item of a reward structure adds to: states, or choices with this label or none
@@ -26,8 +26,9 @@ pub record Earned : Type 0 where
   pub adds : Adds
   pub item : Item
 
--- a file at a state: the commands of each module, the labels, and the items of each reward structure
+-- a file at a state: its initial condition, the commands of each module, the labels, and the items of each reward structure
 pub record Moment : Type 0 where
+  pub condition : Seen
   pub modules : List (List Ready)
   pub labels : List Seen
   pub rewards : List (List Earned)
@@ -82,6 +83,7 @@ abbrev pub moment : File → Valuation → Values → Moment
 moment file v s =
     let names = names_in file v s unchanged in
     record {
+      condition = no_condition;
       modules = map (part_at file v s) (parts file);
       labels = map (λ l. see l.body names) file.labels;
       rewards = map (λ r. map (item_at names) r.items) file.rewards;

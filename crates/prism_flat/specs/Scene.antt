@@ -49,7 +49,7 @@ first_of names None (Some r) = see r.low names
 first_of names None None = known (Some (V.Truth false))
 
 abbrev pub column : (Name → Name) → (Name → Seen) → Var → Column
-column rename names x = record { name = rename x.name.name; domain = domain_of names x.range; first = first_of names x.start x.range }
+column rename names x = record { name = rename x.name.name; domain = domain_of names x.range; first = Some (first_of names x.start x.range) }
 
 abbrev pub part_columns : File → Valuation → Part → List Column
 part_columns file v p = map (column p.rename (constant_names file v p.rename)) p.vars
@@ -63,4 +63,5 @@ abbrev pub scene : File → Valuation → Scene
 scene file v = record {
   constants = map (λ c. constant_seen (v c.name.name) (constant_names file v unchanged) c.value) file.constants;
   columns = columns_of file v;
+  has_condition = false;
 }

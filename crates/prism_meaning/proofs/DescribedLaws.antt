@@ -1,5 +1,5 @@
 -- A file that is another one written out is described as that one.
-use Rattle.std.proofs.Common.{◌≡◌, ℕ, List, ◌++◌, map, length, false, Option, Some, None, is_none, refl, sym, ap, ap₂, ◌∙◌}
+use Rattle.std.proofs.Common.{◌≡◌, ℕ, List, ◌++◌, map, length, Option, Some, None, is_none, refl, sym, ap, ap₂, ◌∙◌}
 use Rattle.std.proofs.lemmas.List.{length-map}
 use Rattle.std.specs.Option.{option_map}
 use Rattle.std.proofs.Math.Path.{fun_ext}
@@ -7,7 +7,7 @@ use Rattle.basics.specs.Lists.{map_agree}
 use Rattle.bridge_io.specs.declared.reason.Named.{Named}
 use Rattle.process_core.specs.Product.{map-map}
 use Rattle.process_core.specs.Ready.{Name, Values}
-use Rattle.process_core.specs.Instance.{Scene, Valuation, is_state, is_initial, first_values}
+use Rattle.process_core.specs.Instance.{Scene, Valuation, is_state, is_initial, first_values, is_wide_initial}
 use Rattle.process_core.specs.Steps.{Process}
 use Rattle.prism_tree.specs.Syntax.{Const, Label, Rewards, File}
 use Rattle.prism_names.specs.Flat.{flat, flat_constant, flat_label, flat_rewards}
@@ -68,9 +68,9 @@ process_by k names n at = record {
   mark_names = names;
   labels = n;
   is_state = is_state k.columns;
-  is_initial = is_initial k.columns;
-  has_wide_initial = λ s. false;
-  has_condition = false;
+  is_initial = λ s. is_initial k.columns (at s).condition s;
+  has_wide_initial = λ s. is_wide_initial k.columns (at s).condition s;
+  has_condition = k.has_condition;
   first = first_values k;
   choices = λ s. choices (at s) s;
   excess = λ s. excess (at s);

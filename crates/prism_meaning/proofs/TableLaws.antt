@@ -37,7 +37,8 @@ use Rattle.prism_meaning.specs.Views.{names_by}
 use Rattle.prism_meaning.proofs.Found.{narrow_seen, value_seen}
 use Rattle.prism_meaning.proofs.Whole.{reads_plainly}
 use Rattle.prism_check.proofs.NamesIn.{each_name}
-use Rattle.prism_meaning.proofs.Turns.{declared_there, have_values, left_in_turn}
+use Rattle.name_rules.proofs.InTurn.{left_in_turn}
+use Rattle.prism_meaning.proofs.Turns.{declared_there, have_values}
 
 -- ---- lists by their places
 get_set : {A : Type 0} (xs : List A) (i j : ℕ) (x : A) → i < length xs → slice_get (slice_set xs i x) j ≡ (if nat_eq j i then Some x else slice_get xs j)

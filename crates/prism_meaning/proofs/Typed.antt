@@ -22,7 +22,7 @@ use Rattle.name_rules.specs.Least.{fault_if}
 use Rattle.name_rules.specs.Names.{is_among}
 use Rattle.name_rules.specs.Unknown.{unless_known}
 use Rattle.process_core.specs.Ready.{Name}
-use Rattle.process_core.specs.Instance.{Column}
+use Rattle.process_core.specs.Instance.{Column, first_value}
 use Rattle.process_core.specs.declared.data.Given.{Given}
 use Rattle.prism_tree.specs.Operators.{prism_meaning}
 use Rattle.prism_tree.specs.OperatorLaws.{prism_lawful}
@@ -159,12 +159,12 @@ module _ (file : File) (flat : IsFlat file) where
         }
 
     -- ---- first values
-    begin_one : (x : Var) → IsFineVar x → begins_right (column unchanged (constant_names file (given_by given) unchanged) x).domain (column unchanged (constant_names file (given_by given) unchanged) x).first.value ≡ true
+    begin_one : (x : Var) → IsFineVar x → begins_right (column unchanged (constant_names file (given_by given) unchanged) x).domain (first_value (column unchanged (constant_names file (given_by given) unchanged) x)) ≡ true
     begin_one x f = by_range x.range x.start f
       where
         by_range : (r : Option Range) (o : Option Expression) → IfAny (IsFine (var_type (record { name = x.name; range = r; start = o }))) o →
             begins_right (column unchanged (constant_names file (given_by given) unchanged) (record { name = x.name; range = r; start = o })).domain
-            (column unchanged (constant_names file (given_by given) unchanged) (record { name = x.name; range = r; start = o })).first.value ≡ true
+            (first_value (column unchanged (constant_names file (given_by given) unchanged) (record { name = x.name; range = r; start = o }))) ≡ true
         by_range (Some r) o f = refl
         by_range None None f = refl
         by_range None (Some e) f =
@@ -172,9 +172,9 @@ module _ (file : File) (flat : IsFlat file) where
             (λ v k. fine_value (constant file (given_by given)) (const_typed (length file.constants)) T.Bool e f v (sym (read_value e (constant file (given_by given))) ∙ k))
 
     begin_all : (xs : List Var) → Each IsFineVar xs → BeginRight (map (column unchanged (constant_names file (given_by given) unchanged)) xs)
-    begin_all [] h = All-nil (λ (c : Column). begins_right c.domain c.first.value ≡ true)
+    begin_all [] h = All-nil (λ (c : Column). begins_right c.domain (first_value c) ≡ true)
     begin_all (x ∷ xs) h =
-        All-cons (λ (c : Column). begins_right c.domain c.first.value ≡ true) (column unchanged (constant_names file (given_by given) unchanged) x)
+        All-cons (λ (c : Column). begins_right c.domain (first_value c) ≡ true) (column unchanged (constant_names file (given_by given) unchanged) x)
         (map (column unchanged (constant_names file (given_by given) unchanged)) xs) (begin_one x h.0) (begin_all xs h.1)
 
     pub begin_right : BeginRight (columns_of file (given_by given))

@@ -1,9 +1,9 @@
 -- The process that a PRISM file describes under a valuation, as it is seen by whoever steps it (PRISM manual, "The PRISM
 -- Language": "Modules And Variables", "Formulas and Labels", "Costs and Rewards").
-use Rattle.std.specs.Prelude.{◌≡◌, List, [], map, length, ◌++◌, false, Option, Some, None, is_none}
+use Rattle.std.specs.Prelude.{◌≡◌, List, [], map, length, ◌++◌, Option, Some, None, is_none}
 use Rattle.bridge_io.specs.declared.reason.Named.{Named}
 use Rattle.process_core.specs.Ready.{Name}
-use Rattle.process_core.specs.Instance.{Valuation, is_state, is_initial, first_values}
+use Rattle.process_core.specs.Instance.{Valuation, is_state, is_initial, first_values, is_wide_initial}
 use Rattle.instance_start.specs.Description.{Constant, Description}
 use Rattle.prism_tree.specs.Syntax.{Const, File}
 use Rattle.prism_names.specs.Flat.{flat}
@@ -28,9 +28,9 @@ described file v = record {
   mark_names = mark_names file;
   labels = length file.labels;
   is_state = is_state (scene file v).columns;
-  is_initial = is_initial (scene file v).columns;
-  has_wide_initial = λ s. false;
-  has_condition = false;
+  is_initial = λ s. is_initial (scene file v).columns (moment file v s).condition s;
+  has_wide_initial = λ s. is_wide_initial (scene file v).columns (moment file v s).condition s;
+  has_condition = (scene file v).has_condition;
   first = first_values (scene file v);
   choices = λ s. choices (moment file v s) s;
   excess = λ s. excess (moment file v s);

@@ -1,25 +1,24 @@
 -- The process that a file describes keeps the laws of processes, where the instance has no fault.
 -- (The laws are those of Markov decision processes, as the PRISM manual has them in "The PRISM Language".)
-use Rattle.std.specs.Prelude.{◌≡◌, List, [], true, false}
-use Rattle.std.specs.List.{All}
+use Rattle.std.specs.Prelude.{◌≡◌, List, [], map}
+use Rattle.std.specs.List.{All, flat_map}
 use Rattle.std.proofs.Common.{refl}
-use Rattle.std.proofs.lemmas.List.Elements.{All-map}
+use Rattle.std.proofs.lemmas.List.Elements.{All-append, All-map}
 use Rattle.process_core.specs.States.{keeps_write_to}
 use Rattle.basics.specs.Members.{all_each}
-use Rattle.basics.specs.Lists.{append_parts}
 use Rattle.op_trees.specs.Seen.{Seen}
 use Rattle.process_core.specs.Ready.{Values, Name, Update}
 use Rattle.process_core.specs.Distribution.{KeepsStates, KeepsAll, choices_proper}
-use Rattle.process_core.specs.Instance.{Valuation, Column, is_state, column_faults, constant_faults, numbered, instance_faults, first_values}
+use Rattle.process_core.specs.Instance.{Valuation, Column, is_state, instance_faults}
 use Rattle.process_core.specs.Steps.{IsProcess}
 use Rattle.instance_start.specs.States.{state_length}
-use Rattle.instance_start.specs.Participants.{of_all}
+use Rattle.instance_start.specs.Participants.{each_flat, of_all}
 use Rattle.instance_start.specs.Marks.{marks_length, first_names, mark_kinds}
 use Rattle.instance_start.specs.Given.{given_by}
-use Rattle.instance_start.specs.Firsts.{BeginRight, initial_states, first_known, first_is}
+use Rattle.instance_start.specs.Firsts.{BeginRight, HasFirst, HaveFirsts, initial_states, wide_states, condition_is, first_is}
 use Rattle.prism_tree.specs.Syntax.{Branch, Command, File}
-use Rattle.prism_names.specs.Names.{Part, parts, see, written_name}
-use Rattle.prism_flat.specs.Scene.{scene, columns_of}
+use Rattle.prism_names.specs.Names.{unchanged, Part, parts, see, written_name}
+use Rattle.prism_flat.specs.Scene.{scene, column, columns_of, constant_names, part_columns}
 use Rattle.prism_flat.specs.Moment.{place_of, write_at, update_at, command_at, names_in, part_at, moment}
 use Rattle.prism_flat.specs.Process.{combinations, choice_rewards}
 use Rattle.prism_meaning.specs.Described.{described}
@@ -50,6 +49,20 @@ module _ (file : File) (v : Valuation) (s : Values) where
       All-map (All (KeepsAll (is_state (columns_of file v)))) (part_at file v s) (parts file)
       (all_each (λ p. All (KeepsAll (is_state (columns_of file v))) (part_at file v s p)) part_keeps (parts file))
 
+-- ---- first values
+module _ (file : File) (v : Valuation) where
+  own_firsts : (p : Part) → All HasFirst (part_columns file v p)
+  own_firsts p =
+      All-map HasFirst (column p.rename (constant_names file v p.rename)) p.vars
+      (all_each (λ x. HasFirst (column p.rename (constant_names file v p.rename) x)) (λ x. refl) p.vars)
+
+  have_firsts : HaveFirsts (scene file v)
+  have_firsts e =
+      All-append HasFirst (map (column unchanged (constant_names file v unchanged)) file.globals) (flat_map (part_columns file v) (parts file))
+      (All-map HasFirst (column unchanged (constant_names file v unchanged)) file.globals
+      (all_each (λ x. HasFirst (column unchanged (constant_names file v unchanged) x)) (λ x. refl) file.globals))
+      (each_flat HasFirst (part_columns file v) own_firsts (parts file))
+
 module _ (file : File) (v : Valuation) (t : BeginRight (columns_of file v)) (h : instance_faults (scene file v) ≡ []) where
   pub described_is : IsProcess (described file v)
   described_is = record {
@@ -57,10 +70,10 @@ module _ (file : File) (v : Valuation) (t : BeginRight (columns_of file v)) (h :
     marks = λ s k. marks_length _ _ _ _ _ _ file.labels file.rewards;
     labels = first_names _ _ file.labels file.rewards;
     kinds = λ s i m k e. mark_kinds _ _ _ _ (λ l. refl) (λ l. refl) file.labels file.rewards i m e;
-    initial = initial_states 0 (columns_of file v) t (append_parts (numbered constant_faults 0 (scene file v).constants) (numbered column_faults 0 (columns_of file v)) h).1;
-    wide_initial = λ s k. absurd (let z : false ≡ true = k in cc);
-    condition = (λ e. absurd (first_known 0 (columns_of file v) (append_parts (numbered constant_faults 0 (scene file v).constants) (numbered column_faults 0 (columns_of file v)) h).1 e), λ k. absurd (let z : false ≡ true = k in cc));
-    first = first_is (columns_of file v) (first_values (scene file v)) refl;
+    initial = λ s k. initial_states (columns_of file v) (moment file v s).condition s k;
+    wide_initial = λ s k. wide_states (columns_of file v) (moment file v s).condition s k;
+    condition = condition_is (scene file v) (have_firsts file v) h;
+    first = first_is (scene file v) (λ s. (moment file v s).condition) t (λ e s. refl) h;
     proper = λ s k. choices_proper (is_state (columns_of file v)) s (combinations (moment file v s)) k
         (of_all (KeepsAll (is_state (columns_of file v))) (choice_rewards (moment file v s).rewards) (moment file v s).modules (all_keep file v s));
   }

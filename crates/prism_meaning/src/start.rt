@@ -225,7 +225,7 @@ fn known_columns<'a>(
     };
     match known_variables(alloc, file, table) {
         Err(e) => Err(StartFail::Memory(e)),
-        Ok(variables) => columns(alloc, opens, values.as_slice(), variables.as_slice()),
+        Ok(variables) => columns(alloc, false, opens, values.as_slice(), variables.as_slice()),
     }
 }
 

@@ -92,7 +92,7 @@ fn named_variable<'a>(found: &Found<'a>) -> Variable<'a>
     Variable {
         name: found.name,
         bounds: found.values.bounds,
-        first: found.values.first,
+        first: Some(found.values.first),
     }
 }
 

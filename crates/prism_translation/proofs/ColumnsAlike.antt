@@ -1,6 +1,6 @@
 -- What the columns of a translated file have, as their names, ranges or first values, is what the columns of the file have: told of
 -- each variable and each location, it holds of the columns in order. And states of which each column passes a test.
-use Rattle.std.specs.Prelude.{◌≡◌, ℕ, zero, suc, ◌+◌, ◌<◌, List, [], ◌∷◌, ◌++◌, map, length, Bool, true, false, ◌&&◌, ◌||◌, Some, if◌then◌else◌, nat_eq, get_or, slice_get, unwrap_or}
+use Rattle.std.specs.Prelude.{◌≡◌, ℕ, zero, suc, ◌+◌, ◌<◌, List, [], ◌∷◌, ◌++◌, map, length, Bool, true, false, ◌&&◌, ◌||◌, Some, if◌then◌else◌, nat_eq, get_or, slice_get, unwrap_or, Option}
 use Rattle.std.specs.List.{flat_map, All}
 use Rattle.std.proofs.Common.{refl, sym, ap, ap₂, ◌∙◌, arith}
 use Rattle.std.proofs.lemmas.Bool.{eqb-true}
@@ -18,7 +18,7 @@ use Rattle.choice_laws.proofs.Walks.{cons_parts, flat_map_agree_in}
 use Rattle.prism_tree.specs.Syntax as prism
 use Rattle.prism_tree.specs.Syntax.{plain}
 use Rattle.prism_names.specs.Names.{unchanged, part_of}
-use Rattle.process_core.specs.Instance.{Valuation, Domain, Column, only_if, is_in, is_first, is_state, is_initial}
+use Rattle.process_core.specs.Instance.{Valuation, Domain, Column, only_if, is_in, is_first, is_state, begins, begin_all}
 use Rattle.prism_flat.specs.Scene as prism_scene
 use Rattle.jani_tree.specs.Syntax.{Automaton, File}
 use Rattle.jani_meaning.specs.Elements as jani
@@ -183,11 +183,8 @@ module _ {X : Type 0} (get : Column → X) (test : X → Value → Bool) where
 abbrev pub range_of_column : Column → Domain
 range_of_column c = c.domain
 
-abbrev pub first_of_column : Column → Seen
+abbrev pub first_of_column : Column → Option Seen
 first_of_column c = c.first
-
-abbrev pub is_start : Seen → Value → Bool
-is_start z u = is_first z.value u
 
 pub state_is : (cs : List Column) (s : Values) → is_state cs s ≡ all_pass range_of_column is_in cs s
 state_is [] [] = refl
@@ -195,8 +192,8 @@ state_is [] (v ∷ s) = refl
 state_is (c ∷ cs) [] = refl
 state_is (c ∷ cs) (v ∷ s) = ap (λ b. is_in c.domain v && b) (state_is cs s)
 
-pub initial_is : (cs : List Column) (s : Values) → is_initial cs s ≡ all_pass first_of_column is_start cs s
-initial_is [] [] = refl
-initial_is [] (v ∷ s) = refl
-initial_is (c ∷ cs) [] = refl
-initial_is (c ∷ cs) (v ∷ s) = ap (λ b. is_first c.first.value v && b) (initial_is cs s)
+pub begin_is : (cs : List Column) (s : Values) → begin_all cs s ≡ all_pass first_of_column is_first cs s
+begin_is [] [] = refl
+begin_is [] (v ∷ s) = refl
+begin_is (c ∷ cs) [] = refl
+begin_is (c ∷ cs) (v ∷ s) = ap (λ b. begins c v && b) (begin_is cs s)

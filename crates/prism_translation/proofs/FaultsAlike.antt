@@ -18,7 +18,7 @@ use Rattle.choice_laws.proofs.Columns.{counting_at, listed, comes, length-counti
 use Rattle.choice_laws.proofs.Members.{in_left, in_right, in_either}
 use Rattle.prism_tree.specs.Syntax as prism
 use Rattle.prism_names.specs.Names.{unchanged}
-use Rattle.process_core.specs.Instance.{Valuation, Fault, fault_of, Domain, Truths, Between, Range, Column, only_if, numbered, constant_faults, range_faults, domain_faults, first_faults, column_faults, range_from, is_empty, is_outside, instance_faults}
+use Rattle.process_core.specs.Instance.{Valuation, Fault, fault_of, Domain, Truths, Between, Range, Column, only_if, numbered, constant_faults, range_faults, domain_faults, first_faults, column_faults, range_from, is_empty, is_outside, instance_faults, value_faults}
 use Rattle.prism_flat.specs.Scene as prism_scene
 use Rattle.jani_tree.specs.Syntax.{Expression, Const, File}
 use Rattle.jani_meaning.specs.Elements.{lasting}
@@ -40,8 +40,8 @@ use Rattle.prism_translation.proofs.States.{IsSingle, single, jani_columns_long}
 use Rattle.prism_translation.proofs.Starts.{start, starts_alike, starts_there}
 
 -- ---- faults of columns, by what they are of
-abbrev faults_of : ℕ → Domain → Option Value → List Fault
-faults_of j d o = domain_faults j d ++ first_faults j d o
+abbrev faults_of : ℕ → Domain → Option Seen → List Fault
+faults_of j d o = domain_faults j d ++ first_faults false j d o
 
 module _ (file : File) where
   placed_range : (p : ℕ) (r : Option Range) → map (placed file) (range_faults p r) ≡ range_faults (column_at file p) r
@@ -56,31 +56,35 @@ module _ (file : File) where
   placed_domain p Truths = refl
   placed_domain p (Between l h) = placed_range p (range_from l h)
 
-  placed_first : (p : ℕ) (d : Domain) (o : Option Value) → map (placed file) (first_faults p d o) ≡ first_faults (column_at file p) d o
-  placed_first p d None = refl
-  placed_first p d (Some u) = by_test (is_outside d u)
+  placed_value : (p : ℕ) (d : Domain) (o : Option Value) → map (placed file) (value_faults p d o) ≡ value_faults (column_at file p) d o
+  placed_value p d None = refl
+  placed_value p d (Some u) = by_test (is_outside d u)
     where
       by_test : (b : Bool) → map (placed file) (only_if b (fault_of InitOutside p)) ≡ only_if b (fault_of InitOutside (column_at file p))
       by_test true = refl
       by_test false = refl
 
-  placed_column : (p : ℕ) (c : Column) → map (placed file) (column_faults p c) ≡ faults_of (column_at file p) c.domain c.first.value
+  placed_first : (p : ℕ) (d : Domain) (o : Option Seen) → map (placed file) (first_faults false p d o) ≡ first_faults false (column_at file p) d o
+  placed_first p d None = refl
+  placed_first p d (Some z) = placed_value p d z.value
+
+  placed_column : (p : ℕ) (c : Column) → map (placed file) (column_faults false p c) ≡ faults_of (column_at file p) c.domain c.first
   placed_column p c =
-      map-append (placed file) (domain_faults p c.domain) (first_faults p c.domain c.first.value)
-      ∙ ap₂ (λ a b. a ++ b) (placed_domain p c.domain) (placed_first p c.domain c.first.value)
+      map-append (placed file) (domain_faults p c.domain) (first_faults false p c.domain c.first)
+      ∙ ap₂ (λ a b. a ++ b) (placed_domain p c.domain) (placed_first p c.domain c.first)
 
   module _ (v w : Valuation) (sound : FileIsSound file) (alike : GivesAlike file v w) where
     abbrev range : ℕ → Domain
     range j = range_at file v w sound alike j
 
-    abbrev first : ℕ → Seen
+    abbrev first : ℕ → Option Seen
     first j = start file v w sound alike j
 
     abbrev at_column : ℕ → List Fault
-    at_column j = faults_of j (range j) (first j).value
+    at_column j = faults_of j (range j) (first j)
 
     -- columns by their numbers
-    by_columns : (f : ℕ → Column → List Fault) (at : ℕ → ℕ) → ((p : ℕ) (c : Column) → f p c ≡ faults_of (at p) c.domain c.first.value) → (k : ℕ) (cs : List Column) (js : List ℕ) →
+    by_columns : (f : ℕ → Column → List Fault) (at : ℕ → ℕ) → ((p : ℕ) (c : Column) → f p c ≡ faults_of (at p) c.domain c.first) → (k : ℕ) (cs : List Column) (js : List ℕ) →
         ((i : ℕ) → i < length js → slice_get js i ≡ Some (at (k + i))) →
         map (λ (c : Column). c.domain) cs ≡ map range js → map (λ (c : Column). c.first) cs ≡ map first js → numbered f k cs ≡ flat_map at_column js
     by_columns f at h k [] [] n e g = refl
@@ -91,7 +95,7 @@ module _ (file : File) where
         let s = cons_parts c.first (first j) (map (λ (c : Column). c.first) cs) (map first js) g in
         let here : at k ≡ j = same_Some (at k) j (ap (λ m. Some (at m)) (let o : k ≡ k + 0 = omega arith in o) ∙ sym (n 0 (omega arith))) in
         ap₂ (λ a b. a ++ b)
-        (h k c ∙ ap₂ (λ i x. faults_of i x c.first.value) here d.0 ∙ ap (λ (z : Seen). faults_of j (range j) z.value) s.0)
+        (h k c ∙ ap₂ (λ i x. faults_of i x c.first) here d.0 ∙ ap (faults_of j (range j)) s.0)
         (by_columns f at h (k + 1) cs js (λ i l. n (suc i) (omega arith) ∙ ap (λ m. Some (at m)) (let o : k + suc i ≡ (k + 1) + i = omega arith in o)) d.1 s.1)
 
     -- ---- constants
@@ -175,10 +179,10 @@ module _ (file : File) where
     map-numbered h f k [] = refl
     map-numbered h f k (x ∷ xs) = map-append h (f k x) (numbered f (k + 1) xs) ∙ ap (λ l. map h (f k x) ++ l) (map-numbered h f (k + 1) xs)
 
-    prism_faults : map (placed file) (numbered column_faults 0 prism_columns) ≡ flat_map at_column cols
+    prism_faults : map (placed file) (numbered (column_faults false) 0 prism_columns) ≡ flat_map at_column cols
     prism_faults =
-        map-numbered (placed file) column_faults 0 prism_columns
-        ∙ by_columns (λ p c. map (placed file) (column_faults p c)) (column_at file) placed_column 0 prism_columns cols
+        map-numbered (placed file) (column_faults false) 0 prism_columns
+        ∙ by_columns (λ p c. map (placed file) (column_faults false p c)) (column_at file) placed_column 0 prism_columns cols
         (λ i l. slice_get-get_or cols i 0 l ∙ sym (ap (λ (o : Option ℕ). Some (unwrap_or o 0)) (ap (slice_get cols) (let e : 0 + i ≡ i = omega arith in e) ∙ slice_get-get_or cols i 0 l)))
         (domains_alike file v w sound alike) (starts_alike file v w sound alike)
 
@@ -187,24 +191,24 @@ module _ (file : File) where
         listed d 0 (map f jani_columns) (λ j. get_or (map f jani_columns) j d) (λ i l. ap (λ j. get_or (map f jani_columns) j d) (let e : 0 + i ≡ i = omega arith in e))
         ∙ ap (λ m. map (λ j. get_or (map f jani_columns) j d) (counting 0 m)) (length-map jani_columns f ∙ jani_columns_long file v w sound alike)
 
-    jani_faults : numbered column_faults 0 jani_columns ≡ flat_map at_column (counting 0 total)
+    jani_faults : numbered (column_faults false) 0 jani_columns ≡ flat_map at_column (counting 0 total)
     jani_faults =
-        by_columns column_faults (λ i. i) (λ p c. refl) 0 jani_columns (counting 0 total)
+        by_columns (column_faults false) (λ i. i) (λ p c. refl) 0 jani_columns (counting 0 total)
         (λ i l. counting_at 0 total i (let e = length-counting 0 total in omega arith))
-        (by_length Truths (λ (c : Column). c.domain)) (by_length (known None) (λ (c : Column). c.first))
+        (by_length Truths (λ (c : Column). c.domain)) (by_length (Some (known None)) (λ (c : Column). c.first))
 
     -- a single location has no fault
     none_there : (j : ℕ) → IsSingle file v w sound alike j → at_column j ≡ []
     none_there j k =
         let few = ltb-false 1 (length k.element.automaton.locations) k.few in
         let none : length k.element.automaton.locations - 1 ≡ 0 = omega arith in
-        ap₂ (λ d (z : Seen). faults_of j d z.value) (k.range_is ∙ ap (λ m. Between (jani_scene.counted 0) (jani_scene.counted m)) none) (starts_there file v w sound alike j k)
+        ap₂ (λ d (z : Option Seen). faults_of j d z) (k.range_is ∙ ap (λ m. Between (jani_scene.counted 0) (jani_scene.counted m)) none) (starts_there file v w sound alike j k)
 
     -- The same faults are there.
     pub faults_alike : (f : Fault) → IsIn f (map (placed file) (instance_faults (prism_scene.scene (translated file) v))) ↔ IsIn f (instance_faults (jani_scene.scene file w))
     faults_alike f =
         let A = numbered constant_faults 0 (jani_scene.scene file w).constants in
-        let whole = map-append (placed file) (numbered constant_faults 0 (prism_scene.scene (translated file) v).constants) (numbered column_faults 0 prism_columns) ∙ ap₂ (λ a b. a ++ b) constants_alike prism_faults in
+        let whole = map-append (placed file) (numbered constant_faults 0 (prism_scene.scene (translated file) v).constants) (numbered (column_faults false) 0 prism_columns) ∙ ap₂ (λ a b. a ++ b) constants_alike prism_faults in
         let other = ap (λ l. A ++ l) jani_faults in (
           (λ h. subst (λ l. IsIn f l) (sym other) (onward A (in_either f A (flat_map at_column cols) (subst (λ l. IsIn f l) whole h)))),
           (λ h. subst (λ l. IsIn f l) (sym whole) (backward A (in_either f A (flat_map at_column (counting 0 total)) (subst (λ l. IsIn f l) other h)))),

@@ -1,5 +1,5 @@
 -- The first values of a translated file's columns are those of the file's, and so the same states are initial.
-use Rattle.std.specs.Prelude.{◌≡◌, ℕ, ◌+◌, ◌<◌, List, [], ◌∷◌, map, length, Bool, true, false, Some, get_or, Option, None}
+use Rattle.std.specs.Prelude.{◌≡◌, ℕ, ◌+◌, ◌<◌, List, [], ◌∷◌, map, length, Bool, true, false, Some, get_or, Option, None, ◌&&◌}
 use Rattle.std.specs.List.{All}
 use Rattle.std.proofs.Common.{refl, sym, ap, ap₂, ◌∙◌, arith}
 use Rattle.std.proofs.lemmas.Option.{get_or_from_slice_get}
@@ -11,12 +11,14 @@ use Rattle.op_trees.specs.Seen.{Seen, known}
 use Rattle.process_core.specs.Ready.{Values}
 use Rattle.choice_laws.specs.Columns.{at_start, counting, stands, value_at}
 use Rattle.choice_laws.proofs.Columns.{read_at, value_absent, length-counting, read_back}
-use Rattle.process_core.specs.Instance.{Valuation, Column, is_state, is_first, is_initial}
+use Rattle.process_core.specs.Instance.{Valuation, Column, is_state, is_first, begin_all}
 use Rattle.prism_flat.specs.Scene as prism_scene
+use Rattle.prism_flat.specs.Process as prism_process
 use Rattle.jani_tree.specs.Syntax.{Expression, File, Var}
 use Rattle.jani_meaning.specs.Elements as jani
 use Rattle.jani_meaning.specs.Elements.{Owned, lasting, initial_number}
 use Rattle.jani_meaning.specs.Scene as jani_scene
+use Rattle.jani_meaning.specs.Process as jani_process
 use Rattle.jani_meaning.specs.Scene.{location_column}
 use Rattle.name_table.specs.PrismAsks.{NewNames, value_name}
 use Rattle.jani_images.specs.Image.{image}
@@ -26,19 +28,19 @@ use Rattle.prism_translation.specs.Parts.{range_of, scope_of, location_variable,
 use Rattle.prism_translation.specs.StateLaws.{columns, state_of}
 use Rattle.prism_translation.specs.Translated.{translated}
 use Rattle.prism_translation.specs.Sound.{FileIsSound, GivesAlike, SoundStart}
-use Rattle.prism_translation.proofs.ColumnsAlike.{first_of_column, is_start, initial_is, IsThere, columns_alike, column_here, variables_there, locations_there, pass_from, pass_at, pass_map, pass_value}
+use Rattle.prism_translation.proofs.ColumnsAlike.{first_of_column, begin_is, IsThere, columns_alike, column_here, variables_there, locations_there, pass_from, pass_at, pass_map, pass_value}
 use Rattle.prism_translation.proofs.Numbered.{lasting_owned, no_element}
 use Rattle.prism_translation.proofs.Coverage.{all_within}
 use Rattle.prism_translation.proofs.Domains.{constants_here, see_bound, see_count}
 use Rattle.prism_translation.proofs.Follows.{only_location}
-use Rattle.prism_translation.proofs.States.{state_long, IsSingle, single, jani_columns_long}
+use Rattle.prism_translation.proofs.States.{state_long, states_into, IsSingle, single, jani_columns_long}
 use Rattle.prism_translation.proofs.OneToOne.{columns_once}
 
-abbrev nothing_known : Seen
-nothing_known = known None
+abbrev nothing_known : Option Seen
+nothing_known = Some (known None)
 
 -- the first value of the column of this number
-abbrev pub start_at : List Column → ℕ → Seen
+abbrev pub start_at : List Column → ℕ → Option Seen
 start_at cs i = get_or (map (λ (c : Column). c.first) cs) i nothing_known
 
 module _ (file : File) (v w : Valuation) where
@@ -49,7 +51,7 @@ module _ (file : File) (v w : Valuation) where
     abbrev jani_columns : List Column
     jani_columns = jani_scene.columns_of file w
 
-    abbrev pub start : ℕ → Seen
+    abbrev pub start : ℕ → Option Seen
     start j = start_at jani_columns j
 
     var_start : (k : ℕ) (x : Var) → SoundStart file k x.start →
@@ -65,13 +67,13 @@ module _ (file : File) (v w : Valuation) where
     variable_alike i d l =
         let x = get_or (lasting_variables file) i d in
         let sound_start = lasting_owned (λ o. SoundStart file (scope_of file names o) o.var.start) 0 (lasting file) sound.starts i d l in
-        var_start (scope_of file names x.owned) x.owned.var sound_start ∙ variables_there file w first_of_column nothing_known i d l
+        ap Some (var_start (scope_of file names x.owned) x.owned.var sound_start) ∙ variables_there file w first_of_column nothing_known i d l
 
     pub start_location : All (λ el. start el.number ≡ (location_column el.automaton).first) (elements file)
     start_location = locations_there file w first_of_column nothing_known
 
     location_alike : (el : Element) → (column_here file v (location_variable file names el)).first ≡ (location_column el.automaton).first
-    location_alike el = see_count file v w sound alike (initial_number el.automaton)
+    location_alike el = ap Some (see_count file v w sound alike (initial_number el.automaton))
 
     -- The columns have the first values of those that they are.
     pub starts_alike : map first_of_column (prism_scene.columns_of (translated file) v) ≡ map start (columns file)
@@ -94,34 +96,37 @@ module _ (file : File) (v w : Valuation) where
         by_list [] = refl
         by_list (x ∷ ns) = only_location el x.name h
 
-    pub starts_there : (i : ℕ) → IsSingle file v w sound alike i → start i ≡ jani_scene.counted 0
+    pub starts_there : (i : ℕ) → IsSingle file v w sound alike i → start i ≡ Some (jani_scene.counted 0)
     starts_there i k =
         ap start (sym k.number) ∙ start_location i no_element k.low
-        ∙ ap jani_scene.counted (only_initial (get_or (elements file) i no_element) k.few_there)
+        ∙ ap (λ n. Some (jani_scene.counted n)) (only_initial (get_or (elements file) i no_element) k.few_there)
 
-    pub initial_alike : (s : Values) → is_state prism_columns s ≡ true → is_initial prism_columns s ≡ is_initial jani_columns (state_of file s)
-    initial_alike s is = same_test (is_initial prism_columns s) (is_initial jani_columns (state_of file s)) onward backward
+    begin_alike : (s : Values) → is_state prism_columns s ≡ true → begin_all prism_columns s ≡ begin_all jani_columns (state_of file s)
+    begin_alike s is = same_test (begin_all prism_columns s) (begin_all jani_columns (state_of file s)) onward backward
       where
         got : (j : ℕ) → j < total → get_or (state_of file s) j at_start ≡ value_at cols s j
         got j l = get_or_from_slice_get (state_of file s) j (value_at cols s j) at_start (read_at cols total s j l)
 
-        onward : is_initial prism_columns s ≡ true → is_initial jani_columns (state_of file s) ≡ true
+        onward : begin_all prism_columns s ≡ true → begin_all jani_columns (state_of file s) ≡ true
         onward h =
-            initial_is jani_columns (state_of file s) ∙ pass_from first_of_column is_start nothing_known jani_columns (state_of file s) (length-map (counting 0 total) (value_at cols s) ∙ length-counting 0 total ∙ sym (jani_columns_long file v w sound alike))
+            begin_is jani_columns (state_of file s) ∙ pass_from first_of_column is_first nothing_known jani_columns (state_of file s) (length-map (counting 0 total) (value_at cols s) ∙ length-counting 0 total ∙ sym (jani_columns_long file v w sound alike))
             (λ j l.
             let below : j < total = let e = jani_columns_long file v w sound alike in omega arith in
-            ap (is_first (start j).value) (got j below) ∙ by_stand j below (stands cols j) refl)
+            ap (is_first (start j)) (got j below) ∙ by_stand j below (stands cols j) refl)
           where
-            by_stand : (j : ℕ) → j < total → (b : Bool) → stands cols j ≡ b → is_first (start j).value (value_at cols s j) ≡ true
-            by_stand j l true e = pass_value first_of_column is_start start prism_columns cols s j starts_alike (sym (initial_is prism_columns s) ∙ h) e
-            by_stand j l false e = ap₂ (λ (z : Seen) u. is_first z.value u) (starts_there j (single file v w sound alike j l e)) (value_absent cols s j e)
+            by_stand : (j : ℕ) → j < total → (b : Bool) → stands cols j ≡ b → is_first (start j) (value_at cols s j) ≡ true
+            by_stand j l true e = pass_value first_of_column is_first start prism_columns cols s j starts_alike (sym (begin_is prism_columns s) ∙ h) e
+            by_stand j l false e = ap₂ is_first (starts_there j (single file v w sound alike j l e)) (value_absent cols s j e)
 
-        backward : is_initial jani_columns (state_of file s) ≡ true → is_initial prism_columns s ≡ true
+        backward : begin_all jani_columns (state_of file s) ≡ true → begin_all prism_columns s ≡ true
         backward h =
-            ap (is_initial prism_columns) (sym (read_back cols s (state_long file v s is) (columns_once file)))
-            ∙ initial_is prism_columns (map (value_at cols s) cols)
-            ∙ pass_map first_of_column is_start start (value_at cols s) prism_columns cols starts_alike
+            ap (begin_all prism_columns) (sym (read_back cols s (state_long file v s is) (columns_once file)))
+            ∙ begin_is prism_columns (map (value_at cols s) cols)
+            ∙ pass_map first_of_column is_first start (value_at cols s) prism_columns cols starts_alike
             (λ k d l.
             let j = get_or cols k d in
             let below = all_within file k d l in
-            ap (is_first (start j).value) (sym (got j below)) ∙ pass_at first_of_column is_start nothing_known jani_columns (state_of file s) (sym (initial_is jani_columns (state_of file s)) ∙ h) j (let e = jani_columns_long file v w sound alike in omega arith))
+            ap (is_first (start j)) (sym (got j below)) ∙ pass_at first_of_column is_first nothing_known jani_columns (state_of file s) (sym (begin_is jani_columns (state_of file s)) ∙ h) j (let e = jani_columns_long file v w sound alike in omega arith))
+
+    pub initial_alike : (s : Values) → is_state prism_columns s ≡ true → (prism_process.model (translated file)).is_initial v s ≡ (jani_process.model file).is_initial w (state_of file s)
+    initial_alike s is = ap₂ (λ a b. a && b) (is ∙ sym (states_into file v w sound alike s is)) (begin_alike s is)

@@ -16,7 +16,7 @@ use Rattle.op_trees.specs.Names.{is_called}
 use Rattle.op_trees.specs.Seen.{Seen, known, known_names}
 use Rattle.process_core.specs.Product.{map-map}
 use Rattle.process_core.specs.Ready.{Values, Name, Write, Update}
-use Rattle.process_core.specs.Instance.{Valuation, Between, Scene, instance_faults, is_wide_instance, is_state, is_initial, numbered}
+use Rattle.process_core.specs.Instance.{Valuation, Between, Scene, instance_faults, is_wide_instance, is_state, is_initial, no_condition, numbered}
 use Rattle.jani_tree.specs.Syntax.{Expression, Const, VarKind, boolean, integer, number, real_bounded, one_sided, bounded, Var, Location, Destination, Edge, Automaton, File}
 use Rattle.jani_tree.specs.Syntax as syntax
 use Rattle.jani_meaning.specs.Elements.{nothing_called, automaton_called, elements, location_number, first_number, Owned, owned_by, variables, is_boolean, is_lasting, is_label, is_structure, lasting, labels, structures, is_own, is_global, place_of, column_number, structure_number}
@@ -142,11 +142,11 @@ module _ (file : File) (given v : Valuation) (extends : Extends given v) (small 
   start_same (Some e) = fixed_same e
 
   column_same : (o : Owned) → column names (folded_var K o.var) ≡ column names o.var
-  column_same o = ap₂ (λ d f. record { name = o.var.name.name; domain = d; first = f }) (domain_same o.var.kind) (start_same o.var.start)
+  column_same o = ap₂ (λ d f. record { name = o.var.name.name; domain = d; first = Some f }) (domain_same o.var.kind) (start_same o.var.start)
 
   location_column_same : (a : Automaton) → location_column (fa a) ≡ location_column a
   location_column_same a =
-      ap₂ (λ n f. record { name = a.name.name; domain = Between (counted 0) (counted (n - 1)); first = counted f }) (length-map a.locations (folded_location K)) (initial_same a a.initial)
+      ap₂ (λ n f. record { name = a.name.name; domain = Between (counted 0) (counted (n - 1)); first = Some (counted f) }) (length-map a.locations (folded_location K)) (initial_same a a.initial)
 
   columns_alike : columns_of new v ≡ columns_of file v
   columns_alike =
@@ -156,7 +156,7 @@ module _ (file : File) (given v : Valuation) (extends : Extends given v) (small 
 
   scene_alike : scene new v ≡ scene file v
   scene_alike =
-      ap₂ {C = Scene} (λ a b. record { constants = a; columns = b })
+      ap₂ {C = Scene} (λ a b. record { constants = a; columns = b; has_condition = false })
       (ap (λ (r : Name → Seen). map (λ c. constant_seen (v c.name.name) r c.value) (map (specialised_const given K) file.constants)) new_are ∙ consts_alike) columns_alike
 
   -- ---- the file at a state
@@ -258,7 +258,7 @@ module _ (file : File) (given v : Valuation) (extends : Extends given v) (small 
     moment_alike =
         ap₂ {B = List Seen → Moment} (λ rs g. g rs)
         (ap (map (transient_at new v s)) structures_same ∙ mapped fo (transient_at new v s) (transient_at file v s) transient_same (structures file))
-        (ap₂ (λ es ls rs. record { elements = es; vectors = map vector_of file.vectors; labels = ls; rewards = rs })
+        (ap₂ (λ es ls rs. record { condition = no_condition; elements = es; vectors = map vector_of file.vectors; labels = ls; rewards = rs })
         (ap (numbered (λ i a. element_at new v s i a ∷ []) 0) elements_same
         ∙ numbered_mapped (λ i a. element_at new v s i a ∷ []) (λ i a. element_at file v s i a ∷ []) fa (λ i a. ap (λ l. l ∷ []) (element_same i a)) 0 (elements file))
         (ap (map (transient_at new v s)) labels_same ∙ mapped fo (transient_at new v s) (transient_at file v s) transient_same (labels file)))
@@ -269,7 +269,7 @@ module _ (file : File) (given v : Valuation) (extends : Extends given v) (small 
     wide_instance = ap is_wide_instance scene_alike;
     columns = ap (λ k. map (λ c. c.name) k.columns) scene_alike;
     states = λ s. ap (λ k. is_state k.columns s) scene_alike;
-    initial = λ s. ap (λ k. is_initial k.columns s) scene_alike;
+    initial = λ s. ap₂ (λ k m. is_initial k.columns m.condition s) scene_alike (moment_alike s);
     choices = λ s. ap (λ k. choices k s) (moment_alike s);
     marks = λ s. ap marks (moment_alike s);
     wide_marks = λ s. ap has_wide_mark (moment_alike s);

@@ -12,7 +12,7 @@ use Rattle.op_trees.specs.Seen.{Seen, known, known_names}
 use Rattle.op_trees.specs.declared.tree.Value.{Value}
 use Rattle.process_core.specs.Product.{map-map}
 use Rattle.process_core.specs.Ready.{Values, Name, Ready}
-use Rattle.process_core.specs.Instance.{Valuation, Between, Column, Scene, instance_faults, is_wide_instance, is_state, is_initial, write_to}
+use Rattle.process_core.specs.Instance.{Valuation, Between, Column, Scene, instance_faults, is_wide_instance, is_state, is_initial, no_condition, write_to}
 use Rattle.prism_tree.specs.Syntax.{Expression, Const, Range, Var, Branch, Command, Module, plain, copied, File}
 use Rattle.prism_tree.specs.Syntax as syntax
 use Rattle.prism_names.specs.Names.{unchanged, part_of, written_name, see}
@@ -44,7 +44,7 @@ module _ (file new : File) (same_formulas : new.formulas ≡ file.formulas) (K :
   first_same None None = refl
 
   column_same : (x : Var) → column unchanged new_names (rewritten_var (folding_by K) x) ≡ column unchanged names x
-  column_same x = ap₂ (λ d f. record { name = x.name.name; domain = d; first = f }) (domain_same x.range) (first_same x.start x.range)
+  column_same x = ap₂ (λ d f. record { name = x.name.name; domain = d; first = Some f }) (domain_same x.range) (first_same x.start x.range)
 
   pub vars_same : (xs : List Var) → map (column unchanged new_names) (map (rewritten_var (folding_by K)) xs) ≡ map (column unchanged names) xs
   vars_same xs = map-map (column unchanged new_names) (rewritten_var (folding_by K)) xs ∙ map_agree _ _ column_same xs
@@ -156,7 +156,7 @@ module _ (file : File) (given v : Valuation) (form : IsWrittenOut file) (extends
 
   scene_alike : scene new v ≡ scene file v
   scene_alike =
-      ap₂ {C = Scene} (λ a b. record { constants = a; columns = b })
+      ap₂ {C = Scene} (λ a b. record { constants = a; columns = b; has_condition = false })
       (ap (λ (r : Name → Seen). map (λ c. constant_seen (v c.name.name) r c.value) (map (specialised_const given K) file.constants)) new_are
       ∙ constants_alike
       ∙ ap (λ (r : Name → Seen). map (λ c. constant_seen (v c.name.name) r c.value) file.constants) (sym old_are))
@@ -200,7 +200,7 @@ module _ (file : File) (given v : Valuation) (form : IsWrittenOut file) (extends
     moment_alike : moment new v s ≡ moment file v s
     moment_alike =
         ap₂ {B = List (List Ready) → Moment} (λ m g. g m) (modules_alike file.modules form.modules)
-        (ap₂ (λ ls rs ms. record { modules = ms; labels = ls; rewards = rs })
+        (ap₂ (λ ls rs ms. record { condition = no_condition; modules = ms; labels = ls; rewards = rs })
         (ap (λ (r : Name → Seen). map (λ l. see l.body r) (map (rewritten_label (folding_by K)) file.labels)) new_in
         ∙ labels_same file new refl K (known_names env) (known_names env) state_same file.labels
         ∙ ap (λ (r : Name → Seen). map (λ l. see l.body r) file.labels) (sym old_in))
@@ -214,7 +214,7 @@ module _ (file : File) (given v : Valuation) (form : IsWrittenOut file) (extends
     wide_instance = ap is_wide_instance scene_alike;
     columns = ap (λ k. map (λ c. c.name) k.columns) scene_alike;
     states = λ s. ap (λ k. is_state k.columns s) scene_alike;
-    initial = λ s. ap (λ k. is_initial k.columns s) scene_alike;
+    initial = λ s. ap₂ (λ k m. is_initial k.columns m.condition s) scene_alike (moment_alike s);
     choices = λ s. ap (λ k. choices k s) (moment_alike s);
     marks = λ s. ap marks (moment_alike s);
     wide_marks = λ s. ap has_wide_mark (moment_alike s);

@@ -46,7 +46,7 @@ domain_code = code_by (Option (Seen × Seen)) (coded_option (coded× seen_code s
 
 abbrev pub column_code : Coded Column
 column_code =
-    code_by (Name × (Domain × Seen)) (coded× name_code (coded× domain_code seen_code)) (λ c. (c.name, (c.domain, c.first)))
+    code_by (Name × (Domain × Option Seen)) (coded× name_code (coded× domain_code (coded_option seen_code))) (λ c. (c.name, (c.domain, c.first)))
     (λ p. record { name = p.0; domain = p.1.0; first = p.1.1 }) (λ _. refl)
 
 -- ---- commands and edges

@@ -1,4 +1,4 @@
-use Rattle.std.proofs.Common.{◌∙◌, [], sym, ap, subst, map}
+use Rattle.std.proofs.Common.{◌∙◌, [], refl, sym, ap, subst, map}
 use Rattle.std.specs.Prelude.{MatchResult}
 use Rattle.op_trees.specs.Seen.{known}
 use Rattle.process_core.specs.Product.{map-map}
@@ -21,7 +21,7 @@ returns c =
     let v = given_by c.args.given.now in
     let names = constant_names file v unchanged in
     subst (λ cs. MatchResult c.columns.result (λ xs. AreColumns (scene file v) (map column_of xs.items)) (FailsIn cs (scene file v))) c.requires.opens
-    (c.columns.ensures (scene file v)
+    (c.columns.ensures (scene file v) refl
     (ap (map seen_of) c.as_slice.ensures.value ∙ c.in-Ok.ensures ∙ sym (narrow_trimmed c.args.table.now) ∙ ap (map trimmed_seen) c.requires.constants.values)
     (ap (map variable_of) c.as_slice-in-Ok-known_variables.ensures.value
     ∙ c.in-Ok-known_variables.ensures names (λ x. ap known (c.requires.constants.names [] x) ∙ sym (ap (λ f. f x) (reads_plainly file c.requires.flat.form.formulas (λ y. known (constant file v y)))))
