@@ -17,6 +17,11 @@ pub second_false : (a b : Bool) → (a || b) ≡ false → b ≡ false
 second_false true b e = absurd cc
 second_false false b e = e
 
+pub both_true : (a b : Bool) → not (a && b) ≡ false → (a ≡ true) × (b ≡ true)
+both_true true true h = (refl, refl)
+both_true true false h = absurd cc
+both_true false b h = absurd cc
+
 pub not_both : {A : Type 0} (b : Bool) → b ≡ true → b ≡ false → A
 not_both b h k = let e : true ≡ false = sym h ∙ k in absurd cc
 

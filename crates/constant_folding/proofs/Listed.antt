@@ -2,6 +2,7 @@
 use Rattle.std.specs.Prelude.{◌≡◌, List, [], ◌∷◌, ◌++◌, map, Bool, true, false, ◌||◌, Option, Some, None}
 use Rattle.std.specs.List.{flat_map, list_any}
 use Rattle.std.proofs.Common.{refl, sym, ap, ap₂, ◌∙◌}
+use Rattle.std.proofs.Math.Bool.{or-false}
 use Rattle.std.proofs.lemmas.List.{map-append}
 use Rattle.std.proofs.lemmas.List.Folds.{list_any-append}
 use Rattle.basics.specs.Booleans.{first_false, second_false}
@@ -27,15 +28,11 @@ use Rattle.constant_folding.specs.Constants.{AnyConst, declared, specialised_con
 use Rattle.constant_folding.proofs.Kept.{fold_names_no_more}
 use Rattle.constant_folding.proofs.Uncircled.{NoMore, UsesNoMore}
 
-or_false : (b : Bool) → (b || false) ≡ b
-or_false true = refl
-or_false false = refl
-
 -- names as they are listed, tested
 pub any_named : {O : Type 0} (p : Name → Bool) (e : Tree O) → list_any p (map (λ n. n.name) (names_of e)) ≡ some_name p e
 any_named p (Truth at b) = refl
 any_named p (Number at d) = refl
-any_named p (At at x) = or_false (p x)
+any_named p (At at x) = or-false (p x)
 any_named p (One at o a) = any_named p a
 any_named p (Two at o a b) =
     ap (list_any p) (map-append (λ n. n.name) (names_of a) (names_of b)) ∙ list_any-append p (map (λ n. n.name) (names_of a)) (map (λ n. n.name) (names_of b))

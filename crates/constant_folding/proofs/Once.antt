@@ -3,6 +3,7 @@ use Rattle.std.specs.Prelude.{◌≡◌, max, List, [], ◌∷◌, ◌++◌, map
 use Rattle.std.specs.List.{flat_map, list_any, AllByRecursion as Each}
 use Rattle.std.proofs.Common.{refl, sym, ap, ap₂, ◌∙◌}
 use Rattle.std.proofs.lemmas.Slice.Eq.{bytes_eq-Decides}
+use Rattle.std.proofs.lemmas.Bool.{or_right}
 use Rattle.basics.specs.Texts.{bytes_eq-self}
 use Rattle.basics.specs.Lists.{append_left, append_parts, append_right}
 use Rattle.basics.specs.Each.{each_none, each_then, each_with, empty_each, map_each}
@@ -22,10 +23,6 @@ flipped x y h = by (bytes_eq y x) refl
         let same : y ≡ x = (bytes_eq-Decides y x).0 e in
         absurd (let both : true ≡ false = sym (bytes_eq-self x) ∙ ap (λ z. bytes_eq x z) (sym same) ∙ h in cc)
     by false e = refl
-
-or_second : (a b : Bool) → b ≡ true → (a || b) ≡ true
-or_second true b h = refl
-or_second false b h = h
 
 or_turned : (a b c : Bool) → (a || (b || c)) ≡ true → ((b || a) || c) ≡ true
 or_turned true true c h = refl
@@ -55,7 +52,7 @@ module _ (r : Reason) where
   apart_from e [] h x k = tt
   apart_from e (n ∷ ns) h x k =
       let parts = append_parts (flat_map (clash r n) e) (doubled_after r (n ∷ e) ns) h in
-      (other e n x parts.0 k, apart_from (n ∷ e) ns parts.1 x (or_second (is_called x n) (list_any (is_called x) e) k))
+      (other e n x parts.0 k, apart_from (n ∷ e) ns parts.1 x (or_right (is_called x n) (list_any (is_called x) e) k))
 
   later_apart : (e ns ms : List Named) → doubled_after r e (ns ++ ms) ≡ [] → (x : Name) → (list_any (is_called x) e || list_any (is_called x) ns) ≡ true →
       Each (λ m. bytes_eq x m.name ≡ false) ms

@@ -2,7 +2,9 @@
 use Rattle.std.specs.Prelude.{◌≡◌, ℕ, ◌<◌, ◌^◌, ℤ, pos, nat_abs, nat_lt, Bool, true, false, not, ◌&&◌, ◌||◌, Some, None, List, IsTrue, if◌then◌else◌}
 use Rattle.std.specs.Ordering.{int_eq}
 use Rattle.std.proofs.Common.{refl, sym, ap, ap₂, ◌∙◌, arith}
+use Rattle.std.proofs.Math.Bool.{or-false}
 use Rattle.std.proofs.lemmas.Bool.Decides.{nat_tests}
+use Rattle.basics.specs.Booleans.{both_true}
 use Rattle.frac_core.specs.Fraction.{Fraction, whole, over, quotient, is_whole, is_wide}
 use Rattle.frac_core.specs.Laws.{den_pos, fraction_self, same_parts}
 use Rattle.frac_core.specs.Order.{one_times}
@@ -54,36 +56,27 @@ seen_number q h = ap (λ w. record { value = Some (V.Number q); wide = w }) h
 whole_is : (q : Fraction) → is_whole q ≡ true → whole q.num ≡ q
 whole_is q h = same_parts (whole q.num) q refl (let e : 1 ≡ q.den = grind (arith, nat_tests) in e)
 
-both_small : (a b : Bool) → not (a && b) ≡ false → (a ≡ true) × (b ≡ true)
-both_small true true h = (refl, refl)
-both_small true false h = absurd cc
-both_small false b h = absurd cc
-
 small_one : nat_lt 1 (2 ^ 62) ≡ true
 small_one = refl
 
 small_num : (q : Fraction) → is_wide q ≡ false → is_wide (whole q.num) ≡ false
 small_num q h =
-    let parts = both_small (nat_lt (nat_abs q.num) (2 ^ 62)) (nat_lt q.den (2 ^ 62)) h in
+    let parts = both_true (nat_lt (nat_abs q.num) (2 ^ 62)) (nat_lt q.den (2 ^ 62)) h in
     ap₂ (λ a b. not (a && b)) parts.0 small_one
 
 small_den : (q : Fraction) → is_wide q ≡ false → is_wide (whole (pos q.den)) ≡ false
 small_den q h =
-    let parts = both_small (nat_lt (nat_abs q.num) (2 ^ 62)) (nat_lt q.den (2 ^ 62)) h in
+    let parts = both_true (nat_lt (nat_abs q.num) (2 ^ 62)) (nat_lt q.den (2 ^ 62)) h in
     ap₂ (λ a b. not (a && b)) parts.1 small_one
 
 not_nought : (d : ℕ) → 0 < d → int_eq (pos d) (pos 0) ≡ false
 not_nought d h = grind (arith, nat_tests)
 
-or_false : (b : Bool) → (b || false) ≡ b
-or_false true = refl
-or_false false = refl
-
 divided : (q : Fraction) → two_node standard_meaning Div (plain_number (whole q.num)) (plain_number (whole (pos q.den))) ≡ known (Some (V.Number q))
 divided q =
     ap (λ b. node (if b then None else Some (V.Number (over (whole q.num) (whole (pos q.den))))) false) (not_nought q.den (den_pos q))
     ∙ ap (λ x. node (Some (V.Number x)) false) (over-whole q)
-    ∙ ap (λ w. record { value = Some (V.Number q); wide = w }) (or_false (is_wide q))
+    ∙ ap (λ w. record { value = Some (V.Number q); wide = w }) (or-false (is_wide q))
 
 -- ---- literals
 module _ {O : Type 0} (whole_tree : Bool → ℤ → Tree O) (div : O) where

@@ -6,6 +6,7 @@ use Rattle.std.specs.declared.cmp.Ordering.TheVariants as C
 use Rattle.std.proofs.Common.{refl, sym, ap, subst, ◌∙◌, arith, tests}
 use Rattle.std.proofs.lemmas.Int.{ints}
 use Rattle.std.proofs.lemmas.Cmp.{int_ranked}
+use Rattle.std.proofs.lemmas.Bool.{not-true}
 use Rattle.basics.specs.Booleans.{first_true, second_true}
 use Rattle.frac_core.specs.Fraction.{whole, is_whole}
 use Rattle.frac_core.specs.Rounding.{whole_from_den}
@@ -32,10 +33,6 @@ whole_order n m h = by_answer (int_cmp (n *ℤ pos 1) (m *ℤ pos 1)) refl h
     by_answer C.Equal e k = let same = int_ranked (n *ℤ pos 1) (m *ℤ pos 1) C.Equal e in omega (arith, ints, same)
     by_answer C.Greater e k = absurd cc
 
-not_true : (b : Bool) → not b ≡ true → b ≡ false
-not_true true h = absurd cc
-not_true false h = refl
-
 up_to : (m : ℕ) (z : ℤ) → is_above (whole (pos 0)) (whole z) ≡ false → is_above (whole z) (whole (pos m)) ≡ false → IsUpTo m (V.Number (whole z))
 up_to m (pos n) l u = record { number = n; is = refl; within = let h = whole_order (pos n) (pos m) u in omega (arith, ints, h) }
 up_to m (negsuc n) l u = absurd (let h = whole_order (pos 0) (negsuc n) l in omega (arith, ints, h))
@@ -44,8 +41,8 @@ location_value : (m : ℕ) (v : Value) → is_in (Between (counted 0) (counted m
 location_value m (V.Truth b) h = absurd cc
 location_value m (V.Number q) h =
     let same : q ≡ whole q.num = whole_from_den q (first_true (is_whole q) _ h) in
-    let low = not_true (is_above (whole (pos 0)) q) (first_true (not (is_above (whole (pos 0)) q)) _ (second_true (is_whole q) _ h)) in
-    let high = not_true (is_above q (whole (pos m))) (second_true (not (is_above (whole (pos 0)) q)) _ (second_true (is_whole q) _ h)) in
+    let low = not-true (is_above (whole (pos 0)) q) (first_true (not (is_above (whole (pos 0)) q)) _ (second_true (is_whole q) _ h)) in
+    let high = not-true (is_above q (whole (pos m))) (second_true (not (is_above (whole (pos 0)) q)) _ (second_true (is_whole q) _ h)) in
     subst (λ r. IsUpTo m (V.Number r)) (sym same)
     (up_to m q.num (subst (λ r. is_above (whole (pos 0)) r ≡ false) same low) (subst (λ r. is_above r (whole (pos m)) ≡ false) same high))
 

@@ -5,7 +5,7 @@ use Rattle.std.specs.Option.{option_map}
 use Rattle.std.proofs.Common.{refl, sym, ap, ap₂, subst, ◌∙◌, arith, inl, inr, ◌⊎◌}
 use Rattle.std.proofs.Math.Path.{fun_ext}
 use Rattle.std.proofs.lemmas.Slice.Eq.{bytes_eq-Decides}
-use Rattle.std.proofs.lemmas.Bool.{or_left}
+use Rattle.std.proofs.lemmas.Bool.{or_left, or_right}
 use Rattle.basics.specs.Members.{position_cons}
 use Rattle.op_trees.specs.Tree.{Tree, Truth, Number, Name, One, Two, Three}
 use Rattle.op_trees.specs.Meaning.{Meaning, is_wide_value, of_one, of_both, of_lazy, chosen}
@@ -31,10 +31,6 @@ use Rattle.jani_instance.specs.Constants.{names_by, round_of}
 pub record Below (s t : Seen) : Type 0 where
   pub value : (v : Value) → s.value ≡ Some v → t.value ≡ Some v
   pub wide : s.wide ≡ true → t.wide ≡ true
-
-or_right : (a b : Bool) → b ≡ true → (a || b) ≡ true
-or_right true b h = refl
-or_right false b h = h
 
 either : (a b : Bool) → (a || b) ≡ true → (a ≡ true) ⊎ (b ≡ true)
 either true b h = inl refl

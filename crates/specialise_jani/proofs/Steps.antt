@@ -1,10 +1,8 @@
 -- One part more of the lists that are folded, and all of them.
-use Rattle.std.specs.Prelude.{◌≡◌, ℕ, ◌+◌, ◌<◌, List, [], ◌∷◌, ◌++◌, map, length, get_or, take, Option, Result, Ok, Err, IfOk}
+use Rattle.std.specs.Prelude.{◌≡◌, ℕ, List, [], ◌∷◌, map, Option, Result, Ok, Err, IfOk}
 use Rattle.std.specs.List.{AllZip}
 use Rattle.std.proofs.Common.{refl, sym, subst, ap, ap₂, ◌∙◌}
-use Rattle.std.proofs.lemmas.List.{take_more}
-use Rattle.process_core.specs.Product.{map-map}
-use Rattle.process_core.specs.Zip.{AllZip-append, map_alike}
+use Rattle.process_core.specs.Zip.{map_alike}
 use Rattle.process_core.specs.Instance.{Valuation}
 use Rattle.jani_tree.specs.declared.syntax.JaniFile.{JaniFile}
 use Rattle.bridge_io.specs.declared.reason.Named.{Named}
@@ -15,20 +13,6 @@ use Rattle.constant_folding.specs.Known.{Known}
 use Rattle.constant_folding.specs.Unfit.{Extends}
 use Rattle.specialise_jani.specs.Specialised.{known_constants, specialised, specialised_by}
 use Rattle.specialise_jani.specs.SameMeaning.{SameMeaningAt}
-
-pub zip_more : {X : Type 0} (R : X → X → Type 0) (xs ys new : List X) (i : ℕ) (x y : X) → i < length xs → x ≡ get_or xs i x →
-    AllZip R (take i xs) ys → R x y → new ≡ ys ++ y ∷ [] → AllZip R (take (i + 1) xs) new
-zip_more {X} R xs ys new i x y h e so_far r pushed =
-    subst (λ (l : List X). AllZip R (take (i + 1) xs) l) (sym pushed)
-    (subst (λ (l : List X). AllZip R l (ys ++ y ∷ [])) (ap (λ z. take i xs ++ z ∷ []) e ∙ sym (take_more xs i x h))
-    (AllZip-append R (take i xs) (x ∷ []) ys (y ∷ []) so_far (r, tt)))
-
-pub zipped : {A X : Type 0} (view : A → X) (change : X → X) (xs whole ys : List A) → xs ≡ whole →
-    AllZip (λ a b. view b ≡ change (view a)) xs ys → map view ys ≡ map change (map view whole)
-zipped view change xs whole ys e h =
-    map_alike (λ a b. view b ≡ change (view a)) (λ a. change (view a)) view (λ a b r. r) xs ys h
-    ∙ sym (map-map change view xs)
-    ∙ ap (λ l. map change (map view l)) e
 
 -- parts that stay as they are, as they are seen
 pub zipped_same : {A X : Type 0} (view : A → X) (xs whole ys : List A) → xs ≡ whole → AllZip (λ a b. view b ≡ view a) xs ys → map view ys ≡ map view whole

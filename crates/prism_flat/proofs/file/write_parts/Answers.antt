@@ -4,7 +4,7 @@ use Rattle.prism_tree.specs.Syntax.{const_of, file_of, formula_of, label_of, mod
 use Rattle.prism_rewriter.specs.Rewritten.{rewritten_const, rewritten_label, rewritten_rewards, rewritten_var, written_as}
 use Rattle.prism_rewriter.specs.Tables.{body_in, rewriting}
 use Rattle.prism_flat.proofs.Contents.{same_file}
-use Rattle.prism_rewriter.proofs.Steps.{zipped}
+use Rattle.process_core.specs.Zip.{zipped}
 use Rattle.prism_flat.proofs.file.write_parts.Goals as goal
 
 pub returns : goal.returns

@@ -1,7 +1,8 @@
 use Rattle.jani_tree.specs.Syntax.{automaton_of, const_of, var_of, vector_of}
 use Rattle.constant_folding.specs.Tables.{given_in, known_in}
 use Rattle.specialise_jani.specs.Specialised.{folded_automaton, folded_var, specialised_const}
-use Rattle.specialise_jani.proofs.Steps.{copied_all, same_file, zipped, zipped_same}
+use Rattle.process_core.specs.Zip.{zipped}
+use Rattle.specialise_jani.proofs.Steps.{copied_all, same_file, zipped_same}
 use Rattle.specialise_jani.proofs.file.write_parts.Goals as goal
 
 pub returns : goal.returns

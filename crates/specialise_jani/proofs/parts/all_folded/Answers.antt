@@ -1,5 +1,5 @@
 use Rattle.constant_folding.specs.Tables.{given_in, known_in}
-use Rattle.specialise_jani.proofs.Steps.{zip_more}
+use Rattle.process_core.specs.Zip.{zip_more}
 use Rattle.specialise_jani.proofs.parts.all_folded.Goals as goal
 
 pub loop-part-preserved : goal.loop-part-preserved

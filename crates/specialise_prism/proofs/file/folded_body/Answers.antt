@@ -5,7 +5,7 @@ use Rattle.prism_rewriter.specs.Rewritten.{rewritten_command, rewritten_var}
 use Rattle.specialise_prism.specs.Specialised.{folding_by}
 use Rattle.constant_folding.specs.Tables.{known_in}
 use Rattle.prism_flat.proofs.Contents.{same_body}
-use Rattle.prism_rewriter.proofs.Steps.{zipped}
+use Rattle.process_core.specs.Zip.{zipped}
 use Rattle.specialise_prism.proofs.file.folded_body.Goals as goal
 
 pub returns : goal.returns

@@ -5,7 +5,7 @@ use Rattle.prism_rewriter.specs.Rewritten.{rewritten_label, rewritten_rewards, r
 use Rattle.specialise_prism.specs.Specialised.{folding_by, specialised_const, specialised_module}
 use Rattle.constant_folding.specs.Tables.{given_in, known_in}
 use Rattle.prism_flat.proofs.Contents.{same_file}
-use Rattle.prism_rewriter.proofs.Steps.{zipped}
+use Rattle.process_core.specs.Zip.{zipped}
 use Rattle.specialise_prism.proofs.file.write_parts.Goals as goal
 
 pub returns : goal.returns

@@ -3,18 +3,14 @@ use Rattle.std.specs.Prelude.{FitsSigned, int_lt, nat_abs}
 use Rattle.std.proofs.lemmas.Int.{fits_signed_mul, to_z-of_z}
 use mir.Syntax.{w64, w128}
 use mir.Val.{SFits, to_z, of_z}
+use Rattle.basics.specs.Booleans.{both_true}
 use Rattle.frac_core.specs.Fraction.{Fraction, is_wide}
 use Rattle.step_sim.proofs.drawing.is_under.Goals as goal
 
 -- the parts of a fraction that isn't wide, times numbers of 64 bits, fit into 128
-both_small : (a b : Bool) → not (a && b) ≡ false → (a ≡ true) × (b ≡ true)
-both_small true true e = (refl, refl)
-both_small true false e = absurd (cc)
-both_small false b e = absurd (cc)
-
 small_parts : (r : Fraction) → is_wide r ≡ false → (nat_abs r.num < 2 ^ 62) × (r.den < 2 ^ 62)
 small_parts r e =
-    let h = both_small (nat_lt (nat_abs r.num) (2 ^ 62)) (nat_lt r.den (2 ^ 62)) e in
+    let h = both_true (nat_lt (nat_abs r.num) (2 ^ 62)) (nat_lt r.den (2 ^ 62)) e in
     (ltb-true (nat_abs r.num) (2 ^ 62) h.0, ltb-true r.den (2 ^ 62) h.1)
 
 with_word : (x y : ℤ) (w : ℕ) (r : Fraction) → x ≡ pos w → y ≡ pos r.den → w < 2 ^ 64 → is_wide r ≡ false → FitsSigned w128 (x *ℤ y)

@@ -1,7 +1,8 @@
 use Rattle.jani_tree.specs.Syntax.{edge_of, location_of, var_of}
 use Rattle.constant_folding.specs.Tables.{known_in}
 use Rattle.specialise_jani.specs.Specialised.{folded_edge, folded_location, folded_var}
-use Rattle.specialise_jani.proofs.Steps.{copied_all, same_automaton, zipped}
+use Rattle.process_core.specs.Zip.{zipped}
+use Rattle.specialise_jani.proofs.Steps.{copied_all, same_automaton}
 use Rattle.specialise_jani.proofs.parts.JaniAutomatonFolded.folded.Goals as goal
 
 pub returns : goal.returns

@@ -1,7 +1,8 @@
 use Rattle.jani_tree.specs.Syntax.{destination_of}
 use Rattle.constant_folding.specs.Tables.{known_in}
 use Rattle.specialise_jani.specs.Specialised.{folded_destination}
-use Rattle.specialise_jani.proofs.Steps.{same_edge, zipped}
+use Rattle.process_core.specs.Zip.{zipped}
+use Rattle.specialise_jani.proofs.Steps.{same_edge}
 use Rattle.specialise_jani.proofs.parts.JaniEdgeFolded.folded.Goals as goal
 
 pub returns : goal.returns

@@ -2,7 +2,7 @@ use Rattle.std.proofs.Common.{ap₂}
 use Rattle.jani_tree.specs.Syntax.{Location, write_of}
 use Rattle.constant_folding.specs.Tables.{known_in}
 use Rattle.specialise_jani.specs.Specialised.{folded_write}
-use Rattle.specialise_jani.proofs.Steps.{zipped}
+use Rattle.process_core.specs.Zip.{zipped}
 use Rattle.specialise_jani.proofs.parts.JaniLocationFolded.folded.Goals as goal
 
 pub returns : goal.returns

@@ -4,7 +4,8 @@ use Rattle.prism_tree.specs.Syntax.{branch_of}
 use Rattle.prism_rewriter.specs.Rewritten.{rewritten_branch}
 use Rattle.specialise_prism.specs.Specialised.{folding_by}
 use Rattle.constant_folding.specs.Tables.{known_in}
-use Rattle.prism_rewriter.proofs.Steps.{same_command, zipped}
+use Rattle.process_core.specs.Zip.{zipped}
+use Rattle.prism_rewriter.proofs.Steps.{same_command}
 use Rattle.specialise_prism.proofs.parts.PrismCommandFolded.folded.Goals as goal
 
 pub returns : goal.returns

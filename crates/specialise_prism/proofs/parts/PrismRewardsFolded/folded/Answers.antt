@@ -3,7 +3,7 @@ use Rattle.prism_tree.specs.Syntax.{Rewards, item_of}
 use Rattle.prism_rewriter.specs.Rewritten.{rewritten_item}
 use Rattle.specialise_prism.specs.Specialised.{folding_by}
 use Rattle.constant_folding.specs.Tables.{known_in}
-use Rattle.prism_rewriter.proofs.Steps.{zipped}
+use Rattle.process_core.specs.Zip.{zipped}
 use Rattle.specialise_prism.proofs.parts.PrismRewardsFolded.folded.Goals as goal
 
 pub returns : goal.returns
