@@ -83,8 +83,6 @@ pub enum Reason {
     BadVector = 35,
     /// An automaton is made to accept an action everywhere.
     InputEnable = 36,
-    /// The initial states are given by a condition, or are more than one.
-    InitialSet = 37,
     /// An edge has no destination.
     NoDestination = 38,
     /// An automaton takes part twice.
@@ -93,6 +91,8 @@ pub enum Reason {
     PropertyLeftOut = 40,
     /// A line of a file of states, of rows or of a path is not of its form.
     RowSyntax = 41,
+    /// A variable has a first value of its own although the file has an initial condition.
+    TwoInits = 43,
 }
 
 impl Reason {
@@ -144,11 +144,11 @@ impl Reason {
             Reason::SharedWrite => "SharedWrite",
             Reason::BadVector => "BadVector",
             Reason::InputEnable => "InputEnable",
-            Reason::InitialSet => "InitialSet",
             Reason::NoDestination => "NoDestination",
             Reason::RepeatedAutomaton => "RepeatedAutomaton",
             Reason::PropertyLeftOut => "PropertyLeftOut",
             Reason::RowSyntax => "RowSyntax",
+            Reason::TwoInits => "TwoInits",
         }
     }
 }

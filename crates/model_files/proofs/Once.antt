@@ -5,7 +5,7 @@ use Rattle.std.proofs.lemmas.Option.{same_Some}
 use Rattle.bridge_io.specs.Reason.{number_of}
 use Rattle.bridge_io.specs.declared.reason.Fault.{Fault}
 use Rattle.bridge_io.specs.declared.reason.Reason.{Reason}
-use Rattle.bridge_io.specs.declared.reason.Reason.TheVariants.{TooLong, BadByte, BadNumber, Syntax, TooDeep, OtherKind, LeftOut, TwiceNamed, Unknown, Cycle, RenameMissing, RenameOfRenamed, WrongType, NotConstant, ForeignWrite, SyncGlobalWrite, WrittenTwice, Nothing, TooLarge, JsonSyntax, TwiceMember, MissingMember, UnknownMember, WrongShape, OtherFeature, UnboundedVariable, RealVariable, TransientRead, TransientInitial, TransientTwoAutomata, LabelOnEdge, BranchReward, TwoRewardWriters, SharedWrite, BadVector, InputEnable, InitialSet, NoDestination, RepeatedAutomaton, PropertyLeftOut, RowSyntax}
+use Rattle.bridge_io.specs.declared.reason.Reason.TheVariants.{TooLong, BadByte, BadNumber, Syntax, TooDeep, OtherKind, LeftOut, TwiceNamed, Unknown, Cycle, RenameMissing, RenameOfRenamed, WrongType, NotConstant, ForeignWrite, SyncGlobalWrite, WrittenTwice, Nothing, TooLarge, JsonSyntax, TwiceMember, MissingMember, UnknownMember, WrongShape, OtherFeature, UnboundedVariable, RealVariable, TransientRead, TransientInitial, TransientTwoAutomata, LabelOnEdge, BranchReward, TwoRewardWriters, SharedWrite, BadVector, InputEnable, NoDestination, RepeatedAutomaton, PropertyLeftOut, RowSyntax, TwoInits}
 use Rattle.name_rules.specs.Least.{AtMost, IsLeast}
 use Rattle.name_rules.proofs.Plain.{no_least}
 use Rattle.prism_parse.specs.Laws.{OneSyntax}
@@ -22,13 +22,13 @@ use Rattle.model_files.specs.JaniFile.{of_json, of_shape, of_model}
 use Rattle.model_files.specs.Once.{OnePrismTree, OnePrismFault, FaultyOrPrism, OneJaniTree, OneJaniFault, FaultyOrJani}
 
 -- ---- the least of some faults
--- the reasons in the order of their numbers, which begin with 1
+-- the reasons in the order of their numbers, from 0; in the place of a number that none has stands the next reason
 abbrev reasons : List Reason
 reasons =
     TooLong ∷ TooLong ∷ BadByte ∷ BadNumber ∷ Syntax ∷ TooDeep ∷ OtherKind ∷ LeftOut ∷ TwiceNamed ∷ Unknown ∷ Cycle ∷ RenameMissing ∷ RenameOfRenamed ∷ WrongType ∷ NotConstant ∷ ForeignWrite
     ∷ SyncGlobalWrite ∷ WrittenTwice ∷ Nothing ∷ TooLarge ∷ JsonSyntax ∷ TwiceMember ∷ MissingMember ∷ UnknownMember ∷ WrongShape ∷ OtherFeature ∷ UnboundedVariable ∷ RealVariable ∷ TransientRead
-    ∷ TransientInitial ∷ TransientTwoAutomata ∷ LabelOnEdge ∷ BranchReward ∷ TwoRewardWriters ∷ SharedWrite ∷ BadVector ∷ InputEnable ∷ InitialSet ∷ NoDestination ∷ RepeatedAutomaton ∷ PropertyLeftOut
-    ∷ RowSyntax ∷ []
+    ∷ TransientInitial ∷ TransientTwoAutomata ∷ LabelOnEdge ∷ BranchReward ∷ TwoRewardWriters ∷ SharedWrite ∷ BadVector ∷ InputEnable ∷ NoDestination ∷ NoDestination ∷ RepeatedAutomaton ∷ PropertyLeftOut
+    ∷ RowSyntax ∷ TwoInits ∷ TwoInits ∷ []
 
 numbered : (r : Reason) → slice_get reasons (number_of r) ≡ Some r
 numbered TooLong = refl
@@ -67,11 +67,11 @@ numbered TwoRewardWriters = refl
 numbered SharedWrite = refl
 numbered BadVector = refl
 numbered InputEnable = refl
-numbered InitialSet = refl
 numbered NoDestination = refl
 numbered RepeatedAutomaton = refl
 numbered PropertyLeftOut = refl
 numbered RowSyntax = refl
+numbered TwoInits = refl
 
 same_reason : (r q : Reason) → number_of r ≡ number_of q → r ≡ q
 same_reason r q e = same_Some r q (sym (numbered r) ∙ ap (slice_get reasons) e ∙ numbered q)
