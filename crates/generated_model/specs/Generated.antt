@@ -93,6 +93,7 @@ generated_file modules = record {
   modules = map generated_module (range_with_len 0 modules);
   labels = [];
   rewards = [];
+  init = None;
   end = 0;
 }
 

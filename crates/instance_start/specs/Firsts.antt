@@ -1,5 +1,5 @@
 -- The states that a process begins in, where its instance has no fault. (PRISM manual, "The PRISM Language": "Modules And
--- Variables"; jani-model specification, "Variables".)
+-- Variables", "Multiple Initial States"; jani-model specification, "Variables", "Models".)
 use Rattle.std.specs.Prelude.{◌≡◌, ◌↔◌, ℕ, ◌+◌, List, [], ◌∷◌, ◌++◌, map, Bool, true, false, not, ◌&&◌, Option, Some, None, IsTrue, if◌then◌else◌, unwrap_or, is_some}
 use Rattle.std.specs.List.{All}
 use Rattle.std.specs.Option.{MatchOption, option_and_then}

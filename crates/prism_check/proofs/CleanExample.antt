@@ -39,6 +39,7 @@ example = record {
       ∷ copied (record { name = named (codes "N"); from = named (codes "M"); pairs = record { old = named (codes "x"); new = named (codes "y") } ∷ [] }) ∷ [];
   labels = [];
   rewards = [];
+  init = None;
   end = 0;
 }
 
@@ -55,6 +56,7 @@ clean = record {
     );
     labels = tt;
     rewards = tt;
+    init = tt;
   };
   names = refl;
   types = refl;

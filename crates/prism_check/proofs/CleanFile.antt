@@ -26,7 +26,7 @@ use Rattle.name_rules.specs.Least.{fault, fault_if, moved_to, or_else}
 use Rattle.prism_check.specs.Demands.{Demand, fixed, varying, written, formula_demands, part_demands, outer_demands}
 use Rattle.name_rules.specs.Names.{is_among}
 use Rattle.name_rules.specs.Doubled.{doubled}
-use Rattle.prism_check.specs.NameFaults.{values, unknown, some_used, is_lost, loses_name, unknown_in, unknown_names, circles, doubled_names, copy_faults, name_faults}
+use Rattle.prism_check.specs.NameFaults.{values, unknown, some_used, is_lost, loses_name, unknown_in, unknown_names, circles, doubled_names, copy_faults, no_module, name_faults}
 use Rattle.name_rules.specs.Unknown.{unless_known}
 use Rattle.name_rules.proofs.Plain.{no_fault, fault_none}
 use Rattle.prism_check.specs.TypeFaults.{types, misfits, demand_faults, write_faults, target, repeated_writes, part_faults, module_faults, numbered_faults, type_faults}
@@ -34,6 +34,7 @@ use Rattle.prism_check.specs.SizeFaults.{passes_limit, size_faults}
 use Rattle.prism_check.specs.Clean.{FlatIsClean, FlatHasNoFault, FlatIsChecked}
 use Rattle.prism_check.proofs.NamesIn.{names_listed, names_written_out}
 use Rattle.prism_check.proofs.NoFaults.{NoNameFaults, no_faults, no_name_faults, IsKnown, known_one, all_known, each_body}
+use Rattle.prism_check.proofs.OwnStarts.{flat_starts}
 use Rattle.prism_check.proofs.FlatDemands.{flat_demand, part-flat, outer-flat}
 use Rattle.prism_check.proofs.CleanPrintable.{flat_printable}
 use Rattle.prism_check.proofs.CleanValues.{known_still, none_doubled}
@@ -263,7 +264,9 @@ module _ (file : File) (order : List Name) (ordered : IsOrder file order) (clean
       all_modules.0)
       (append_both (circles (flat file)) _ (no_circles file no_names.circles)
       (append_both (flat_map (copy_faults (flat file)) (map (flat_module file) file.modules)) _ (no_copies file.modules)
-      (ap (λ n. fault_if (nat_eq n 0) file.end Nothing) (length-map file.modules (flat_module file)) ∙ no_names.modules))))
+      (append_both (no_module (flat file)) _
+      (ap (λ n. fault_if (nat_eq n 0) file.end Nothing) (length-map file.modules (flat_module file)) ∙ no_names.modules)
+      (flat_starts file no_names.starts)))))
 
   flat_types : type_faults (flat file) ≡ []
   flat_types =

@@ -164,4 +164,5 @@ flat_printable file p = record {
   modules = each_map IsPrintableModule IsPrintableModule (flat_module file) (module_printable file p.formulas p.modules) file.modules p.modules;
   labels = each_map IsPrintableLabel IsPrintableLabel (flat_label file) (label_printable file p.formulas) file.labels p.labels;
   rewards = each_map IsPrintableRewards IsPrintableRewards (flat_rewards file) (rewards_printable file p.formulas) file.rewards p.rewards;
+  init = optional_printable file p.formulas unchanged unchanged_keeps file.init p.init;
 }

@@ -46,7 +46,7 @@ abbrev copy : Named → Named → List NamePair → Module
 copy x from ps = copied (record { name = x; from = from; pairs = ps })
 
 abbrev file : List Const → List Var → List Formula → List Module → File
-file cs gs fs ms = record { constants = cs; globals = gs; formulas = fs; modules = ms; labels = []; rewards = []; end = 99 }
+file cs gs fs ms = record { constants = cs; globals = gs; formulas = fs; modules = ms; labels = []; rewards = []; init = None; end = 99 }
 
 abbrev least_name : File → Option Fault
 least_name f = soonest None (name_faults f)
@@ -174,6 +174,24 @@ writes_a_variable_of_another_module = refl
 
 writes_a_variable_twice : least_type (one_command None (Truth 66 true) (write 77 (codes "x") ∷ write 84 (codes "x") ∷ [])) ≡ Some (fault 84 WrittenTwice)
 writes_a_variable_twice = refl
+
+-- ---- initial conditions
+-- module M x:[1..1]; endmodule init e endinit
+abbrev beginning : Expression → File
+beginning e = record (file [] [] [] (module_of (at 11 (codes "M")) (var (at 13 (codes "x")) ∷ []) [] ∷ [])) { init = Some e }
+
+begins_where_a_variable_is : least_type (beginning (Two 40 O.Equal (ref 40 (codes "x")) (digit 42))) ≡ None
+begins_where_a_variable_is = refl
+
+begins_by_a_number : least_type (beginning (ref 40 (codes "x"))) ≡ Some (fault 40 WrongType)
+begins_by_a_number = refl
+
+begins_by_an_unknown_name : least_name (beginning (ref 40 (codes "y"))) ≡ Some (fault 40 Unknown)
+begins_by_an_unknown_name = refl
+
+-- the two bounds, and x=1
+nodes_of_an_initial_condition : nodes (flat (beginning (Two 40 O.Equal (ref 40 (codes "x")) (digit 42)))) ≡ 5
+nodes_of_an_initial_condition = refl
 
 -- ---- sizes
 -- formula f=x+x; module M x:[1..1]; [a] f=1 -> true; endmodule module N = M [x=y, a=b] endmodule

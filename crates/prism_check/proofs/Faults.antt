@@ -1,6 +1,6 @@
 -- The faults of a file without its places are its faults without theirs, so files that are the same but for places have faults or
 -- none alike.
-use Rattle.std.specs.Prelude.{◌≡◌, ℕ, zero, suc, max, List, [], ◌∷◌, ◌++◌, map, length, Bool, not, ◌&&◌, ◌||◌, Option, Some, None, is_some, nat_eq, bytes_eq, if◌then◌else◌, ◌+◌, ◌*◌, nat_lt}
+use Rattle.std.specs.Prelude.{◌≡◌, ℕ, zero, suc, max, List, [], ◌∷◌, ◌++◌, map, length, Bool, true, false, not, ◌&&◌, ◌||◌, Option, Some, None, is_some, nat_eq, bytes_eq, if◌then◌else◌, ◌+◌, ◌*◌, nat_lt}
 use Rattle.std.specs.List.{flat_map, filter, list_any, fold, sum, sum_by, find}
 use Rattle.std.specs.Option.{option_map, option_or as or_other}
 use Rattle.std.proofs.Common.{refl, ap, ap₂, ◌∙◌, sym}
@@ -9,7 +9,7 @@ use Rattle.std.proofs.Math.Path.{fun_ext}
 use Rattle.basics.specs.Lists.{empty_map}
 use Rattle.basics.specs.Options.{is_some-map, if_some, if_some-map}
 use Rattle.bridge_io.specs.declared.reason.Reason.{Reason}
-use Rattle.bridge_io.specs.declared.reason.Reason.TheVariants.{TwiceNamed, Unknown, Cycle, RenameMissing, RenameOfRenamed, Nothing, TooLarge, WrongType, NotConstant, SyncGlobalWrite, WrittenTwice}
+use Rattle.bridge_io.specs.declared.reason.Reason.TheVariants.{TwiceNamed, Unknown, Cycle, RenameMissing, RenameOfRenamed, Nothing, TooLarge, WrongType, NotConstant, SyncGlobalWrite, WrittenTwice, TwoInits}
 use Rattle.bridge_io.specs.declared.reason.Fault.{Fault}
 use Rattle.op_trees.specs.Tree.{Truth, Number, Name as At, One, Two, Three, bare, node_count, height_of}
 use Rattle.op_trees.specs.Types.{Types, type_in, types_looked_up}
@@ -30,7 +30,7 @@ use Rattle.prism_flat.specs.Same.{bare_const, bare_range, bare_var, bare_formula
 use Rattle.prism_check.specs.Demands.{Demand, fixed, varying, written, const_demands, formula_demands, range_demands, type_by, var_type, var_demands, branch_demands, command_demands, part_demands, label_demands, item_demands, rewards_demands, outer_demands, all_demands, expression_of}
 use Rattle.name_rules.specs.Least.{fault_if, fault, moved_to}
 use Rattle.name_rules.specs.Names.{is_among}
-use Rattle.prism_check.specs.NameFaults.{has_pair, renamed_var, module_vars, values, given_labels, doubled_pairs, doubled_names, names_used, unknown, some_used, is_lost, loses_name, unknown_in, unknown_names, declarations, circles, is_copy, copy_faults, name_faults}
+use Rattle.prism_check.specs.NameFaults.{has_pair, renamed_var, module_vars, values, given_labels, doubled_pairs, doubled_names, names_used, unknown, some_used, is_lost, loses_name, unknown_in, unknown_names, declarations, circles, is_copy, copy_faults, own_start, own_starts, two_inits, name_faults}
 use Rattle.name_rules.specs.Uses.{used}
 use Rattle.name_rules.specs.Unknown.{unless_known}
 use Rattle.name_rules.proofs.Placeless.{placeless, at_nought, tested, first-bare, doubled-bare, among-bare, unknown-bare as unless_known-bare}
@@ -145,7 +145,7 @@ outer_demands-bare file =
     joined bare_demand _ _ _ _ (gathered bare_demand bare_const _ _ const_demands-bare file.constants)
     (joined bare_demand _ _ _ _ (gathered bare_demand bare_var _ _ var_demands-bare file.globals)
     (joined bare_demand _ _ _ _ (gathered bare_demand bare_label label_demands label_demands (λ l. refl) file.labels)
-    (gathered bare_demand bare_rewards rewards_demands rewards_demands rewards_demands-bare file.rewards)))
+    (joined bare_demand _ _ _ _ (gathered bare_demand bare_rewards rewards_demands rewards_demands rewards_demands-bare file.rewards) (optional-bare _ (λ e. refl) file.init))))
 
 all_demands-bare : (file : File) → all_demands (bare_file file) ≡ map bare_demand (all_demands file)
 all_demands-bare file =
@@ -247,13 +247,34 @@ copy_faults-bare file (copied m) =
     ∙ any_mapped bare_var _ _ (λ x. refl) (part_of file (copied m)).vars))
     (tested _ _ m.from.at RenameOfRenamed (ap is_copy (called-bare file m.from.name) ∙ is_copy-bare (module_called file m.from.name)))
 
+own_start-bare : (x : Var) → own_start (bare_var x) ≡ map placeless (own_start x)
+own_start-bare x = tested _ _ x.name.at TwoInits (is_some-map bare x.start)
+
+own_starts-bare : (m : Module) → own_starts (bare_module m) ≡ map placeless (own_starts m)
+own_starts-bare (plain m) = gathered placeless bare_var _ _ own_start-bare m.vars
+own_starts-bare (copied m) = refl
+
+abbrev own_starts_of : File → List Fault
+own_starts_of file = flat_map own_start file.globals ++ flat_map own_starts file.modules
+
+two_inits-bare : (file : File) → two_inits (bare_file file) ≡ map placeless (two_inits file)
+two_inits-bare file =
+    by_test (is_some file.init) (is_some-map bare file.init)
+    (joined placeless _ _ _ _ (gathered placeless bare_var _ _ own_start-bare file.globals) (gathered placeless bare_module _ _ own_starts-bare file.modules))
+  where
+    by_test : (b : Bool) {c : Bool} → c ≡ b → own_starts_of (bare_file file) ≡ map placeless (own_starts_of file) →
+        (if c then own_starts_of (bare_file file) else []) ≡ map placeless (if b then own_starts_of file else [])
+    by_test true e h = ap (λ c. if c then own_starts_of (bare_file file) else []) e ∙ h
+    by_test false e h = ap (λ c. if c then own_starts_of (bare_file file) else []) e
+
 name_faults-bare : (file : File) → name_faults (bare_file file) ≡ map placeless (name_faults file)
 name_faults-bare file =
     joined placeless _ _ _ _ (doubled_names-bare file)
     (joined placeless _ _ _ _ (unknown_names-bare file)
     (joined placeless _ _ _ _ (circles-bare file)
     (joined placeless _ _ _ _ (gathered placeless bare_module _ _ (copy_faults-bare file) file.modules)
-    (tested _ _ file.end Nothing (ap (λ n. nat_eq n 0) (length-map file.modules bare_module))))))
+    (joined placeless _ _ _ _ (tested _ _ file.end Nothing (ap (λ n. nat_eq n 0) (length-map file.modules bare_module)))
+    (two_inits-bare file)))))
 
 -- ---- sizes
 expression_of-bare : (d : Demand) → expression_of (bare_demand d) ≡ bare (expression_of d)

@@ -81,10 +81,10 @@ module _ (file : File) where
   flat-bare =
       ap₂ (λ cs gs. record (flat (bare_file file)) { constants = cs; globals = gs })
       (turned bare_const bare_const _ _ constant-bare file.constants) (turned bare_var bare_var _ _ (var-bare unchanged) file.globals)
-      ∙ ap₂ (λ ms ls. record (bare_file (flat file)) { modules = ms; labels = ls; rewards = map (flat_rewards (bare_file file)) (map bare_rewards file.rewards) })
+      ∙ ap₂ (λ ms ls. record (bare_file (flat file)) { modules = ms; labels = ls; rewards = map (flat_rewards (bare_file file)) (map bare_rewards file.rewards); init = (flat (bare_file file)).init })
       (turned bare_module bare_module _ _ module-bare file.modules) (turned bare_label bare_label _ _ label-bare file.labels)
-      ∙ ap (λ rs. record (bare_file (flat file)) { rewards = rs })
-      (turned bare_rewards bare_rewards _ _ rewards-bare file.rewards)
+      ∙ ap₂ (λ rs o. record (bare_file (flat file)) { rewards = rs; init = o })
+      (turned bare_rewards bare_rewards _ _ rewards-bare file.rewards) (optional-bare unchanged file.init)
 
 -- files that are the same but for places are written out to such files
 pub written_out_alike : (f g : File) → bare_file f ≡ bare_file g → bare_file (flat f) ≡ bare_file (flat g)

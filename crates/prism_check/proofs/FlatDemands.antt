@@ -13,7 +13,7 @@ use Rattle.prism_flat.specs.Laws.{flat_part}
 use Rattle.op_trees.specs.declared.wanted.Wanted.{Wanted}
 use Rattle.op_trees.specs.declared.wanted.Wanted.TheVariants as W
 use Rattle.op_trees.specs.Wanted.{wanted_by}
-use Rattle.prism_check.specs.Demands.{Demand, fixed, varying, written, type_by, const_demands, range_demands, var_demands, branch_demands, command_demands, part_demands, label_demands, item_demands, rewards_demands, outer_demands}
+use Rattle.prism_check.specs.Demands.{Demand, fixed, varying, written, type_by, const_demands, range_demands, var_demands, branch_demands, command_demands, part_demands, label_demands, item_demands, rewards_demands, init_demands, outer_demands}
 
 -- a demand of what is written out
 abbrev pub flat_demand : File → (Name → Name) → Demand → Demand
@@ -102,7 +102,9 @@ module _ (file : File) where
       (through file unchanged const_demands const_demands (flat_constant file) of_const file.constants)
       (joined file unchanged (flat_map var_demands (map (flat_var file unchanged) file.globals)) (flat_map var_demands file.globals) _ _
       (through file unchanged var_demands var_demands (flat_var file unchanged) (of_var file unchanged) file.globals)
-      (joined file unchanged (flat_map label_demands (map (flat_label file) file.labels)) (flat_map label_demands file.labels)
-      (flat_map rewards_demands (map (flat_rewards file) file.rewards)) (flat_map rewards_demands file.rewards)
+      (joined file unchanged (flat_map label_demands (map (flat_label file) file.labels)) (flat_map label_demands file.labels) _ _
       (through file unchanged label_demands label_demands (flat_label file) of_label file.labels)
-      (through file unchanged rewards_demands rewards_demands (flat_rewards file) of_rewards file.rewards)))
+      (joined file unchanged (flat_map rewards_demands (map (flat_rewards file) file.rewards)) (flat_map rewards_demands file.rewards)
+      (init_demands (option_map (flat_expression file unchanged) file.init)) (init_demands file.init)
+      (through file unchanged rewards_demands rewards_demands (flat_rewards file) of_rewards file.rewards)
+      (optional_varying file unchanged W.Bool file.init))))

@@ -70,5 +70,5 @@ flat_twice file =
     let f = flat file in
     let g = flat f in
     ap₂ (λ xs ys. record g { constants = xs; globals = ys }) (map_same (flat_constant f) (constant_same file) f.constants) (map_same (flat_var f unchanged) (var_same file) f.globals)
-    ∙ ap₂ (λ xs ys. record f { modules = xs; labels = ys; rewards = map (flat_rewards f) f.rewards }) (modules_same file file.modules) (map_same (flat_label f) (label_same file) f.labels)
-    ∙ ap (λ xs. record f { rewards = xs }) (map_same (flat_rewards f) (rewards_same file) f.rewards)
+    ∙ ap₂ (λ xs ys. record f { modules = xs; labels = ys; rewards = map (flat_rewards f) f.rewards; init = g.init }) (modules_same file file.modules) (map_same (flat_label f) (label_same file) f.labels)
+    ∙ ap₂ (λ xs o. record f { rewards = xs; init = o }) (map_same (flat_rewards f) (rewards_same file) f.rewards) (optional_same file f.init)

@@ -99,6 +99,9 @@ rewards r =
 each_too : {A : Type 0} (P : A → Type 0) (f : A → A) → ((x : A) → Alike (P x) (P (f x))) → (xs ys : List A) → map f xs ≡ map f ys → Each P xs → Each P ys
 each_too P f h xs ys e p = (each P f h ys).1 (subst (Each P) e ((each P f h xs).0 p))
 
+any_too : {A : Type 0} (P : A → Type 0) (f : A → A) → ((x : A) → Alike (P x) (P (f x))) → (o p : Option A) → option_map f o ≡ option_map f p → IfAny P o → IfAny P p
+any_too P f h o p e q = (any P f h p).1 (subst (IfAny P) e ((any P f h o).0 q))
+
 pub printable_too : (f g : File) → bare_file f ≡ bare_file g → IsPrintable f → IsPrintable g
 printable_too f g e p = record {
   constants = each_too IsPrintableConst bare_const (λ c. both same (optional c.value)) f.constants g.constants (ap (λ x. x.constants) e) p.constants;
@@ -107,6 +110,7 @@ printable_too f g e p = record {
   modules = each_too IsPrintableModule bare_module «module» f.modules g.modules (ap (λ x. x.modules) e) p.modules;
   labels = each_too IsPrintableLabel bare_label (λ l. both same (expression l.body)) f.labels g.labels (ap (λ x. x.labels) e) p.labels;
   rewards = each_too IsPrintableRewards bare_rewards rewards f.rewards g.rewards (ap (λ x. x.rewards) e) p.rewards;
+  init = any_too IsPrintableExpression bare expression f.init g.init (ap (λ x. x.init) e) p.init;
 }
 
 plain-bare : (ms : List Module) → list_all is_plain (map bare_module ms) ≡ list_all is_plain ms

@@ -27,6 +27,7 @@ pub mod Owners
 pub mod Misfits
 pub mod NamesIn
 pub mod NoFaults
+pub mod OwnStarts
 pub mod TypeOrder
 pub mod FlatDemands
 pub mod FlatTwice

@@ -1,10 +1,11 @@
 -- What a PRISM file means does not depend on the places that its tree keeps.
-use Rattle.std.specs.Prelude.{◌≡◌, ℕ, zero, suc, List, [], ◌++◌, map, length, false, Option, Some, None}
+use Rattle.std.specs.Prelude.{◌≡◌, ℕ, zero, suc, List, [], ◌++◌, map, length, Bool, Option, Some, None}
 use Rattle.std.specs.List.{flat_map}
 use Rattle.std.specs.Option.{option_map}
 use Rattle.std.proofs.Common.{refl, sym, ap, ap₂, ◌∙◌}
 use Rattle.std.proofs.lemmas.List.{length-map}
 use Rattle.std.proofs.Math.Path.{fun_ext}
+use Rattle.basics.specs.Options.{is_some-map}
 use Rattle.op_trees.specs.Seen.{Seen, known}
 use Rattle.op_trees.specs.SeenLaws.{seen-bare}
 use Rattle.op_trees.specs.Tree.{bare}
@@ -18,9 +19,9 @@ use Rattle.prism_tree.specs.Syntax as syntax
 use Rattle.op_trees.specs.Names.{bare_name}
 use Rattle.prism_flat.specs.Same.{bare_const, bare_range, bare_var, bare_label, bare_write, bare_branch, bare_command, bare_on, bare_item, bare_rewards, bare_file}
 use Rattle.prism_flat.specs.Names.{unchanged, Part, parts, see, reading}
-use Rattle.process_core.specs.Instance.{Valuation, Between, Column, write_to, no_condition}
-use Rattle.prism_flat.specs.Scene.{constant_called, constant_seen, constant_value, constant_within, constant, constant_names, domain_of, first_of, column, part_columns, columns_of, scene}
-use Rattle.prism_flat.specs.Moment.{Moment, value_in, names_in, place_of, weight_seen, action_of, write_at, update_at, command_at, part_at, adds_of, item_at, moment}
+use Rattle.process_core.specs.Instance.{Valuation, Between, Column, write_to}
+use Rattle.prism_flat.specs.Scene.{constant_called, constant_seen, constant_value, constant_within, constant, constant_names, domain_of, first_of, first_under, column, part_columns, columns_under, columns_of, has_condition, scene}
+use Rattle.prism_flat.specs.Moment.{Moment, value_in, names_in, condition_seen, place_of, weight_seen, action_of, write_at, update_at, command_at, part_at, adds_of, item_at, moment}
 use Rattle.prism_flat.specs.FlatLaws.{model_alike, meaning_alike}
 use Rattle.prism_check.specs.PlacesLaws.{PlacesMeanNothing, PlacesBoundNothing, PlacesKeepScenes, PlacesKeepMoments}
 use Rattle.prism_flat.specs.FlatLaws.{found_after}
@@ -44,6 +45,10 @@ weight-bare : (names : Name → Seen) (e : Option Expression) → weight_seen na
 weight-bare names None = refl
 weight-bare names (Some e) = see-bare e names
 
+condition-bare : (names : Name → Seen) (e : Option Expression) → condition_seen names (option_map bare e) ≡ condition_seen names e
+condition-bare names None = refl
+condition-bare names (Some e) = see-bare e names
+
 -- ---- columns
 domain-bare : (names : Name → Seen) (r : Option Range) → domain_of names (option_map bare_range r) ≡ domain_of names r
 domain-bare names None = refl
@@ -54,9 +59,9 @@ first-bare names (Some e) r = see-bare e names
 first-bare names None (Some r) = see-bare r.low names
 first-bare names None None = refl
 
-column-bare : (rename : Name → Name) (names : Name → Seen) (x : Var) → column rename names (bare_var x) ≡ column rename names x
-column-bare rename names x =
-    ap₂ (λ d f. record { name = rename x.name.name; domain = d; first = Some f }) (domain-bare names x.range) (first-bare names x.start x.range)
+column-bare : (c : Bool) (rename : Name → Name) (names : Name → Seen) (x : Var) → column c rename names (bare_var x) ≡ column c rename names x
+column-bare c rename names x =
+    ap₂ (λ d f. record { name = rename x.name.name; domain = d; first = first_under c f }) (domain-bare names x.range) (first-bare names x.start x.range)
 
 -- ---- commands and rewards, by what is written where and by what names are seen as
 action-bare : (rename : Name → Name) (c : Command) → action_of rename (bare_command c) ≡ action_of rename c
@@ -107,24 +112,31 @@ module _ (file : File) (v : Valuation) where
   names-bare = ap₂ (λ read k. read (λ x. known (k x))) (reading_in-bare file) constant-bare
 
   -- ---- the file under the valuation
-  part_columns-bare : (p : Part) → part_columns (bare_file file) v (bare_part p) ≡ part_columns file v p
-  part_columns-bare p =
-      ap (λ names. map (column p.rename (names p.rename)) (map bare_var p.vars)) names-bare
-      ∙ mapped bare_var _ _ (column-bare p.rename (constant_names file v p.rename)) p.vars
+  condition_kept : has_condition (bare_file file) ≡ has_condition file
+  condition_kept = is_some-map bare file.init
+
+  part_columns-bare : (c : Bool) (p : Part) → part_columns (bare_file file) c v (bare_part p) ≡ part_columns file c v p
+  part_columns-bare c p =
+      ap (λ names. map (column c p.rename (names p.rename)) (map bare_var p.vars)) names-bare
+      ∙ mapped bare_var _ _ (column-bare c p.rename (constant_names file v p.rename)) p.vars
+
+  under-bare : (c : Bool) → columns_under (bare_file file) c v ≡ columns_under file c v
+  under-bare c =
+      ap₂ (λ a b. a ++ b)
+      (ap (λ names. map (column c unchanged (names unchanged)) (map bare_var file.globals)) names-bare
+      ∙ mapped bare_var _ _ (column-bare c unchanged (constant_names file v unchanged)) file.globals)
+      (ap (flat_map (part_columns (bare_file file) c v)) (parts-bare file) ∙ walked bare_part _ _ (part_columns-bare c) (parts file))
 
   pub columns-bare : columns_of (bare_file file) v ≡ columns_of file v
-  columns-bare =
-      ap₂ (λ a b. a ++ b)
-      (ap (λ names. map (column unchanged (names unchanged)) (map bare_var file.globals)) names-bare
-      ∙ mapped bare_var _ _ (column-bare unchanged (constant_names file v unchanged)) file.globals)
-      (ap (flat_map (part_columns (bare_file file) v)) (parts-bare file) ∙ walked bare_part _ _ part_columns-bare (parts file))
+  columns-bare = under-bare (has_condition (bare_file file)) ∙ ap (λ c. columns_under file c v) condition_kept
 
   pub scene-bare : scene (bare_file file) v ≡ scene file v
   scene-bare =
-      ap₂ (λ a b. record { constants = a; columns = b; has_condition = false })
+      ap₂ (λ a b. record { constants = a; columns = b; has_condition = has_condition (bare_file file) })
       (ap (λ names. map (λ c. constant_seen (v c.name.name) (names unchanged) c.value) (map bare_const file.constants)) names-bare
       ∙ mapped bare_const _ _
       (λ c. constant_seen-bare (v c.name.name) (constant_names file v unchanged) c.value) file.constants) columns-bare
+      ∙ ap (λ c. record { constants = (scene file v).constants; columns = columns_of file v; has_condition = c }) condition_kept
 
   -- ---- at a state
   module _ (s : Values) where
@@ -144,15 +156,16 @@ module _ (file : File) (v : Valuation) where
         ap₂ {B = List (List Ready) → Moment} (λ m g. g m)
         (ap (map (part_at (bare_file file) v s)) (parts-bare file) ∙ mapped bare_part _ _ commands-bare (parts file))
         (ap {B = List (List Ready) → Moment} (λ (names : (Name → Name) → Name → Seen) ms. record {
-          condition = no_condition;
+          condition = condition_seen (names unchanged) (option_map bare file.init);
           modules = ms;
           labels = map (λ l. see l.body (names unchanged)) (map bare_label file.labels);
           rewards = map (λ r. map (item_at (names unchanged)) r.items) (map bare_rewards file.rewards);
         }) state_names-bare
-        ∙ ap₂ (λ ls rs ms. record { condition = no_condition; modules = ms; labels = ls; rewards = rs })
+        ∙ ap₂ {B = Seen → List (List Ready) → Moment} (λ c g. g c) (condition-bare (names_in file v s unchanged) file.init)
+        (ap₂ (λ ls rs c ms. record { condition = c; modules = ms; labels = ls; rewards = rs })
         (mapped bare_label _ _ (λ l. see-bare l.body (names_in file v s unchanged)) file.labels)
         (mapped bare_rewards _ _
-        (λ r. mapped bare_item _ _ (item-bare (names_in file v s unchanged)) r.items) file.rewards))
+        (λ r. mapped bare_item _ _ (item-bare (names_in file v s unchanged)) r.items) file.rewards)))
 
 -- ---- files that are the same but for places
 module _ (f g : File) (e : bare_file f ≡ bare_file g) where

@@ -16,7 +16,7 @@ use Rattle.prism_flat.specs.Laws.{flat_part, parts-flat}
 use Rattle.op_trees.specs.declared.wanted.Wanted.{Wanted}
 use Rattle.op_trees.specs.declared.wanted.Wanted.TheVariants as W
 use Rattle.op_trees.specs.Wanted.{wanted_by}
-use Rattle.prism_check.specs.Demands.{Demand, fixed, varying, written, expression_of, var_type, const_demands, range_demands, var_demands, branch_demands, command_demands, part_demands, label_demands, item_demands, rewards_demands, outer_demands, all_demands}
+use Rattle.prism_check.specs.Demands.{Demand, fixed, varying, written, expression_of, var_type, const_demands, range_demands, var_demands, branch_demands, command_demands, part_demands, label_demands, item_demands, rewards_demands, init_demands, outer_demands, all_demands}
 
 module _ (file : File) (new old : Expression → ℕ) (same : (rename : Name → Name) (e : Expression) → new (flat_expression file rename e) ≡ old e) where
   abbrev of_new : List Demand → List ℕ
@@ -103,10 +103,12 @@ module _ (file : File) (new old : Expression → ℕ) (same : (rename : Name →
       (through const_demands const_demands (flat_constant file) of_const file.constants)
       (then_more (flat_map var_demands (map (flat_var file unchanged) file.globals)) (flat_map var_demands file.globals) _ _
       (through var_demands var_demands (flat_var file unchanged) (of_var unchanged) file.globals)
-      (then_more (flat_map label_demands (map (flat_label file) file.labels)) (flat_map label_demands file.labels)
-      (flat_map rewards_demands (map (flat_rewards file) file.rewards)) (flat_map rewards_demands file.rewards)
+      (then_more (flat_map label_demands (map (flat_label file) file.labels)) (flat_map label_demands file.labels) _ _
       (through label_demands label_demands (flat_label file) of_label file.labels)
-      (through rewards_demands rewards_demands (flat_rewards file) of_rewards file.rewards)))
+      (then_more (flat_map rewards_demands (map (flat_rewards file) file.rewards)) (flat_map rewards_demands file.rewards)
+      (init_demands (option_map (flat_expression file unchanged) file.init)) (init_demands file.init)
+      (through rewards_demands rewards_demands (flat_rewards file) of_rewards file.rewards)
+      (optional_varying W.Bool W.Bool unchanged file.init))))
 
   of_parts : Alike (flat_map part_demands (parts (flat file))) (flat_map part_demands (parts file))
   of_parts = record {

@@ -18,7 +18,7 @@ use Rattle.name_rules.specs.Least.{or_else}
 use Rattle.name_rules.specs.Names.{is_among}
 use Rattle.name_rules.specs.Unknown.{unless_known}
 use Rattle.name_rules.proofs.Plain.{no_fault}
-use Rattle.prism_check.specs.NameFaults.{values, unknown_names, circles, doubled_names, copy_faults, no_module, name_faults}
+use Rattle.prism_check.specs.NameFaults.{values, unknown_names, circles, doubled_names, copy_faults, no_module, two_inits, name_faults}
 use Rattle.prism_check.specs.TypeFaults.{type_faults}
 use Rattle.prism_check.specs.SizeFaults.{size_faults}
 use Rattle.prism_check.specs.Faults.{faults}
@@ -47,14 +47,17 @@ pub record NoNameFaults (file : File) : Type 0 where
   pub circles : circles file ≡ []
   pub copies : flat_map (copy_faults file) file.modules ≡ []
   pub modules : no_module file ≡ []
+  pub starts : two_inits file ≡ []
 
 pub no_name_faults : (file : File) → name_faults file ≡ [] → NoNameFaults file
 no_name_faults file e =
-    let a = append_parts (doubled_names file) (unknown_names file ++ (circles file ++ (flat_map (copy_faults file) file.modules ++ no_module file))) e in
-    let b = append_parts (unknown_names file) (circles file ++ (flat_map (copy_faults file) file.modules ++ no_module file)) a.1 in
-    let c = append_parts (circles file) (flat_map (copy_faults file) file.modules ++ no_module file) b.1 in
-    let d = append_parts (flat_map (copy_faults file) file.modules) (no_module file) c.1 in
-    record { doubled = a.0; unknown = b.0; circles = c.0; copies = d.0; modules = d.1 }
+    let last = no_module file ++ two_inits file in
+    let a = append_parts (doubled_names file) (unknown_names file ++ (circles file ++ (flat_map (copy_faults file) file.modules ++ last))) e in
+    let b = append_parts (unknown_names file) (circles file ++ (flat_map (copy_faults file) file.modules ++ last)) a.1 in
+    let c = append_parts (circles file) (flat_map (copy_faults file) file.modules ++ last) b.1 in
+    let d = append_parts (flat_map (copy_faults file) file.modules) last c.1 in
+    let f = append_parts (no_module file) (two_inits file) d.1 in
+    record { doubled = a.0; unknown = b.0; circles = c.0; copies = d.0; modules = f.0; starts = f.1 }
 
 -- ---- names that are known
 abbrev pub IsKnown : File → Name → Type 0

@@ -143,6 +143,7 @@ held_file f = record {
   modules = map held_module f.modules;
   labels = map held_label f.labels;
   rewards = map held_rewards f.rewards;
+  init = option_map held f.init;
   end = f.end;
 }
 
@@ -152,7 +153,8 @@ file-back f =
     ap₂ (λ xs ys. record g { constants = xs; globals = ys }) (map-back held_const const_of const-back f.constants) (map-back held_var var_of var-back f.globals)
     ∙ ap₂ (λ xs ys. record g { constants = f.constants; globals = f.globals; formulas = xs; modules = ys })
     (map-back held_formula formula_of formula-back f.formulas) (map-back held_module module_of module-back f.modules)
-    ∙ ap₂ (λ xs ys. record f { labels = xs; rewards = ys }) (map-back held_label label_of label-back f.labels) (map-back held_rewards rewards_of rewards-back f.rewards)
+    ∙ ap₂ (λ xs ys. record f { labels = xs; rewards = ys; init = option_map tree (option_map held f.init) }) (map-back held_label label_of label-back f.labels) (map-back held_rewards rewards_of rewards-back f.rewards)
+    ∙ ap (λ o. record f { init = o }) (option-back held tree tree-held f.init)
 
 abbrev pub checked_code : Coded Checked
 checked_code =

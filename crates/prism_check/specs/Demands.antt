@@ -1,5 +1,6 @@
 -- The expressions of a PRISM file with what each has to be, and what its commands write (PRISM manual, "The PRISM
--- Language": "Constants", "Modules and Variables", "Commands", "Formulas and Labels", "Costs and Rewards").
+-- Language": "Constants", "Modules and Variables", "Commands", "Formulas and Labels", "Costs and Rewards", "Multiple Initial
+-- States").
 use Rattle.std.specs.Prelude.{List, [], ◌∷◌, ◌++◌, map, Bool, Option, Some, None, is_some}
 use Rattle.std.specs.List.{flat_map}
 use Rattle.op_trees.specs.declared.tree.Ty.{Ty}
@@ -65,11 +66,15 @@ item_demands i = varying W.Bool i.guard ∷ varying W.Number i.value ∷ []
 abbrev pub rewards_demands : Rewards → List Demand
 rewards_demands r = flat_map item_demands r.items
 
+-- ---- an initial condition is a bool, in which variables may occur
+abbrev pub init_demands : Option Expression → List Demand
+init_demands e = map (varying W.Bool) (if_some e)
+
 -- ---- a file: what stands in no module, and the rest; the bodies of formulas are apart
 abbrev pub outer_demands : File → List Demand
 outer_demands file =
     flat_map const_demands file.constants ++ (flat_map var_demands file.globals
-    ++ (flat_map label_demands file.labels ++ flat_map rewards_demands file.rewards))
+    ++ (flat_map label_demands file.labels ++ (flat_map rewards_demands file.rewards ++ init_demands file.init)))
 
 abbrev pub all_demands : File → List Demand
 all_demands file = outer_demands file ++ flat_map part_demands (parts file)

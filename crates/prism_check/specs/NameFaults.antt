@@ -1,9 +1,9 @@
 -- The faults of the names of a PRISM file (PRISM manual, "The PRISM Language": "Constants", "Modules and Variables",
--- "Formulas and Labels", "Module Renaming").
+-- "Formulas and Labels", "Module Renaming", "Multiple Initial States").
 use Rattle.std.specs.Prelude.{ℕ, List, [], ◌∷◌, ◌++◌, map, length, Option, Some, None, Bool, true, false, not, ◌&&◌, ◌||◌, if◌then◌else◌, codes, is_some, nat_eq}
 use Rattle.std.specs.List.{flat_map, list_any}
 use Rattle.bridge_io.specs.declared.reason.Named.{Named}
-use Rattle.bridge_io.specs.declared.reason.Reason.TheVariants.{TwiceNamed, Unknown, RenameMissing, RenameOfRenamed, Nothing}
+use Rattle.bridge_io.specs.declared.reason.Reason.TheVariants.{TwiceNamed, Unknown, RenameMissing, RenameOfRenamed, Nothing, TwoInits}
 use Rattle.bridge_io.specs.declared.reason.Fault.{Fault}
 use Rattle.name_rules.specs.Least.{fault_if}
 use Rattle.op_trees.specs.Names.{is_called}
@@ -130,9 +130,24 @@ copy_faults file (copied m) =
 abbrev pub no_module : File → List Fault
 no_module file = fault_if (nat_eq (length file.modules) 0) file.end Nothing
 
+-- ---- first values beside an initial condition
+
+-- a variable with a first value of its own
+abbrev pub own_start : Var → List Fault
+own_start x = fault_if (is_some x.start) x.name.at TwoInits
+
+-- those of a module's own variables; a copy has those of the module that it copies
+abbrev pub own_starts : Module → List Fault
+own_starts (plain m) = flat_map own_start m.vars
+own_starts (copied m) = []
+
+abbrev pub two_inits : File → List Fault
+two_inits file = if is_some file.init then flat_map own_start file.globals ++ flat_map own_starts file.modules else []
+
 abbrev pub name_faults : File → List Fault
 name_faults file =
     doubled_names file
     ++ (unknown_names file
     ++ (circles file
-    ++ (flat_map (copy_faults file) file.modules ++ no_module file)))
+    ++ (flat_map (copy_faults file) file.modules
+    ++ (no_module file ++ two_inits file))))

@@ -2,11 +2,12 @@
 
 ghost use Rattle.std.specs.Prelude.{◌≡◌, List, ◌++◌, map, IfOk, OnOk};
 ghost use Rattle.std.specs.List.{flat_map};
+ghost use Rattle.std.specs.Option.{option_map};
 ghost use Rattle.prism_tree.specs.Syntax.{branch_of, command_of, file_of, var_of, write_of};
 ghost use Rattle.prism_check.specs.Views.{demand_by};
 ghost use Rattle.op_trees.specs.Tree.{tree};
 ghost use Rattle.op_trees.specs.Wanted.{wanted_by};
-ghost use Rattle.prism_check.specs.Demands.{Demand as Asked, branch_demands, command_demands, expression_of, outer_demands, var_demands, written};
+ghost use Rattle.prism_check.specs.Demands.{Demand as Asked, branch_demands, command_demands, expression_of, init_demands, outer_demands, var_demands, written};
 
 use op_trees::{Wanted, wanted_by};
 use prism_tree::{
@@ -203,7 +204,18 @@ pub(crate) fn outer_demands(alloc: Global, file: &PrismFile) -> Result<Vec<Deman
     add_all(file.globals.as_slice(), &mut list)?;
     add_all(file.labels.as_slice(), &mut list)?;
     add_all(file.rewards.as_slice(), &mut list)?;
+    add_init(&file.init, &mut list)?;
     Ok(list)
+}
+
+/// Adds what is asked of an initial condition.
+fn add_init<'a>(init: &'a Option<PrismExpr>, list: &mut Vec<Demand<'a>>) -> Result<(), AllocError>
+    ensures { OnOk result (map demand_by list.new.items ≡ map demand_by list.old.items ++ init_demands (option_map tree init.now)) }
+{
+    if let Some(condition) = init {
+        list.push(Demand::Varying(Wanted::Bool, condition))?;
+    }
+    Ok(())
 }
 
 /// What is asked in a module of these variables and commands.

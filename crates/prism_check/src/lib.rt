@@ -20,6 +20,7 @@ mod naming;
 mod places_laws;
 mod scope;
 mod sizes;
+mod starts;
 mod tables;
 mod tree_size;
 mod types;

@@ -14,6 +14,7 @@ use crate::copies::judge_copies;
 use crate::declarations::declarations;
 use crate::doubled::judge_twice;
 use crate::scope::{Scope, judge_unknown_names};
+use crate::starts::judge_starts;
 use crate::tables::{Formulas, Modules};
 use crate::values::values;
 use bridge_io::{Fault, Reason, together};
@@ -31,14 +32,15 @@ pub(crate) enum Names {
 }
 
 /// The least fault of the names of a file: of those that are declared twice, that are not declared, that depend on themselves,
-/// and of copies and modules. Else an order of the formulas.
+/// of copies and modules, and of first values beside an initial condition. Else an order of the formulas.
 pub(crate) fn judge_names(alloc: Global, file: &PrismFile) -> Result<Names, AllocError>
     ensures { IfOk result (AreJudged (file_of file.now)) }
 {
     let unknown = judge_declared(alloc, file)?;
     let all = declarations(alloc, file)?;
     let circles = judge_circles(alloc, &all, unknown)?;
-    match judge_copied(alloc, file, circles.best)? {
+    let copied = judge_copied(alloc, file, circles.best)?;
+    match judge_starts(file, copied) {
         Some(fault) => Ok(Names::Faulty(fault)),
         None => {
             let order = formula_turns(alloc, file.constants.len(), &circles.turns)?;

@@ -4,6 +4,7 @@ pub mod Process
 pub mod Kept
 pub mod FlatLaws
 pub mod ConstantLaws
+pub mod Joined
 pub mod Writers
 pub use Rattle.prism_rewriter.specs.Filling
 pub use Rattle.prism_print.specs.Printable

@@ -1,4 +1,4 @@
--- Constants, formulas, labels and variables: each is read in one way, and has a word and a first token.
+-- Constants, formulas, labels, variables and initial conditions: each is read in one way, and has a word and a first token.
 use Rattle.std.proofs.Common.{◌≡◌, Bool, true, false, Option, Some, None, refl, inl, inr}
 use Rattle.std.specs.Prelude.{◌⊎◌, ◌||◌}
 use Rattle.bridge_io.specs.declared.reason.Named.{Named}
@@ -11,7 +11,7 @@ use Rattle.prism_lex.specs.declared.symbols.Symbol.TheVariants as S
 use Rattle.prism_lex.specs.Tokens.{Lexeme}
 use Rattle.prism_tree.specs.Syntax.{Expression, Range}
 use Rattle.prism_tree.specs.Lang.{Lang, token, gives, never, ◌>>=◌, ◌>>◌, ◌or◌}
-use Rattle.prism_tree.specs.Grammar.{word, name, quoted, const_type, const_item, formula_item, label_item, range, var, global_item, int_too}
+use Rattle.prism_tree.specs.Grammar.{word, name, quoted, const_type, const_item, formula_item, label_item, range, var, global_item, init_item, int_too}
 use Rattle.prism_exprs.specs.Reading.{none, is_kind}
 use Rattle.prism_exprs.specs.Levels.{goes_on}
 use Rattle.prism_exprs.specs.Scope.{Scope, expressions, also}
@@ -198,3 +198,17 @@ global_one s = step_one _ (token_one _) (λ t. var_one s)
 pub global_opens : (s : Scope) → Opens (in_scope global_item s) (λ k. k ≡ K.Word W.Global)
 unfolding global_item
 global_opens s = then_opens _ _ (token_opens _)
+
+-- ---- initial conditions
+
+pub init_one : (s : Scope) → IsOne (in_scope init_item s) none
+unfolding init_item
+init_one s = step_one _ (token_one _) (λ t. expression_closed s _ _ none refl (λ e u. gives_one _ none))
+
+pub init_opens : (s : Scope) → Opens (in_scope init_item s) (λ k. k ≡ K.Word W.Init)
+unfolding init_item
+init_opens s = then_opens _ _ (token_opens _)
+
+pub init_word : (s : Scope) → HasWord (in_scope init_item s)
+unfolding init_item
+init_word s = then_word (token_word _) (λ t. then_word (expressions_word s) (λ e. then_word (token_word _) (λ u. gives_word _)))

@@ -1,16 +1,16 @@
--- Lists of items, and whole files.
-use Rattle.std.proofs.Common.{◌≡◌, ◌≢◌, ℕ, Bool, true, false, List, [], ◌∷◌, ◌++◌, Some, None, refl, sym, ap, subst, ◌∙◌, append_assoc, append-nil, length, arith, drop, map}
-use Rattle.std.specs.Prelude.{Result, Err, IsErr, IsErrAnd}
+-- Whole files.
+use Rattle.std.proofs.Common.{◌≡◌, ◌≢◌, ℕ, Bool, true, false, List, [], ◌∷◌, ◌++◌, Some, None, refl, sym, ap, subst, ◌∙◌, append_assoc, append-nil, length, arith, drop, map, inl, inr}
+use Rattle.std.specs.Prelude.{◌⊎◌, Result, Err, IsErr, IsErrAnd}
 use Rattle.std.proofs.lemmas.Result.{err_from_is_err_and}
 use Rattle.prism_tree.specs.declared.syntax.PrismFile.{PrismFile}
-use Rattle.std.proofs.lemmas.List.{length-append, append_cancel_right, append_cancel_left}
+use Rattle.std.proofs.lemmas.List.{append_cancel_right, append_cancel_left}
 use Rattle.prism_lex.specs.declared.token.TokenKind.{TokenKind}
 use Rattle.prism_lex.specs.declared.token.TokenKind.TheVariants as K
 use Rattle.prism_lex.specs.declared.words.Reserved.TheVariants as W
 use Rattle.prism_lex.specs.Tokens.{Lexeme}
-use Rattle.prism_tree.specs.Syntax.{File}
-use Rattle.prism_tree.specs.Lang.{Lang, token, gives, ◌>>=◌, many, folding, fold_left, Begins}
-use Rattle.prism_tree.specs.Grammar.{Section, word, section, with_section, empty, file_over}
+use Rattle.prism_tree.specs.Syntax.{Expression, File}
+use Rattle.prism_tree.specs.Lang.{Lang, token, gives, ◌>>=◌, ◌or◌, many, folding, fold_left, Begins}
+use Rattle.prism_tree.specs.Grammar.{Section, word, section, with_section, with_init, init_if, items, empty, file_over}
 use Rattle.prism_exprs.specs.declared.tokens.Cause.{Cause}
 use Rattle.prism_exprs.specs.declared.tokens.Cause.TheVariants as C
 use Rattle.prism_exprs.specs.Reading.{Ends, none, next, Dead, Reads, starts, is_kind}
@@ -19,170 +19,20 @@ use Rattle.prism_exprs.specs.declared.tokens.Stop.TheVariants.{Memory, At}
 use Rattle.prism_exprs.specs.declared.tokens.Tokens.{Tokens}
 use Rattle.prism_exprs.specs.declared.tokens.Found.{Found}
 use Rattle.prism_exprs.specs.Kept.{seen, lexeme_at}
-use Rattle.prism_exprs.specs.Scope.{Scope, IsStopped, IsPassed, GoesOn, Halts, StopsIn}
-use Rattle.prism_exprs.proofs.Laws.{IsOne, HasWord, Follows, token_follows, then_one, then_word, step_one, token_one, token_word, token_reads, none_ends, none_follows, Ends-next}
-use Rattle.prism_exprs.proofs.Choice.{Barred, folding_one, folding_word, token_opens, then_opens}
-use Rattle.prism_exprs.proofs.Loops.{begun_repeats, starts_cons, starts_is}
+use Rattle.prism_exprs.specs.Scope.{Scope, expressions, also, IsStopped, IsPassed, Halts, StopsIn}
+use Rattle.prism_exprs.proofs.Laws.{IsOne, HasWord, Follows, token_follows, then_one, then_word, step_one, token_one, token_word, token_reads, none_ends, Ends-next}
+use Rattle.prism_exprs.proofs.Choice.{token_opens, then_opens}
+use Rattle.prism_exprs.proofs.Loops.{starts_is}
 use Rattle.prism_items.specs.Parts.{in_scope}
 use Rattle.prism_items.specs.Files.{file_in, plain, IsWhole, TakesItem, ItemIsCause, Refuses, FileIn}
-use Rattle.prism_items.specs.Sections.{is_item, items_from, inside_cause, inside, IsBlocked, IsNoItem, Blocks}
-use Rattle.prism_items.proofs.Leading.{Leads, leads_on, begin, another, then_dead, then_halts, halts_by, step, step_to}
-use Rattle.prism_items.proofs.Sectioning.{section_one, section_begun, section_b, section_begins}
-use Rattle.prism_items.proofs.Lacking.{Free, free_inside}
+use Rattle.prism_items.specs.Sections.{is_item, is_item_or_init, sections_from, items_from, IsBlocked, IsBehind, IsPlaced, Blocks}
+use Rattle.prism_items.proofs.Leading.{Leads, begin, then_dead, then_halts, halts_by, step, step_to}
+use Rattle.prism_items.proofs.Sectioning.{section_begins}
 use Rattle.prism_items.proofs.Closing.{passes}
 use Rattle.prism_items.proofs.Choosing.{not_here}
-
--- ---- where an item was refused
-
--- a scope that is stopped there
-stopping : Cause → List Lexeme → Scope
-stopping C.Form r = plain
-stopping C.Item r = plain
-stopping C.Type r = plain
-stopping C.Deep r = record { counted = Some r; int_too = false }
-
-is_stopping : (c : Cause) (t : Lexeme) (r : List Lexeme) → IsStopped c (stopping c (t ∷ r)) (t ∷ r)
-unfolding stopping
-is_stopping C.Form t r = tt
-is_stopping C.Item t r = tt
-is_stopping C.Type t r = refl
-is_stopping C.Deep t r = search Rattle.std.proofs.Common.rules
-
--- Of two ways to cut a list, one cuts later.
-pub data Cut (a b c d : List Lexeme) : Type 0 where
-  longer : (p : Lexeme) (q : List Lexeme) → c ≡ a ++ p ∷ q → b ≡ (p ∷ q) ++ d → Cut a b c d
-  shorter : (q : List Lexeme) → a ≡ c ++ q → d ≡ q ++ b → Cut a b c d
-
-pub cut : (a b c d : List Lexeme) → a ++ b ≡ c ++ d → Cut a b c d
-cut [] b [] d e = shorter [] refl (sym e)
-cut [] b (p ∷ q) d e = longer p q refl e
-cut (t ∷ a) b [] d e = shorter (t ∷ a) refl (sym e)
-cut (t ∷ a) b (u ∷ c) d e = go (cut a b c d (append_cancel_left (t ∷ []) (a ++ b) (c ++ d) (e ∙ ap (λ (x : Lexeme). x ∷ (c ++ d)) (sym same))))
-  where
-    same : t ≡ u
-    same = cc
-
-    go : Cut a b c d → Cut (t ∷ a) b (u ∷ c) d
-    go (longer p q f g) = longer p q (ap (λ (x : Lexeme). x ∷ c) (sym same) ∙ ap (λ (x : List Lexeme). t ∷ x) f) g
-    go (shorter q f g) = shorter q (ap (λ (x : List Lexeme). t ∷ x) f ∙ ap (λ (x : Lexeme). x ∷ (c ++ q)) same) g
-
-nothing_before : (us b r : List Lexeme) → us ≡ b ++ r → us ≡ r → b ≡ []
-nothing_before us [] r e f = refl
-nothing_before us (t ∷ b) r e f = absurd (omega (arith, ap length (sym f ∙ e), length-append b r))
-
-some_next : (u a b : List Lexeme) → u ≢ [] → next (u ++ a) ≡ next (u ++ b)
-some_next [] a b some = absurd (some refl)
-some_next (t ∷ u) a b some = refl
-
-module _ (c : Cause) (us r : List Lexeme) (h : (s : Scope) → Halts s c (in_scope section s) none us r) where
-  abbrev pub refused_part : List Lexeme
-  refused_part = (h plain).before
-
-  first_read : (t : Lexeme) (v : List Lexeme) → us ≡ t ∷ v → is_item t.kind ≡ true → us ≡ r → ⊥
-  first_read t v e i f =
-      let at : r ≡ t ∷ v = sym f ∙ e in
-      let s : Scope = stopping c (t ∷ v) in
-      let F : List Lexeme → Type 0 = λ u. IsStopped c s u in
-      let stopped : IsStopped c s r = subst F (sym at) (is_stopping c t v) in
-      let d = (h s).dead stopped in
-      let none_before : (h s).before ≡ [] = nothing_before us (h s).before r (h s).parts f in
-      let b = section_begins s t i in
-      d (t ∷ b.0) (t ∷ b.0) [] b.1 (ap next (sym at)) (ap (λ (u : List Lexeme). u ++ t ∷ b.0) none_before ∙ sym (append-nil (t ∷ b.0))) b.2 tt
-
-  pub refused_some : starts is_item us ≡ true → refused_part ≢ []
-  refused_some e none_part =
-      let n = starts_cons is_item us e in
-      first_read n.0 n.1 n.2 n.3 ((h plain).parts ∙ ap (λ (u : List Lexeme). u ++ r) none_part)
-
-  -- A whole item does not stand before the place.
-  not_whole : (w q : List Lexeme) (x : Section) → refused_part ≡ w ++ q → in_scope section plain w x → ⊥
-  not_whole w q x e g = by_cause c refl
-    where
-      by_dead : IsStopped c plain r → ⊥
-      by_dead stopped =
-          (h plain).dead stopped r w (q ++ r) x refl (ap (λ (u : List Lexeme). u ++ r) e ∙ append_assoc w q r) g (none_ends (q ++ r))
-
-      by_one : GoesOn (in_scope section plain) refused_part r → ⊥
-      by_one n =
-          let t = n.0 in
-          let b = n.3 in
-          let long : List Lexeme = (refused_part ++ t ∷ []) ++ b.0 in
-          let same = (section_one plain).one w (q ++ (t ∷ b.0)) long [] x b.1 g b.2
-          (sym (append_assoc w q (t ∷ b.0)) ∙ ap (λ (u : List Lexeme). u ++ t ∷ b.0) (sym e) ∙ sym (append_assoc refused_part (t ∷ []) b.0) ∙ sym (append-nil long)) (none_ends (q ++ (t ∷ b.0))) tt in
-          let k : length w ≡ length long = ap length same.0 in
-          let m : length refused_part ≡ length (w ++ q) = ap length e in
-          absurd (omega (arith, k, m, length-append w q, length-append (refused_part ++ t ∷ []) b.0, length-append refused_part (t ∷ [])))
-
-      by_cause : (d : Cause) → c ≡ d → ⊥
-      by_cause C.Form f = let F : Cause → Type 0 = λ k. IsStopped k plain r in by_dead (subst F (sym f) tt)
-      by_cause C.Item f = let F : Cause → Type 0 = λ k. IsStopped k plain r in by_dead (subst F (sym f) tt)
-      by_cause C.Type f = let F : Cause → Type 0 = λ k. IsStopped k plain r in by_dead (subst F (sym f) refl)
-      by_cause C.Deep f = let F : Cause → Type 0 = λ k. IsPassed k plain in by_one ((h plain).goes (subst F (sym f) refl))
-
-  -- Nor does one go on with the word module.
-  pub no_module : starts is_item us ≡ true → (m : Lexeme) → m.kind ≡ K.Word W.Module → Dead (in_scope section plain) none refused_part (m ∷ [])
-  no_module e m k other w z x n f g i = by_cut refused_part refl (refused_some e) (cut refused_part other w z f)
-    where
-      inside_word : (t : Lexeme) (b : List Lexeme) (p : Lexeme) (q : List Lexeme) → w ≡ (t ∷ b) ++ p ∷ q → p.kind ≡ K.Word W.Module → ⊥
-      inside_word t b p q j l =
-          let s = (section_b plain).split w x g in
-          let v : s.1 ≡ b ++ p ∷ q = append_cancel_left (t ∷ []) s.1 (b ++ p ∷ q) (ap (λ (u : Lexeme). u ∷ s.1) (head (sym j ∙ s.2)) ∙ sym s.2 ∙ j) in
-          let F : List Lexeme → Type 0 = λ u. Free (K.Word W.Module) u in
-          free_inside (K.Word W.Module) b q p (subst F v s.3) l
-        where
-          head : {a c : Lexeme} {b d : List Lexeme} → a ∷ b ≡ c ∷ d → a ≡ c
-          head e = cc
-
-      by_cut : (b : List Lexeme) → refused_part ≡ b → b ≢ [] → Cut refused_part other w z → ⊥
-      by_cut [] j some u = some refl
-      by_cut (t ∷ b) j some (longer p q l o) =
-          let same : p ≡ m = some_is (ap next (sym o) ∙ n) in
-          inside_word t b p q (l ∙ ap (λ (u : List Lexeme). u ++ p ∷ q) j) (ap (λ (u : Lexeme). u.kind) same ∙ k)
-        where
-          some_is : {a b : Lexeme} → Some a ≡ Some b → a ≡ b
-          some_is e = cc
-      by_cut (t ∷ b) j some (shorter q l o) = not_whole w q x l g
-
-  -- So none can stand there in a list of items.
-  pub blocked : (ts : List Lexeme) (f g : File) → Leads is_item (items_from f plain) ts (items_from g plain) us → starts is_item us ≡ true → IsBlocked (items_from f plain) ts r
-  blocked ts f g l e =
-      let k = leads_on l (another with_section (in_scope section plain) g e) in
-      record {
-        before = k.front ++ refused_part;
-        parts = k.parts ∙ ap (λ (u : List Lexeme). k.front ++ u) (h plain).parts ∙ sym (append_assoc k.front refused_part r);
-        some = λ none_all. refused_some e (second_empty k.front refused_part none_all);
-        dead = λ m i. k.dead refused_part (m ∷ []) (some_next refused_part (m ∷ []) r (refused_some e) ∙ ap next (sym (h plain).parts))
-            (then_dead (in_scope section plain) (λ x. items_from (with_section g x) plain) refused_part (m ∷ []) (none_follows _ is_item) (no_module e m i));
-      }
-    where
-      second_empty : (a b : List Lexeme) → a ++ b ≡ [] → b ≡ []
-      second_empty [] b e = e
-      second_empty (t ∷ a) b e = absurd cc
-
--- ---- an item more
-
-pub inside_stops : (s : Scope) {A : Type 0} (L : Lang A) (more : TokenKind → Bool) (ts : List Lexeme) (e : Stop) → StopsIn s L more ts e → StopsIn s L more ts (inside e)
-inside_stops s L more ts Memory h = tt
-inside_stops s L more ts (At r c) h = by_cause c h
-  where
-    by_cause : (c : Cause) → Halts s c L more ts (seen r) → Halts s (inside_cause c) L more ts (seen r)
-    by_cause C.Form h = h
-    by_cause C.Deep h = h
-    by_cause C.Type h = h
-    by_cause C.Item h = record { before = h.before; parts = h.parts; begins = h.begins; dead = h.dead; goes = h.goes }
-
-pub blocks : (ts us : List Lexeme) (f g : File) (e : Stop) → Leads is_item (items_from f plain) ts (items_from g plain) us → starts is_item us ≡ true → ((s : Scope) → StopsIn s (in_scope section s) none us e) → Blocks (items_from f plain) ts (Err (inside e))
-blocks ts us f g Memory l i h = tt
-blocks ts us f g (At r c) l i h = by_cause c h
-  where
-    by_cause : (c : Cause) → ((s : Scope) → Halts s c (in_scope section s) none us (seen r)) → IsNoItem (inside_cause c) × IsBlocked (items_from f plain) ts (seen r)
-    by_cause C.Form h = (tt, blocked C.Form us (seen r) h ts f g l i)
-    by_cause C.Deep h = (tt, blocked C.Deep us (seen r) h ts f g l i)
-    by_cause C.Type h = (tt, blocked C.Type us (seen r) h ts f g l i)
-    by_cause C.Item h = (tt, blocked C.Item us (seen r) h ts f g l i)
-
-pub added : {L : Lang File} {ts us : List Lexeme} (s : Scope) (f g : File) (x : Section) → g ≡ with_section f x → Leads is_item L ts (items_from (with_section f x) s) us → Leads is_item L ts (items_from g s) us
-added {L} {ts} {us} s f g x e l = let F : File → Type 0 = λ u. Leads is_item L ts (items_from u s) us in subst F (sym e) l
+pub use Rattle.prism_items.proofs.Refusing.{Cut, longer, shorter, cut}
+use Rattle.prism_items.proofs.Refusing.{some_next}
+use Rattle.prism_items.proofs.Listing.{items_one, items_word, items_alone, items_both, item_barred}
 
 -- ---- whole files
 
@@ -203,33 +53,30 @@ dead_any L more u r d other w z x n f g h = d other w z x n f g (ends_all more z
 pub halts_any : {A : Type 0} (s : Scope) (c : Cause) (L : Lang A) (more : TokenKind → Bool) (ts r : List Lexeme) → Halts s c L more ts r → Halts s c L any ts r
 halts_any s c L more ts r h = record { before = h.before; parts = h.parts; begins = h.begins; dead = λ n. dead_any L more h.before r (h.dead n); goes = h.goes }
 
-pub items_one : (s : Scope) (f : File) → IsOne (items_from f s) is_item
-items_one s f = folding_one with_section f (section_begun s) (begun_repeats is_item) (section_one s)
-
 -- what stands behind the items before the word mdp
 abbrev pub kind_and_items : Scope → File → Lang File
 kind_and_items s f = word W.Mdp >>= λ t. items_from f s
 
-items_follow : (s : Scope) (more : TokenKind → Bool) → Follows is_item (kind_and_items s) more
-items_follow s more = token_follows is_item (K.Word W.Mdp) (λ f t. items_from f s) more refl
+items_follow : (s : Scope) (more : TokenKind → Bool) → Follows is_item_or_init (kind_and_items s) more
+items_follow s more = token_follows is_item_or_init (K.Word W.Mdp) (λ f t. items_from f s) more refl
 
 kind_word : (s : Scope) (f : File) → HasWord (kind_and_items s f)
-kind_word s f = then_word (token_word _) (λ t. folding_word with_section (in_scope section s) f)
+kind_word s f = then_word (token_word _) (λ t. items_word s f)
 
 pub file_begin : (end : ℕ) (s : Scope) (more : TokenKind → Bool) (ts : List Lexeme) → Leads more (file_in end s) ts (items_from (empty end) s >>= kind_and_items s) ts
 unfolding file_over
 file_begin end s more ts = begin (file_in end s) more ts
 
-file_one : (end : ℕ) (s : Scope) → IsOne (file_in end s) is_item
+file_one : (end : ℕ) (s : Scope) → IsOne (file_in end s) is_item_or_init
 unfolding file_over
-file_one end s = then_one is_item (items_one s (empty end)) (λ f. step_one _ (token_one _) (λ t. items_one s f)) (items_follow s is_item)
+file_one end s = then_one is_item_or_init (items_one s (empty end)) (λ f. step_one _ (token_one _) (λ t. items_one s f)) (items_follow s is_item_or_init)
 
 -- The items before the word mdp are read.
-pub front_read : (end : ℕ) (s : Scope) (more : TokenKind → Bool) (f : File) (ts us : List Lexeme) → Reads (items_from (empty end) s) is_item ts f us → Leads more (file_in end s) ts (kind_and_items s f) us
+pub front_read : (end : ℕ) (s : Scope) (more : TokenKind → Bool) (f : File) (ts us : List Lexeme) → Reads (items_from (empty end) s) is_item_or_init ts f us → Leads more (file_in end s) ts (kind_and_items s f) us
 front_read end s more f ts us p = step_to _ _ (file_begin end s more ts) (items_one s (empty end)) (items_follow s more) p
 
 -- So is that word.
-pub kind_read : (end : ℕ) (s : Scope) (more : TokenKind → Bool) (f : File) (ts us vs : List Lexeme) → Reads (items_from (empty end) s) is_item ts f us → starts (is_kind (K.Word W.Mdp)) us ≡ true → vs ≡ drop 1 us → Leads more (file_in end s) ts (items_from f s) vs
+pub kind_read : (end : ℕ) (s : Scope) (more : TokenKind → Bool) (f : File) (ts us vs : List Lexeme) → Reads (items_from (empty end) s) is_item_or_init ts f us → starts (is_kind (K.Word W.Mdp)) us ≡ true → vs ≡ drop 1 us → Leads more (file_in end s) ts (items_from f s) vs
 kind_read end s more f ts us vs p e g =
     let n = starts_is (K.Word W.Mdp) us e in
     let rest : vs ≡ n.1 = g ∙ ap (drop 1) n.2 in
@@ -237,7 +84,7 @@ kind_read end s more f ts us vs p e g =
     step _ _ (front_read end s more f ts us p) (token_one _) (subst F (sym rest) (token_reads n.0 n.1 n.2 n.3))
 
 -- All is read.
-pub whole_file : (end : ℕ) (s : Scope) (f x : File) (ts us rest : List Lexeme) → Leads any (file_in end s) ts (items_from f s) us → Reads (items_from f s) is_item us x rest → rest ≡ [] → IsWhole (file_in end s) ts x
+pub whole_file : (end : ℕ) (s : Scope) (f x : File) (ts us rest : List Lexeme) → Leads any (file_in end s) ts (items_from f s) us → Reads (items_from f s) is_item_or_init us x rest → rest ≡ [] → IsWhole (file_in end s) ts x
 whole_file end s f x ts us rest l p e =
     let F : List Lexeme → Type 0 = λ u. Ends any u in
     let q : Reads (items_from f s) any us x rest = record { word = p.word; parts = p.parts; spells = p.spells; ends = subst F (sym e) tt } in
@@ -296,6 +143,11 @@ module _ (end : ℕ) (ts r : List Lexeme) (c : Cause) (h : (s : Scope) → Halts
     item = item;
   }
 
+-- a cause that tells that no item can stand
+abbrev IsNoItem : Cause → Type 0
+IsNoItem C.Item = ⊥
+IsNoItem c = Unit {0}
+
 -- Where no file goes on with the word module, no item can stand.
 no_item_there : (end : ℕ) (c : Cause) (u : List Lexeme) → IsNoItem c → ((m : Lexeme) → m.kind ≡ K.Word W.Module → Dead (file_in end plain) any u (m ∷ [])) → ItemIsCause c end u
 no_item_there end c u inner d = by_cause c inner
@@ -315,25 +167,6 @@ no_item_there end c u inner d = by_cause c inner
     by_cause C.Type n = none_goes
     by_cause C.Item n = absurd n
 
--- refused among the items before the word mdp
-pub front_refused : (end : ℕ) (ts r : List Lexeme) (c : Cause) → ((s : Scope) → Halts s c (items_from (empty end) s) is_item ts r) → IsNoItem c → IsBlocked (items_from (empty end) plain) ts r → Refuses end ts r c
-unfolding file_over
-front_refused end ts r c h inner b =
-    let k : (s : Scope) → Halts s c (file_in end s) any ts r = λ s. then_halts (items_from (empty end) s) (kind_and_items s) s c (kind_word s) (items_follow s any) (h s) in
-    refuses end ts r c k (no_item_there end c (k plain).before inner (λ m e.
-    let F : List Lexeme → Type 0 = λ u. Dead (file_in end plain) any u (m ∷ []) in
-    subst F (before_same b.before (k plain).before r ts b.parts (k plain).parts) (then_dead (items_from (empty end) plain) (kind_and_items plain) b.before (m ∷ []) (items_follow plain any) (b.dead m e))))
-
--- refused among the items behind it
-pub back_refused : (end : ℕ) (f : File) (ts us r : List Lexeme) (c : Cause) → ((s : Scope) → Leads any (file_in end s) ts (items_from f s) us) → ((s : Scope) → Halts s c (items_from f s) is_item us r) → IsNoItem c → IsBlocked (items_from f plain) us r → Refuses end ts r c
-back_refused end f ts us r c l h inner b =
-    let k : (s : Scope) → Halts s c (file_in end s) any ts r = λ s. halts_by s c r (l s) (halts_any s c _ is_item us r (h s)) in
-    let p : ts ≡ ((l plain).front ++ b.before) ++ r = (l plain).parts ∙ ap (λ (u : List Lexeme). (l plain).front ++ u) b.parts ∙ sym (append_assoc (l plain).front b.before r) in
-    refuses end ts r c k (no_item_there end c (k plain).before inner (λ m e.
-    let F : List Lexeme → Type 0 = λ u. Dead (file_in end plain) any u (m ∷ []) in
-    subst F (before_same ((l plain).front ++ b.before) (k plain).before r ts p (k plain).parts)
-    ((l plain).dead b.before (m ∷ []) (some_next b.before (m ∷ []) r b.some ∙ ap next (sym b.parts)) (dead_any (items_from f plain) is_item b.before (m ∷ []) (b.dead m e)))))
-
 -- ---- where an item can stand
 
 many_snoc : {A : Type 0} (L : Lang A) (xs : List A) (w v : List Lexeme) (x : A) → many L w xs → L v x → many L (w ++ v) (xs ++ x ∷ [])
@@ -346,9 +179,9 @@ fold_snoc f [] s x = refl
 fold_snoc f (y ∷ xs) s x = fold_snoc f xs (f s y) x
 
 -- one item more behind others
-items_more : (s : Scope) (f g : File) (w v : List Lexeme) (x : Section) → items_from f s w g → in_scope section s v x → items_from f s (w ++ v) (with_section g x)
+sections_more : (s : Scope) (f g : File) (w v : List Lexeme) (x : Section) → sections_from f s w g → in_scope section s v x → sections_from f s (w ++ v) (with_section g x)
 unfolding folding ◌>>=◌ gives
-items_more s f g w v x h k =
+sections_more s f g w v x h k =
     let all : h.1 ≡ w = sym (append-nil h.1) ∙ ap (λ (u : List Lexeme). h.1 ++ u) (sym h.5.0) ∙ sym h.3 in
     let F : List Lexeme → Type 0 = λ u. many (in_scope section s) u h.0 in (
       h.0 ++ x ∷ [],
@@ -359,9 +192,25 @@ items_more s f g w v x h k =
       (refl, ap (λ (y : File). with_section y x) h.5.1 ∙ sym (fold_snoc with_section h.0 f x)),
     )
 
+items_more : (s : Scope) (f g : File) (w v : List Lexeme) (x : Section) → items_from f s w g → in_scope section s v x → items_from f s (w ++ v) (with_section g x)
+unfolding items ◌>>=◌ ◌or◌ gives
+items_more s f g w v x h k = go h.0 h.1 h.2 h.3 h.4 h.5
+  where
+    go : (d : File) (a b : List Lexeme) → w ≡ a ++ b → sections_from f s a d → ((b ≡ []) × (g ≡ d)) ⊎ ((e : Expression) × (p q : List Lexeme) × (b ≡ p ++ q) × init_if (expressions s) (also s) d.init p e × sections_from (with_init d e) s q g) →
+        items_from f s (w ++ v) (with_section g x)
+    go d a b e i (inl j) =
+        let all : w ≡ a = e ∙ ap (λ (u : List Lexeme). a ++ u) j.0 ∙ append-nil a in
+        let F : List Lexeme → Type 0 = λ u. items_from f s (u ++ v) (with_section g x) in
+        let G : File → Type 0 = λ u. items_from f s (a ++ v) (with_section u x) in
+        subst F (sym all) (subst G (sym j.1) (items_alone s f (with_section d x) (a ++ v) (sections_more s f d a v x i k)))
+    go d a b e i (inr j) =
+        let all : w ++ v ≡ a ++ (j.1 ++ (j.2 ++ v)) = ap (λ (u : List Lexeme). u ++ v) (e ∙ ap (λ (u : List Lexeme). a ++ u) j.3) ∙ append_assoc a (j.1 ++ j.2) v ∙ ap (λ (u : List Lexeme). a ++ u) (append_assoc j.1 j.2 v) in
+        let F : List Lexeme → Type 0 = λ u. items_from f s u (with_section g x) in
+        subst F (sym all) (items_both s f d (with_section g x) j.0 a j.1 (j.2 ++ v) i j.4 (sections_more s (with_init d j.0) g j.2 v x j.5 k))
+
 no_items : (s : Scope) (f : File) → items_from f s [] f
 unfolding folding ◌>>=◌ many gives
-no_items s f = ([], [], [], refl, refl, (refl, refl))
+no_items s f = items_alone s f f [] ([], [], [], refl, refl, (refl, refl))
 
 item_kind : (t : Lexeme) → t.kind ≡ K.Word W.Module → is_item t.kind ≡ true
 item_kind t e = passes is_item (K.Word W.Module) true refl t.kind e
@@ -411,46 +260,101 @@ back_takes end x w h t e =
 takes_same : (L : Lang File) (a b : List Lexeme) → a ≡ b → TakesItem L a → TakesItem L b
 takes_same L a b e h = let F : List Lexeme → Type 0 = λ u. TakesItem L u in subst F e h
 
-item_barred : {A : Type 0} (L : Lang A) (ts : List Lexeme) (s : Scope) → HasWord L → Barred L any ts → Halts s C.Item L any ts ts
-item_barred L ts s word b = record { before = []; parts = refl; begins = word; dead = λ t. b; goes = λ p. absurd p }
-
 -- neither an item nor the word mdp stands there
-pub front_missing : (end : ℕ) (f : File) (ts us : List Lexeme) → ((s : Scope) → Reads (items_from (empty end) s) is_item ts f us) → starts (is_kind (K.Word W.Mdp)) us ≡ false → Refuses end ts us C.Item
+pub front_missing : (end : ℕ) (f : File) (ts us : List Lexeme) → ((s : Scope) → Reads (items_from (empty end) s) is_item_or_init ts f us) → starts (is_kind (K.Word W.Mdp)) us ≡ false → Refuses end ts us C.Item
 front_missing end f ts us p e =
-    let k : (s : Scope) → Halts s C.Item (file_in end s) any ts us = λ s. halts_by s C.Item us (front_read end s any f ts us (p s)) (item_barred (kind_and_items s f) us s (kind_word s f) (not_here _ any (K.Word W.Mdp) us (then_opens _ _ (token_opens _)) refl e)) in
+    let k : (s : Scope) → Halts s C.Item (file_in end s) any ts us = λ s. halts_by s C.Item us (front_read end s any f ts us (p s)) (item_barred (kind_and_items s f) any us s (kind_word s f) (not_here _ any (K.Word W.Mdp) us (then_opens _ _ (token_opens _)) refl e)) in
     refuses end ts us C.Item k (takes_same (file_in end plain) (p plain).word (k plain).before (before_same (p plain).word (k plain).before us ts (p plain).parts (k plain).parts) (front_takes end f (p plain).word (p plain).spells))
 
 -- behind the last item stands what begins none
-pub back_missing : (end : ℕ) (f x : File) (ts us rest : List Lexeme) (t : Lexeme) (others : List Lexeme) → ((s : Scope) → Leads is_item (file_in end s) ts (items_from f s) us) → ((s : Scope) → Reads (items_from f s) is_item us x rest) → rest ≡ t ∷ others → Refuses end ts rest C.Item
+pub back_missing : (end : ℕ) (f x : File) (ts us rest : List Lexeme) (t : Lexeme) (others : List Lexeme) → ((s : Scope) → Leads is_item_or_init (file_in end s) ts (items_from f s) us) → ((s : Scope) → Reads (items_from f s) is_item_or_init us x rest) → rest ≡ t ∷ others → Refuses end ts rest C.Item
 back_missing end f x ts us rest t others l p e =
-    let r : (s : Scope) → Reads (file_in end s) is_item ts x rest = λ s. (l s).reads x rest (p s) in
+    let r : (s : Scope) → Reads (file_in end s) is_item_or_init ts x rest = λ s. (l s).reads x rest (p s) in
     let k : (s : Scope) → Halts s C.Item (file_in end s) any ts rest = λ s. record {
       before = (r s).word;
       parts = (r s).parts;
       begins = ([], x, let F : List Lexeme → Type 0 = λ u. file_in end s u x in subst F (sym (append-nil (r s).word)) (r s).spells);
-      dead = λ n other w z y g h i j. no_longer s (r s).word other w z y g h (r s).spells i j (Ends-next is_item rest other g (r s).ends);
+      dead = λ n other w z y g h i j. no_longer s (r s).word other w z y g h (r s).spells i j (Ends-next is_item_or_init rest other g (r s).ends);
       goes = λ n. absurd n;
     } in
     refuses end ts rest C.Item k (back_takes end x (r plain).word (r plain).spells)
   where
-    no_longer : (s : Scope) (word other w z : List Lexeme) (y : File) → next other ≡ next rest → word ++ other ≡ w ++ z → file_in end s word x → file_in end s w y → Ends any z → Ends is_item other → ⊥
+    no_longer : (s : Scope) (word other w z : List Lexeme) (y : File) → next other ≡ next rest → word ++ other ≡ w ++ z → file_in end s word x → file_in end s w y → Ends any z → Ends is_item_or_init other → ⊥
     no_longer s word other w z y g h a b i j =
         let z_none : z ≡ [] = end_of_any z i in
-        let same : word ≡ w = ((file_one end s).one word other w z x y a b h j (ends_all is_item z i)).0 in
+        let same : word ≡ w = ((file_one end s).one word other w z x y a b h j (ends_all is_item_or_init z i)).0 in
         let other_none : other ≡ [] = append_cancel_left w other [] (ap (λ (u : List Lexeme). u ++ other) (sym same) ∙ h ∙ ap (λ (u : List Lexeme). w ++ u) z_none) in
         let some : next other ≡ Some t = g ∙ ap next e in
         let none' : next other ≡ None = ap next other_none in
         absurd cc
 
+-- ---- where reading stops among items
+
+-- refused among the items before the word mdp
+front_refused : (end : ℕ) (ts r : List Lexeme) (c : Cause) → ((s : Scope) → Halts s c (items_from (empty end) s) is_item_or_init ts r) → IsPlaced c (items_from (empty end) plain) is_item_or_init ts r → Refuses end ts r c
+unfolding file_over
+front_refused end ts r c h p = refuses end ts r c k (by_cause c refl)
+  where
+    k : (s : Scope) → Halts s c (file_in end s) any ts r
+    k s = then_halts (items_from (empty end) s) (kind_and_items s) s c (kind_word s) (items_follow s any) (h s)
+
+    inside_item : IsNoItem c → IsBlocked (items_from (empty end) plain) is_item_or_init ts r → ItemIsCause c end (k plain).before
+    inside_item inner b = no_item_there end c (k plain).before inner (λ m e.
+        let F : List Lexeme → Type 0 = λ u. Dead (file_in end plain) any u (m ∷ []) in
+        subst F (before_same b.before (k plain).before r ts b.parts (k plain).parts) (then_dead (items_from (empty end) plain) (kind_and_items plain) b.before (m ∷ []) (items_follow plain any) (b.dead m e)))
+
+    by_cause : (d : Cause) → c ≡ d → ItemIsCause c end (k plain).before
+    by_cause C.Form e = let F : Cause → Type 0 = λ d. IsPlaced d (items_from (empty end) plain) is_item_or_init ts r in let G : Cause → Type 0 = λ d. IsNoItem d in inside_item (subst G (sym e) tt) (subst F e p)
+    by_cause C.Deep e = let F : Cause → Type 0 = λ d. IsPlaced d (items_from (empty end) plain) is_item_or_init ts r in let G : Cause → Type 0 = λ d. IsNoItem d in inside_item (subst G (sym e) tt) (subst F e p)
+    by_cause C.Type e = let F : Cause → Type 0 = λ d. IsPlaced d (items_from (empty end) plain) is_item_or_init ts r in let G : Cause → Type 0 = λ d. IsNoItem d in inside_item (subst G (sym e) tt) (subst F e p)
+    by_cause C.Item e =
+        let F : Cause → Type 0 = λ d. IsPlaced d (items_from (empty end) plain) is_item_or_init ts r in
+        let G : Cause → Type 0 = λ d. ItemIsCause d end (k plain).before in
+        let b = subst F e p in
+        subst G (sym e) (takes_same (file_in end plain) b.before (k plain).before (before_same b.before (k plain).before r ts b.parts (k plain).parts) (front_takes end b.file b.before b.spells))
+
+-- refused among the items behind it
+back_refused : (end : ℕ) (f : File) (ts us r : List Lexeme) (c : Cause) → ((s : Scope) (more : TokenKind → Bool) → Leads more (file_in end s) ts (items_from f s) us) → ((s : Scope) → Halts s c (items_from f s) is_item_or_init us r) →
+    IsPlaced c (items_from f plain) is_item_or_init us r → Refuses end ts r c
+back_refused end f ts us r c l h p = refuses end ts r c k (by_cause c refl)
+  where
+    k : (s : Scope) → Halts s c (file_in end s) any ts r
+    k s = halts_by s c r (l s any) (halts_any s c _ is_item_or_init us r (h s))
+
+    m : Leads any (file_in end plain) ts (items_from f plain) us
+    m = l plain any
+
+    inside_item : IsNoItem c → IsBlocked (items_from f plain) is_item_or_init us r → ItemIsCause c end (k plain).before
+    inside_item inner b =
+        let q : ts ≡ (m.front ++ b.before) ++ r = m.parts ∙ ap (λ (u : List Lexeme). m.front ++ u) b.parts ∙ sym (append_assoc m.front b.before r) in
+        no_item_there end c (k plain).before inner (λ t e.
+        let F : List Lexeme → Type 0 = λ u. Dead (file_in end plain) any u (t ∷ []) in
+        subst F (before_same (m.front ++ b.before) (k plain).before r ts q (k plain).parts)
+        (m.dead b.before (t ∷ []) (some_next b.before (t ∷ []) r b.some ∙ ap next (sym b.parts)) (dead_any (items_from f plain) is_item_or_init b.before (t ∷ []) (b.dead t e))))
+
+    behind_items : IsBehind (items_from f plain) us r → TakesItem (file_in end plain) (k plain).before
+    behind_items b =
+        let q = (l plain none).reads b.file r (record { word = b.before; parts = b.parts; spells = b.spells; ends = none_ends r }) in
+        takes_same (file_in end plain) q.word (k plain).before (before_same q.word (k plain).before r ts q.parts (k plain).parts) (back_takes end b.file q.word q.spells)
+
+    by_cause : (d : Cause) → c ≡ d → ItemIsCause c end (k plain).before
+    by_cause C.Form e = let F : Cause → Type 0 = λ d. IsPlaced d (items_from f plain) is_item_or_init us r in let G : Cause → Type 0 = λ d. IsNoItem d in inside_item (subst G (sym e) tt) (subst F e p)
+    by_cause C.Deep e = let F : Cause → Type 0 = λ d. IsPlaced d (items_from f plain) is_item_or_init us r in let G : Cause → Type 0 = λ d. IsNoItem d in inside_item (subst G (sym e) tt) (subst F e p)
+    by_cause C.Type e = let F : Cause → Type 0 = λ d. IsPlaced d (items_from f plain) is_item_or_init us r in let G : Cause → Type 0 = λ d. IsNoItem d in inside_item (subst G (sym e) tt) (subst F e p)
+    by_cause C.Item e =
+        let F : Cause → Type 0 = λ d. IsPlaced d (items_from f plain) is_item_or_init us r in
+        let G : Cause → Type 0 = λ d. ItemIsCause d end (k plain).before in
+        subst G (sym e) (behind_items (subst F e p))
+
 -- ---- what a file's reader returned
 
-pub front_stops : (end : ℕ) (ts : List Lexeme) (e : Stop) → ((s : Scope) → StopsIn s (items_from (empty end) s) is_item ts e) → Blocks (items_from (empty end) plain) ts (Err e) → FileIn end ts (Err e)
+pub front_stops : (end : ℕ) (ts : List Lexeme) (e : Stop) → ((s : Scope) → StopsIn s (items_from (empty end) s) is_item_or_init ts e) → Blocks (items_from (empty end) plain) is_item_or_init ts (Err e) → FileIn end ts (Err e)
 front_stops end ts Memory h b = tt
-front_stops end ts (At r c) h b = front_refused end ts (seen r) c h b.0 b.1
+front_stops end ts (At r c) h b = front_refused end ts (seen r) c h b
 
-pub back_stops : (end : ℕ) (f : File) (ts us : List Lexeme) (e : Stop) → ((s : Scope) → Leads any (file_in end s) ts (items_from f s) us) → ((s : Scope) → StopsIn s (items_from f s) is_item us e) → Blocks (items_from f plain) us (Err e) → FileIn end ts (Err e)
+pub back_stops : (end : ℕ) (f : File) (ts us : List Lexeme) (e : Stop) → ((s : Scope) (more : TokenKind → Bool) → Leads more (file_in end s) ts (items_from f s) us) → ((s : Scope) → StopsIn s (items_from f s) is_item_or_init us e) → Blocks (items_from f plain) is_item_or_init us (Err e) → FileIn end ts (Err e)
 back_stops end f ts us Memory l h b = tt
-back_stops end f ts us (At r c) l h b = back_refused end f ts us (seen r) c l h b.0 b.1
+back_stops end f ts us (At r c) l h b = back_refused end f ts us (seen r) c l h b
 
 pub leaves_file : (end : ℕ) (ts : List Lexeme) (r : Result PrismFile Stop) (e : Stop) → IsErr r × IsErrAnd r (λ x. x ≡ e) → FileIn end ts (Err e) → FileIn end ts r
 leaves_file end ts r e h p =
@@ -458,14 +362,14 @@ leaves_file end ts r e h p =
     rw (q.1, q.2) p
 
 -- the file that the reader begins with
-pub front_from : (end : ℕ) (g : File) (ts : List Lexeme) (e : Stop) → g ≡ empty end → ((s : Scope) → StopsIn s (items_from g s) is_item ts e) → (s : Scope) → StopsIn s (items_from (empty end) s) is_item ts e
-front_from end g ts e h p s = let F : File → Type 0 = λ f. StopsIn s (items_from f s) is_item ts e in subst F h (p s)
+pub front_from : (end : ℕ) (g : File) (ts : List Lexeme) (e : Stop) → g ≡ empty end → ((s : Scope) → StopsIn s (items_from g s) is_item_or_init ts e) → (s : Scope) → StopsIn s (items_from (empty end) s) is_item_or_init ts e
+front_from end g ts e h p s = let F : File → Type 0 = λ f. StopsIn s (items_from f s) is_item_or_init ts e in subst F h (p s)
 
-pub front_blocks : (end : ℕ) (g : File) (ts : List Lexeme) (e : Stop) → g ≡ empty end → Blocks (items_from g plain) ts (Err e) → Blocks (items_from (empty end) plain) ts (Err e)
-front_blocks end g ts e h p = let F : File → Type 0 = λ f. Blocks (items_from f plain) ts (Err e) in subst F h p
+pub front_blocks : (end : ℕ) (g : File) (ts : List Lexeme) (e : Stop) → g ≡ empty end → Blocks (items_from g plain) is_item_or_init ts (Err e) → Blocks (items_from (empty end) plain) is_item_or_init ts (Err e)
+front_blocks end g ts e h p = let F : File → Type 0 = λ f. Blocks (items_from f plain) is_item_or_init ts (Err e) in subst F h p
 
-pub front_reads : (end : ℕ) (g x : File) (ts us : List Lexeme) → g ≡ empty end → ((s : Scope) → Reads (items_from g s) is_item ts x us) → (s : Scope) → Reads (items_from (empty end) s) is_item ts x us
-front_reads end g x ts us h p s = let F : File → Type 0 = λ f. Reads (items_from f s) is_item ts x us in subst F h (p s)
+pub front_reads : (end : ℕ) (g x : File) (ts us : List Lexeme) → g ≡ empty end → ((s : Scope) → Reads (items_from g s) is_item_or_init ts x us) → (s : Scope) → Reads (items_from (empty end) s) is_item_or_init ts x us
+front_reads end g x ts us h p s = let F : File → Type 0 = λ f. Reads (items_from f s) is_item_or_init ts x us in subst F h (p s)
 
 -- whether tokens are left
 pub some_left : (r : Tokens) → length r.found.now ≢ 0 → (t : Lexeme) × (others : List Lexeme) × (seen r ≡ t ∷ others)

@@ -10,5 +10,7 @@ pub mod Splitting
 pub mod Building
 pub mod Rewarding
 pub mod Sectioning
+pub mod Refusing
+pub mod Listing
 pub mod Filing
 pub mod Ending

@@ -8,7 +8,7 @@ use Rattle.prism_lex.specs.declared.words.Reserved.TheVariants as W
 use Rattle.prism_lex.specs.declared.symbols.Symbol.TheVariants as S
 use Rattle.prism_lex.specs.Tokens.{Lexeme}
 use Rattle.prism_tree.specs.Lang.{Lang, token, gives, ◌>>=◌, ◌or◌, with_last, Begins}
-use Rattle.prism_tree.specs.Grammar.{Section, a_const, a_global, a_formula, a_module, a_label, a_rewards, word, name, quoted, const_type, const_item, range, var, global_item, formula_item, label_item, write, update, weighted, updates, command, body, pair, copy, module_item, reward, rewards_item, section, int_too}
+use Rattle.prism_tree.specs.Grammar.{Section, a_const, a_global, a_formula, a_module, a_label, a_rewards, word, name, quoted, const_type, const_item, range, var, global_item, formula_item, label_item, write, update, weighted, updates, command, body, pair, copy, module_item, reward, rewards_item, init_item, section, int_too}
 use Rattle.prism_exprs.specs.Reading.{none, starts, is_kind, same_kind}
 use Rattle.prism_exprs.specs.Scope.{Scope, expressions}
 use Rattle.prism_exprs.proofs.Laws.{IsOne, HasWord, then_word, step_one, token_word, gives_one, gives_word}
@@ -292,6 +292,10 @@ section_b s =
     behind_or (behind_gives _ (const_b s)) (behind_or (behind_gives _ (global_b s)) (behind_or (behind_gives _ (formula_b s))
     (behind_or (behind_gives _ (module_b s)) (behind_or (behind_gives _ (label_b s)) (behind_gives _ (rewards_b s))))))
 
+pub init_b : (s : Scope) → Behind (in_scope init_item s)
+unfolding init_item
+init_b s = behind_token _ _ (λ t. tn _ (el s) (λ e. tn _ (tl (K.Word W.Endinit) refl) (λ u. gl _)))
+
 -- ---- each word of an item begins one
 
 begins_word : {A : Type 0} (k : TokenKind) (M : Lexeme → Lang A) (t : Lexeme) → ((u : Lexeme) → HasWord (M u)) → t.kind ≡ k → Begins (token k >>= M) (t ∷ [])
@@ -334,6 +338,10 @@ module_begins : (s : Scope) (t : Lexeme) → t.kind ≡ K.Word W.Module → Begi
 unfolding module_item body
 module_begins s t e =
     begins_word _ _ t (λ u. then_word name_word (λ x. then_word (or_word _ _ (then_word (many_word _) (λ vs. then_word (many_word _) (λ cs. gives_word _)))) (λ m. then_word (token_word _) (λ w. gives_word _)))) e
+
+pub init_begins : (s : Scope) (t : Lexeme) → is_kind (K.Word W.Init) t.kind ≡ true → Begins (in_scope init_item s) (t ∷ [])
+unfolding init_item
+init_begins s t e = begins_word _ _ t (λ u. then_word (expressions_word s) (λ f. then_word (token_word _) (λ w. gives_word _))) (same_is t.kind _ e)
 
 pub section_begins : (s : Scope) (t : Lexeme) → is_item t.kind ≡ true → Begins (in_scope section s) (t ∷ [])
 unfolding section

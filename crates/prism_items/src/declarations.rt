@@ -1,4 +1,4 @@
-// Constants, formulas, labels and variables.
+// Constants, formulas, labels, variables and initial conditions.
 ghost use Rattle.std.specs.Prelude.{◌≡◌};
 ghost use Rattle.std.specs.Option.{option_map};
 ghost use Rattle.op_trees.specs.Tree.{tree};
@@ -6,7 +6,7 @@ ghost use Rattle.prism_lex.specs.declared.token.TokenKind.TheVariants as K;
 ghost use Rattle.prism_lex.specs.declared.words.Reserved.TheVariants as W;
 ghost use Rattle.prism_lex.specs.declared.symbols.Symbol.TheVariants as S;
 ghost use Rattle.prism_tree.specs.Lang.{◌>>◌};
-ghost use Rattle.prism_tree.specs.Grammar.{const_item, formula_item, label_item, range, var, global_item};
+ghost use Rattle.prism_tree.specs.Grammar.{const_item, formula_item, label_item, range, var, global_item, init_item};
 ghost use Rattle.prism_tree.specs.Syntax.{const_of, formula_of, label_of, range_of, var_of};
 ghost use Rattle.prism_exprs.specs.Kept.{seen};
 ghost use Rattle.prism_exprs.specs.Reading.{none};
@@ -16,7 +16,7 @@ ghost use Rattle.prism_items.specs.Parts.{in_scope, domain, value_part, domain_p
 use crate::closed::{parse_closed, parse_definition};
 use crate::readers::{followed_by, read_name, read_quoted, read_symbol, read_word, word_next};
 use op_trees::Ty;
-use prism_exprs::{Cause, Kept, Stop, Tokens, symbol_next};
+use prism_exprs::{Cause, Kept, Stop, Tokens, parse_outer, symbol_next};
 use prism_lex::{Reserved, Symbol};
 use prism_tree::{PrismConst, PrismExpr, PrismFormula, PrismLabel, PrismRange, PrismVar};
 use std::alloc::Global;
@@ -178,4 +178,16 @@ pub(crate) fn parse_global<'a>(
 {
     let (_global, rest) = read_word(tokens, Reserved::Global)?;
     parse_var(alloc, rest)
+}
+
+/// `init E endinit`
+pub(crate) fn parse_init<'a>(
+    alloc: Global,
+    tokens: Tokens<'a>,
+) -> Result<(PrismExpr, Tokens<'a>), Stop<'a>>
+    ensures { ParsesIn tree (in_scope init_item) none (seen tokens.entry) result }
+{
+    let (_init, rest) = read_word(tokens, Reserved::Init)?;
+    let (condition, rest) = parse_outer(alloc, rest)?;
+    followed_by(condition, read_word(rest, Reserved::Endinit))
 }

@@ -24,6 +24,7 @@ fn empty(alloc: Global, end: usize) -> PrismFile
         modules: List::new(alloc),
         labels: List::new(alloc),
         rewards: List::new(alloc),
+        init: None,
         end,
     }
 }

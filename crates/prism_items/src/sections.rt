@@ -3,24 +3,25 @@ ghost use Rattle.std.specs.Prelude.{◌≡◌, ◌||◌, IfOk};
 ghost use Rattle.prism_exprs.specs.Kept.{seen};
 ghost use Rattle.prism_exprs.specs.Reading.{none, starts};
 ghost use Rattle.prism_exprs.specs.Scope.{ParsesIn};
-ghost use Rattle.prism_tree.specs.Grammar.{section, with_section};
+ghost use Rattle.op_trees.specs.Tree.{tree};
+ghost use Rattle.prism_tree.specs.Grammar.{section, with_section, with_init};
 ghost use Rattle.prism_tree.specs.Syntax.{file_of};
 ghost use Rattle.prism_items.specs.Parts.{in_scope};
 ghost use Rattle.prism_items.specs.Files.{plain};
-ghost use Rattle.prism_items.specs.Sections.{section_of, items_from, is_item, inside, Blocks};
+ghost use Rattle.prism_items.specs.Sections.{section_of, sections_from, items_from, is_item, is_item_or_init, inside, Blocks};
 
-use crate::declarations::{parse_const, parse_formula, parse_global, parse_label};
+use crate::declarations::{parse_const, parse_formula, parse_global, parse_init, parse_label};
 use crate::modules::parse_module;
 use crate::readers::word_next;
 use crate::rewards::parse_rewards;
 use prism_exprs::{Cause, Stop, Tokens};
 use prism_lex::Reserved;
 use prism_tree::{
-    PrismConst, PrismFile, PrismFormula, PrismLabel, PrismModule, PrismRewards, PrismVar,
+    PrismConst, PrismExpr, PrismFile, PrismFormula, PrismLabel, PrismModule, PrismRewards, PrismVar,
 };
 use std::alloc::{AllocError, Global};
 
-/// An item of a file that isn't its kind.
+/// An item of a file that is neither its kind nor its initial condition.
 #[derive(Drop)]
 pub(crate) enum Section {
     Const(PrismConst),
@@ -31,7 +32,7 @@ pub(crate) enum Section {
     Rewards(PrismRewards),
 }
 
-/// Whether a word that begins an item stands next.
+/// Whether a word that begins such an item stands next.
 #[tactic(auto, using(crate::proofs::Sectioning::starts_either))]
 fn item_next(tokens: Tokens) -> bool
     ensures { result ≡ starts is_item (seen tokens.entry) }
@@ -99,14 +100,23 @@ fn inside<'a>(stop: Stop<'a>) -> Stop<'a>
     }
 }
 
-/// Any number of items, taken up into a file.
-pub(crate) fn parse_items<'a>(
+/// The file with an initial condition.
+fn with_init(file: PrismFile, init: PrismExpr) -> PrismFile
+    ensures { file_of result ≡ with_init (file_of file) (tree init) }
+{
+    let mut whole = file;
+    whole.init = Some(init);
+    whole
+}
+
+/// Any number of items but `init`, taken up into a file.
+fn parse_list<'a>(
     alloc: Global,
     file: PrismFile,
     tokens: Tokens<'a>,
 ) -> Result<(PrismFile, Tokens<'a>), Stop<'a>>
-    ensures read { ParsesIn file_of (items_from (file_of file)) is_item (seen tokens.entry) result }
-    ensures blocked { Blocks (items_from (file_of file) plain) (seen tokens.entry) result }
+    ensures read { ParsesIn file_of (sections_from (file_of file)) is_item (seen tokens.entry) result }
+    ensures blocked { Blocks (sections_from (file_of file) plain) is_item (seen tokens.entry) result }
 {
     let mut whole = file;
     let mut rest = tokens;
@@ -119,4 +129,43 @@ pub(crate) fn parse_items<'a>(
         rest = behind;
     }
     Ok((whole, rest))
+}
+
+/// The items behind `init`, which can't stand again.
+fn parse_last<'a>(
+    alloc: Global,
+    file: PrismFile,
+    tokens: Tokens<'a>,
+) -> Result<(PrismFile, Tokens<'a>), Stop<'a>>
+    ensures read { ParsesIn file_of (sections_from (file_of file)) is_item_or_init (seen tokens.entry) result }
+    ensures blocked { Blocks (sections_from (file_of file) plain) is_item_or_init (seen tokens.entry) result }
+{
+    let (whole, rest) = parse_list(alloc, file, tokens)?;
+    if word_next(rest, Reserved::Init) {
+        return Err(Stop::At(rest, Cause::Item));
+    }
+    Ok((whole, rest))
+}
+
+/// Any number of items, taken up into a file. It takes one `init` at most.
+pub(crate) fn parse_items<'a>(
+    alloc: Global,
+    file: PrismFile,
+    tokens: Tokens<'a>,
+) -> Result<(PrismFile, Tokens<'a>), Stop<'a>>
+    ensures read { ParsesIn file_of (items_from (file_of file)) is_item_or_init (seen tokens.entry) result }
+    ensures blocked { Blocks (items_from (file_of file) plain) is_item_or_init (seen tokens.entry) result }
+{
+    let (front, rest) = parse_list(alloc, file, tokens)?;
+    if !word_next(rest, Reserved::Init) {
+        return Ok((front, rest));
+    }
+    if front.init.is_some() {
+        return Err(Stop::At(rest, Cause::Item));
+    }
+    let (init, behind) = match parse_init(alloc, rest) {
+        Ok(read) => read,
+        Err(stop) => return Err(inside(stop)),
+    };
+    parse_last(alloc, with_init(front, init), behind)
 }

@@ -13,6 +13,7 @@ pub mod PlaceLaws
 pub mod Turns
 pub mod TableLaws
 pub mod Once
+pub mod Initially
 pub mod StartLaws
 pub mod Typed
 pub mod DescribedLaws

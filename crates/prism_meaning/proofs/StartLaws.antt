@@ -10,7 +10,7 @@ use Rattle.process_core.specs.Instance.{Valuation, Column}
 use Rattle.prism_tree.specs.Syntax.{Const, Module, plain, copied, File}
 use Rattle.prism_names.specs.Names.{unchanged, part_of}
 use Rattle.prism_check.specs.Kept.{IsWrittenOut, is_plain}
-use Rattle.prism_check.specs.Scene.{column, columns_of, constant_names, part_columns}
+use Rattle.prism_check.specs.Scene.{column, columns_of, constant_names, has_condition, part_columns}
 use Rattle.prism_check.specs.Moment.{value_in, place_of}
 use Rattle.instance_start.specs.Columns.{column_at, value_at}
 use Rattle.instance_start.specs.declared.data.Place.{Place}
@@ -31,18 +31,18 @@ use Rattle.prism_meaning.specs.Places.{column_place, constant_place}
 use Rattle.prism_meaning.specs.Variables.{all_variables, own_variables}
 
 -- ---- columns
-own_columns : (file : File) (v : Valuation) (ms : List Module) → list_all is_plain ms ≡ true →
-    map (column unchanged (constant_names file v unchanged)) (flat_map own_variables ms) ≡ flat_map (part_columns file v) (map (part_of file) ms)
-own_columns file v [] h = refl
-own_columns file v (plain m ∷ ms) h =
-    map-append (column unchanged (constant_names file v unchanged)) m.vars (flat_map own_variables ms)
-    ∙ ap (λ l. map (column unchanged (constant_names file v unchanged)) m.vars ++ l) (own_columns file v ms h)
-own_columns file v (copied m ∷ ms) h = absurd cc
+own_columns : (file : File) (c : Bool) (v : Valuation) (ms : List Module) → list_all is_plain ms ≡ true →
+    map (column c unchanged (constant_names file v unchanged)) (flat_map own_variables ms) ≡ flat_map (part_columns file c v) (map (part_of file) ms)
+own_columns file c v [] h = refl
+own_columns file c v (plain m ∷ ms) h =
+    map-append (column c unchanged (constant_names file v unchanged)) m.vars (flat_map own_variables ms)
+    ∙ ap (λ l. map (column c unchanged (constant_names file v unchanged)) m.vars ++ l) (own_columns file c v ms h)
+own_columns file c v (copied m ∷ ms) h = absurd cc
 
-pub columns_are : (file : File) (v : Valuation) → IsWrittenOut file → map (column unchanged (constant_names file v unchanged)) (all_variables file) ≡ columns_of file v
+pub columns_are : (file : File) (v : Valuation) → IsWrittenOut file → map (column (has_condition file) unchanged (constant_names file v unchanged)) (all_variables file) ≡ columns_of file v
 columns_are file v w =
-    map-append (column unchanged (constant_names file v unchanged)) file.globals (flat_map own_variables file.modules)
-    ∙ ap (λ l. map (column unchanged (constant_names file v unchanged)) file.globals ++ l) (own_columns file v file.modules w.modules)
+    map-append (column (has_condition file) unchanged (constant_names file v unchanged)) file.globals (flat_map own_variables file.modules)
+    ∙ ap (λ l. map (column (has_condition file) unchanged (constant_names file v unchanged)) file.globals ++ l) (own_columns file (has_condition file) v file.modules w.modules)
 
 -- ---- names
 value_from : (whole s : Values) (table : List (Option Value)) (i : ℕ) (cs : List Column) (x : Name) (o : Option Place) (constants : Name → Option Value) →

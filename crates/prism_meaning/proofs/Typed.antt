@@ -1,5 +1,5 @@
 -- The values of constants have their types, so a variable without a range begins with a truth value.
-use Rattle.std.proofs.Common.{◌≡◌, ℕ, zero, suc, ◌+◌, List, [], ◌∷◌, map, length, true, false, not, Option, Some, None, IsTrue, refl, sym, ap, subst, ◌∙◌}
+use Rattle.std.proofs.Common.{Bool, ◌≡◌, ℕ, zero, suc, ◌+◌, List, [], ◌∷◌, map, length, true, false, not, Option, Some, None, IsTrue, refl, sym, ap, subst, ◌∙◌}
 use Rattle.std.specs.Prelude.{bytes_eq}
 use Rattle.std.specs.List.{flat_map, find, list_any, list_all, AllByRecursion as Each}
 use Rattle.std.specs.Option.{option_map, option_or}
@@ -30,7 +30,7 @@ use Rattle.prism_tree.specs.Syntax.{Expression, Const, Range, Var, Module, plain
 use Rattle.prism_names.specs.Names.{unchanged, part_of, see, reading}
 use Rattle.prism_check.specs.Kept.{is_plain}
 use Rattle.prism_check.specs.FlatLaws.{found_after}
-use Rattle.prism_check.specs.Scene.{constant_called, constant_seen, constant_value, constant_within, constant, constant_names, column, columns_of}
+use Rattle.prism_check.specs.Scene.{constant_called, constant_seen, constant_value, constant_within, constant, constant_names, column, columns_of, has_condition}
 use Rattle.prism_print.specs.Printable.{IsPrintableExpression, IsPrintableConst, IsPrintableVar, IsPrintableModule}
 use Rattle.prism_print.proofs.Printable.{literals}
 use Rattle.prism_check.specs.Demands.{Demand, fixed, var_type, const_demands, range_demands, var_demands, command_demands, part_demands, outer_demands, formula_demands}
@@ -159,23 +159,26 @@ module _ (file : File) (flat : IsFlat file) where
         }
 
     -- ---- first values
-    begin_one : (x : Var) → IsFineVar x → begins_right (column unchanged (constant_names file (given_by given) unchanged) x).domain (first_value (column unchanged (constant_names file (given_by given) unchanged) x)) ≡ true
-    begin_one x f = by_range x.range x.start f
+    abbrev columns_by : Bool → Var → Column
+    columns_by c x = column c unchanged (constant_names file (given_by given) unchanged) x
+
+    abbrev BeginsRight : Column → Type 0
+    BeginsRight c = begins_right c.domain (first_value c) ≡ true
+
+    begin_one : (c : Bool) (x : Var) → IsFineVar x → BeginsRight (columns_by c x)
+    begin_one c x f = by_range c x.range x.start f
       where
-        by_range : (r : Option Range) (o : Option Expression) → IfAny (IsFine (var_type (record { name = x.name; range = r; start = o }))) o →
-            begins_right (column unchanged (constant_names file (given_by given) unchanged) (record { name = x.name; range = r; start = o })).domain
-            (first_value (column unchanged (constant_names file (given_by given) unchanged) (record { name = x.name; range = r; start = o }))) ≡ true
-        by_range (Some r) o f = refl
-        by_range None None f = refl
-        by_range None (Some e) f =
+        by_range : (c : Bool) (r : Option Range) (o : Option Expression) → IfAny (IsFine (var_type (record { name = x.name; range = r; start = o }))) o → BeginsRight (columns_by c (record { name = x.name; range = r; start = o }))
+        by_range c (Some r) o f = refl
+        by_range true None o f = refl
+        by_range false None None f = refl
+        by_range false None (Some e) f =
             bool_right (see e (constant_names file (given_by given) unchanged)).value
             (λ v k. fine_value (constant file (given_by given)) (const_typed (length file.constants)) T.Bool e f v (sym (read_value e (constant file (given_by given))) ∙ k))
 
-    begin_all : (xs : List Var) → Each IsFineVar xs → BeginRight (map (column unchanged (constant_names file (given_by given) unchanged)) xs)
-    begin_all [] h = All-nil (λ (c : Column). begins_right c.domain (first_value c) ≡ true)
-    begin_all (x ∷ xs) h =
-        All-cons (λ (c : Column). begins_right c.domain (first_value c) ≡ true) (column unchanged (constant_names file (given_by given) unchanged) x)
-        (map (column unchanged (constant_names file (given_by given) unchanged)) xs) (begin_one x h.0) (begin_all xs h.1)
+    begin_all : (c : Bool) (xs : List Var) → Each IsFineVar xs → BeginRight (map (columns_by c) xs)
+    begin_all c [] h = All-nil BeginsRight
+    begin_all c (x ∷ xs) h = All-cons BeginsRight (columns_by c x) (map (columns_by c) xs) (begin_one c x h.0) (begin_all c xs h.1)
 
     pub begin_right : BeginRight (columns_of file (given_by given))
-    begin_right = subst BeginRight (columns_are file (given_by given) flat.form) (begin_all (all_variables file) all_fine)
+    begin_right = subst BeginRight (columns_are file (given_by given) flat.form) (begin_all (has_condition file) (all_variables file) all_fine)

@@ -1,5 +1,5 @@
 -- What the program's found variables stand for. (This project's own rule.)
-use Rattle.std.specs.Prelude.{Some}
+use Rattle.std.specs.Option.{option_map}
 use Rattle.process_core.specs.Ready.{Name}
 use Rattle.process_core.specs.Instance.{Column}
 use Rattle.state_choices.specs.Views.{seen_of}
@@ -9,10 +9,10 @@ use Rattle.prism_meaning.specs.declared.variables.Found.{Found}
 use Rattle.prism_meaning.specs.declared.variables.Values.{Values}
 
 abbrev pub column_with : Name → Values → Column
-column_with n v = record { name = n; domain = bounds_of v.bounds; first = Some (seen_of v.first) }
+column_with n v = record { name = n; domain = bounds_of v.bounds; first = option_map seen_of v.first }
 
 abbrev pub named_variable : Found → Variable
-named_variable f = record { name = f.name; bounds = f.values.value.bounds; first = Some f.values.value.first }
+named_variable f = record { name = f.name; bounds = f.values.value.bounds; first = f.values.value.first }
 
 abbrev pub found_column : Found → Column
 found_column f = variable_of (named_variable f)

@@ -1,8 +1,8 @@
 -- The process that a file describes keeps the laws of processes, where the instance has no fault.
 -- (The laws are those of Markov decision processes, as the PRISM manual has them in "The PRISM Language".)
-use Rattle.std.specs.Prelude.{◌≡◌, List, [], map}
+use Rattle.std.specs.Prelude.{◌≡◌, List, [], map, false}
 use Rattle.std.specs.List.{All, flat_map}
-use Rattle.std.proofs.Common.{refl}
+use Rattle.std.proofs.Common.{refl, sym, subst}
 use Rattle.std.proofs.lemmas.List.Elements.{All-append, All-map}
 use Rattle.process_core.specs.States.{keeps_write_to}
 use Rattle.basics.specs.Members.{all_each}
@@ -18,7 +18,8 @@ use Rattle.instance_start.specs.Given.{given_by}
 use Rattle.instance_start.specs.Firsts.{BeginRight, HasFirst, HaveFirsts, initial_states, wide_states, condition_is, first_is}
 use Rattle.prism_tree.specs.Syntax.{Branch, Command, File}
 use Rattle.prism_names.specs.Names.{unchanged, Part, parts, see, written_name}
-use Rattle.prism_flat.specs.Scene.{scene, column, columns_of, constant_names, part_columns}
+use Rattle.prism_flat.specs.Scene.{scene, column, columns_under, columns_of, constant_names, part_columns}
+use Rattle.prism_flat.specs.FlatLaws.{none_seen}
 use Rattle.prism_flat.specs.Moment.{place_of, write_at, update_at, command_at, names_in, part_at, moment}
 use Rattle.prism_flat.specs.Process.{combinations, choice_rewards}
 use Rattle.prism_meaning.specs.Described.{described}
@@ -51,17 +52,20 @@ module _ (file : File) (v : Valuation) (s : Values) where
 
 -- ---- first values
 module _ (file : File) (v : Valuation) where
-  own_firsts : (p : Part) → All HasFirst (part_columns file v p)
+  own_firsts : (p : Part) → All HasFirst (part_columns file false v p)
   own_firsts p =
-      All-map HasFirst (column p.rename (constant_names file v p.rename)) p.vars
-      (all_each (λ x. HasFirst (column p.rename (constant_names file v p.rename) x)) (λ x. refl) p.vars)
+      All-map HasFirst (column false p.rename (constant_names file v p.rename)) p.vars
+      (all_each (λ x. HasFirst (column false p.rename (constant_names file v p.rename) x)) (λ x. refl) p.vars)
+
+  all_firsts : All HasFirst (columns_under file false v)
+  all_firsts =
+      All-append HasFirst (map (column false unchanged (constant_names file v unchanged)) file.globals) (flat_map (part_columns file false v) (parts file))
+      (All-map HasFirst (column false unchanged (constant_names file v unchanged)) file.globals
+      (all_each (λ x. HasFirst (column false unchanged (constant_names file v unchanged) x)) (λ x. refl) file.globals))
+      (each_flat HasFirst (part_columns file false v) own_firsts (parts file))
 
   have_firsts : HaveFirsts (scene file v)
-  have_firsts e =
-      All-append HasFirst (map (column unchanged (constant_names file v unchanged)) file.globals) (flat_map (part_columns file v) (parts file))
-      (All-map HasFirst (column unchanged (constant_names file v unchanged)) file.globals
-      (all_each (λ x. HasFirst (column unchanged (constant_names file v unchanged) x)) (λ x. refl) file.globals))
-      (each_flat HasFirst (part_columns file v) own_firsts (parts file))
+  have_firsts e = subst (λ c. All HasFirst (columns_under file c v)) (sym e) all_firsts
 
 module _ (file : File) (v : Valuation) (t : BeginRight (columns_of file v)) (h : instance_faults (scene file v) ≡ []) where
   pub described_is : IsProcess (described file v)
@@ -73,7 +77,7 @@ module _ (file : File) (v : Valuation) (t : BeginRight (columns_of file v)) (h :
     initial = λ s k. initial_states (columns_of file v) (moment file v s).condition s k;
     wide_initial = λ s k. wide_states (columns_of file v) (moment file v s).condition s k;
     condition = condition_is (scene file v) (have_firsts file v) h;
-    first = first_is (scene file v) (λ s. (moment file v s).condition) t (λ e s. refl) h;
+    first = first_is (scene file v) (λ s. (moment file v s).condition) t (λ e s. none_seen file v s e) h;
     proper = λ s k. choices_proper (is_state (columns_of file v)) s (combinations (moment file v s)) k
         (of_all (KeepsAll (is_state (columns_of file v))) (choice_rewards (moment file v s).rewards) (moment file v s).modules (all_keep file v s));
   }

@@ -8,6 +8,7 @@ pub mod Variables
 pub mod Constants
 pub mod Found
 pub mod Knowing
+pub mod Initial
 pub mod Sound
 pub mod Instance
 pub mod Lawful

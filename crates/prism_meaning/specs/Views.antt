@@ -65,9 +65,9 @@ evaluated_of g = record {
   lists = cut (map (λ l. length l.items) g.lists.now) (map choices.command_of g.commands);
 }
 
--- ---- names, where there are constants alone
+-- ---- names, in a state or where there are constants alone
 abbrev pub values_in : ConstantNames → Environment
-values_in r x = value_at [] r.table.now (under r.places.now x)
+values_in r x = value_at r.values.now r.table.now (under r.places.now x)
 
 abbrev pub seen_in : ConstantNames → Name → Seen
 seen_in r = known_names (values_in r)

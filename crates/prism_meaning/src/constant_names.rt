@@ -1,4 +1,4 @@
-//! The values of expressions by those of the constants, before there is a state.
+//! The values of expressions by those of the constants, in a state or before there is one.
 ghost use Rattle.std.specs.Prelude.{◌≡◌};
 ghost use Rattle.op_trees.specs.Tree.{tree};
 ghost use Rattle.prism_names.specs.Names.{see};
@@ -10,11 +10,13 @@ use name_rules::NameMap;
 use op_trees::{EvalFail, Names, Ty, Value, eval};
 use prism_tree::PrismExpr;
 
-/// The constants, without a state: where names stand, and the values of the constants.
+/// The constants and the variables: where names stand, the values of the constants, and those of a state, which are none before
+/// there is one.
 #[derive(Clone, Copy)]
 pub(crate) struct ConstantNames<'a, 'b> {
     pub(crate) places: &'a NameMap<'b, Place>,
     pub(crate) table: &'a [Option<Value>],
+    pub(crate) values: &'a [Value],
 }
 
 impl<'a, 'b> Names for ConstantNames<'a, 'b> {
@@ -27,7 +29,7 @@ impl<'a, 'b> Names for ConstantNames<'a, 'b> {
     ghost typed = { types_agree };
 
     fn value(&self, name: &str) -> Option<Value> {
-        value_at(&[], self.table, self.places.get(name))
+        value_at(self.values, self.table, self.places.get(name))
     }
 
     fn ty(&self, name: &str) -> Option<Ty> {

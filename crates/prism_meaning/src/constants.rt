@@ -112,7 +112,11 @@ pub(crate) fn constants_alone<'a, 'b>(
 ) -> ConstantNames<'a, 'b>
     ensures { seen_in result ≡ names_by places.now table.now }
 {
-    ConstantNames { places, table }
+    ConstantNames {
+        places,
+        table,
+        values: &[],
+    }
 }
 
 fn defined(value: &Result<Value, EvalFail>) -> Option<Value>

@@ -17,10 +17,12 @@ ghost use Rattle.state_choices.specs.Groups.{of_groups};
 
 use crate::data::{Evaluated, Prepared};
 use crate::groups::{evaluated, groups};
+use crate::initial::initial_at;
 use crate::marks::{add_labels, add_rewards};
 use bridge_io::{List, Text};
 use expr_store::Evaluation;
-use instance_start::{Column, first_values, is_state, may_begin};
+use instance_start::{Column, Place, first_values, is_state};
+use name_rules::NameMap;
 use op_trees::Value;
 use prism_check::FlatPrism;
 use prism_tree::PrismOp;
@@ -34,11 +36,12 @@ use std::alloc::{AllocError, Global};
 pub struct PrismInstance<'a> {
     pub(crate) flat: &'a FlatPrism,
     pub(crate) given: &'a [Given],
+    pub(crate) places: NameMap<'a, Place>,
     pub(crate) constants: Vec<Option<Value>>,
     pub(crate) columns: Vec<Column<'a>>,
     pub(crate) prepared: Prepared<'a>,
     pub(crate) marks: Vec<&'a str>,
-    ghost sound: { IsSound flat.now given.now (nodes prepared.store) constants.items columns.items prepared.groups.items prepared.states.items prepared.labels.items (map (λ n. n.now) marks.items) } by { IsSound-prop flat.now given.now (nodes prepared.store) constants.items columns.items prepared.groups.items prepared.states.items prepared.labels.items (map (λ n. n.now) marks.items) },
+    ghost sound: { IsSound flat.now given.now (nodes prepared.store) places constants.items columns.items prepared.groups.items prepared.states.items prepared.labels.items (map (λ n. n.now) marks.items) } by { IsSound-prop flat.now given.now (nodes prepared.store) places constants.items columns.items prepared.groups.items prepared.states.items prepared.labels.items (map (λ n. n.now) marks.items) },
 }
 
 impl<'a> Steps for PrismInstance<'a> {
@@ -62,10 +65,13 @@ impl<'a> Steps for PrismInstance<'a> {
     }
 
     fn initial(&self, s: &State) -> Result<bool, InitialWide> {
-        Ok(may_begin(self.columns.as_slice(), s.values.as_slice()))
+        initial_at(self, s)
     }
 
     fn first(&self, alloc: Global) -> Result<Option<State>, AllocError> {
+        if self.flat.file().init.is_some() {
+            return Ok(None);
+        }
         match first_values(alloc, self.columns.as_slice())? {
             Some(values) => Ok(Some(State { values })),
             None => Ok(None),
@@ -94,9 +100,9 @@ impl<'a> Steps for PrismInstance<'a> {
 }
 
 /// The expressions of the instance in a state.
-fn state_of<'a>(
+fn state_of<'a, 'b>(
     alloc: Global,
-    instance: &'a PrismInstance<'a>,
+    instance: &'a PrismInstance<'b>,
     s: &'a State,
 ) -> Evaluation<'a, PrismOp>
     ensures sees { seen_by result ≡ at_state (nodes instance.now.prepared.store) instance.now.constants.items s.now.values }

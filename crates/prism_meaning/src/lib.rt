@@ -8,6 +8,7 @@ mod constant_names;
 mod constants;
 mod data;
 mod groups;
+mod initial;
 mod instance;
 mod laws;
 mod marks;

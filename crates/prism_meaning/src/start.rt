@@ -4,7 +4,7 @@ ghost use Rattle.op_trees.specs.Seen.{Seen, known};
 ghost use Rattle.process_core.specs.Ready.{Name};
 ghost use Rattle.name_rules.specs.Circles.{AreTurns};
 ghost use Rattle.name_rules.specs.Names.{under};
-ghost use Rattle.prism_check.specs.Scene.{column, columns_of, scene};
+ghost use Rattle.prism_check.specs.Scene.{column, columns_of, has_condition, scene};
 ghost use Rattle.prism_names.specs.Names.{unchanged};
 ghost use Rattle.state_choices.specs.Views.{seen_of};
 ghost use Rattle.prism_tree.specs.Syntax.{const_of, file_of, label_of, rewards_of};
@@ -112,6 +112,7 @@ fn instance_of<'a>(
     PrismInstance {
         flat,
         given,
+        places: known.places,
         constants: known.constants,
         columns: known.columns,
         prepared: fixed.prepared,
@@ -225,7 +226,13 @@ fn known_columns<'a>(
     };
     match known_variables(alloc, file, table) {
         Err(e) => Err(StartFail::Memory(e)),
-        Ok(variables) => columns(alloc, false, opens, values.as_slice(), variables.as_slice()),
+        Ok(variables) => columns(
+            alloc,
+            file.init.is_some(),
+            opens,
+            values.as_slice(),
+            variables.as_slice(),
+        ),
     }
 }
 
@@ -259,23 +266,30 @@ fn known_variables<'a>(
     table: &[Option<Value>],
 ) -> Result<Vec<Variable<'a>>, AllocError>
     ensures { IfOk result (λ xs. (names : Name → Seen) → ((x : Name) → known (value_at [] table.now (constant_place 0 (map const_of file.now.constants) x)) ≡ names x) →
-        map variable_of xs.items ≡ map (λ x. trimmed_column (column unchanged names x)) (all_variables (file_of file.now))) }
+        map variable_of xs.items ≡ map (λ x. trimmed_column (column (has_condition (file_of file.now)) unchanged names x)) (all_variables (file_of file.now))) }
 {
     let places = constant_places(alloc, file.constants.as_slice())?;
     let variables = all_variables(alloc, file)?;
-    variables_by(alloc, variables.as_slice(), &places, table)
+    variables_by(
+        alloc,
+        file.init.is_some(),
+        variables.as_slice(),
+        &places,
+        table,
+    )
 }
 
 fn variables_by<'a>(
     alloc: Global,
+    has_condition: bool,
     variables: &[&'a PrismVar],
     places: &NameMap<Place>,
     table: &[Option<Value>],
 ) -> Result<Vec<Variable<'a>>, AllocError>
-    ensures { IfOk result (λ xs. map variable_of xs.items ≡ map (λ x. trimmed_column (column unchanged (names_by places.now table.now) x)) (vars_of variables.now)) }
+    ensures { IfOk result (λ xs. map variable_of xs.items ≡ map (λ x. trimmed_column (column has_condition unchanged (names_by places.now table.now) x)) (vars_of variables.now)) }
 {
     let run = constants_alone(places, table);
-    variables_under(alloc, variables, &run)
+    variables_under(alloc, has_condition, variables, &run)
 }
 
 /// What of a file doesn't change from state to state: what is prepared of it, and the names of the marks.

@@ -2,7 +2,7 @@
 ghost use Rattle.std.specs.Prelude.{◌≡◌, ◌++◌, IfOk, None, map};
 ghost use Rattle.std.specs.Option.{option_map};
 ghost use Rattle.op_trees.specs.Tree.{tree};
-ghost use Rattle.prism_check.specs.Scene.{column, domain_of, first_of};
+ghost use Rattle.prism_check.specs.Scene.{column, domain_of, first_of, first_under};
 ghost use Rattle.prism_names.specs.Names.{unchanged};
 ghost use Rattle.prism_tree.specs.Syntax as syntax;
 ghost use Rattle.prism_tree.specs.Syntax.{file_of, module_of, var_of};
@@ -53,15 +53,16 @@ fn add_variables<'a>(
     Ok(())
 }
 
-/// What variables come out as.
+/// What variables come out as, with an initial condition or without.
 pub(crate) fn variables_under<'a>(
     alloc: Global,
+    has_condition: bool,
     variables: &[&'a PrismVar],
     names: &ConstantNames,
 ) -> Result<Vec<Variable<'a>>, AllocError>
-    ensures { IfOk result (λ xs. map variable_of xs.items ≡ map (λ x. trimmed_column (column unchanged (seen_in names.now) x)) (vars_of variables.now)) }
+    ensures { IfOk result (λ xs. map variable_of xs.items ≡ map (λ x. trimmed_column (column has_condition unchanged (seen_in names.now) x)) (vars_of variables.now)) }
 {
-    let found = each_found(alloc, variables, names)?;
+    let found = each_found(alloc, has_condition, variables, names)?;
     let all = named(alloc, found.as_slice())?;
     Ok(all)
 }
@@ -73,11 +74,11 @@ pub(crate) struct Found<'a> {
     values: Box<Values>,
 }
 
-/// What the bounds and the first value of a variable come out as.
+/// What the bounds and the first value of a variable come out as; with an initial condition it has none.
 #[derive(Clone, Copy)]
 pub(crate) struct Values {
     bounds: Option<Bounds>,
-    first: Result<Value, EvalFail>,
+    first: Option<Result<Value, EvalFail>>,
 }
 
 fn named<'a>(alloc: Global, found: &[Found<'a>]) -> Result<Vec<Variable<'a>>, AllocError>
@@ -92,20 +93,21 @@ fn named_variable<'a>(found: &Found<'a>) -> Variable<'a>
     Variable {
         name: found.name,
         bounds: found.values.bounds,
-        first: Some(found.values.first),
+        first: found.values.first,
     }
 }
 
 fn each_found<'a>(
     alloc: Global,
+    has_condition: bool,
     variables: &[&'a PrismVar],
     names: &ConstantNames,
 ) -> Result<Vec<Found<'a>>, AllocError>
-    ensures { IfOk result (λ xs. map found_column xs.items ≡ map (λ x. trimmed_column (column unchanged (seen_in names.now) x)) (vars_of variables.now)) }
+    ensures { IfOk result (λ xs. map found_column xs.items ≡ map (λ x. trimmed_column (column has_condition unchanged (seen_in names.now) x)) (vars_of variables.now)) }
 {
     let mut all = Vec::with_capacity(alloc, variables.len())?;
     for variable in variables {
-        let values = Box::new(alloc, values_under(variable, names))?;
+        let values = Box::new(alloc, values_under(has_condition, variable, names))?;
         all.push(Found {
             name: &variable.name.name,
             values,
@@ -114,12 +116,12 @@ fn each_found<'a>(
     Ok(all)
 }
 
-fn values_under(variable: &PrismVar, names: &ConstantNames) -> Values
-    ensures { column_with variable.now.name.name result ≡ trimmed_column (column unchanged (seen_in names.now) (var_of variable.now)) }
+fn values_under(has_condition: bool, variable: &PrismVar, names: &ConstantNames) -> Values
+    ensures { column_with variable.now.name.name result ≡ trimmed_column (column has_condition unchanged (seen_in names.now) (var_of variable.now)) }
 {
     Values {
         bounds: bounds_under(&variable.range, names),
-        first: first_under(variable, names),
+        first: first_under(has_condition, variable, names),
     }
 }
 
@@ -135,8 +137,24 @@ fn bounds_under(range: &Option<PrismRange>, names: &ConstantNames) -> Option<Bou
     }
 }
 
-/// The value that a variable begins with: its own, else the low bound, else false.
-fn first_under(variable: &PrismVar, names: &ConstantNames) -> Result<Value, EvalFail>
+/// The value that a variable begins with: none with an initial condition.
+fn first_under(
+    has_condition: bool,
+    variable: &PrismVar,
+    names: &ConstantNames,
+) -> Option<Result<Value, EvalFail>>
+    ensures { option_map seen_of result
+        ≡ option_map trimmed_seen (first_under has_condition (first_of (seen_in names.now) (option_map tree variable.now.start) (option_map syntax.range_of variable.now.range))) }
+{
+    if has_condition {
+        None
+    } else {
+        Some(start_under(variable, names))
+    }
+}
+
+/// The value that a variable begins with, without an initial condition: its own, else the low bound, else false.
+fn start_under(variable: &PrismVar, names: &ConstantNames) -> Result<Value, EvalFail>
     ensures { seen_of result ≡ trimmed_seen (first_of (seen_in names.now) (option_map tree variable.now.start) (option_map syntax.range_of variable.now.range)) }
 {
     match &variable.start {

@@ -65,5 +65,6 @@ flat file = record {
   modules = map (flat_module file) file.modules;
   labels = map (flat_label file) file.labels;
   rewards = map (flat_rewards file) file.rewards;
+  init = option_map (flat_expression file unchanged) file.init;
   end = file.end;
 }

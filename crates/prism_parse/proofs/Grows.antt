@@ -1,10 +1,10 @@
 -- Where more expressions stand for E, a file spells no less.
 use Rattle.std.proofs.Common.{ℕ, List, [], ◌∷◌}
-use Rattle.std.specs.Prelude.{◌⊎◌, Option}
+use Rattle.std.specs.Prelude.{◌⊎◌, Option, Some, None}
 use Rattle.std.proofs.Common.{inl, inr}
 use Rattle.bridge_io.specs.declared.reason.Named.{Named}
 use Rattle.prism_lex.specs.Tokens.{Lexeme}
-use Rattle.prism_tree.specs.Syntax.{Expression, Range}
+use Rattle.prism_tree.specs.Syntax.{Expression, Range, File}
 use Rattle.prism_tree.specs.Lang.{Lang, ◌>>=◌, ◌or◌, optional, many, folding}
 use Rattle.prism_tree.specs.Grammar as grammar
 
@@ -117,6 +117,18 @@ module _ (E F : Lang Expression) (V : Lang (Option Range)) (g : Grows E F) where
       or_grows (then_grows const_item_grows (λ _. self_grows _)) (or_grows (then_grows global_item_grows (λ _. self_grows _)) (or_grows (then_grows formula_item_grows (λ _. self_grows _))
       (or_grows (then_grows module_item_grows (λ _. self_grows _)) (or_grows (then_grows label_item_grows (λ _. self_grows _)) (then_grows rewards_item_grows (λ _. self_grows _))))))
 
+  init_item_grows : Grows (grammar.init_item E V) (grammar.init_item F V)
+  unfolding grammar.init_item
+  init_item_grows = skip _ (λ _. then_grows g (λ _. self_grows _))
+
+  init_if_grows : (o : Option Expression) → Grows (grammar.init_if E V o) (grammar.init_if F V o)
+  init_if_grows None = init_item_grows
+  init_if_grows (Some e) = self_grows _
+
+  items_grows : (f : File) → Grows (grammar.items E V f) (grammar.items F V f)
+  unfolding grammar.items
+  items_grows f = then_grows (folding_grows _ _ section_grows) (λ h. or_grows (self_grows _) (then_grows (init_if_grows h.init) (λ _. folding_grows _ _ section_grows)))
+
   pub file_grows : (end : ℕ) → Grows (grammar.file_over E V end) (grammar.file_over F V end)
   unfolding grammar.file_over
-  file_grows end = then_grows (folding_grows _ _ section_grows) (λ _. skip _ (λ _. folding_grows _ _ section_grows))
+  file_grows end = then_grows (items_grows _) (λ f. skip _ (λ _. items_grows f))

@@ -3,7 +3,7 @@ use Rattle.std.proofs.Common.{◌≡◌, ℕ, false, List, [], ◌∷◌, ◌++�
 use Rattle.std.specs.Prelude.{if◌then◌else◌}
 use Rattle.std.proofs.lemmas.List.Elements.{All-contains, All-from_recursion, Contains-append_left}
 use Rattle.bridge_io.specs.declared.reason.Reason.{Reason}
-use Rattle.bridge_io.specs.declared.reason.Reason.TheVariants.{OtherKind, LeftOut, InitialSet}
+use Rattle.bridge_io.specs.declared.reason.Reason.TheVariants.{OtherKind, LeftOut}
 use Rattle.bridge_io.specs.declared.reason.Fault.{Fault}
 use Rattle.prism_lex.specs.declared.token.TokenKind.{TokenKind}
 use Rattle.prism_lex.specs.declared.token.TokenKind.TheVariants as K
@@ -11,8 +11,8 @@ use Rattle.prism_lex.specs.Tokens.{Lexeme}
 use Rattle.prism_lex.specs.Laws.{OneList, OneFaults}
 use Rattle.prism_tree.specs.Syntax.{File}
 use Rattle.prism_tree.specs.Grammar.{expr, int_too}
-use Rattle.prism_tree.specs.Faults.{outer, file, file_within, IsSound, kind_words, left_out_words, WouldBegin, another_kind, an_initial_set, a_left_out_form, an_unbounded_variable, a_left_out_function, IsReason, too_deep, not_read, no_form, IsGrammarFault, at_token, at_end, of_tokens, of_grammar, none}
-use Rattle.prism_parse.specs.Reasons.{is_kind_word, is_init}
+use Rattle.prism_tree.specs.Faults.{outer, file, file_within, IsSound, kind_words, left_out_words, WouldBegin, another_kind, a_left_out_form, an_unbounded_variable, a_left_out_function, IsReason, too_deep, not_read, no_form, IsGrammarFault, at_token, at_end, of_tokens, of_grammar, none}
+use Rattle.prism_parse.specs.Reasons.{is_kind_word}
 use Rattle.prism_parse.specs.Laws.{OneSyntax}
 use Rattle.prism_parse.proofs.Grows.{Grows, file_grows}
 
@@ -20,13 +20,12 @@ use Rattle.prism_parse.proofs.Grows.{Grows, file_grows}
 
 -- what a token would begin, if it begins anything that is told of
 abbrev begun_reason : TokenKind → Reason
-begun_reason (K.Word w) = if is_kind_word w then OtherKind else if is_init w then InitialSet else LeftOut
+begun_reason (K.Word w) = if is_kind_word w then OtherKind else LeftOut
 begun_reason k = LeftOut
 
 begun : (end : ℕ) (us : List Lexeme) (t : Lexeme) (r : Reason) → WouldBegin end us t r → r ≡ begun_reason t.kind
 begun end us t r (another_kind c i) =
     All-contains (λ k. OtherKind ≡ begun_reason k) kind_words t.kind (All-from_recursion (λ k. OtherKind ≡ begun_reason k) kind_words (refl, (refl, (refl, (refl, (refl, (refl, (refl, tt)))))))) c
-begun end us t r (an_initial_set e i) = ap begun_reason (sym e)
 begun end us t r (a_left_out_form c) =
     All-contains (λ k. LeftOut ≡ begun_reason k) left_out_words t.kind (All-from_recursion (λ k. LeftOut ≡ begun_reason k) left_out_words (refl, (refl, (refl, (refl, (refl, (refl, (refl, tt)))))))) c
 begun end us t r (an_unbounded_variable e b) = ap begun_reason (sym e)

@@ -8,7 +8,7 @@ use Rattle.std.specs.Str.{bytes_eq}
 use Rattle.std.proofs.lemmas.Bool.{and_parts, or_cases}
 use Rattle.basics.specs.Texts.{bytes_eq-true}
 use Rattle.bridge_io.specs.declared.reason.Reason.{Reason}
-use Rattle.bridge_io.specs.declared.reason.Reason.TheVariants.{Syntax, OtherKind, LeftOut, InitialSet}
+use Rattle.bridge_io.specs.declared.reason.Reason.TheVariants.{Syntax, OtherKind, LeftOut}
 use Rattle.prism_lex.specs.declared.token.TokenKind.{TokenKind}
 use Rattle.prism_lex.specs.declared.token.TokenKind.TheVariants as K
 use Rattle.prism_lex.specs.declared.words.Reserved.{Reserved}
@@ -17,10 +17,10 @@ use Rattle.prism_lex.specs.declared.symbols.Symbol.{Symbol as PrismSymbol}
 use Rattle.prism_lex.specs.declared.symbols.Symbol.TheVariants as S
 use Rattle.prism_lex.specs.Tokens.{Lexeme}
 use Rattle.prism_tree.specs.Lang.{Begins}
-use Rattle.prism_tree.specs.Faults.{file, unbounded_file, ItemCanStand, kind_words, left_out_words, left_out_functions, WouldBegin, another_kind, an_initial_set, a_left_out_form, an_unbounded_variable, a_left_out_function, IsReason, too_deep, not_read, no_form}
+use Rattle.prism_tree.specs.Faults.{file, unbounded_file, ItemCanStand, kind_words, left_out_words, left_out_functions, WouldBegin, another_kind, a_left_out_form, an_unbounded_variable, a_left_out_function, IsReason, too_deep, not_read, no_form}
 use Rattle.prism_exprs.specs.declared.tokens.Cause.{Cause}
 use Rattle.prism_exprs.specs.declared.tokens.Cause.TheVariants as C
-use Rattle.prism_parse.specs.Reasons.{is_kind_word, is_left_out, is_init, is_int, left_out_reason, word_reason, is_open, form_reason, unless_deep, is_left_out_text, is_ident, is_left_out_name, ends_with}
+use Rattle.prism_parse.specs.Reasons.{is_kind_word, is_left_out, is_int, left_out_reason, word_reason, is_open, form_reason, unless_deep, is_left_out_text, is_ident, is_left_out_name, ends_with}
 
 -- ---- lists and tests
 
@@ -57,10 +57,6 @@ left_out_contains W.Observables e = (4, omega arith, refl)
 left_out_contains W.Nondeterministic e = (5, omega arith, refl)
 left_out_contains W.Func e = (6, omega arith, refl)
 left_out_contains w e = absurd cc
-
-init_same : (w : Reserved) → is_init w ≡ true → w ≡ W.Init
-init_same W.Init e = refl
-init_same w e = absurd cc
 
 int_same : (w : Reserved) → is_int w ≡ true → w ≡ W.Int
 int_same W.Int e = refl
@@ -123,21 +119,17 @@ pub record IsTold (end : ℕ) (us : List Lexeme) (t : Lexeme) (c : Cause) : Type
 
 module _ (end : ℕ) (us : List Lexeme) (t : Lexeme) where
   -- nothing that is told of begins with this word
-  no_word : (w : Reserved) → t.kind ≡ K.Word w → (is_kind_word w ≡ true → ItemCanStand end us → ⊥) → (is_init w ≡ true → ItemCanStand end us → ⊥)
-      → (is_left_out w ≡ true → ⊥) → (is_int w ≡ true → Unbounded end us t → ⊥) → (r : Reason) → WouldBegin end us t r → ⊥
-  no_word w h kind init out int r (another_kind c i) = kind (word_contained is_kind_word kind_words t.kind w refl h c) i
-  no_word w h kind init out int r (an_initial_set e i) =
-      let f : K.Word W.Init ≡ K.Word w = sym e ∙ h in let g : W.Init ≡ w = cc in init (ap is_init (sym g)) i
-  no_word w h kind init out int r (a_left_out_form c) = out (word_contained is_left_out left_out_words t.kind w refl h c)
-  no_word w h kind init out int r (an_unbounded_variable e b) =
+  no_word : (w : Reserved) → t.kind ≡ K.Word w → (is_kind_word w ≡ true → ItemCanStand end us → ⊥) → (is_left_out w ≡ true → ⊥) → (is_int w ≡ true → Unbounded end us t → ⊥) → (r : Reason) → WouldBegin end us t r → ⊥
+  no_word w h kind out int r (another_kind c i) = kind (word_contained is_kind_word kind_words t.kind w refl h c) i
+  no_word w h kind out int r (a_left_out_form c) = out (word_contained is_left_out left_out_words t.kind w refl h c)
+  no_word w h kind out int r (an_unbounded_variable e b) =
       let f : K.Word W.Int ≡ K.Word w = sym e ∙ h in let g : W.Int ≡ w = cc in int (ap is_int (sym g)) b
-  no_word w h kind init out int r (a_left_out_function e a s p i c) = let f : K.Word w ≡ K.Symbol S.LeftParenthesis = sym h ∙ e in absurd cc
+  no_word w h kind out int r (a_left_out_function e a s p i c) = let f : K.Word w ≡ K.Symbol S.LeftParenthesis = sym h ∙ e in absurd cc
 
   -- and none with another token, unless it calls a function that is left out
   no_other : of_word is_kind_word t.kind ≡ false → of_word is_left_out t.kind ≡ false → ((w : Reserved) → t.kind ≡ K.Word w → ⊥)
       → (t.kind ≡ K.Symbol S.LeftParenthesis → ends_with is_left_out_name us ≡ true → ⊥) → (r : Reason) → WouldBegin end us t r → ⊥
   no_other kind out word call r (another_kind c i) = no_word_contained is_kind_word kind_words t.kind refl kind c
-  no_other kind out word call r (an_initial_set e i) = word W.Init e
   no_other kind out word call r (a_left_out_form c) = no_word_contained is_left_out left_out_words t.kind refl out c
   no_other kind out word call r (an_unbounded_variable e b) = word W.Int e
   no_other kind out word call r (a_left_out_function e a s p i c) =
@@ -146,29 +138,25 @@ module _ (end : ℕ) (us : List Lexeme) (t : Lexeme) where
   at_word : (ks : List TokenKind) (w : Reserved) → t.kind ≡ K.Word w → Contains ks (K.Word w) → Contains ks t.kind
   at_word ks w h c = let F : TokenKind → Type 0 = λ k. Contains ks k in subst F (sym h) c
 
-  left_is : (w : Reserved) → t.kind ≡ K.Word w → (Goes end us t → ⊥) → (is_kind_word w ≡ true → ItemCanStand end us → ⊥) → (is_init w ≡ true → ItemCanStand end us → ⊥)
+  left_is : (w : Reserved) → t.kind ≡ K.Word w → (Goes end us t → ⊥) → (is_kind_word w ≡ true → ItemCanStand end us → ⊥)
       → (is_int w ≡ true → Unbounded end us t → ⊥) → (b : Bool) → is_left_out w ≡ b → IsReason end us t (left_out_reason b)
-  left_is w h dead kind init int true e = not_read LeftOut dead (a_left_out_form (at_word left_out_words w h (left_out_contains w e)))
-  left_is w h dead kind init int false e = no_form dead (no_word w h kind init (λ f. absurd cc) int)
+  left_is w h dead kind int true e = not_read LeftOut dead (a_left_out_form (at_word left_out_words w h (left_out_contains w e)))
+  left_is w h dead kind int false e = no_form dead (no_word w h kind (λ f. absurd cc) int)
 
   word_is : (c : Cause) (w : Reserved) → t.kind ≡ K.Word w → IsTold end us t c → (c ≡ C.Deep → ⊥) → IsReason end us t (word_reason c w)
   word_is C.Deep w h told shallow = absurd (shallow refl)
   word_is C.Form w h told shallow =
-      left_is w h (told.dead shallow) (λ k. told.none (λ e. cc)) (λ k. told.none (λ e. cc)) (λ k. told.bounded shallow (λ e. cc)) (is_left_out w) refl
+      left_is w h (told.dead shallow) (λ k. told.none (λ e. cc)) (λ k. told.bounded shallow (λ e. cc)) (is_left_out w) refl
   word_is C.Type w h told shallow = by_int (is_int w) refl
     where
       by_int : (b : Bool) → is_int w ≡ b → IsReason end us t (if b then LeftOut else left_out_reason (is_left_out w))
       by_int true e = not_read LeftOut (told.dead shallow) (an_unbounded_variable (h ∙ ap K.Word (int_same w e)) (told.type refl))
-      by_int false e = left_is w h (told.dead shallow) (λ k. told.none (λ f. cc)) (λ k. told.none (λ f. cc)) (λ k. absurd cc) (is_left_out w) refl
+      by_int false e = left_is w h (told.dead shallow) (λ k. told.none (λ f. cc)) (λ k. absurd cc) (is_left_out w) refl
   word_is C.Item w h told shallow = by_kind (is_kind_word w) refl
     where
-      by_init : is_kind_word w ≡ false → (b : Bool) → is_init w ≡ b → IsReason end us t (if b then InitialSet else left_out_reason (is_left_out w))
-      by_init k true e = not_read InitialSet (told.dead shallow) (an_initial_set (h ∙ ap K.Word (init_same w e)) (told.item refl))
-      by_init k false e = left_is w h (told.dead shallow) (λ f. absurd cc) (λ f. absurd cc) (λ f. told.bounded shallow (λ g. cc)) (is_left_out w) refl
-
-      by_kind : (b : Bool) → is_kind_word w ≡ b → IsReason end us t (if b then OtherKind else if is_init w then InitialSet else left_out_reason (is_left_out w))
+      by_kind : (b : Bool) → is_kind_word w ≡ b → IsReason end us t (if b then OtherKind else left_out_reason (is_left_out w))
       by_kind true e = not_read OtherKind (told.dead shallow) (another_kind (at_word kind_words w h (kind_word_contains w e)) (told.item refl))
-      by_kind false e = by_init e (is_init w) refl
+      by_kind false e = left_is w h (told.dead shallow) (λ f. absurd cc) (λ f. told.bounded shallow (λ g. cc)) (is_left_out w) refl
 
   symbol_is : (s : PrismSymbol) → t.kind ≡ K.Symbol s → (Goes end us t → ⊥) → (b : Bool) → (is_open s && ends_with is_left_out_name us) ≡ b → IsReason end us t (left_out_reason b)
   symbol_is s h dead true e =

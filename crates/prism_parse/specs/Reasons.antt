@@ -2,7 +2,7 @@
 use Rattle.std.specs.Prelude.{Bool, true, false, ◌&&◌, ◌||◌, List, [], ◌∷◌, ℕ, codes, if◌then◌else◌}
 use Rattle.std.specs.Str.{bytes_eq}
 use Rattle.bridge_io.specs.declared.reason.Reason.{Reason}
-use Rattle.bridge_io.specs.declared.reason.Reason.TheVariants.{Syntax, TooDeep, OtherKind, LeftOut, InitialSet}
+use Rattle.bridge_io.specs.declared.reason.Reason.TheVariants.{Syntax, TooDeep, OtherKind, LeftOut}
 use Rattle.prism_lex.specs.declared.token.TokenKind.{TokenKind}
 use Rattle.prism_lex.specs.declared.token.TokenKind.TheVariants as K
 use Rattle.prism_lex.specs.declared.words.Reserved.{Reserved}
@@ -37,10 +37,6 @@ is_left_out W.Nondeterministic = true
 is_left_out W.Func = true
 is_left_out w = false
 
-abbrev pub is_init : Reserved → Bool
-is_init W.Init = true
-is_init w = false
-
 abbrev pub is_int : Reserved → Bool
 is_int W.Int = true
 is_int w = false
@@ -50,7 +46,7 @@ left_out_reason out = if out then LeftOut else Syntax
 
 -- the reason of a word
 abbrev pub word_reason : Cause → Reserved → Reason
-word_reason C.Item w = if is_kind_word w then OtherKind else if is_init w then InitialSet else left_out_reason (is_left_out w)
+word_reason C.Item w = if is_kind_word w then OtherKind else left_out_reason (is_left_out w)
 word_reason C.Type w = if is_int w then LeftOut else left_out_reason (is_left_out w)
 word_reason c w = left_out_reason (is_left_out w)
 

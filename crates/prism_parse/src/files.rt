@@ -17,8 +17,8 @@ use std::alloc::{AllocError, Global};
 /// An `Err` is want of memory, or the least fault of the bytes. A fault of their tokens comes before any of the grammar: `TooLong`,
 /// `BadByte` or `BadNumber` as `next_token` tells it. A fault of the grammar stands at the first token behind which no file goes on, or
 /// at the end; or at the first token that is number 1,025 of an expression that stands inside no other, for the reason `TooDeep`. In the
-/// first case the reason is `OtherKind` where a word of another kind of models stands in the place of an item, `InitialSet` where `init`
-/// does, `LeftOut` where a form begins that is left out, and else `Syntax`.
+/// first case the reason is `OtherKind` where a word of another kind of models stands in the place of an item, `LeftOut` where a form
+/// begins that is left out, and else `Syntax`.
 pub fn parse(alloc: Global, bytes: &[u8]) -> Result<PrismFile, Refused>
     ensures ok { IfOk result (λ f. IsSpelled bytes.now (file_of f)) }
     ensures err { IfErr result (Refuses bytes.now) }

@@ -48,7 +48,6 @@ fn word_reason(cause: Cause, word: Reserved) -> Reason
 {
     match cause {
         Cause::Item if is_kind_word(word) => Reason::OtherKind,
-        Cause::Item if word == Reserved::Init => Reason::InitialSet,
         Cause::Type if word == Reserved::Int => Reason::LeftOut,
         _ if is_left_out(word) => Reason::LeftOut,
         _ => Reason::Syntax,

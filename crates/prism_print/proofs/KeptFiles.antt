@@ -10,8 +10,8 @@ use Rattle.prism_lex.proofs.Worth.{worth_normal, worth_unsigned}
 use Rattle.prism_tree.specs.declared.syntax.ItemOn.TheVariants.{InState}
 use Rattle.op_trees.specs.Tree.{Truth}
 use Rattle.prism_tree.specs.Syntax.{Expression, Write, Branch, File, moved}
-use Rattle.prism_tree.specs.Lang.{Lang, token, ◌>>◌, with_last, front}
-use Rattle.prism_tree.specs.Grammar.{name, named, unquoted, quoted, expr, const_type, const_item, range, var, global_item, formula_item, label_item, write, update, weighted, updates, one_branch, command, body, pair, copy, module_item, on_action, reward, rewards_item, Section, a_const, a_global, a_formula, a_module, a_label, a_rewards, empty, with_section, section, file_over}
+use Rattle.prism_tree.specs.Lang.{Lang, token, ◌>>◌, folding, with_last, front}
+use Rattle.prism_tree.specs.Grammar.{name, named, unquoted, quoted, expr, const_type, const_item, range, var, global_item, formula_item, label_item, write, update, weighted, updates, one_branch, command, body, pair, copy, module_item, on_action, reward, rewards_item, Section, a_const, a_global, a_formula, a_module, a_label, a_rewards, empty, with_section, section, init_item, init_if, with_init, items, file_over}
 use Rattle.prism_tree.specs.Laws.{but_last_is}
 use Rattle.std.specs.List.{AllByRecursion as Each}
 use Rattle.basics.specs.Options.{IfAny}
@@ -210,21 +210,34 @@ section_keeps =
     (or_keeps (then_keeps module_keeps (λ x p. gives_keeps (a_module x) p)) (or_keeps (then_keeps label_keeps (λ x p. gives_keeps (a_label x) p)) (then_keeps rewards_keeps (λ x p. gives_keeps (a_rewards x) p))))))
 
 with_printable : (f : File) (s : Section) → IsPrintable f → IsPrintableSection s → IsPrintable (with_section f s)
-with_printable f (a_const x) p q = record { constants = each_last IsPrintableConst f.constants x p.constants q; globals = p.globals; formulas = p.formulas; modules = p.modules; labels = p.labels; rewards = p.rewards }
-with_printable f (a_global x) p q = record { constants = p.constants; globals = each_last IsPrintableVar f.globals x p.globals q; formulas = p.formulas; modules = p.modules; labels = p.labels; rewards = p.rewards }
-with_printable f (a_formula x) p q = record { constants = p.constants; globals = p.globals; formulas = each_last IsPrintableFormula f.formulas x p.formulas q; modules = p.modules; labels = p.labels; rewards = p.rewards }
-with_printable f (a_module x) p q = record { constants = p.constants; globals = p.globals; formulas = p.formulas; modules = each_last IsPrintableModule f.modules x p.modules q; labels = p.labels; rewards = p.rewards }
-with_printable f (a_label x) p q = record { constants = p.constants; globals = p.globals; formulas = p.formulas; modules = p.modules; labels = each_last IsPrintableLabel f.labels x p.labels q; rewards = p.rewards }
-with_printable f (a_rewards x) p q = record { constants = p.constants; globals = p.globals; formulas = p.formulas; modules = p.modules; labels = p.labels; rewards = each_last IsPrintableRewards f.rewards x p.rewards q }
+with_printable f (a_const x) p q = record { constants = each_last IsPrintableConst f.constants x p.constants q; globals = p.globals; formulas = p.formulas; modules = p.modules; labels = p.labels; rewards = p.rewards; init = p.init }
+with_printable f (a_global x) p q = record { constants = p.constants; globals = each_last IsPrintableVar f.globals x p.globals q; formulas = p.formulas; modules = p.modules; labels = p.labels; rewards = p.rewards; init = p.init }
+with_printable f (a_formula x) p q = record { constants = p.constants; globals = p.globals; formulas = each_last IsPrintableFormula f.formulas x p.formulas q; modules = p.modules; labels = p.labels; rewards = p.rewards; init = p.init }
+with_printable f (a_module x) p q = record { constants = p.constants; globals = p.globals; formulas = p.formulas; modules = each_last IsPrintableModule f.modules x p.modules q; labels = p.labels; rewards = p.rewards; init = p.init }
+with_printable f (a_label x) p q = record { constants = p.constants; globals = p.globals; formulas = p.formulas; modules = p.modules; labels = each_last IsPrintableLabel f.labels x p.labels q; rewards = p.rewards; init = p.init }
+with_printable f (a_rewards x) p q = record { constants = p.constants; globals = p.globals; formulas = p.formulas; modules = p.modules; labels = p.labels; rewards = each_last IsPrintableRewards f.rewards x p.rewards q; init = p.init }
+
+init_with_printable : (f : File) (e : Expression) → IsPrintable f → IsPrintableExpression e → IsPrintable (with_init f e)
+init_with_printable f e p q = record { constants = p.constants; globals = p.globals; formulas = p.formulas; modules = p.modules; labels = p.labels; rewards = p.rewards; init = q }
+
+sections_keep : (f : File) → IsPrintable f → Keeps IsLexeme (folding with_section (section expr V) f) IsPrintable
+sections_keep f p = folding_keeps (section expr V) IsPrintable with_section f section_keeps p with_printable
+
+init_keeps : (o : Option Expression) → Keeps IsLexeme (init_if expr V o) IsPrintableExpression
+unfolding init_item
+init_keeps None = word_then (K.Word W.Init) (then_keeps printed_keeps (λ e p. word_then (K.Word W.Endinit) (gives_keeps e p)))
+init_keeps (Some e) = never_keeps
+
+items_keep : (f : File) → IsPrintable f → Keeps IsLexeme (items expr V f) IsPrintable
+unfolding items
+items_keep f p = then_keeps (sections_keep f p) (λ g q. or_keeps (gives_keeps g q) (then_keeps (init_keeps g.init) (λ e r. sections_keep (with_init g e) (init_with_printable g e q r))))
 
 file_keeps : (end : ℕ) → Keeps IsLexeme (file_over expr V end) IsPrintable
 unfolding file_over
-file_keeps end =
-    then_keeps (folding_keeps (section expr V) IsPrintable with_section (empty end) section_keeps none with_printable) (λ f p.
-    word_then (K.Word W.Mdp) (folding_keeps (section expr V) IsPrintable with_section f section_keeps p with_printable))
+file_keeps end = then_keeps (items_keep (empty end) none) (λ f p. word_then (K.Word W.Mdp) (items_keep f p))
   where
     none : IsPrintable (empty end)
-    none = record { constants = tt; globals = tt; formulas = tt; modules = tt; labels = tt; rewards = tt }
+    none = record { constants = tt; globals = tt; formulas = tt; modules = tt; labels = tt; rewards = tt; init = tt }
 
 pub spelled_printable : SpelledIsPrintable
 spelled_printable bytes f s = (file_keeps (length bytes)).keeps s.tokens f (token_lexemes bytes s.tokens s.are_tokens) s.spelled

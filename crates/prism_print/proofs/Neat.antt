@@ -229,6 +229,7 @@ word_kind W.True h = refl
 word_kind W.Label h = refl
 word_kind W.Rewards h = refl
 word_kind W.Endrewards h = refl
+word_kind W.Endinit h = refl
 word_kind r h = absurd cc
 
 word_accepted : (r : Reserved) → has_text (word_text r) ≡ true → accepts (after Start (word_text r)) ≡ true
@@ -244,6 +245,7 @@ word_accepted W.True h = refl
 word_accepted W.Label h = refl
 word_accepted W.Rewards h = refl
 word_accepted W.Endrewards h = refl
+word_accepted W.Endinit h = refl
 word_accepted r h = absurd cc
 
 type_kind : (t : Ty) → IsKind (type_text t) (K.Word (type_word t))

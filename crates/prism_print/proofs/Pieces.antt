@@ -151,6 +151,7 @@ word_text W.True = codes "true"
 word_text W.Label = codes "label"
 word_text W.Rewards = codes "rewards"
 word_text W.Endrewards = codes "endrewards"
+word_text W.Endinit = codes "endinit"
 word_text r = []
 
 abbrev pub type_word : Ty → Reserved

@@ -17,8 +17,8 @@ use Rattle.prism_tree.specs.declared.syntax.NamePair.{NamePair}
 use Rattle.prism_tree.specs.declared.syntax.ItemOn.{ItemOn}
 use Rattle.prism_tree.specs.declared.syntax.ItemOn.TheVariants.{InState, Silent, Action}
 use Rattle.prism_tree.specs.Syntax.{Expression, Const, Range, Var, Formula, Label, Write, Branch, Command, Body, Module, plain, copied, Item, Rewards, File}
-use Rattle.prism_tree.specs.Lang.{Lang, gives, ◌>>=◌, ◌>>◌, ◌or◌, optional, many, fold_left, with_last, front}
-use Rattle.prism_tree.specs.Grammar.{name, named, unquoted, quoted, expr, int_too, const_type, const_item, range, var, global_item, formula_item, label_item, write, update, weighted, updates, one_branch, command, body, pair, copy, module_item, on_action, reward, rewards_item, Section, a_const, a_global, a_formula, a_module, a_label, a_rewards, empty, with_section, section, file_over, word, symbol}
+use Rattle.prism_tree.specs.Lang.{Lang, gives, ◌>>=◌, ◌>>◌, ◌or◌, optional, many, folding, fold_left, with_last, front}
+use Rattle.prism_tree.specs.Grammar.{name, named, unquoted, quoted, expr, int_too, const_type, const_item, range, var, global_item, formula_item, label_item, write, update, weighted, updates, one_branch, command, body, pair, copy, module_item, on_action, reward, rewards_item, Section, a_const, a_global, a_formula, a_module, a_label, a_rewards, empty, with_section, section, init_item, init_if, with_init, items, file_over, word, symbol}
 use Rattle.prism_tree.specs.Laws.{but_last_is, fold_last}
 use Rattle.prism_print.specs.Text.{type_text, listed}
 use Rattle.std.specs.List.{AllByRecursion as Each}
@@ -29,7 +29,7 @@ use Rattle.prism_print.specs.Same.{bare_const, bare_range, bare_var, bare_formul
 use Rattle.prism_print.proofs.Pieces.{Piece, printed, blank, mark, pieces, Element, type_word, quoted_text, flat, flat_append}
 use Rattle.prism_print.proofs.Spelling.{Writes, then_writes, none_writes, token_writes, blank_writes, gives_writes, left_writes, right_writes, weaken, made_writes, many_none, many_one, many_both, folding_writes}
 use Rattle.prism_print.proofs.SpelledTrees.{Same, expr_writes}
-use Rattle.prism_print.proofs.Templates.{line, indent, line_end, const_with, const_parts, var_with, var_parts, formula_parts, label_parts, write_parts, and_between, update_parts, weight_with, branch_parts, plus_between, branches_parts, command_parts, before_parts, end_parts, commands_parts, vars_parts, pair_parts, comma_between, copy_end, module_parts, on_parts, reward_parts, item_parts, rewards_end, items_parts, title_with, rewards_parts, global_lead, constants_parts, globals_parts, formulas_parts, modules_parts, labels_parts, structures_parts, file_parts}
+use Rattle.prism_print.proofs.Templates.{line, indent, line_end, const_with, const_parts, var_with, var_parts, formula_parts, label_parts, write_parts, and_between, update_parts, weight_with, branch_parts, plus_between, branches_parts, command_parts, before_parts, end_parts, commands_parts, vars_parts, pair_parts, comma_between, copy_end, module_parts, on_parts, reward_parts, item_parts, rewards_end, items_parts, title_with, rewards_parts, global_lead, constants_parts, globals_parts, formulas_parts, modules_parts, labels_parts, structures_parts, init_parts, groups_parts, file_parts}
 
 abbrev pub V : Lang (Option Range)
 V = int_too false
@@ -498,12 +498,12 @@ sections_writes f p =
 -- ---- what sections make
 
 bare_with : (f : File) (s : Section) → bare_file (with_section f s) ≡ with_section (bare_file f) (bare_section s)
-bare_with f (a_const c) = ap (λ (u : List Const). record { constants = u; globals = map bare_var f.globals; formulas = map bare_formula f.formulas; modules = map bare_module f.modules; labels = map bare_label f.labels; rewards = map bare_rewards f.rewards; end = 0 }) (map-append bare_const f.constants (c ∷ []))
-bare_with f (a_global v) = ap (λ (u : List Var). record { constants = map bare_const f.constants; globals = u; formulas = map bare_formula f.formulas; modules = map bare_module f.modules; labels = map bare_label f.labels; rewards = map bare_rewards f.rewards; end = 0 }) (map-append bare_var f.globals (v ∷ []))
-bare_with f (a_formula x) = ap (λ (u : List Formula). record { constants = map bare_const f.constants; globals = map bare_var f.globals; formulas = u; modules = map bare_module f.modules; labels = map bare_label f.labels; rewards = map bare_rewards f.rewards; end = 0 }) (map-append bare_formula f.formulas (x ∷ []))
-bare_with f (a_module m) = ap (λ (u : List Module). record { constants = map bare_const f.constants; globals = map bare_var f.globals; formulas = map bare_formula f.formulas; modules = u; labels = map bare_label f.labels; rewards = map bare_rewards f.rewards; end = 0 }) (map-append bare_module f.modules (m ∷ []))
-bare_with f (a_label l) = ap (λ (u : List Label). record { constants = map bare_const f.constants; globals = map bare_var f.globals; formulas = map bare_formula f.formulas; modules = map bare_module f.modules; labels = u; rewards = map bare_rewards f.rewards; end = 0 }) (map-append bare_label f.labels (l ∷ []))
-bare_with f (a_rewards r) = ap (λ (u : List Rewards). record { constants = map bare_const f.constants; globals = map bare_var f.globals; formulas = map bare_formula f.formulas; modules = map bare_module f.modules; labels = map bare_label f.labels; rewards = u; end = 0 }) (map-append bare_rewards f.rewards (r ∷ []))
+bare_with f (a_const c) = ap (λ (u : List Const). record { constants = u; globals = map bare_var f.globals; formulas = map bare_formula f.formulas; modules = map bare_module f.modules; labels = map bare_label f.labels; rewards = map bare_rewards f.rewards; init = option_map bare f.init; end = 0 }) (map-append bare_const f.constants (c ∷ []))
+bare_with f (a_global v) = ap (λ (u : List Var). record { constants = map bare_const f.constants; globals = u; formulas = map bare_formula f.formulas; modules = map bare_module f.modules; labels = map bare_label f.labels; rewards = map bare_rewards f.rewards; init = option_map bare f.init; end = 0 }) (map-append bare_var f.globals (v ∷ []))
+bare_with f (a_formula x) = ap (λ (u : List Formula). record { constants = map bare_const f.constants; globals = map bare_var f.globals; formulas = u; modules = map bare_module f.modules; labels = map bare_label f.labels; rewards = map bare_rewards f.rewards; init = option_map bare f.init; end = 0 }) (map-append bare_formula f.formulas (x ∷ []))
+bare_with f (a_module m) = ap (λ (u : List Module). record { constants = map bare_const f.constants; globals = map bare_var f.globals; formulas = map bare_formula f.formulas; modules = u; labels = map bare_label f.labels; rewards = map bare_rewards f.rewards; init = option_map bare f.init; end = 0 }) (map-append bare_module f.modules (m ∷ []))
+bare_with f (a_label l) = ap (λ (u : List Label). record { constants = map bare_const f.constants; globals = map bare_var f.globals; formulas = map bare_formula f.formulas; modules = map bare_module f.modules; labels = u; rewards = map bare_rewards f.rewards; init = option_map bare f.init; end = 0 }) (map-append bare_label f.labels (l ∷ []))
+bare_with f (a_rewards r) = ap (λ (u : List Rewards). record { constants = map bare_const f.constants; globals = map bare_var f.globals; formulas = map bare_formula f.formulas; modules = map bare_module f.modules; labels = map bare_label f.labels; rewards = u; init = option_map bare f.init; end = 0 }) (map-append bare_rewards f.rewards (r ∷ []))
 
 bare_fold : (f : File) (ss : List Section) → bare_file (fold_left with_section f ss) ≡ fold_left with_section (bare_file f) (map bare_section ss)
 bare_fold f [] = refl
@@ -514,7 +514,7 @@ fold_append f s [] ys = refl
 fold_append f s (x ∷ xs) ys = fold_append f (f s x) xs ys
 
 abbrev made : List Const → List Var → List Formula → List Module → List Label → List Rewards → File
-made cs gs fs ms ls rs = record { constants = cs; globals = gs; formulas = fs; modules = ms; labels = ls; rewards = rs; end = 0 }
+made cs gs fs ms ls rs = record { constants = cs; globals = gs; formulas = fs; modules = ms; labels = ls; rewards = rs; init = None; end = 0 }
 
 fold_consts : (cs xs : List Const) (gs : List Var) (fs : List Formula) (ms : List Module) (ls : List Label) (rs : List Rewards) → fold_left with_section (made cs gs fs ms ls rs) (map const_of xs) ≡ made (cs ++ map bare_const xs) gs fs ms ls rs
 fold_consts cs [] gs fs ms ls rs = ap (λ (u : List Const). made u gs fs ms ls rs) (sym (append-nil cs))
@@ -540,8 +540,12 @@ fold_rewards : (cs : List Const) (gs : List Var) (fs : List Formula) (ms : List 
 fold_rewards cs gs fs ms ls rs [] = ap (λ (u : List Rewards). made cs gs fs ms ls u) (sym (append-nil rs))
 fold_rewards cs gs fs ms ls rs (x ∷ xs) = fold_rewards cs gs fs ms ls (rs ++ bare_rewards x ∷ []) xs ∙ ap (λ (u : List Rewards). made cs gs fs ms ls u) (append_snoc rs (bare_rewards x) (map bare_rewards xs))
 
--- The sections of a file make it.
-fold_sections : (f : File) → fold_left with_section (empty 0) (sections_of f) ≡ bare_file f
+-- the file without its initial condition
+abbrev without_init : File → File
+without_init f = made (map bare_const f.constants) (map bare_var f.globals) (map bare_formula f.formulas) (map bare_module f.modules) (map bare_label f.labels) (map bare_rewards f.rewards)
+
+-- The sections of a file make it, but for that.
+fold_sections : (f : File) → fold_left with_section (empty 0) (sections_of f) ≡ without_init f
 fold_sections f =
     let cs = map bare_const f.constants in
     let gs = map bare_var f.globals in
@@ -558,11 +562,61 @@ fold_sections f =
     then : {h : File} (e : File) (xs ys : List Section) → (r : File) → fold_left with_section e xs ≡ r → fold_left with_section r ys ≡ h → fold_left with_section e (xs ++ ys) ≡ h
     then e xs ys r p q = fold_append with_section e xs ys ∙ ap (λ (u : File). fold_left with_section u ys) p ∙ q
 
+-- a file with this initial condition, or none
+abbrev under : Option Expression → File → File
+under o g = record { constants = g.constants; globals = g.globals; formulas = g.formulas; modules = g.modules; labels = g.labels; rewards = g.rewards; init = o; end = g.end }
+
+bare_none : (o : Option Expression) → option_map bare o ≡ None → o ≡ None
+bare_none None e = refl
+bare_none (Some a) e = absurd cc
+
 -- ---- files
+
+condition_writes : (a : Expression) → IsPrintableExpression a → Writes (init_item expr V) (Same a) (flat (init_parts (Some a)))
+unfolding init_item
+condition_writes a p =
+    blank_writes _ (token_writes (K.Word W.Init) _ (λ _ _. blank_writes _ (then_writes (expr_writes a p) (λ e h. blank_writes _ (token_writes (K.Word W.Endinit) _ (λ _ _. blank_writes _ (gives_writes e h)))))))
+
+-- what stands behind the sections
+init_writes : (f g : File) (o : Option Expression) → bare_file g ≡ without_init f → IfAny IsPrintableExpression o →
+    Writes (gives g or (init_if expr V g.init >>= λ e. folding with_section Sections (with_init g e))) (λ y. bare_file y ≡ under (option_map bare o) (without_init f)) (flat (init_parts o))
+init_writes f g None e p = left_writes _ (gives_writes g e)
+init_writes f g (Some a) e p = right_writes _ (by_init g.init (bare_none g.init (ap (λ (u : File). u.init) e)))
+  where
+    last : (x : Expression) → Same a x → Writes (folding with_section Sections (with_init g x)) (λ y. bare_file y ≡ under (Some (bare a)) (without_init f)) []
+    last x h =
+        folding_writes Sections with_section (with_init g x) (many_none Sections {P = λ xs. xs ≡ []} refl) (λ xs q.
+        ap (λ (u : List Section). bare_file (fold_left with_section (with_init g x) u)) q ∙ ap (λ (u : Expression). under (Some u) (bare_file g)) h ∙ ap (under (Some (bare a))) e)
+
+    by_init : (o : Option Expression) → o ≡ None →
+        Writes (init_if expr V o >>= λ x. folding with_section Sections (with_init g x)) (λ y. bare_file y ≡ under (Some (bare a)) (without_init f)) (flat (init_parts (Some a)))
+    by_init (Some x) h = absurd cc
+    by_init None h =
+        let F : List Piece → Type 0 = λ u. Writes (init_item expr V >>= λ x. folding with_section Sections (with_init g x)) (λ y. bare_file y ≡ under (Some (bare a)) (without_init f)) u in
+        subst F (append-nil (flat (init_parts (Some a)))) (then_writes (condition_writes a p) last)
+
+abbrev sections_parts : File → List Element
+sections_parts f = constants_parts f ++ (globals_parts f ++ (formulas_parts f ++ (modules_parts f ++ (labels_parts f ++ structures_parts f))))
+
+regrouped : (a b c d e g js : List Element) → a ++ (b ++ (c ++ (d ++ (e ++ (g ++ js))))) ≡ (a ++ (b ++ (c ++ (d ++ (e ++ g))))) ++ js
+regrouped a b c d e g js = simp append_assoc
+
+groups_flat : (f : File) (js : List Element) → flat (groups_parts f js) ≡ flat (sections_parts f) ++ flat js
+groups_flat f js = ap flat (regrouped (constants_parts f) (globals_parts f) (formulas_parts f) (modules_parts f) (labels_parts f) (structures_parts f) js) ∙ flat_append (sections_parts f) js
+
+no_items_write : (end : ℕ) → Writes (items expr V (empty end)) (λ g. g ≡ empty end) []
+unfolding items
+no_items_write end =
+    none_writes (folding_writes Sections {Q = λ g. g ≡ empty end} with_section (empty end) (many_none Sections {P = λ xs. xs ≡ []} refl) (λ xs e. ap (λ (u : List Section). fold_left with_section (empty end) u) e)) (λ g e. left_writes _ (gives_writes g e))
+
+items_write : (end : ℕ) (f g : File) → g ≡ empty end → IsPrintable f → Writes (items expr V g) (λ y. bare_file y ≡ bare_file f) (flat (groups_parts f (init_parts f.init)))
+unfolding items
+items_write end f g e p =
+    let F : List Piece → Type 0 = λ u. Writes (items expr V g) (λ y. bare_file y ≡ bare_file f) u in
+    subst F (sym (groups_flat f (init_parts f.init)))
+    (then_writes (folding_writes Sections {Q = λ h. bare_file h ≡ without_init f} with_section g (sections_writes f p) (λ ys q.
+    ap (λ (u : File). bare_file (fold_left with_section u ys)) e ∙ bare_fold (empty end) ys ∙ ap (fold_left with_section (empty 0)) q ∙ fold_sections f)) (λ h q. init_writes f h f.init q p.init))
 
 pub file_writes : (end : ℕ) (f : File) → IsPrintable f → Writes (file_over expr V end) (λ y. bare_file y ≡ bare_file f) (flat (file_parts f))
 unfolding file_over
-file_writes end f p =
-    none_writes (folding_writes Sections with_section (empty end) (many_none Sections {P = λ xs. xs ≡ []} refl) (λ xs e. ap (λ (u : List Section). fold_left with_section (empty end) u) e)) (λ g e.
-    token_writes (K.Word W.Mdp) _ (λ _ _. blank_writes _ (folding_writes Sections with_section g (sections_writes f p) (λ ys q.
-    ap (λ (u : File). bare_file (fold_left with_section u ys)) e ∙ bare_fold (empty end) ys ∙ ap (fold_left with_section (empty 0)) q ∙ fold_sections f))))
+file_writes end f p = none_writes (no_items_write end) (λ g e. token_writes (K.Word W.Mdp) _ (λ _ _. blank_writes _ (items_write end f g e p)))

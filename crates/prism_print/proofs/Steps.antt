@@ -1,5 +1,5 @@
 -- What is written one after another.
-use Rattle.std.proofs.Common.{◌≡◌, ℕ, suc, ◌+◌, ◌<◌, ◌≤◌, Bool, true, false, List, [], ◌∷◌, ◌++◌, length, get_or, drop, map, Result, Ok, Err, refl, sym, ap, subst, ◌∙◌, append_assoc, add-one, arith}
+use Rattle.std.proofs.Common.{◌≡◌, ℕ, suc, ◌+◌, ◌<◌, ◌≤◌, true, false, List, [], ◌∷◌, ◌++◌, length, get_or, drop, map, Result, Ok, Err, refl, sym, ap, subst, ◌∙◌, append_assoc, add-one, arith}
 use Rattle.std.specs.Prelude.{codes, OnOk, is_ok, if◌then◌else◌}
 use Rattle.std.specs.Result.{result_and}
 use Rattle.std.proofs.lemmas.Result.{on_ok_weaker}
@@ -87,5 +87,5 @@ command_joined x a b e d m z = simp append_assoc
 pub body_joined : (x n y w m z : List ℕ) → (((x ++ (n ++ y)) ++ w) ++ m) ++ z ≡ x ++ (n ++ (y ++ (w ++ (m ++ z))))
 body_joined x n y w m z = simp append_assoc
 
-pub file_done : (k a b c d e f o0 o1 : List ℕ) → o0 ≡ [] → o1 ≡ o0 ++ ((((((k ++ a) ++ b) ++ c) ++ d) ++ e) ++ f) → o1 ≡ k ++ (a ++ (b ++ (c ++ (d ++ (e ++ f)))))
-file_done k a b c d e f o0 o1 h p = p ∙ rw h (simp append_assoc)
+pub file_done : (k a b c d e f g o0 o1 : List ℕ) → o0 ≡ [] → o1 ≡ o0 ++ (((((((k ++ a) ++ b) ++ c) ++ d) ++ e) ++ f) ++ g) → o1 ≡ k ++ (a ++ (b ++ (c ++ (d ++ (e ++ (f ++ g))))))
+file_done k a b c d e f g o0 o1 h p = p ∙ rw h (simp append_assoc)

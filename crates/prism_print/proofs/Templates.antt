@@ -11,7 +11,7 @@ use Rattle.prism_tree.specs.declared.syntax.NamePair.{NamePair}
 use Rattle.prism_tree.specs.declared.syntax.ItemOn.{ItemOn}
 use Rattle.prism_tree.specs.declared.syntax.ItemOn.TheVariants.{InState, Silent, Action}
 use Rattle.prism_tree.specs.Syntax.{Expression, Const, Range, Var, Formula, Label, Write, Branch, Command, Body, Module, plain, copied, Item, Rewards, File}
-use Rattle.prism_print.specs.Text.{expression_text, behind, listed, type_text, const_text, range_text, var_text, formula_text, label_text, write_text, update_text, weight_text, branch_text, action_text, command_text, before_commands, body_text, pair_text, copy_text, module_text, on_text, item_text, title_text, rewards_text, file_text}
+use Rattle.prism_print.specs.Text.{expression_text, behind, listed, type_text, const_text, range_text, var_text, formula_text, label_text, write_text, update_text, weight_text, branch_text, action_text, command_text, before_commands, body_text, pair_text, copy_text, module_text, on_text, item_text, title_text, rewards_text, init_text, file_text}
 use Rattle.std.specs.List.{AllByRecursion as Each}
 use Rattle.basics.specs.Options.{IfAny}
 use Rattle.prism_print.specs.Printable.{IsPrintableExpression, IsPrintableConst, IsPrintableRange, IsPrintableVar, IsPrintableFormula, IsPrintableLabel, IsPrintableWrite, IsPrintableBranch, IsPrintableCommand, IsPrintableBody, IsPrintablePair, IsPrintableCopy, IsPrintableModule, IsPrintableOn, IsPrintableItem, IsPrintableRewards, IsPrintable, IsIdentifier, IsTitle}
@@ -425,8 +425,28 @@ labels_parts f = listed (line ∷ []) [] label_parts f.labels
 abbrev pub structures_parts : File → List Element
 structures_parts f = listed (line ∷ []) (line ∷ []) rewards_parts f.rewards
 
+abbrev pub init_parts : Option Expression → List Element
+init_parts None = []
+init_parts (Some e) = line ∷ a_word W.Init ∷ space ∷ an_expression e ∷ space ∷ a_word W.Endinit ∷ line ∷ []
+
+init_is : (o : Option Expression) → elements_text (init_parts o) ≡ init_text o
+init_is None = refl
+init_is (Some e) = refl
+
+init_neat : (o : Option Expression) → neat nothing (init_parts o) ≡ true
+init_neat None = refl
+init_neat (Some e) = refl
+
+init_proper : (o : Option Expression) → IfAny IsPrintableExpression o → IsProperTemplate (init_parts o)
+init_proper None p = tt
+init_proper (Some e) p = (p, tt)
+
+-- all but the initial condition, behind the kind
+abbrev pub groups_parts : File → List Element → List Element
+groups_parts f js = constants_parts f ++ (globals_parts f ++ (formulas_parts f ++ (modules_parts f ++ (labels_parts f ++ (structures_parts f ++ js)))))
+
 abbrev pub file_parts : File → List Element
-file_parts f = a_word W.Mdp ∷ line ∷ (constants_parts f ++ (globals_parts f ++ (formulas_parts f ++ (modules_parts f ++ (labels_parts f ++ structures_parts f)))))
+file_parts f = a_word W.Mdp ∷ line ∷ groups_parts f (init_parts f.init)
 
 const_text_is : (c : Const) → elements_text (const_parts c) ≡ const_text c
 const_text_is c = const_is c.ty c.name.name c.value
@@ -439,7 +459,8 @@ file_is f =
     (listed_text formula_parts formula_text formula_is [] (line ∷ []) _ f.formulas ∙ ap (λ (u : List ℕ). listed (codes "\n") [] formula_text f.formulas ++ u)
     (listed_text module_parts module_text module_is (line ∷ []) (line ∷ []) _ f.modules ∙ ap (λ (u : List ℕ). listed (codes "\n") (codes "\n") module_text f.modules ++ u)
     (listed_text label_parts label_text label_is [] (line ∷ []) _ f.labels ∙ ap (λ (u : List ℕ). listed (codes "\n") [] label_text f.labels ++ u)
-    (list_is rewards_parts rewards_text rewards_is (line ∷ []) (line ∷ []) f.rewards))))))
+    (listed_text rewards_parts rewards_text rewards_is (line ∷ []) (line ∷ []) _ f.rewards ∙ ap (λ (u : List ℕ). listed (codes "\n") (codes "\n") rewards_text f.rewards ++ u)
+    (init_is f.init)))))))
 
 pub file_neat : (f : File) → neat nothing (file_parts f) ≡ true
 file_neat f =
@@ -448,7 +469,8 @@ file_neat f =
     (neat_append nothing (formulas_parts f) _ (listed_neat any_front _ [] formula_parts (λ m. refl) (λ x m q. refl) (λ rest. tt) tt (line ∷ []) (λ m. refl) f.formulas)
     (neat_append nothing (modules_parts f) _ (listed_neat any_front _ (line ∷ []) module_parts (λ m. refl) (λ x m q. module_neat m x) (λ rest. tt) tt (line ∷ []) (λ m. refl) f.modules)
     (neat_append nothing (labels_parts f) _ (listed_neat any_front _ [] label_parts (λ m. refl) (λ x m q. refl) (λ rest. tt) tt (line ∷ []) (λ m. refl) f.labels)
-    (listed_neat any_front _ (line ∷ []) rewards_parts (λ m. refl) (λ x m q. title_neat m x.name x.items) (λ rest. tt) tt (line ∷ []) (λ m. refl) f.rewards)))))
+    (neat_append nothing (structures_parts f) _ (listed_neat any_front _ (line ∷ []) rewards_parts (λ m. refl) (λ x m q. title_neat m x.name x.items) (λ rest. tt) tt (line ∷ []) (λ m. refl) f.rewards)
+    (init_neat f.init))))))
 
 pub file_proper : (f : File) → IsPrintable f → IsProperTemplate (file_parts f)
 file_proper f p =
@@ -457,7 +479,9 @@ file_proper f p =
     (listed_proper IsPrintableFormula [] formula_parts _ tt (λ x q. (q.0, (q.1, tt)))
     (listed_proper IsPrintableModule (line ∷ []) module_parts _ tt module_proper
     (listed_proper IsPrintableLabel [] label_parts _ tt (λ x q. (q.0, (q.1, tt)))
-    (list_proper IsPrintableRewards (line ∷ []) rewards_parts tt (λ r q. title_proper r.name _ q.0 (items_proper r.items q.1)) (line ∷ []) tt f.rewards p.rewards)
+    (listed_proper IsPrintableRewards (line ∷ []) rewards_parts _ tt (λ r q. title_proper r.name _ q.0 (items_proper r.items q.1))
+    (init_proper f.init p.init)
+    (line ∷ []) tt f.rewards p.rewards)
     (line ∷ []) tt f.labels p.labels)
     (line ∷ []) tt f.modules p.modules)
     (line ∷ []) tt f.formulas p.formulas)

@@ -97,3 +97,4 @@ pub record IsPrintable (f : File) : Type 0 where
   pub modules : Each IsPrintableModule f.modules
   pub labels : Each IsPrintableLabel f.labels
   pub rewards : Each IsPrintableRewards f.rewards
+  pub init : IfAny IsPrintableExpression f.init

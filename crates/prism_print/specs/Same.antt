@@ -68,6 +68,7 @@ bare_file f = record {
   modules = map bare_module f.modules;
   labels = map bare_label f.labels;
   rewards = map bare_rewards f.rewards;
+  init = option_map bare f.init;
   end = 0;
 }
 

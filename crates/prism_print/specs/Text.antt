@@ -192,10 +192,15 @@ rewards_text r = codes "rewards" ++ (title_text r.name ++ (codes "\n" ++ (listed
 
 -- ---- files
 
--- The kind, and then the constants, the global variables, the formulas, each module, the labels and each reward
--- structure, with an empty line before each group that there is.
+-- init e endinit (manual, "Multiple Initial States")
+abbrev pub init_text : Option Expression → List ℕ
+init_text None = []
+init_text (Some e) = codes "\ninit " ++ (expression_text e ++ codes " endinit\n")
+
+-- The kind, and then the constants, the global variables, the formulas, each module, the labels, each reward structure and
+-- the initial condition, with an empty line before each group that there is.
 abbrev pub file_text : File → List ℕ
 file_text f =
     codes "mdp\n" ++ (listed (codes "\n") [] const_text f.constants ++ (listed (codes "\nglobal ") (codes "global ") var_text f.globals
     ++ (listed (codes "\n") [] formula_text f.formulas ++ (listed (codes "\n") (codes "\n") module_text f.modules
-    ++ (listed (codes "\n") [] label_text f.labels ++ listed (codes "\n") (codes "\n") rewards_text f.rewards)))))
+    ++ (listed (codes "\n") [] label_text f.labels ++ (listed (codes "\n") (codes "\n") rewards_text f.rewards ++ init_text f.init))))))

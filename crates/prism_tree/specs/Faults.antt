@@ -1,7 +1,7 @@
 -- The one fault of a list of tokens that spells no file, and what a text spells.
 use Rattle.std.specs.Prelude.{◌≡◌, ℕ, ◌<◌, true, false, List, [], ◌∷◌, ◌++◌, length, Contains, codes}
 use Rattle.bridge_io.specs.declared.reason.Reason.{Reason}
-use Rattle.bridge_io.specs.declared.reason.Reason.TheVariants.{Syntax, TooDeep, OtherKind, LeftOut, InitialSet}
+use Rattle.bridge_io.specs.declared.reason.Reason.TheVariants.{Syntax, TooDeep, OtherKind, LeftOut}
 use Rattle.bridge_io.specs.declared.reason.Fault.{Fault}
 use Rattle.prism_lex.specs.declared.token.TokenKind.{TokenKind}
 use Rattle.prism_lex.specs.declared.token.TokenKind.TheVariants as K
@@ -63,7 +63,6 @@ left_out_functions = codes "pow" ∷ codes "log" ∷ codes "round" ∷ codes "mu
 -- int begins an unbounded variable where a file with such variables could go on with it, but one of the profile cannot.
 pub data WouldBegin (end : ℕ) (us : List Lexeme) (t : Lexeme) : Reason → Type 0 where
   another_kind : Contains kind_words t.kind → ItemCanStand end us → WouldBegin end us t OtherKind
-  an_initial_set : t.kind ≡ K.Word W.Init → ItemCanStand end us → WouldBegin end us t InitialSet
   a_left_out_form : Contains left_out_words t.kind → WouldBegin end us t LeftOut
   an_unbounded_variable : t.kind ≡ K.Word W.Int → Begins (unbounded_file end) (us ++ t ∷ []) → WouldBegin end us t LeftOut
   a_left_out_function : t.kind ≡ K.Symbol S.LeftParenthesis → (a : List Lexeme) (s : Lexeme) → us ≡ a ++ s ∷ [] → s.kind ≡ K.Ident →

@@ -232,7 +232,7 @@ abbrev pub on_action : Option Named → ItemOn
 on_action None = Silent
 on_action (Some a) = Action a
 
--- what an item is; Kind is none of these
+-- what an item is; Kind and Init are none of these
 pub data Section : Type 0 where
   a_const : Const → Section
   a_global : Var → Section
@@ -243,16 +243,20 @@ pub data Section : Type 0 where
 
 -- an empty file whose text has this length
 abbrev pub empty : ℕ → File
-empty end = record { constants = []; globals = []; formulas = []; modules = []; labels = []; rewards = []; end = end }
+empty end = record { constants = []; globals = []; formulas = []; modules = []; labels = []; rewards = []; init = None; end = end }
 
 -- one item more
 abbrev pub with_section : File → Section → File
-with_section f (a_const c) = record { constants = f.constants ++ c ∷ []; globals = f.globals; formulas = f.formulas; modules = f.modules; labels = f.labels; rewards = f.rewards; end = f.end }
-with_section f (a_global v) = record { constants = f.constants; globals = f.globals ++ v ∷ []; formulas = f.formulas; modules = f.modules; labels = f.labels; rewards = f.rewards; end = f.end }
-with_section f (a_formula x) = record { constants = f.constants; globals = f.globals; formulas = f.formulas ++ x ∷ []; modules = f.modules; labels = f.labels; rewards = f.rewards; end = f.end }
-with_section f (a_module m) = record { constants = f.constants; globals = f.globals; formulas = f.formulas; modules = f.modules ++ m ∷ []; labels = f.labels; rewards = f.rewards; end = f.end }
-with_section f (a_label l) = record { constants = f.constants; globals = f.globals; formulas = f.formulas; modules = f.modules; labels = f.labels ++ l ∷ []; rewards = f.rewards; end = f.end }
-with_section f (a_rewards r) = record { constants = f.constants; globals = f.globals; formulas = f.formulas; modules = f.modules; labels = f.labels; rewards = f.rewards ++ r ∷ []; end = f.end }
+with_section f (a_const c) = record { constants = f.constants ++ c ∷ []; globals = f.globals; formulas = f.formulas; modules = f.modules; labels = f.labels; rewards = f.rewards; init = f.init; end = f.end }
+with_section f (a_global v) = record { constants = f.constants; globals = f.globals ++ v ∷ []; formulas = f.formulas; modules = f.modules; labels = f.labels; rewards = f.rewards; init = f.init; end = f.end }
+with_section f (a_formula x) = record { constants = f.constants; globals = f.globals; formulas = f.formulas ++ x ∷ []; modules = f.modules; labels = f.labels; rewards = f.rewards; init = f.init; end = f.end }
+with_section f (a_module m) = record { constants = f.constants; globals = f.globals; formulas = f.formulas; modules = f.modules ++ m ∷ []; labels = f.labels; rewards = f.rewards; init = f.init; end = f.end }
+with_section f (a_label l) = record { constants = f.constants; globals = f.globals; formulas = f.formulas; modules = f.modules; labels = f.labels ++ l ∷ []; rewards = f.rewards; init = f.init; end = f.end }
+with_section f (a_rewards r) = record { constants = f.constants; globals = f.globals; formulas = f.formulas; modules = f.modules; labels = f.labels; rewards = f.rewards ++ r ∷ []; init = f.init; end = f.end }
+
+-- the file with an initial condition
+abbrev pub with_init : File → Expression → File
+with_init f e = record { constants = f.constants; globals = f.globals; formulas = f.formulas; modules = f.modules; labels = f.labels; rewards = f.rewards; init = Some e; end = f.end }
 
 -- V: what else may stand behind the colon of a variable. In a file of the profile nothing does; the word int would in one
 -- with unbounded variables.
@@ -419,9 +423,27 @@ module _ (E : Lang Expression) (V : Lang (Option Range)) where
       (const_item >>= λ c. gives (a_const c)) or ((global_item >>= λ v. gives (a_global v)) or ((formula_item >>= λ f. gives (a_formula f))
       or ((module_item >>= λ m. gives (a_module m)) or ((label_item >>= λ l. gives (a_label l)) or (rewards_item >>= λ r. gives (a_rewards r))))))
 
-  -- File = { Item }, with exactly one Kind among the items; Kind = mdp. The text has this length.
+  -- Init = init E endinit (manual, "Multiple Initial States")
+  unfoldable pub init_item : Lang Expression
+  init_item = do
+    word W.Init
+    e ← E
+    word W.Endinit
+    gives e
+
+  -- an Init, where the file has none yet
+  abbrev pub init_if : Option Expression → Lang Expression
+  init_if None = init_item
+  init_if (Some e) = never
+
+  -- { Section }, in which an Init may stand where the file has none yet
+  unfoldable pub items : File → Lang File
+  items f = folding with_section section f >>= λ g. gives g or (init_if g.init >>= λ e. folding with_section section (with_init g e))
+
+  -- File = { Item }, with exactly one Kind among the items and at most one Init; Item = Kind | Section | Init, Kind = mdp. The text
+  -- has this length.
   unfoldable pub file_over : ℕ → Lang File
   file_over end = do
-    f ← folding with_section section (empty end)
+    f ← items (empty end)
     word W.Mdp
-    folding with_section section f
+    items f

@@ -90,6 +90,7 @@ pub record Rewards : Type 0 where
   pub name : Option Named
   pub items : List Item
 
+-- a file; where it has an initial condition, the initial states are those in which that is true
 pub record File : Type 0 where
   pub constants : List Const
   pub globals : List Var
@@ -97,6 +98,7 @@ pub record File : Type 0 where
   pub modules : List Module
   pub labels : List Label
   pub rewards : List Rewards
+  pub init : Option Expression
   pub end : ℕ
 
 -- ---- what the code holds
@@ -146,5 +148,6 @@ file_of f = record {
   modules = map module_of f.modules;
   labels = map label_of f.labels;
   rewards = map rewards_of f.rewards;
+  init = option_map tree f.init;
   end = f.end;
 }

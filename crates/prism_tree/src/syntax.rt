@@ -10,7 +10,8 @@ use op_trees::{Expr, Ty};
 /// An expression.
 pub type PrismExpr = Expr<PrismOp>;
 
-/// A file. The lists are in the order of the text, and `end` is the length of the text.
+/// A file. The lists are in the order of the text, `init` is the condition that initial states meet, if the file has one, and
+/// `end` is the length of the text.
 pub struct PrismFile {
     pub constants: List<PrismConst>,
     pub globals: List<PrismVar>,
@@ -18,6 +19,7 @@ pub struct PrismFile {
     pub modules: List<PrismModule>,
     pub labels: List<PrismLabel>,
     pub rewards: List<PrismRewards>,
+    pub init: Option<PrismExpr>,
     pub end: usize,
 }
 
@@ -30,6 +32,7 @@ impl Drop for PrismFile {
             modules,
             labels,
             rewards,
+            init,
             end: _,
         } = self;
         drop(constants);
@@ -38,6 +41,7 @@ impl Drop for PrismFile {
         drop(modules);
         drop(labels);
         drop(rewards);
+        drop(init);
     }
 }
 

@@ -1,8 +1,8 @@
 -- A model under a valuation as plain data: what its constants and the ranges and first values of its variables come out as,
 -- and whether it has an initial condition.
 -- Which faults it has, what its states are, and whether it is wide, follow from that alone, for PRISM and JANI alike.
--- (PRISM manual, "The PRISM Language": "Constants", "Modules And Variables"; jani-model specification, "Models". Which
--- faults an instance has, and their order, is a rule of this project.)
+-- (PRISM manual, "The PRISM Language": "Constants", "Modules And Variables", "Multiple Initial States"; jani-model
+-- specification, "Models", "restrict-initial". Which faults an instance has, and their order, is a rule of this project.)
 use Rattle.std.specs.Prelude.{◌≡◌, ℕ, ◌+◌, List, [], ◌∷◌, ◌++◌, map, Bool, true, false, not, ◌&&◌, ◌||◌, Option, Some, None, is_none, if◌then◌else◌, get_or}
 use Rattle.std.specs.List.{list_any}
 use Rattle.std.specs.Option.{option_and_then}

@@ -5,7 +5,7 @@ use Rattle.prism_lex.specs.declared.words.Reserved.TheVariants as W
 use Rattle.prism_tree.specs.Syntax.{file_of}
 use Rattle.prism_exprs.specs.Kept.{seen}
 use Rattle.prism_exprs.specs.Reading.{starts, is_kind}
-use Rattle.prism_items.specs.Sections.{is_item}
+use Rattle.prism_items.specs.Sections.{is_item_or_init}
 use Rattle.prism_items.proofs.Filing.{any, front_stops, back_stops, leaves_file, front_missing, back_missing, kind_read, whole_file, front_from, front_blocks, front_reads, some_left, none_left}
 use Rattle.prism_items.proofs.files.parse_sections.Goals as goal
 
@@ -24,14 +24,14 @@ returns-in_err-file c =
     let e : starts (is_kind (K.Word W.Mdp)) (seen c.in_ok-front.rest) ≡ true = search rules in
     let r = front_reads _ _ _ _ _ c.empty.ensures c.in_ok-front.ensures.read in
     leaves_file _ _ _ _ c.from_residual-in_err-file.ensures
-    (back_stops _ (file_of c.in_ok-front.front) _ _ _ (λ s. kind_read _ s any _ _ _ _ (r s) e c.behind.ensures) c.in_err-file.ensures.read c.in_err-file.ensures.blocked)
+    (back_stops _ (file_of c.in_ok-front.front) _ _ _ (λ s more. kind_read _ s more _ _ _ _ (r s) e c.behind.ensures) c.in_err-file.ensures.read c.in_err-file.ensures.blocked)
 
 pub returns-then-not-is_empty : goal.returns-then-not-is_empty
 returns-then-not-is_empty c =
     let e : starts (is_kind (K.Word W.Mdp)) (seen c.in_ok-front.rest) ≡ true = search rules in
     let r = front_reads _ _ _ _ _ c.empty.ensures c.in_ok-front.ensures.read in
     let n = some_left c.in_ok-file.rest (grind (arith, c.is_empty.ensures, c.if-not-is_empty.true)) in
-    back_missing _ (file_of c.in_ok-front.front) (file_of c.in_ok-file.file) _ _ _ n.0 n.1 (λ s. kind_read _ s is_item _ _ _ _ (r s) e c.behind.ensures) c.in_ok-file.ensures.read n.2
+    back_missing _ (file_of c.in_ok-front.front) (file_of c.in_ok-file.file) _ _ _ n.0 n.1 (λ s. kind_read _ s is_item_or_init _ _ _ _ (r s) e c.behind.ensures) c.in_ok-file.ensures.read n.2
 
 pub returns : goal.returns
 returns c =

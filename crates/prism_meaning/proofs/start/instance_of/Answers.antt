@@ -34,6 +34,7 @@ invariant_of-result c =
         faultless = c.requires.known.columns.sound;
         begin = c.requires.begin;
         columns = c.requires.known.columns.columns;
+        names = λ s x l. ap (λ f. f x) (names s l);
         groups = λ s l. alike_here (λ at. map (λ g. trimmed_group (group_by cs at g)) p.groups.items) (λ seen. map (λ g. trimmed_group (group_under cs seen g)) (shapes file.rewards (bodies file.modules))) c.requires.fixed.prepared.grouped (value_at s table)
             ∙ ap (λ seen. map (λ g. trimmed_group (group_under cs seen g)) (shapes file.rewards (bodies file.modules))) (names s l);
         states = λ s l. alike_here (λ at. map (λ is. sum_by at is.items) p.states.items) (λ seen. map (λ is. sum_under seen is) (earned_in_states file.rewards)) c.requires.fixed.prepared.summed (value_at s table)

@@ -8,4 +8,4 @@ use Rattle.prism_meaning.specs.Views.{seen_in}
 use Rattle.prism_meaning.proofs.variables.each_found.Given as goal
 
 abbrev pub invariant-loop-variable : goal.invariant-loop-variable
-invariant-loop-variable l = map found_column l.all.items ≡ map (λ x. trimmed_column (column unchanged (seen_in l.names) x)) (vars_of (take l.variable-index l.variables))
+invariant-loop-variable l = map found_column l.all.items ≡ map (λ x. trimmed_column (column l.has_condition unchanged (seen_in l.names) x)) (vars_of (take l.variable-index l.variables))

@@ -1,4 +1,4 @@
-use Rattle.std.proofs.Common.{[], sym, ap, append_assoc}
+use Rattle.std.proofs.Common.{sym, ap, append_assoc}
 use Rattle.std.specs.Prelude.{codes}
 use Rattle.op_trees.specs.Tree.{tree}
 use Rattle.prism_print.proofs.Steps.{extend_done, and_done, text_done, one_call, one_operand, two_call, two_operands, three_operands}

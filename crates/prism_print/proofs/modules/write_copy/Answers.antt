@@ -1,4 +1,4 @@
-use Rattle.std.proofs.Common.{List, ℕ, ◌++◌, ap}
+use Rattle.std.proofs.Common.{List, ◌++◌, ap}
 use Rattle.std.specs.Prelude.{codes, []}
 use Rattle.prism_tree.specs.declared.syntax.NamePair.{NamePair}
 use Rattle.prism_print.specs.Text.{pair_text, listed}
