@@ -56,10 +56,11 @@ module _ (file : File) where
 
   doubled_in-bare : (a : Automaton) → doubled_in (global_names (bare_file file)) (bare_automaton a) ≡ map placeless (doubled_in (global_names file) a)
   doubled_in-bare a =
-      joined placeless (doubled_after TwiceNamed (global_names (bare_file file)) (var_names (map bare_var a.variables))) (doubled TwiceNamed (location_names (bare_automaton a)))
-      (doubled_after TwiceNamed (global_names file) (var_names a.variables)) (doubled TwiceNamed (location_names a))
+      joined placeless (doubled_after TwiceNamed (global_names (bare_file file)) (var_names (map bare_var a.variables))) _ (doubled_after TwiceNamed (global_names file) (var_names a.variables)) _
       (ap₂ (doubled_after TwiceNamed) globals-bare (vars-bare a.variables) ∙ after-bare TwiceNamed (global_names file) (var_names a.variables))
+      (joined placeless (doubled TwiceNamed (location_names (bare_automaton a))) (doubled TwiceNamed (map bare_name a.initial)) (doubled TwiceNamed (location_names a)) (doubled TwiceNamed a.initial)
       (doubled-bare TwiceNamed (location_names (bare_automaton a)) (location_names a) (locations-bare a))
+      (doubled-bare TwiceNamed (map bare_name a.initial) a.initial refl))
 
   doubled_names-bare : doubled_names (bare_file file) ≡ map placeless (doubled_names file)
   doubled_names-bare =
@@ -132,7 +133,9 @@ outer_demands-bare : (file : File) → outer_demands (bare_file file) ≡ map ba
 outer_demands-bare file =
     joined bare_demand (flat_map const_demands (map bare_const file.constants)) _ (flat_map const_demands file.constants) _
     (gathered bare_demand bare_const const_demands const_demands const_demands-bare file.constants)
+    (joined bare_demand (flat_map var_demands (map bare_var file.variables)) _ (flat_map var_demands file.variables) _
     (gathered bare_demand bare_var var_demands var_demands var_demands-bare file.variables)
+    (optional-bare (varying W.Bool) (λ e. refl) file.restrict))
 
 -- what each demand gives
 demanded : (g h : Demand → List Fault) → ((d : Demand) → g (bare_demand d) ≡ map placeless (h d)) → (us ds : List Demand) → us ≡ map bare_demand ds → flat_map g us ≡ map placeless (flat_map h ds)

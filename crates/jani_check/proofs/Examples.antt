@@ -66,6 +66,7 @@ file acts cs vs automata es xs = record {
   actions = acts;
   constants = cs;
   variables = vs;
+  restrict = None;
   automata = automata;
   elements = es;
   elements_at = 900;
@@ -149,6 +150,32 @@ two_automata_with_one_local_name = refl
 two_locations : least (file [] [] [] (automaton 500 (codes "M") [] (location 501 (codes "l") [] ∷ location 502 (codes "l") [] ∷ []) (at 503 (codes "l")) [] ∷ []) (at 901 (codes "M") ∷ []) [])
     ≡ Some (fault 502 TwiceNamed)
 two_locations = refl
+
+-- a location that an automaton may begin in is named once
+abbrev begun_in : List Named → File
+begun_in ns = file [] [] [] (record (plain 500 (codes "M") []) { initial = ns } ∷ []) (at 901 (codes "M") ∷ []) []
+
+two_initial_locations : least (begun_in (at 503 (codes "l") ∷ at 505 (codes "l") ∷ [])) ≡ Some (fault 505 TwiceNamed)
+two_initial_locations = refl
+
+unknown_initial_location : least (begun_in (at 503 (codes "l") ∷ at 505 (codes "k") ∷ [])) ≡ Some (fault 505 Unknown)
+unknown_initial_location = refl
+
+-- the condition on the initial states: constants and global variables that aren't transient may stand in it
+abbrev restricted : Expression → File
+restricted e = record (file [] (int_const (at 20 (codes "c")) (Some (digit 21 1)) ∷ []) (small 100 (codes "x") ∷ label 110 (codes "t") ∷ []) (with_local 500 (codes "y") ∷ []) (at 901 (codes "M") ∷ []) []) { restrict = Some e }
+
+begins_below : least (restricted (Two 200 O.Less (ref 201 (codes "x")) (ref 202 (codes "c")))) ≡ None
+begins_below = refl
+
+begins_with_a_local : least (restricted (Two 200 O.Less (ref 201 (codes "y")) (ref 202 (codes "c")))) ≡ Some (fault 201 Unknown)
+begins_with_a_local = refl
+
+begins_with_a_transient : least (restricted (ref 201 (codes "t"))) ≡ Some (fault 201 TransientRead)
+begins_with_a_transient = refl
+
+begins_with_a_number : least (restricted (ref 201 (codes "x"))) ≡ Some (fault 201 WrongType)
+begins_with_a_number = refl
 
 unknown_action : least (one [] [] [] (edge 510 (codes "l") (Some (at 512 (codes "a"))) None (destination 520 (codes "l") [] ∷ []) ∷ []) []) ≡ Some (fault 512 Unknown)
 unknown_action = refl

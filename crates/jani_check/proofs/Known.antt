@@ -9,10 +9,9 @@ use Rattle.basics.specs.Options.{is_some-map}
 use Rattle.jani_tree.specs.Syntax.{Var, Automaton, File}
 use Rattle.basics.specs.Mapped.{any_mapped}
 use Rattle.jani_check.specs.Demands.{automaton_demands, outer_demands}
-use Rattle.jani_check.specs.Things.{const_thing, var_thing, var_called, const_called, global_thing, beside}
+use Rattle.jani_check.specs.Things.{const_thing, var_thing, var_called, const_called, global_thing}
 use Rattle.op_trees.specs.Names.{is_called}
 use Rattle.name_rules.specs.Names.{Name, is_among}
-use Rattle.jani_check.specs.declared.things.Thing.{Thing}
 use Rattle.jani_check.specs.NameFaults.{var_names, global_names, unknown_by, unknown_in, unknown_within}
 use Rattle.jani_check.specs.Phases.{automaton_by, file_by}
 use Rattle.jani_check.specs.Scopes.{is_known}

@@ -1,26 +1,24 @@
 -- What files of the profile have: places mean nothing, and such a file may be written.
 use Rattle.std.specs.Prelude.{◌≡◌, List, [], ◌∷◌, ◌++◌, map, Bool, true, false, Option, Some, None}
 use Rattle.std.specs.List.{flat_map, AllByRecursion as OfAll}
-use Rattle.std.proofs.Common.{refl, sym, ap, subst, ◌∙◌}
+use Rattle.std.proofs.Common.{refl}
 use Rattle.basics.specs.Each.{empty_each, each_with, each_then}
 use Rattle.basics.specs.Lists.{append_right, append_left, IsNotEmpty as HasItems}
 use Rattle.bridge_io.specs.declared.reason.Reason.{Reason}
 use Rattle.bridge_io.specs.declared.reason.Fault.{Fault}
 use Rattle.op_trees.specs.Tree.{Truth, Number, Name, One, Two, Three}
 use Rattle.jani_tree.specs.Syntax.{Expression, Const, VarKind, boolean, integer, number, real_bounded, one_sided, bounded, Var, Write, Location, Destination, Edge, Automaton, File}
-use Rattle.jani_tree.specs.Canonical.{HasOperands, HasBounds, VarForm, WriteForm, DestinationForm, EdgeForm, ConstForm, LocationForm, AutomatonForm, FileForm}
-use Rattle.jani_tree.specs.Form.{ExprForm, KindForm, ConstRead, VarRead, WriteRead, LocationRead, DestinationRead, EdgeRead, AutomatonRead}
-use Rattle.jani_tree.specs.Back.{IsWritable}
+use Rattle.jani_tree.specs.Canonical.{HasOperands, HasBounds, VarForm, WriteForm, DestinationForm, EdgeForm, ConstForm, LocationForm, AutomatonForm, RestrictionForm}
+use Rattle.jani_tree.specs.Form.{ExprForm, KindForm, ConstRead, VarRead, WriteRead, LocationRead, DestinationRead, EdgeRead, AutomatonRead, RestrictionRead}
 use Rattle.jani_tree.proofs.BareForm.{form_too, once_too}
 use Rattle.name_rules.specs.Least.{fault, or_else}
 use Rattle.jani_tree.proofs.Wider.{some_wider}
 use Rattle.jani_check.specs.Things.{global_thing}
 use Rattle.basics.specs.Options.{if_some, IfAny as OfSome}
-use Rattle.jani_check.specs.Demands.{outer_demands, automaton_demands}
+use Rattle.jani_check.specs.Demands.{outer_demands}
 use Rattle.jani_check.specs.NameFaults.{name_faults}
-use Rattle.jani_check.specs.TypeFaults.{kind_fault, var_faults, demand_faults, repeated_writes, automaton_faults, clashing_writes, type_faults}
+use Rattle.jani_check.specs.TypeFaults.{kind_fault, var_faults, demand_faults, automaton_faults, clashing_writes, type_faults}
 use Rattle.jani_check.specs.ProfileFaults.{profile_faults}
-use Rattle.jani_check.specs.Faults.{faults, IsChecked}
 use Rattle.jani_check.specs.Laws.{PlacesAside, CheckedIsWritable}
 use Rattle.jani_check.proofs.Bare.{none_too}
 
@@ -85,6 +83,9 @@ edge_form e p = record { guard = some_operands e.guard p.guard; destinations = e
 const_form : (c : Const) → ConstRead HasItems c → ConstForm c
 const_form c p = some_operands c.value p.value
 
+restriction_form : (e : Expression) → RestrictionRead HasItems e → RestrictionForm e
+restriction_form e p = record { operands = operands e p.expression; restricts = p.restricts }
+
 module _ (file : File) (none : type_faults file ≡ []) where
   later : flat_map (demand_faults (global_thing file)) (outer_demands file) ++ (flat_map (automaton_faults (global_thing file)) file.automata ++ flat_map (clashing_writes file) file.vectors) ≡ []
   later = append_right (flat_map var_faults file.variables) _ none
@@ -109,6 +110,7 @@ checked_is_writable f h =
       types = record {
         constants = each_then (ConstRead HasItems) ConstForm const_form f.constants h.form.constants;
         variables = vars_form f.variables h.form.variables (append_left (flat_map var_faults f.variables) _ types);
+        restrict = some_wider (RestrictionRead HasItems) RestrictionForm restriction_form f.restrict h.form.restrict;
         automata =
             each_with (AutomatonRead HasItems) (λ a. automaton_faults (global_thing f) a ≡ []) AutomatonForm (automaton_form f types) f.automata h.form.automata
             (empty_each (automaton_faults (global_thing f)) f.automata (automata_none f types));

@@ -46,6 +46,7 @@ abbrev pub automaton_demands : Automaton → List Demand
 automaton_demands a =
     flat_map var_demands a.variables ++ (flat_map location_demands a.locations ++ flat_map edge_demands a.edges)
 
--- ---- a file: what stands outside of automata
+-- ---- a file: what stands outside of automata; the condition on the initial states is a bool
 abbrev pub outer_demands : File → List Demand
-outer_demands file = flat_map const_demands file.constants ++ flat_map var_demands file.variables
+outer_demands file =
+    flat_map const_demands file.constants ++ (flat_map var_demands file.variables ++ map (varying W.Bool) (if_some file.restrict))

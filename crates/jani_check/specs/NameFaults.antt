@@ -30,10 +30,11 @@ location_names a = map (λ l. l.name) a.locations
 abbrev pub automaton_names : File → List Named
 automaton_names file = map (λ a. a.name) file.automata
 
--- the variables of an automaton, among themselves and beside the global names, and its locations; two automata may use one
--- name
+-- the variables of an automaton, among themselves and beside the global names, its locations, and those that it may begin in;
+-- two automata may use one name
 abbrev pub doubled_in : List Named → Automaton → List Fault
-doubled_in global a = doubled_after TwiceNamed global (var_names a.variables) ++ doubled TwiceNamed (location_names a)
+doubled_in global a =
+    doubled_after TwiceNamed global (var_names a.variables) ++ (doubled TwiceNamed (location_names a) ++ doubled TwiceNamed a.initial)
 
 abbrev pub doubled_names : File → List Fault
 doubled_names file =

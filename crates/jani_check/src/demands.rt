@@ -172,6 +172,7 @@ pub(crate) fn outer_demands(alloc: Global, file: &JaniFile) -> Result<Vec<Demand
     let mut list = Vec::new(alloc);
     add_all(file.constants.as_slice(), &mut list)?;
     add_all(file.variables.as_slice(), &mut list)?;
+    add_varying(Wanted::Bool, &file.restrict, &mut list)?;
     Ok(list)
 }
 

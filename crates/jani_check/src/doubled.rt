@@ -65,7 +65,7 @@ fn judge_automata(
     Ok(best)
 }
 
-// The variables of an automaton, beside global names whose lowest offsets are known, and its locations.
+// The variables of an automaton, beside global names whose lowest offsets are known, its locations, and the initial ones.
 fn judge_automaton(
     alloc: Global,
     global: &Lowest,
@@ -77,10 +77,8 @@ fn judge_automaton(
 {
     let vars = names_of(alloc, a.variables.as_slice())?;
     let among_vars = judge_doubled_after(alloc, Reason::TwiceNamed, global, &vars, before)?;
-    judge_names_of(
-        alloc,
-        Reason::TwiceNamed,
-        a.locations.as_slice(),
-        among_vars,
-    )
+    let locations = a.locations.as_slice();
+    let among_locations = judge_names_of(alloc, Reason::TwiceNamed, locations, among_vars)?;
+    let initial = a.initial.as_slice();
+    judge_names_of(alloc, Reason::TwiceNamed, initial, among_locations)
 }

@@ -1,5 +1,6 @@
 pub mod Values
 pub mod Places
+pub mod Unowned
 pub mod Whole
 pub mod Texts
 pub mod StateMarks

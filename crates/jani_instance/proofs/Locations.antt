@@ -85,7 +85,8 @@ single : (global : List Named) (p : Automaton → Bool) (as_ : List Automaton) (
 single global p [] n h = refl
 single global p (a ∷ as_) n h =
     let parts = append_parts (doubled_in global a) (flat_map (doubled_in global) as_) h in
-    by_test (p a) (append_parts (doubled_after TwiceNamed global (var_names a.variables)) (doubled TwiceNamed (location_names a)) parts.0).1 (single global p as_ n parts.1)
+    let own = append_parts (doubled_after TwiceNamed global (var_names a.variables)) (doubled TwiceNamed (location_names a) ++ doubled TwiceNamed a.initial) parts.0 in
+    by_test (p a) (append_parts (doubled TwiceNamed (location_names a)) (doubled TwiceNamed a.initial) own.1).0 (single global p as_ n parts.1)
   where
     by_test : (b : Bool) → doubled TwiceNamed (location_names a) ≡ [] → doubled TwiceNamed (location_names (unwrap_or (find p as_) (nothing_called n))) ≡ [] →
         doubled TwiceNamed (location_names (unwrap_or (if b then Some a else find p as_) (nothing_called n))) ≡ []

@@ -2,7 +2,7 @@
 use Rattle.std.proofs.Common.{◌≡◌, ℕ, zero, suc, ◌+◌, List, [], ◌∷◌, ◌++◌, map, length, Bool, true, false, not, Option, Some, None, is_none, IsTrue, unwrap_or, cond, refl, sym, ap, subst, ◌∙◌}
 use Rattle.std.specs.Prelude.{bytes_eq}
 use Rattle.std.specs.List.{find, filter, flat_map, AllByRecursion as Each}
-use Rattle.std.specs.Option.{option_map, option_or}
+use Rattle.std.specs.Option.{option_and_then, option_map, option_or}
 use Rattle.std.proofs.lemmas.Bool.{not-false}
 use Rattle.std.proofs.lemmas.List.Elements.{All-map, All-append, All-from_recursion}
 use Rattle.basics.specs.Options.{has_some, if_some, IfAny as OfSome}
@@ -35,16 +35,17 @@ use Rattle.jani_table.specs.OperatorLaws.{jani_lawful}
 use Rattle.jani_tree.specs.Syntax.{Expression, Const, VarKind, boolean, integer, number, real_bounded, one_sided, bounded, Var, Automaton, File}
 use Rattle.jani_tree.specs.Form.{ExprForm, ConstRead, VarRead, AutomatonRead}
 use Rattle.basics.specs.Mapped.{found_mapped}
+use Rattle.op_trees.specs.declared.wanted.Wanted.TheVariants as W
 use Rattle.op_trees.specs.Wanted.{wider, is_wanted, is_unwanted, wanted_by}
 use Rattle.jani_check.specs.Things.{kind_type, const_thing, var_thing, var_called, global_thing, beside, thing_type, types_by}
-use Rattle.jani_check.specs.Demands.{Demand, fixed, const_demands, bound_demands, var_demands, automaton_demands, outer_demands}
+use Rattle.jani_check.specs.Demands.{Demand, fixed, varying, const_demands, bound_demands, var_demands, automaton_demands, outer_demands}
 use Rattle.jani_check.specs.NameFaults.{name_faults}
 use Rattle.jani_check.specs.TypeFaults.{var_faults, kind_fault, type_faults_of, has_variable, demand_faults, automaton_faults, clashing_writes, type_faults}
 use Rattle.jani_check.specs.ProfileFaults.{profile_faults}
 use Rattle.jani_check.specs.Faults.{IsChecked}
 use Rattle.jani_check.proofs.Profiled.{first_none, rest_none}
 use Rattle.jani_meaning.specs.Elements.{nothing_called, automaton_called, elements, owned_by, variables, is_lasting, lasting}
-use Rattle.jani_meaning.specs.Scene.{see, constant_called, constant_seen, constant_value, constant_within, constant, constant_names, location_column, domain_of, start_of, column, columns_of}
+use Rattle.jani_meaning.specs.Scene.{see, constant_called, constant_seen, constant_value, constant_within, constant, constant_names, location_column, domain_of, first_of, column, columns_of}
 use Rattle.jani_instance.specs.Described.{jani_description}
 
 -- ---- facts of each member of a list
@@ -191,7 +192,7 @@ module _ (file : File) where
         each_with (ConstRead HasItems) (λ c. Each (HasNone global_faults) (const_demands c)) (λ c. OfSome (IsFine global_types c.ty) c.value)
         (λ c f h. some_fine global_types global_faults global_judges c.ty c.value f.value h) file.constants (checked.form.constants)
         (each_of (HasNone global_faults) const_demands file.constants
-        (each_parts (HasNone global_faults) (flat_map const_demands file.constants) (flat_map var_demands file.variables) outer_none).0)
+        (each_parts (HasNone global_faults) (flat_map const_demands file.constants) (flat_map var_demands file.variables ++ map (varying W.Bool) (if_some file.restrict)) outer_none).0)
 
     module _ (given : List Given) (m : misfit (jani_description file).constants given ≡ None) where
       -- ---- constants have their types
@@ -250,7 +251,8 @@ module _ (file : File) where
       globals_typed : Each (BeginsTyped values) file.variables
       globals_typed =
           vars_typed global_types global_faults global_constants global_judges file.variables checked.form.variables (append_parts (flat_map var_faults file.variables) _ type_clean).0
-          (each_parts (HasNone global_faults) (flat_map const_demands file.constants) (flat_map var_demands file.variables) outer_none).1
+          (each_parts (HasNone global_faults) (flat_map var_demands file.variables) (map (varying W.Bool) (if_some file.restrict))
+          (each_parts (HasNone global_faults) (flat_map const_demands file.constants) (flat_map var_demands file.variables ++ map (varying W.Bool) (if_some file.restrict)) outer_none).1).0
 
       own_typed : (a : Automaton) → AutomatonRead HasItems a → automaton_faults (global_thing file) a ≡ [] → Each (BeginsTyped values) a.variables
       own_typed a f h =
@@ -283,12 +285,16 @@ module _ (file : File) where
       abbrev IsRightColumn : Column → Type 0
       IsRightColumn c = begins_right c.domain (first_value c) ≡ true
 
-      start_right : (o : Option Expression) → OfSome (HasType values T.Bool) o → begins_right Truths (start_of (constant_names file (given_by given)) o).value ≡ true
+      -- the first value, if there is one and it is known
+      abbrev begun : Option Expression → Option Value
+      begun o = option_and_then (λ s. s.value) (first_of (constant_names file (given_by given)) o)
+
+      start_right : (o : Option Expression) → OfSome (HasType values T.Bool) o → begins_right Truths (begun o) ≡ true
       start_right None h = refl
       start_right (Some e) h = bool_right (see e (constant_names file (given_by given))).value (λ v k. h v (sym (seen_value e values) ∙ k))
 
       kind_right : (k : VarKind) (at : ℕ) (t : Bool) → not t ≡ true → map (fault at) (if_some (kind_fault t k)) ≡ [] → (o : Option Expression) → OfSome (HasType values (kind_type k)) o →
-          begins_right (domain_of (constant_names file (given_by given)) k) (start_of (constant_names file (given_by given)) o).value ≡ true
+          begins_right (domain_of (constant_names file (given_by given)) k) (begun o) ≡ true
       kind_right k at true l h o s = absurd cc
       kind_right boolean at false l h o s = start_right o s
       kind_right integer at false l h o s = absurd cc

@@ -1,5 +1,5 @@
 -- What an instance keeps is right in each state, where it was built of its file.
-use Rattle.std.specs.Prelude.{◌≡◌, ℕ, zero, suc, ◌+◌, ◌-◌, ◌<◌, ◌≤◌, List, [], ◌∷◌, ◌++◌, map, length, Bool, true, false, not, ◌||◌, Option, Some, None, IsTrue, bytes_eq, nat_eq, slice_get, unwrap_or, take, drop, if◌then◌else◌}
+use Rattle.std.specs.Prelude.{◌≡◌, ℕ, zero, suc, ◌+◌, ◌-◌, ◌<◌, ◌≤◌, List, [], ◌∷◌, ◌++◌, map, length, Bool, true, false, not, ◌&&◌, ◌||◌, Option, Some, None, IsTrue, bytes_eq, nat_eq, slice_get, unwrap_or, take, drop, if◌then◌else◌}
 use Rattle.std.specs.List.{AllZip, filter, find, list_any, position, position_or_len}
 use Rattle.std.specs.Option.{option_map, option_or}
 use Rattle.std.proofs.Common.{refl, sym, ap, ap₂, subst, ◌∙◌, arith}
@@ -8,8 +8,11 @@ use Rattle.std.proofs.lemmas.List.{map-append, length-map}
 use Rattle.std.proofs.lemmas.Slice.Eq.{bytes_eq-Decides}
 use Rattle.std.proofs.lemmas.Bool.{or_parts}
 use Rattle.bridge_io.specs.declared.reason.Named.{Named}
-use Rattle.op_trees.specs.Seen.{Seen, known}
+use Rattle.op_trees.specs.Seen.{Seen, known, known_names}
 use Rattle.op_trees.specs.declared.tree.Value.{Value}
+use Rattle.op_trees.specs.declared.tree.Value.TheVariants as V
+use Rattle.name_rules.specs.Names.{under}
+use Rattle.name_rules.specs.declared.map.NameMap.{NameMap}
 use Rattle.expr_store.specs.Views.{nodes}
 use Rattle.expr_store.specs.declared.node.ExprId.{ExprId}
 use Rattle.expr_store.specs.declared.store.ExprStore.{ExprStore}
@@ -25,21 +28,24 @@ use Rattle.state_choices.proofs.ComputedParts.{same_group}
 use Rattle.jani_tree.specs.Syntax as syntax
 use Rattle.jani_tree.specs.Syntax.{Automaton, Edge, File, Location}
 use Rattle.op_trees.specs.Names.{is_called}
-use Rattle.jani_meaning.specs.Elements.{Owned, column_number, elements, is_global, is_own, lasting, labels, location_number, structures}
+use Rattle.jani_meaning.specs.Elements.{Owned, column_number, elements, is_global, is_own, is_several, lasting, labels, location_number, structures}
 use Rattle.jani_meaning.specs.Scene.{column, columns_of, constant, constant_names, see, start_of}
-use Rattle.jani_meaning.specs.Moment.{edge_at, element_at, first_or, given_in, given_to, is_current, is_number, may_give, moment, names_in, transient_at, value_in, vector_of}
+use Rattle.jani_meaning.specs.Moment.{begin_here, begins_here, edge_at, element_at, first_or, given_in, given_to, is_among, is_current, is_number, may_give, moment, names_in, restriction_seen, transient_at, value_in, vector_of}
 use Rattle.jani_meaning.specs.Process.{no_reward}
 use Rattle.instance_start.specs.Columns.{column_of, value_at}
 use Rattle.instance_start.specs.declared.data.Column as code_column
+use Rattle.instance_start.specs.declared.data.Place.{Place}
 use Rattle.instance_start.specs.declared.data.Place.TheVariants.{Constant, Variable}
-use Rattle.jani_instance.specs.Built.{IsElementOf, IsTransientOf, IsVectorOf, acts_with, edges_from, given_from, links_from, member_from, place_in, value_from}
+use Rattle.jani_instance.specs.Built.{IsElementOf, IsTransientOf, IsVectorOf, acts_with, edges_from, given_from, global_place, links_from, member_from, place_in, value_from}
+use Rattle.jani_instance.specs.Initial.{all_begin, condition_from, initial_numbers, is_one_of}
 use Rattle.jani_instance.specs.Prepared.{placed_names}
 use Rattle.jani_instance.specs.Sound.{IsRight, no_rewards}
-use Rattle.jani_instance.specs.Views.{At, Member, Setting, count_in, first_else, groups_of, located_seen, location_at, look_at, member_seen, members_seen, part_at, part_of, silent_group, transient_value, vector_group}
+use Rattle.jani_instance.specs.Views.{At, Member, Setting, count_in, first_else, groups_of, located_seen, location_at, look_at, member_seen, members_seen, part_at, part_of, silent_group, transient_value, values_at, vector_group}
 use Rattle.jani_instance.specs.declared.data.Element as code
 use Rattle.jani_instance.specs.declared.data.Transient.{Transient}
 use Rattle.jani_instance.specs.declared.data.Vector as code_vector
 use Rattle.jani_instance.proofs.Places.{IsAt, at_place, same_count}
+use Rattle.jani_instance.proofs.Unowned.{none_left, unowned}
 
 -- ---- lists
 numbered_both : {X Y Z : Type 0} (f : ℕ → X → Z) (g : ℕ → Y → Z) (i : ℕ) (xs : List X) (ys : List Y) → length xs ≡ length ys →
@@ -86,14 +92,6 @@ later all i x xs h k = ap (slice_get all) (let d : i + 1 + k ≡ i + suc k = ome
 
 first_at : {X : Type 0} (all : List X) (i : ℕ) (x : X) (xs : List X) → ((k : ℕ) → slice_get all (i + k) ≡ slice_get (x ∷ xs) k) → slice_get all i ≡ Some x
 first_at all i x xs h = ap (slice_get all) (let d : i ≡ i + 0 = omega arith in d) ∙ h 0
-
-none_left : (p q : Edge → Bool) (l : List Edge) → list_any p l ≡ false → list_any p (filter q l) ≡ false
-none_left p q [] h = refl
-none_left p q (e ∷ l) h = by_test (q e) (or_parts (p e) (list_any p l) h).0 (none_left p q l (or_parts (p e) (list_any p l) h).1)
-  where
-    by_test : (b : Bool) → p e ≡ false → list_any p (filter q l) ≡ false → list_any p (if b then e ∷ filter q l else filter q l) ≡ false
-    by_test true g k = ap₂ (λ a c. a || c) g k
-    by_test false g k = k
 
 -- what stands at the place of a name, if it stands anywhere
 part_is : (F : Name → List Ready) (l : List Name) (x : Name) → (list_any (bytes_eq x) l ≡ false → F x ≡ []) → unwrap_or (slice_get (map F l) (position_or_len (bytes_eq x) l)) [] ≡ F x
@@ -268,6 +266,38 @@ module _ (file : File) (v : Valuation) (acts : Automaton → List Name) (store :
   transients_are [] (t ∷ ts) h = absurd h
   transients_are (o ∷ os) [] h = absurd h
   transients_are (o ∷ os) (t ∷ ts) h = ap₂ (λ x l. x ∷ l) (transient_is o t h.0) (transients_are os ts h.1)
+
+  -- ---- the initial condition
+  globals_are : (places : NameMap Place) → ((x : Name) → under places x ≡ global_place file x) → known_names (values_at s places table) ≡ names_in file v s (length file.elements)
+  globals_are places h =
+      let n = length file.elements in
+      fun_ext (λ (x : Name). ap known
+      (ap here (h x)
+      ∙ by_places n table s None (position (is_global x) (lasting file)) (position (λ c. is_called x c.name) file.constants)
+      ∙ ap₂ (λ p c. value_in s (option_map (λ k. n + k) (option_or p (position (is_global x) (lasting file)))) c) (sym (unowned file x)) (values x)))
+
+  among_is : (i : ℕ) (a : Automaton) → IsAt s i a → (ns : List Named) → is_among s i a ns ≡ list_any (λ j. nat_eq j (location_at s i)) (map (λ n. location_number a n.name) ns)
+  among_is i a h [] = refl
+  among_is i a h (n ∷ ns) = ap₂ (λ b c. b || c) (current i a h n.name ∙ ap (nat_eq (location_number a n.name)) (sym (number_at i a h))) (among_is i a h ns)
+
+  begins_are : (i : ℕ) (a : Automaton) → IsAt s i a → begins_here s i a ≡ is_one_of (location_at s i) (initial_numbers a)
+  begins_are i a h = of_list a.initial
+    where
+      of_list : (ns : List Named) → (not (is_several ns) || is_among s i a ns) ≡ is_one_of (location_at s i) (if is_several ns then map (λ n. location_number a n.name) ns else [])
+      of_list [] = refl
+      of_list (n ∷ []) = refl
+      of_list (n ∷ m ∷ ns) = among_is i a h (n ∷ m ∷ ns)
+
+  begin_is : (i : ℕ) (as_ : List Automaton) → ((k : ℕ) → slice_get (elements file) (i + k) ≡ slice_get as_ k) → begin_here s i as_ ≡ all_begin (location_at s) i (map initial_numbers as_)
+  begin_is i [] h = refl
+  begin_is i (a ∷ as_) h = ap₂ (λ b c. b && c) (begins_are i a (at i a (first_at (elements file) i a as_ h))) (begin_is (i + 1) as_ (later (elements file) i a as_ h))
+
+  pub condition_is : (places : NameMap Place) → ((x : Name) → under places x ≡ global_place file x) → (numbers : List (List ℕ)) → numbers ≡ map initial_numbers (elements file) →
+      condition_from file.restrict numbers (known_names (values_at s places table)) s ≡ (moment file v s).condition
+  condition_is places global numbers e =
+      ap₂ (λ b (names : Name → Seen). if b then restriction_seen names file.restrict else known (Some (V.Truth false)))
+      (ap (all_begin (location_at s) 0) e ∙ sym (begin_is 0 (elements file) (λ n. ap (slice_get (elements file)) (let d : 0 + n ≡ n = omega arith in d))))
+      (globals_are places global)
 
   -- ---- all of it
   pub right : (ws : List code_vector.Vector) (n : ℕ) (ts : List (Transient ExprId)) → AllZip (IsVectorOf file acts) file.vectors ws →

@@ -9,7 +9,7 @@ use Rattle.process_core.specs.declared.data.StartFail.TheVariants.{Memory, Wide,
 use Rattle.jani_tree.specs.Syntax.{Const, File}
 use Rattle.jani_meaning.specs.Elements as meaning
 use Rattle.jani_meaning.specs.Elements.{elements}
-use Rattle.jani_meaning.specs.Scene.{constant_names, scene}
+use Rattle.jani_meaning.specs.Scene.{constant_names, has_condition, scene}
 use Rattle.instance_start.specs.Columns.{AreColumns, column_of}
 use Rattle.instance_start.specs.Description.{Constant}
 use Rattle.expr_store.specs.Views.{nodes}
@@ -18,6 +18,7 @@ use Rattle.name_rules.specs.declared.map.NameMap.{NameMap}
 use Rattle.jani_instance.specs.Actions.{AreElementsOf, AreNamedElementsOf, actions_of}
 use Rattle.jani_instance.specs.Built.{IsTransientOf, IsVectorOf, global_place}
 use Rattle.jani_instance.specs.Described.{mark_names}
+use Rattle.jani_instance.specs.Initial.{initial_numbers, numbers_in}
 use Rattle.jani_instance.specs.Prepared.{places_at, places_of, see_from}
 use Rattle.jani_instance.specs.Shapes.{Lent, located_as, transient_as, transient_at}
 use Rattle.jani_instance.specs.Views.{At, look_by}
@@ -47,6 +48,7 @@ pub record IsListed (file : File) (l : Listed) : Type 0 where
   pub parts_are : map automaton_at l.parts.items ≡ elements file
   pub kinds_are : AreKinds (meaning.variables file) l.kinds
   pub constants_at : (x : Name) → under l.constants x ≡ constant_place file.constants x
+  pub condition_is : l.has_condition ≡ has_condition file
 
 -- as many columns as a file has can be counted
 abbrev pub HasRoom : File → Type 0
@@ -59,10 +61,11 @@ pub record IsKnown (file : File) (v : Valuation) (k : Known) : Type 0 where
   pub room : HasRoom file
 
 -- ---- elements, vectors, labels and reward structures
--- the elements before names are resolved, and the vectors
+-- the elements before names are resolved, the vectors, and the initial locations
 pub record AreLinked (file : File) (l : Linked) : Type 0 where
   pub elements_are : AreNamedElementsOf file l.elements.items
   pub vectors_are : AllZip (IsVectorOf file actions_of) file.vectors l.vectors.items
+  pub initial_are : map numbers_in l.initial_locations.items ≡ map initial_numbers (elements file)
 
 -- the labels and then the reward structures, before names are resolved
 abbrev pub AreNamed : File → Valuation → List (Transient Lent) → Type 0
@@ -85,6 +88,8 @@ pub record IsBuilt (file : File) (v : Valuation) (b : Built) : Type 0 where
   pub names_are : map (λ t. t.name.now) b.prepared.transients.items ≡ mark_names file
   pub labelling : AllZip (IsTransientOf file v (nodes b.prepared.store)) (meaning.labels file) (take b.labels b.prepared.transients.items)
   pub rewarding : AllZip (IsTransientOf file v (nodes b.prepared.store)) (meaning.structures file) (drop b.labels b.prepared.transients.items)
+  pub initial_are : map numbers_in b.initial_locations.items ≡ map initial_numbers (elements file)
+  pub condition_is : b.has_condition ≡ has_condition file
 
 -- a constant is wide, or memory is wanting
 abbrev pub HasWideConstant : File → Valuation → StartFail → Type 0

@@ -9,6 +9,7 @@ pub mod Sound
 pub mod Instance
 pub mod Lawful
 pub mod Transients
+pub mod Initial
 pub mod Actions
 pub mod Knowing
 pub mod OneProcess

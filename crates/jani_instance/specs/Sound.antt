@@ -1,7 +1,9 @@
 -- What an instance keeps is what its file comes out as under the given constants, and the instance has no fault.
 -- (What a JANI file has there is defined after the jani-model specification in jani_meaning; what an instance keeps of it is this project's own rule.)
-use Rattle.std.specs.Prelude.{◌≡◌, ℕ, take, drop, List, [], map, length, Option, IsTrue}
+use Rattle.std.specs.Prelude.{◌≡◌, ℕ, take, drop, List, [], map, length, Bool, Option, IsTrue}
+use Rattle.op_trees.specs.Seen.{known_names}
 use Rattle.op_trees.specs.declared.tree.Value.{Value}
+use Rattle.name_rules.specs.declared.map.NameMap.{NameMap}
 use Rattle.expr_store.specs.declared.node.ExprId.{ExprId}
 use Rattle.expr_store.specs.declared.store.ExprStore.{ExprStore}
 use Rattle.jani_table.specs.declared.operator.JaniOp.{JaniOp}
@@ -12,17 +14,20 @@ use Rattle.state_choices.specs.Groups.{Group, element_groups}
 use Rattle.state_choices.specs.Trimmed.{computed, trimmed_group}
 use Rattle.jani_tree.specs.Syntax.{File}
 use Rattle.jani_meaning.specs.Elements.{labels}
-use Rattle.jani_meaning.specs.Scene.{scene, columns_of}
+use Rattle.jani_meaning.specs.Scene.{scene, columns_of, has_condition}
 use Rattle.jani_meaning.specs.Moment.{moment, Moment}
 use Rattle.jani_meaning.specs.Process.{no_reward}
 use Rattle.instance_start.specs.Given.{given_by}
 use Rattle.instance_start.specs.Columns.{column_of}
 use Rattle.instance_start.specs.Firsts.{BeginRight}
 use Rattle.instance_start.specs.declared.data.Column.{Column}
+use Rattle.instance_start.specs.declared.data.Place.{Place}
 use Rattle.state_choices.specs.Codes.{one_answers, one_columns, one_faults, one_groups, one_names, one_number, one_truth}
 use Rattle.jani_instance.specs.Described.{mark_names}
-use Rattle.jani_instance.specs.Views.{Setting, members_seen, groups_of, transient_value}
+use Rattle.jani_instance.specs.Initial.{condition_from, numbers_in, one_seen}
+use Rattle.jani_instance.specs.Views.{Setting, members_seen, groups_of, transient_value, values_at}
 use Rattle.jani_instance.specs.declared.data.Element.{Element}
+use Rattle.jani_instance.specs.declared.data.InitialLocations.{InitialLocations}
 use Rattle.jani_instance.specs.declared.data.Vector.{Vector}
 use Rattle.jani_instance.specs.declared.data.Transient.{Transient}
 
@@ -43,9 +48,11 @@ module _ (file : File) (v : Valuation) (k : Setting) (vectors : List Vector) (n 
   pub IsRight-prop : IsProp IsRight
   IsRight-prop = hlevel (one_answers, one_groups)
 
--- No fault; the columns of the file; how many elements and labels, and the names of the marks; and what each state has.
+-- No fault; the columns of the file; how many elements and labels, and the names of the marks; whether there is an initial condition;
+-- and what each state has, the condition among it.
 module _ (file : File) (given : List Given) (store : ExprStore JaniOp) (constants : List (Option Value)) (columns : List Column)
-    (elements : List Element) (vectors : List Vector) (n : ℕ) (transients : List (Transient ExprId)) where
+    (elements : List Element) (vectors : List Vector) (n : ℕ) (transients : List (Transient ExprId))
+    (places : NameMap Place) (initial : List InitialLocations) (conditional : Bool) where
   abbrev pub setting_in : Values → Setting
   setting_in s = record { store = store; constants = constants; columns = columns; elements = elements; values = s }
 
@@ -56,8 +63,11 @@ module _ (file : File) (given : List Given) (store : ExprStore JaniOp) (constant
     pub elements_are : length elements ≡ length file.elements
     pub labels_are : n ≡ length (labels file)
     pub names_are : map (λ t. t.name.now) transients ≡ mark_names file
+    pub condition_is : conditional ≡ has_condition file
+    pub condition : (s : Values) → IsTrue (is_state (columns_of file (given_by given)) s) →
+        condition_from file.restrict (map numbers_in initial) (known_names (values_at s places constants)) s ≡ (moment file (given_by given) s).condition
     pub right : (s : Values) → IsTrue (is_state (columns_of file (given_by given)) s) → IsRight file (given_by given) (setting_in s) vectors n transients
 
   -- it can be told in one way only
   pub IsSound-prop : IsProp IsSound
-  IsSound-prop = hlevel (one_columns, one_faults, one_names, one_number, one_truth, IsRight-prop)
+  IsSound-prop = hlevel (one_columns, one_faults, one_names, one_number, one_truth, one_seen, IsRight-prop)

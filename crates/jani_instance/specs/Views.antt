@@ -55,12 +55,16 @@ use Rattle.jani_instance.specs.declared.run.Run.{Run}
 abbrev pub see_at : (Name → Seen) → Lent → Seen
 see_at names e = see (tree e.now) names
 
+-- global names, by the values of the columns
+abbrev pub values_at : Values → NameMap Place → List (Option Value) → Environment
+values_at s places constants x = value_at s constants (under places x)
+
 -- the names of constants alone
 abbrev pub values_by : NameMap Place → List (Option Value) → Environment
-values_by places constants x = value_at [] constants (under places x)
+values_by = values_at []
 
 abbrev pub values_in : Run → Environment
-values_in r = values_by r.places.now r.constants.now
+values_in r = values_at r.values.now r.places.now r.constants.now
 
 abbrev pub seen_in : Run → Name → Seen
 seen_in r = known_names (values_in r)

@@ -98,7 +98,7 @@ pub(crate) fn number_of(actions: &ActionTable, name: &str) -> usize
 }
 
 /// The numbers of locations by their names.
-fn location_numbers<'a>(
+pub(crate) fn location_numbers<'a>(
     alloc: Global,
     these: &'a [JaniLocation],
 ) -> Result<NameMap<'a, usize>, AllocError>

@@ -7,8 +7,8 @@ ghost use Rattle.frac_core.specs.Results.{narrow};
 ghost use Rattle.op_trees.specs.Tree.{tree};
 ghost use Rattle.state_choices.specs.Trimmed.{computed};
 ghost use Rattle.jani_tree.specs.Syntax.{kind_of, var_of};
-ghost use Rattle.jani_meaning.specs.Elements.{initial_number, location_number};
-ghost use Rattle.jani_meaning.specs.Scene.{column, counted, domain_of, location_column, start_of};
+ghost use Rattle.jani_meaning.specs.Elements.{has_several_starts, initial_number, location_number};
+ghost use Rattle.jani_meaning.specs.Scene.{column, counted, domain_of, first_location, first_of, location_column, start_of};
 ghost use Rattle.instance_start.specs.Columns.{bounds_of, trimmed_column, trimmed_domain, variable_of};
 ghost use Rattle.jani_instance.specs.Parts.{automaton_at, owned_at};
 ghost use Rattle.jani_instance.specs.Views.{seen_in};
@@ -65,6 +65,23 @@ fn initial_number(part: Part) -> usize
     }
 }
 
+/// Whether the element may begin in several locations.
+pub(crate) fn has_several_starts(part: Part) -> bool
+    ensures { result ≡ has_several_starts (automaton_at part.entry) }
+{
+    initial(part).get(1).is_some()
+}
+
+/// The location that the element begins in, if there is but one.
+fn first_location(part: Part) -> Option<Result<Value, EvalFail>>
+    ensures { result ≡ option_map computed (first_location (automaton_at part.entry) (has_several_starts (automaton_at part.entry))) }
+{
+    if has_several_starts(part) {
+        return None;
+    }
+    Some(counted(initial_number(part)))
+}
+
 /// The number of the element's last location.
 pub(crate) fn last_number(part: Part) -> usize
     ensures { result ≡ length (automaton_at part.entry).locations - 1 }
@@ -91,7 +108,7 @@ fn location_variable<'a>(part: Part<'a>) -> Variable<'a>
     Variable {
         name: name_of(part),
         bounds: Some(Bounds { low, high }),
-        first: Some(counted(initial_number(part))),
+        first: first_location(part),
     }
 }
 
@@ -102,7 +119,7 @@ fn variable<'a>(var: &'a JaniVar, run: &Run) -> Variable<'a>
     Variable {
         name: &var.name.name,
         bounds: bounds(&var.kind, run),
-        first: Some(start_of(&var.start, run)),
+        first: first_of(&var.start, run),
     }
 }
 
@@ -119,7 +136,17 @@ fn bounds(kind: &JaniKind, run: &Run) -> Option<Bounds>
     }
 }
 
-/// The value that a variable begins with.
+/// The value that a variable begins with, if it has one.
+fn first_of(e: &Option<JaniExpr>, run: &Run) -> Option<Result<Value, EvalFail>>
+    ensures { result ≡ option_map computed (first_of (seen_in run.now) (option_map tree e.now)) }
+{
+    match e {
+        Some(e) => Some(value_of(e, run)),
+        None => None,
+    }
+}
+
+/// The value that a transient variable begins with.
 pub(crate) fn start_of(e: &Option<JaniExpr>, run: &Run) -> Result<Value, EvalFail>
     ensures { result ≡ computed (start_of (seen_in run.now) (option_map tree e.now)) }
 {

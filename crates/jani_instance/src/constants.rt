@@ -12,7 +12,7 @@ ghost use Rattle.jani_meaning.specs.Scene.{constant_seen};
 ghost use Rattle.jani_instance.specs.Constants.{AreWithin, Tabled, constant_place, first_table, round_of};
 ghost use Rattle.jani_instance.specs.Views.{seen_in, values_by};
 
-use crate::run::{Run, value_of};
+use crate::run::{Run, constants_alone, value_of};
 use instance_start::{Place, equal_values, is_wide};
 use jani_tree::{JaniConst, JaniFile};
 use name_rules::{Declaration, NameMap, add_names, judge_circles};
@@ -123,10 +123,7 @@ fn next_value(
 ) -> Option<Value>
     ensures { result ≡ (seen_of (computed (constant_seen (under given.now constant.now.name.name) (known_names (values_by places.now table.now)) (option_map tree constant.now.value)))).value }
 {
-    let run = Run {
-        places,
-        constants: table,
-    };
+    let run = constants_alone(places, table);
     let value: Result<Value, EvalFail> = constant_value(constant, given, &run);
     value_in(&value)
 }
@@ -180,10 +177,7 @@ pub(crate) fn constant_values(
     requires { (x : List ℕ) → under places.now x ≡ constant_place (map const_of constants.now) x }
     ensures { IfOk result (λ rs. rs.items ≡ map computed (round_of (map const_of constants.now) (under given.now) table.now)) }
 {
-    let run = Run {
-        places,
-        constants: table,
-    };
+    let run = constants_alone(places, table);
     each_value(alloc, constants, given, &run)
 }
 

@@ -76,6 +76,12 @@ pub struct Vector<'a> {
     pub links: Vec<Link>,
 }
 
+/// The numbers of the initial locations of an element that has several.
+#[derive(Drop)]
+pub struct InitialLocations {
+    pub numbers: Vec<usize>,
+}
+
 /// A value that a location of an element gives to a transient variable.
 #[derive(Clone, Copy)]
 pub struct Giver<E> {

@@ -11,19 +11,22 @@ ghost use Rattle.jani_meaning.specs.Moment.{moment};
 ghost use Rattle.jani_meaning.specs.Process.{choices, excess, has_wide_mark, marks};
 ghost use Rattle.instance_start.specs.Given.{given_by};
 ghost use Rattle.jani_instance.specs.Sound.{IsRight, IsSound, IsSound-prop, no_rewards};
+ghost use Rattle.state_choices.specs.Trimmed.{computed};
 ghost use Rattle.jani_instance.specs.Views.{IsIn, member_of, members_seen, setting_of};
 
-use crate::data::{Element, Evaluated, Transient, Vector};
+use crate::data::{Element, Evaluated, InitialLocations, Transient, Vector};
 use crate::groups::{groups, members};
+use crate::initial::{condition, holds};
 use crate::marks::{add_labels, add_rewards};
-use crate::run::Here;
+use crate::run::{Here, Run};
 use bridge_io::{List, Text};
 use expr_store::{Evaluation, ExprId, ExprStore};
 use frac_core::Frac;
-use instance_start::{Column, first_values, is_state, may_begin};
+use instance_start::{Column, Place, first_values, is_state, may_begin};
 use itoa::Buffer;
 use jani_check::CheckedJani;
 use jani_table::JaniOp;
+use name_rules::NameMap;
 use op_trees::{EvalFail, Value};
 use process_core::{Choice, Given, InitialWide, Mark, State, StepFail, Steps};
 use state_choices::{choices_of, group_laws, trimming_law};
@@ -31,7 +34,8 @@ use std::alloc::{AllocError, Global};
 
 /// A judged file under given constants. What its names stand for, the values of its constants, its columns, which of its edges
 /// start at each location and belong together, and which locations give values to its labels and reward structures, is found
-/// once, at the start; its expressions stand in one store, each different part once.
+/// once, at the start; its expressions stand in one store, each different part once. The condition on its initial states is read in
+/// the file, by where global names stand.
 #[derive(Drop)]
 pub struct JaniInstance<'a> {
     pub(crate) checked: &'a CheckedJani,
@@ -43,7 +47,10 @@ pub struct JaniInstance<'a> {
     pub(crate) vectors: Vec<Vector<'a>>,
     pub(crate) labels: usize,
     pub(crate) transients: Vec<Transient<'a, ExprId>>,
-    ghost sound: { IsSound (file_of checked.now) given.now store constants.items columns.items elements.items vectors.items labels transients.items } by { IsSound-prop (file_of checked.now) given.now store constants.items columns.items elements.items vectors.items labels transients.items },
+    pub(crate) places: NameMap<'a, Place>,
+    pub(crate) initial_locations: Vec<InitialLocations>,
+    pub(crate) has_condition: bool,
+    ghost sound: { IsSound (file_of checked.now) given.now store constants.items columns.items elements.items vectors.items labels transients.items places initial_locations.items has_condition } by { IsSound-prop (file_of checked.now) given.now store constants.items columns.items elements.items vectors.items labels transients.items places initial_locations.items has_condition },
 }
 
 impl<'a> Steps for JaniInstance<'a> {
@@ -72,10 +79,16 @@ impl<'a> Steps for JaniInstance<'a> {
     }
 
     fn initial(&self, s: &State) -> Result<bool, InitialWide> {
-        Ok(may_begin(self.columns.as_slice(), s.values.as_slice()))
+        if !may_begin(self.columns.as_slice(), s.values.as_slice()) {
+            return Ok(false);
+        }
+        holds(condition_at(self, s))
     }
 
     fn first(&self, alloc: Global) -> Result<Option<State>, AllocError> {
+        if self.has_condition {
+            return Ok(None);
+        }
         match first_values(alloc, self.columns.as_slice())? {
             Some(values) => Ok(Some(State { values })),
             None => Ok(None),
@@ -114,8 +127,22 @@ fn numbered_text(alloc: Global, mark: &str, n: usize) -> Result<Text, AllocError
     Text::from_string(text)
 }
 
+/// What the condition on initial states comes out as in a state.
+fn condition_at(instance: &JaniInstance, s: &State) -> Result<Value, EvalFail>
+    requires { IsTrue (is_state (columns_of (file_of instance.now.checked.now) (given_by instance.now.given.now)) s.now.values) }
+    ensures { result ≡ computed (moment (file_of instance.now.checked.now) (given_by instance.now.given.now) s.now.values).condition }
+{
+    let run = Run {
+        places: &instance.places,
+        constants: instance.constants.as_slice(),
+        values: s.values.as_slice(),
+    };
+    let file = instance.checked.file();
+    condition(&file.restrict, instance.initial_locations.as_slice(), &run)
+}
+
 /// The instance in a state.
-fn here<'a>(instance: &'a JaniInstance<'a>, s: &'a State) -> Here<'a>
+fn here<'s, 'a>(instance: &'s JaniInstance<'a>, s: &'s State) -> Here<'s, 'a>
     requires { IsTrue (is_state (columns_of (file_of instance.now.checked.now) (given_by instance.now.given.now)) s.now.values) }
     ensures values { result.values.now ≡ s.now.values }
     ensures right { IsRight (file_of instance.now.checked.now) (given_by instance.now.given.now) (setting_of result) instance.now.vectors.items instance.now.labels instance.now.transients.items }
@@ -130,21 +157,21 @@ fn here<'a>(instance: &'a JaniInstance<'a>, s: &'a State) -> Here<'a>
 }
 
 /// An evaluation of its expressions.
-fn evaluation<'a>(alloc: Global, here: &Here<'a>) -> Evaluation<'a, JaniOp>
+fn evaluation<'s, 'a>(alloc: Global, here: &Here<'s, 'a>) -> Evaluation<'s, JaniOp>
     ensures { IsIn (setting_of here.now) result }
 {
     Evaluation::new(alloc, here.store, here.values, here.constants)
 }
 
 /// The labels.
-fn labels<'a>(instance: &'a JaniInstance<'a>) -> &'a [Transient<'a, ExprId>]
+fn labels<'s, 'a>(instance: &'s JaniInstance<'a>) -> &'s [Transient<'a, ExprId>]
     ensures { result.now ≡ take instance.now.labels instance.now.transients.items }
 {
     &instance.transients.as_slice()[..instance.labels]
 }
 
 /// The reward structures.
-fn structures<'a>(instance: &'a JaniInstance<'a>) -> &'a [Transient<'a, ExprId>]
+fn structures<'s, 'a>(instance: &'s JaniInstance<'a>) -> &'s [Transient<'a, ExprId>]
     ensures { result.now ≡ drop instance.now.labels instance.now.transients.items }
 {
     &instance.transients.as_slice()[instance.labels..]

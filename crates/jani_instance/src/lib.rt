@@ -10,6 +10,7 @@ mod constants;
 mod data;
 mod edges;
 mod groups;
+mod initial;
 mod instance;
 mod laws;
 mod located;

@@ -1,9 +1,10 @@
 //! The values of expressions: of those that name constants alone, at the start, and in a state.
 ghost use Rattle.std.specs.Prelude.{◌≡◌, Some};
+ghost use Rattle.op_trees.specs.Seen.{known_names};
 ghost use Rattle.op_trees.specs.Tree.{tree};
 ghost use Rattle.jani_meaning.specs.Scene.{see};
 ghost use Rattle.state_choices.specs.Trimmed.{computed};
-ghost use Rattle.jani_instance.specs.Views.{IsIn, count_in, location_at, look_at, natural, seen_in, setting_of};
+ghost use Rattle.jani_instance.specs.Views.{IsIn, count_in, location_at, look_at, natural, seen_in, setting_of, values_by};
 
 use crate::data::Element;
 use expr_store::{Evaluation, ExprId, ExprStore};
@@ -13,11 +14,12 @@ use jani_tree::JaniExpr;
 use name_rules::NameMap;
 use op_trees::{EvalFail, Names, Ty, Value, eval};
 
-/// The names of the constants: where each stands, and their values.
+/// Global names: where each stands, the values of the constants, and those of the columns, if a state is known.
 #[derive(Clone, Copy)]
 pub(crate) struct Run<'a, 'b> {
     pub(crate) places: &'a NameMap<'b, Place>,
     pub(crate) constants: &'a [Option<Value>],
+    pub(crate) values: &'a [Value],
 }
 
 impl<'a, 'b> Names for Run<'a, 'b> {
@@ -30,11 +32,25 @@ impl<'a, 'b> Names for Run<'a, 'b> {
     ghost typed = { types_agree };
 
     fn value(&self, name: &str) -> Option<Value> {
-        value_at(&[], self.constants, self.places.get(name))
+        value_at(self.values, self.constants, self.places.get(name))
     }
 
     fn ty(&self, name: &str) -> Option<Ty> {
         type_of(self.value(name))
+    }
+}
+
+/// The names of the constants alone.
+pub(crate) fn constants_alone<'a, 'b>(
+    places: &'a NameMap<'b, Place>,
+    constants: &'a [Option<Value>],
+) -> Run<'a, 'b>
+    ensures { seen_in result ≡ known_names (values_by places.now constants.now) }
+{
+    Run {
+        places,
+        constants,
+        values: &[],
     }
 }
 
@@ -49,12 +65,12 @@ pub(crate) fn value_of(e: &JaniExpr, run: &Run) -> Result<Value, EvalFail>
 
 /// An instance in a state: its expressions, the values of the constants, the columns, the elements, and the values of the columns.
 #[derive(Clone, Copy)]
-pub(crate) struct Here<'a> {
-    pub(crate) store: &'a ExprStore<JaniOp>,
-    pub(crate) constants: &'a [Option<Value>],
-    pub(crate) columns: &'a [Column<'a>],
-    pub(crate) elements: &'a [Element],
-    pub(crate) values: &'a [Value],
+pub(crate) struct Here<'s, 'a> {
+    pub(crate) store: &'s ExprStore<JaniOp>,
+    pub(crate) constants: &'s [Option<Value>],
+    pub(crate) columns: &'s [Column<'a>],
+    pub(crate) elements: &'s [Element],
+    pub(crate) values: &'s [Value],
 }
 
 /// The value of an expression of the instance, by an evaluation in this state.

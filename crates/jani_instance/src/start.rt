@@ -1,6 +1,5 @@
 //! A file that is started under given constants.
 ghost use Rattle.std.specs.Prelude.{◌≡◌, ◌++◌, [], ℕ, List, IfOk, MatchResult, None, Some, map};
-ghost use Rattle.op_trees.specs.Seen.{known_names};
 ghost use Rattle.name_rules.specs.Names.{under};
 ghost use Rattle.process_core.specs.Instance.{Valuation};
 ghost use Rattle.jani_check.specs.Faults.{IsChecked};
@@ -18,21 +17,22 @@ ghost use Rattle.jani_instance.specs.Described.{described, jani_description};
 ghost use Rattle.jani_instance.specs.Instance.{process_of};
 ghost use Rattle.jani_instance.specs.Knowing.{AreKinds, AreNamed, HasRoom, HasWideConstant, IsBuilt, IsKnown, AreLinked, IsListed, IsPreparedOf, opened};
 ghost use Rattle.jani_instance.specs.Parts.{automaton_at, owned_at};
-ghost use Rattle.jani_instance.specs.Views.{seen_in, values_by};
 
 use crate::acting::{Basis, actions};
 use crate::columns::variables_of;
 use crate::constants::{constant_table, constant_values};
-use crate::data::{Element, NamedElement, Transient, Vector};
+use crate::data::{Element, InitialLocations, NamedElement, Transient, Vector};
+use crate::initial::{has_condition, initial_locations};
 use crate::instance::JaniInstance;
 use crate::located::elements;
 use crate::parts::{
     Owned, Part, add_constants, global_places, labels, lasting, parts, structures, variables,
 };
 use crate::prepare;
-use crate::run::Run;
+use crate::run::constants_alone;
 use crate::transients::transients;
 use crate::vectors::vectors;
+use bridge_io::together;
 use expr_store::{ExprId, ExprStore};
 use instance_start::{Column, Constant, Place, columns, given_values, misfit};
 use jani_check::CheckedJani;
@@ -130,6 +130,9 @@ fn instance_of<'a>(
         vectors: built.vectors,
         labels: built.labels,
         transients: prepared.transients,
+        places: known.places,
+        initial_locations: built.initial_locations,
+        has_condition: built.has_condition,
     }
 }
 
@@ -158,12 +161,13 @@ pub(crate) struct Kinds<'a> {
     pub(crate) structures: Vec<Owned<'a>>,
 }
 
-/// The elements of a file, its variables, and where its constants stand.
+/// The elements of a file, its variables, where its constants stand, and whether it has an initial condition.
 #[derive(Drop)]
 pub(crate) struct Listed<'a> {
     pub(crate) parts: Vec<Part<'a>>,
     pub(crate) kinds: Kinds<'a>,
     pub(crate) constants: NameMap<'a, Place>,
+    pub(crate) has_condition: bool,
 }
 
 fn what_is_listed<'a>(alloc: Global, file: &'a JaniFile) -> Result<Listed<'a>, AllocError>
@@ -172,10 +176,12 @@ fn what_is_listed<'a>(alloc: Global, file: &'a JaniFile) -> Result<Listed<'a>, A
     let parts = parts(alloc, file)?;
     let kinds = kinds_of(alloc, file, parts.as_slice())?;
     let constants = constant_places(alloc, file.constants.as_slice())?;
+    let has_condition = has_condition(file, parts.as_slice(), kinds.lasting.as_slice());
     Ok(Listed {
         parts,
         kinds,
         constants,
+        has_condition,
     })
 }
 
@@ -313,6 +319,7 @@ fn known_columns<'a>(
         Ok(values) => values,
         Err(e) => return Err(StartFail::Memory(e)),
     };
+    let condition = listed.has_condition;
     let run = constants_alone(&listed.constants, table);
     match variables_of(
         alloc,
@@ -321,18 +328,8 @@ fn known_columns<'a>(
         &run,
     ) {
         Err(e) => Err(StartFail::Memory(e)),
-        Ok(variables) => columns(alloc, false, opens, values.as_slice(), variables.as_slice()),
+        Ok(vars) => columns(alloc, condition, opens, values.as_slice(), vars.as_slice()),
     }
-}
-
-/// The constants' names alone.
-fn constants_alone<'a, 'b>(
-    places: &'a NameMap<'b, Place>,
-    constants: &'a [Option<Value>],
-) -> Run<'a, 'b>
-    ensures { seen_in result ≡ known_names (values_by places.now constants.now) }
-{
-    Run { places, constants }
 }
 
 /// Where global names stand: behind the locations of the elements.
@@ -367,6 +364,8 @@ pub(crate) struct Built<'a> {
     pub(crate) prepared: Prepared<'a>,
     pub(crate) vectors: Vec<Vector<'a>>,
     pub(crate) labels: usize,
+    pub(crate) initial_locations: Vec<InitialLocations>,
+    pub(crate) has_condition: bool,
 }
 
 fn what_is_built<'a>(
@@ -393,6 +392,8 @@ fn what_is_built<'a>(
         prepared,
         vectors: linked.vectors,
         labels: listed.kinds.labels.as_slice().len(),
+        initial_locations: linked.initial_locations,
+        has_condition: listed.has_condition,
     })
 }
 
@@ -435,11 +436,12 @@ fn known_transients<'a>(
     )
 }
 
-/// The elements, before their names are resolved, and the vectors.
+/// The elements, before their names are resolved, the vectors, and the initial locations.
 #[derive(Drop)]
 pub(crate) struct Linked<'a> {
     pub(crate) elements: Vec<NamedElement<'a>>,
     pub(crate) vectors: Vec<Vector<'a>>,
+    pub(crate) initial_locations: Vec<InitialLocations>,
 }
 
 fn what_is_linked<'a>(
@@ -470,6 +472,11 @@ fn linked_on<'a>(alloc: Global, basis: &Basis<'_, 'a>) -> Result<Linked<'a>, All
     ensures { IfOk result (AreLinked (file_of basis.now.file.now)) }
 {
     let elements = elements(alloc, basis)?;
-    let vectors = vectors(alloc, basis)?;
-    Ok(Linked { elements, vectors })
+    let initial = initial_locations(alloc, basis.parts);
+    let (vectors, initial_locations) = together(vectors(alloc, basis), initial)?;
+    Ok(Linked {
+        elements,
+        vectors,
+        initial_locations,
+    })
 }

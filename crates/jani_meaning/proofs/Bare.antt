@@ -1,6 +1,6 @@
 -- What a JANI file means does not depend on the places that its tree keeps.
-use Rattle.std.specs.Prelude.{◌≡◌, ℕ, zero, suc, ◌+◌, ◌-◌, List, [], ◌∷◌, ◌++◌, map, length, Bool, false, not, ◌&&◌, Option, Some, None, unwrap_or, slice_get, if◌then◌else◌}
-use Rattle.std.specs.List.{find, filter, flat_map}
+use Rattle.std.specs.Prelude.{◌≡◌, ℕ, zero, suc, ◌+◌, ◌-◌, List, [], ◌∷◌, ◌++◌, map, length, Bool, not, ◌&&◌, Option, Some, None, unwrap_or, slice_get, if◌then◌else◌, true, false, ◌||◌, is_none}
+use Rattle.std.specs.List.{find, filter, flat_map, list_any}
 use Rattle.std.specs.Option.{option_map, option_or}
 use Rattle.std.proofs.Common.{refl, sym, ap, ap₂, ◌∙◌}
 use Rattle.std.proofs.lemmas.List.{length-map, map-append}
@@ -12,19 +12,20 @@ use Rattle.op_trees.specs.Seen.{Seen, known}
 use Rattle.op_trees.specs.SeenLaws.{seen-bare}
 use Rattle.op_trees.specs.Tree.{bare}
 use Rattle.op_trees.specs.declared.tree.Value.{Value}
+use Rattle.op_trees.specs.declared.tree.Value.TheVariants as V
 use Rattle.process_core.specs.Product.{map-map, flat_map_agree}
-use Rattle.basics.specs.Options.{if_some}
+use Rattle.basics.specs.Options.{if_some, is_some-map}
 use Rattle.process_core.specs.Ready.{Values, Name, Write, Reward, Update, Ready, Vector}
 use Rattle.jani_tree.specs.Operators.{jani_meaning}
 use Rattle.jani_tree.specs.Syntax.{Expression, Const, VarKind, boolean, integer, number, real_bounded, one_sided, bounded, Var, Location, Destination, Edge, Automaton, File}
 use Rattle.jani_tree.specs.Syntax as syntax
 use Rattle.op_trees.specs.Names.{bare_name, is_called}
 use Rattle.jani_tree.specs.Places.{bare_const, bare_kind, bare_var, bare_write, bare_location, bare_destination, bare_edge, bare_automaton, bare_vector, bare_part, bare_file}
-use Rattle.process_core.specs.Instance.{Valuation, Between, numbered, models_alike, no_condition}
-use Rattle.basics.specs.Mapped.{found_mapped, kept_mapped, position_mapped}
-use Rattle.jani_meaning.specs.Elements.{nothing_called, automaton_called, elements, location_number, first_number, initial_number, Owned, owned_by, variables, is_boolean, is_lasting, lasting, is_label, labels, is_structure, structures, is_own, is_global, place_of, column_number, structure_number}
-use Rattle.jani_meaning.specs.Scene.{see, counted, constant_called, constant_seen, constant_value, constant_within, constant, constant_names, location_column, domain_of, start_of, column, columns_of, scene}
-use Rattle.jani_meaning.specs.Moment.{Moment, value_in, names_in, is_number, is_current, current_location, guard_seen, weight_seen, location_write, column_write, reward_of, write_at, reward_at, update_at, edge_at, element_at, given_in, given_at, may_give, given_to, first_or, transient_at, vector_of, moment}
+use Rattle.process_core.specs.Instance.{Valuation, Between, numbered, models_alike}
+use Rattle.basics.specs.Mapped.{any_mapped, found_mapped, kept_mapped, position_mapped}
+use Rattle.jani_meaning.specs.Elements.{nothing_called, automaton_called, elements, location_number, first_number, initial_number, Owned, owned_by, variables, is_boolean, is_lasting, lasting, is_label, labels, is_structure, structures, is_own, is_global, place_of, column_number, structure_number, is_several, has_several_starts}
+use Rattle.jani_meaning.specs.Scene.{see, counted, constant_called, constant_seen, constant_value, constant_within, constant, constant_names, location_column, domain_of, start_of, column, columns_of, scene, first_location, first_of, begins_anywhere, has_condition}
+use Rattle.jani_meaning.specs.Moment.{Moment, value_in, names_in, is_number, is_current, current_location, guard_seen, weight_seen, location_write, column_write, reward_of, write_at, reward_at, update_at, edge_at, element_at, given_in, given_at, may_give, given_to, first_or, transient_at, vector_of, moment, is_among, begin_here, restriction_seen, condition_at}
 use Rattle.jani_meaning.specs.Process.{choices, marks, model}
 use Rattle.jani_meaning.specs.Laws.{PlacesMeanNothing}
 
@@ -57,10 +58,22 @@ initial-bare a = of_list a.initial
     of_list [] = refl
     of_list (n ∷ ns) = number-bare a n.name
 
+several-bare : (a : Automaton) → has_several_starts (bare_automaton a) ≡ has_several_starts a
+several-bare a = of_list a.initial
+  where
+    of_list : (ns : List Named) → is_several (map bare_name ns) ≡ is_several ns
+    of_list [] = refl
+    of_list (n ∷ []) = refl
+    of_list (n ∷ m ∷ ns) = refl
+
+first_location-bare : (a : Automaton) (b : Bool) → first_location (bare_automaton a) b ≡ first_location a b
+first_location-bare a true = refl
+first_location-bare a false = ap (λ i. Some (counted i)) (initial-bare a)
+
 location-bare : (a : Automaton) → location_column (bare_automaton a) ≡ location_column a
 location-bare a =
-    ap₂ (λ n i. record { name = a.name.name; domain = Between (counted 0) (counted (n - 1)); first = Some (counted i) })
-    (length-map a.locations bare_location) (initial-bare a)
+    ap₂ (λ n f. record { name = a.name.name; domain = Between (counted 0) (counted (n - 1)); first = f })
+    (length-map a.locations bare_location) (ap (first_location (bare_automaton a)) (several-bare a) ∙ first_location-bare a (has_several_starts a))
 
 boolean-bare : (k : VarKind) → is_boolean (bare_kind k) ≡ is_boolean k
 boolean-bare boolean = refl
@@ -149,8 +162,12 @@ start-bare : (names : Name → Seen) (e : Option Expression) → start_of names 
 start-bare names None = refl
 start-bare names (Some e) = see-bare e names
 
+first-bare : (names : Name → Seen) (e : Option Expression) → first_of names (option_map bare e) ≡ first_of names e
+first-bare names None = refl
+first-bare names (Some e) = ap Some (see-bare e names)
+
 column-bare : (names : Name → Seen) (x : Var) → column names (bare_var x) ≡ column names x
-column-bare names x = ap₂ (λ d f. record { name = x.name.name; domain = d; first = Some f }) (domain-bare names x.kind) (start-bare names x.start)
+column-bare names x = ap₂ (λ d f. record { name = x.name.name; domain = d; first = f }) (domain-bare names x.kind) (first-bare names x.start)
 
 module _ (file : File) (v : Valuation) where
   called_const-bare : (x : Name) → constant_called (bare_file file) x ≡ option_map bare_const (constant_called file x)
@@ -178,13 +195,25 @@ module _ (file : File) (v : Valuation) where
       ∙ map_agree _ _ (λ o. column-bare (constant_names (bare_file file) v) o.var) (lasting file)
       ∙ ap (λ names. map (λ o. column names o.var) (lasting file)) names-bare)
 
+  none-bare : (o : Option Expression) → is_none (option_map bare o) ≡ is_none o
+  none-bare None = refl
+  none-bare (Some e) = refl
+
+  has_condition-bare : has_condition (bare_file file) ≡ has_condition file
+  has_condition-bare =
+      ap₂ (λ a b. a || b) (is_some-map bare file.restrict)
+      (ap₂ (λ a b. a || b)
+      (ap (list_any has_several_starts) (elements-bare file) ∙ any_mapped bare_automaton has_several_starts has_several_starts several-bare (elements file))
+      (ap (list_any begins_anywhere) (lasting-bare file) ∙ any_mapped bare_owned begins_anywhere begins_anywhere (λ o. none-bare o.var.start) (lasting file)))
+
   pub scene-bare : scene (bare_file file) v ≡ scene file v
   scene-bare =
-      ap₂ (λ a b. record { constants = a; columns = b; has_condition = false })
+      ap₂ (λ a b. record { constants = a; columns = b; has_condition = has_condition (bare_file file) })
       (map-map (λ c. constant_seen (v c.name.name) (constant_names (bare_file file) v) c.value) bare_const file.constants
       ∙ map_agree _ _ (λ c. constant_seen-bare (v c.name.name) (constant_names (bare_file file) v) c.value) file.constants
       ∙ ap (λ names. map (λ c. constant_seen (v c.name.name) names c.value) file.constants) names-bare)
       columns-bare
+      ∙ ap (λ c. record { constants = (scene file v).constants; columns = columns_of file v; has_condition = c }) has_condition-bare
 
   -- ---- at a state
   module _ (s : Values) where
@@ -283,14 +312,33 @@ module _ (file : File) (v : Valuation) where
         ap₂ (λ ps r. record { parts = ps; result = r })
         (map-map (option_map (λ x. x.name)) bare_part x.parts ∙ map_agree _ _ parts-bare x.parts) (action-bare x.result)
 
+    -- ---- the initial condition
+    among-bare : (i : ℕ) (a : Automaton) (ns : List Named) → is_among s i (bare_automaton a) (map bare_name ns) ≡ is_among s i a ns
+    among-bare i a ns = any_mapped bare_name (λ n. is_current s i (bare_automaton a) n.name) (λ n. is_current s i a n.name) (λ n. current-bare i a n.name) ns
+
+    begin-bare : (i : ℕ) (as_ : List Automaton) → begin_here s i (map bare_automaton as_) ≡ begin_here s i as_
+    begin-bare i [] = refl
+    begin-bare i (a ∷ as_) = ap₂ (λ a b. a && b) (ap₂ (λ a b. not a || b) (several-bare a) (among-bare i a a.initial)) (begin-bare (i + 1) as_)
+
+    restriction_seen-bare : (i : ℕ) (o : Option Expression) → restriction_seen (names_in (bare_file file) v s i) (option_map bare o) ≡ restriction_seen (names_in file v s i) o
+    restriction_seen-bare i None = refl
+    restriction_seen-bare i (Some e) = value-bare i e
+
+    condition-bare : condition_at (bare_file file) v s ≡ condition_at file v s
+    condition-bare =
+        ap₂ (λ b c. if b then c else known (Some (V.Truth false))) (ap (begin_here s 0) (elements-bare file) ∙ begin-bare 0 (elements file))
+        (ap (λ n. restriction_seen (names_in (bare_file file) v s n) (option_map bare file.restrict)) (length-map file.elements bare_name)
+        ∙ restriction_seen-bare (length file.elements) file.restrict)
+
     pub moment-bare : moment (bare_file file) v s ≡ moment file v s
     moment-bare =
         ap₂ {B = List Vector → List Seen → List Seen → Moment} (λ vs g. g vs (map (transient_at (bare_file file) v s) (labels (bare_file file))) (map (transient_at (bare_file file) v s) (structures (bare_file file))))
         (map-map vector_of bare_vector file.vectors ∙ map_agree _ _ vector-bare file.vectors)
-        (ap (λ es vs ls rs. record { condition = no_condition; elements = es; vectors = vs; labels = ls; rewards = rs })
+        (ap (λ es vs ls rs. record { condition = condition_at (bare_file file) v s; elements = es; vectors = vs; labels = ls; rewards = rs })
         (gathered-bare file (λ i a. element_at (bare_file file) v s i a ∷ []) (λ i a. element_at file v s i a ∷ []) (λ i a. ap (λ r. r ∷ []) (element-bare i a))))
-        ∙ ap₂ (λ ls rs. record { condition = no_condition; elements = numbered (λ i a. element_at file v s i a ∷ []) 0 (elements file); vectors = map vector_of file.vectors; labels = ls; rewards = rs })
+        ∙ ap₂ (λ ls rs. record { condition = condition_at (bare_file file) v s; elements = numbered (λ i a. element_at file v s i a ∷ []) 0 (elements file); vectors = map vector_of file.vectors; labels = ls; rewards = rs })
         (transients-bare (labels (bare_file file)) (labels file) (labels-bare file)) (transients-bare (structures (bare_file file)) (structures file) (structures-bare file))
+        ∙ ap (λ c. record { condition = c; elements = (moment file v s).elements; vectors = (moment file v s).vectors; labels = (moment file v s).labels; rewards = (moment file v s).rewards }) condition-bare
 
 -- ---- the process
 pub model-bare : (file : File) → model (bare_file file) ≡ model file

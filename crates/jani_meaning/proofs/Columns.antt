@@ -1,6 +1,6 @@
 -- Columns and states: how many there are, that assignments in range keep states, and that locations have no fault.
-use Rattle.std.specs.Prelude.{◌≡◌, ℕ, zero, suc, ◌+◌, ◌-◌, ◌≤◌, List, [], ◌∷◌, ◌++◌, map, length, pos, Bool, true, false, not, ◌&&◌, cond, IsTrue, Option, Some, None, nat_lt, unwrap_or, slice_set, slice_get}
-use Rattle.std.specs.List.{position_or_len}
+use Rattle.std.specs.Prelude.{◌≡◌, ℕ, zero, suc, ◌+◌, ◌-◌, ◌≤◌, List, [], ◌∷◌, ◌++◌, map, length, pos, Bool, true, false, not, ◌&&◌, cond, IsTrue, Option, Some, None, nat_lt, unwrap_or, slice_get, is_some, ◌||◌, if◌then◌else◌}
+use Rattle.std.specs.List.{list_any, position_or_len}
 use Rattle.std.specs.Ordering.{MatchOrdering}
 use Rattle.std.specs.declared.cmp.Ordering.{Ordering}
 use Rattle.std.specs.declared.cmp.Ordering.TheVariants as C
@@ -8,26 +8,27 @@ use Rattle.std.proofs.Common.{refl, sym, ap, ap₂, subst, ◌∙◌, arith, ltb
 use Rattle.std.proofs.lemmas.Int.{ints}
 use Rattle.std.proofs.lemmas.List.{length-map}
 use Rattle.std.proofs.lemmas.Bool.{and_from, and_parts}
-use Rattle.process_core.specs.States.{state_set, fits_value, keeps_write_to}
-use Rattle.basics.specs.Booleans.{first_true, second_true, both_not}
+use Rattle.process_core.specs.States.{state_set, fits_value}
+use Rattle.basics.specs.Booleans.{second_true, both_not, first_false, second_false}
 use Rattle.bridge_io.specs.declared.reason.Named.{Named}
 use Rattle.frac_core.specs.Fraction.{Fraction, nought, whole, compare, is_whole}
 use Rattle.frac_core.specs.Order.{AtMost, AtMost-whole, Below, Below_not-AtMost, compare_ranks, compare_is}
-use Rattle.op_trees.specs.Seen.{Seen}
+use Rattle.op_trees.specs.Seen.{Seen, known}
 use Rattle.op_trees.specs.declared.tree.Value.{Value}
 use Rattle.op_trees.specs.declared.tree.Value.TheVariants as V
 use Rattle.process_core.specs.Ready.{Values, Name}
 use Rattle.process_core.specs.Distribution.{KeepsStates}
-use Rattle.jani_tree.specs.Syntax.{Automaton, File}
-use Rattle.process_core.specs.Instance.{Domain, Between, Column, is_in, is_state, is_above, is_greater, numbered, column_faults, constant_faults, only_if, domain_at, fits_in, write_to}
+use Rattle.basics.specs.Lists.{append_both, append_left}
+use Rattle.jani_tree.specs.Syntax.{Expression, Automaton, File}
+use Rattle.process_core.specs.Instance.{Between, Column, is_in, is_state, is_above, is_greater, numbered, column_faults, constant_faults, only_if, domain_at, fits_in, domain_faults, value_faults, first_faults, no_condition}
 use Rattle.op_trees.specs.Names.{is_called}
-use Rattle.jani_meaning.specs.Elements.{automaton_called, elements, location_number, first_number, initial_number, lasting}
-use Rattle.jani_meaning.specs.Scene.{counted, location_column, column, constant_names, columns_of, scene}
-use Rattle.jani_meaning.specs.Moment.{location_write}
-use Rattle.jani_meaning.specs.Laws.{StatesHaveColumns, LocationsHaveNoFault}
+use Rattle.jani_meaning.specs.Elements.{automaton_called, elements, location_number, first_number, initial_number, lasting, has_several_starts}
+use Rattle.jani_meaning.specs.Scene.{counted, location_column, column, constant_names, columns_of, scene, first_location, begins_anywhere, has_condition}
+use Rattle.jani_meaning.specs.Moment.{location_write, names_in, is_among, begins_here, begin_here, restriction_seen}
+use Rattle.jani_meaning.specs.Laws.{StatesHaveColumns, LocationsHaveNoFault, NoConditionIsTrue}
 
 -- ---- how many values a state has
-state_length : (cs : List Column) (s : Values) → IsTrue (is_state cs s) → length s ≡ length cs
+pub state_length : (cs : List Column) (s : Values) → IsTrue (is_state cs s) → length s ≡ length cs
 state_length [] [] h = refl
 state_length [] (v ∷ s) h = absurd cc
 state_length (c ∷ cs) [] h = absurd cc
@@ -90,15 +91,27 @@ neither true c x y h k = absurd cc
 neither false true x y h k = refl
 neither false false x y h k = absurd cc
 
-location_faults : (i : ℕ) (a : Automaton) → column_faults false i (location_column a) ≡ []
-location_faults i a =
-    let m = length a.locations - 1 in
-    neither (is_above (whole (pos 0)) (whole (pos m))) (is_in (location_column a).domain (V.Number (whole (pos (initial_number a))))) _ _
-    (not_above_whole 0 m (omega arith)) (has_count (initial_number a) m (first_within a a.initial))
+-- the range of a location has no fault
+range_sound : (i : ℕ) (a : Automaton) → domain_faults i (location_column a).domain ≡ []
+range_sound i a =
+    append_left (domain_faults i (location_column a).domain) (value_faults i (location_column a).domain (counted 0).value)
+    (let m = length a.locations - 1 in
+    neither (is_above (whole (pos 0)) (whole (pos m))) (is_in (location_column a).domain (V.Number (whole (pos 0)))) _ _ (not_above_whole 0 m (omega arith)) (has_count 0 m (omega arith)))
 
-all_locations : (i : ℕ) (as_ : List Automaton) → numbered (column_faults false) i (map location_column as_) ≡ []
-all_locations i [] = refl
-all_locations i (a ∷ as_) = ap₂ (λ p q. p ++ q) (location_faults i a) (all_locations (i + 1) as_)
+location_faults : (r : Bool) (i : ℕ) (a : Automaton) → column_faults r i (location_column a) ≡ []
+location_faults r i a = by_first r (has_several_starts a)
+  where
+    by_first : (r b : Bool) → domain_faults i (location_column a).domain ++ first_faults r i (location_column a).domain (first_location a b) ≡ []
+    by_first true b = append_both (domain_faults i (location_column a).domain) [] (range_sound i a) refl
+    by_first false true = append_both (domain_faults i (location_column a).domain) [] (range_sound i a) refl
+    by_first false false =
+        let m = length a.locations - 1 in
+        neither (is_above (whole (pos 0)) (whole (pos m))) (is_in (location_column a).domain (V.Number (whole (pos (initial_number a))))) _ _
+        (not_above_whole 0 m (omega arith)) (has_count (initial_number a) m (first_within a a.initial))
+
+all_locations : (r : Bool) (i : ℕ) (as_ : List Automaton) → numbered (column_faults r) i (map location_column as_) ≡ []
+all_locations r i [] = refl
+all_locations r i (a ∷ as_) = ap₂ (λ p q. p ++ q) (location_faults r i a) (all_locations r (i + 1) as_)
 
 pub numbered-append : {X Y : Type 0} (f : ℕ → X → List Y) (i : ℕ) (xs ys : List X) → numbered f i (xs ++ ys) ≡ numbered f i xs ++ numbered f (i + length xs) ys
 numbered-append f i [] ys = ap (λ n. numbered f n ys) (omega arith)
@@ -112,10 +125,11 @@ numbered_at f i n xs ys e = numbered-append f i xs ys ∙ ap (λ m. numbered f i
 pub locations_have_no_fault : (file : File) → LocationsHaveNoFault file
 locations_have_no_fault file v =
     let places = map location_column (elements file) in
+    let r = has_condition file in
     let vars = map (λ o. column (constant_names file v) o.var) (lasting file) in
     ap (λ l. numbered constant_faults 0 (scene file v).constants ++ l)
-    (numbered-append (column_faults false) 0 places vars
-    ∙ ap₂ (λ p n. p ++ numbered (column_faults false) n vars) (all_locations 0 (elements file))
+    (numbered-append (column_faults r) 0 places vars
+    ∙ ap₂ (λ p n. p ++ numbered (column_faults r) n vars) (all_locations r 0 (elements file))
     (let e = length-map (elements file) location_column in let f = length-map file.elements (automaton_called file) in omega arith))
 
 -- ---- the only value of the location of an automaton with one location
@@ -135,3 +149,22 @@ only_nought (V.Number q) h =
     let p = and_parts (is_whole q) (not (is_above nought q) && not (is_above q nought)) h in
     let r = and_parts (not (is_above nought q)) (not (is_above q nought)) p.1 in
     ap V.Number (by_order q (compare q nought) (compare_ranks q nought) r.1 r.0)
+
+-- ---- a file without an initial condition
+anywhere : (s : Values) (i : ℕ) (as_ : List Automaton) → list_any has_several_starts as_ ≡ false → begin_here s i as_ ≡ true
+anywhere s i [] h = refl
+anywhere s i (a ∷ as_) h =
+    and_from (begins_here s i a) (begin_here s (i + 1) as_) (ap (λ b. not b || is_among s i a a.initial) (first_false (has_several_starts a) (list_any has_several_starts as_) h))
+    (anywhere s (i + 1) as_ (second_false (has_several_starts a) (list_any has_several_starts as_) h))
+
+none_seen : (names : Name → Seen) (o : Option Expression) → is_some o ≡ false → restriction_seen names o ≡ no_condition
+none_seen names None h = refl
+none_seen names (Some e) h = absurd cc
+
+pub no_condition_is_true : (file : File) → NoConditionIsTrue file
+no_condition_is_true file v s h =
+    let several = list_any has_several_starts (elements file) in
+    let rest = several || list_any begins_anywhere (lasting file) in
+    ap (λ b. if b then restriction_seen (names_in file v s (length file.elements)) file.restrict else known (Some (V.Truth false)))
+    (anywhere s 0 (elements file) (first_false several (list_any begins_anywhere (lasting file)) (second_false (is_some file.restrict) rest h)))
+    ∙ none_seen (names_in file v s (length file.elements)) file.restrict (first_false (is_some file.restrict) rest h)

@@ -3,3 +3,5 @@ pub mod Proper
 pub mod Constants
 pub mod Bare
 mod Worked
+pub mod Initial
+pub mod OneStart

@@ -11,7 +11,7 @@ use Rattle.op_trees.specs.declared.tree.Ty.TheVariants as T
 use Rattle.op_trees.specs.declared.tree.Value.TheVariants as V
 use Rattle.process_core.specs.Ready.{Values}
 use Rattle.process_core.specs.Bounds.{IsWide}
-use Rattle.process_core.specs.Instance.{Valuation, fault_of, is_wide_instance}
+use Rattle.process_core.specs.Instance.{Valuation, fault_of, is_wide_initial, is_wide_instance}
 use Rattle.process_core.specs.declared.data.FaultKind.TheVariants.{ConstUndef, BoundUndef, EmptyRange, InitUndef, InitOutside}
 use Rattle.process_core.proofs.Shown.{Ratio, ratio, count, shown_truth, to, Shown, good, bad, shown, shown_mark, none, with, state}
 use Rattle.jani_tree.specs.Node.{null}
@@ -37,6 +37,10 @@ two o a b = Two 0 o a b
 
 abbrev over_zero : Expression
 over_zero = two O.Div (int 1) (int 0)
+
+-- a part of 2^62 or more passes a bound where it is needed
+abbrev great : Expression
+great = int 4611686018427387904
 
 abbrev half : Expression
 half = two O.Div (int 1) (int 2)
@@ -79,7 +83,7 @@ vector parts result = record { parts = parts; result = result; at = 0 }
 
 abbrev file : List Const → List Var → List Automaton → List Named → List Vector → File
 file cs vs as_ es ss =
-    record { actions = []; constants = cs; variables = vs; automata = as_; elements = es; elements_at = 0; vectors = ss; properties = null 0 }
+    record { actions = []; constants = cs; variables = vs; restrict = None; automata = as_; elements = es; elements_at = 0; vectors = ss; properties = null 0 }
 
 -- ---- what is seen
 abbrev marks_in : File → Valuation → Values → List (Option Ratio)
@@ -281,10 +285,38 @@ faulty_faults : (model faulty).faults none
 unfolding see decimal_value ten_to fraction gcd gcd_within plus times over difference negated
 faulty_faults = refl
 
--- ---- what passes a bound: a part of 2^62 or more that is needed
-abbrev great : Expression
-great = int 4611686018427387904
+-- ---- two initial locations, and a variable without first value: it begins with any value of its range
+abbrev begun_in_two : File
+begun_in_two =
+    file [] (record (var x (from_to 0 2) (int 0)) { start = None } ∷ [])
+    (record (automaton D [] (location idle [] ∷ location busy [] ∷ location l [] ∷ []) idle []) { initial = at idle ∷ at l ∷ [] } ∷ [])
+    (at D ∷ []) []
 
+two_starts : ((model begun_in_two).faults none ≡ [])
+    × ((model begun_in_two).is_initial none (state (0 ∷ 2 ∷ [])) ≡ true)
+    × ((model begun_in_two).is_initial none (state (1 ∷ 2 ∷ [])) ≡ false)
+    × ((model begun_in_two).is_initial none (state (2 ∷ 1 ∷ [])) ≡ true)
+    × ((model begun_in_two).is_initial none (state (2 ∷ 3 ∷ [])) ≡ false)
+unfolding see decimal_value ten_to fraction gcd gcd_within plus times over difference negated
+two_starts = (refl, refl, refl, refl, refl)
+
+-- the same, restricted to small values of x: where the value that x is compared with is wide, so is the test, but not where the
+-- element is at another location, and nothing is compared
+abbrev restricted : Expression → File
+restricted e = record begun_in_two { restrict = Some (two O.Less (ref x) e) }
+
+abbrev is_wide_start : File → Values → Bool
+is_wide_start f s = is_wide_initial (scene f none).columns (moment f none s).condition s
+
+restricted_starts : ((model (restricted (int 1))).is_initial none (state (0 ∷ 0 ∷ [])) ≡ true)
+    × ((model (restricted (int 1))).is_initial none (state (0 ∷ 1 ∷ [])) ≡ false)
+    × ((model (restricted (int 1))).is_initial none (state (1 ∷ 0 ∷ [])) ≡ false)
+    × (is_wide_start (restricted great) (state (2 ∷ 0 ∷ [])) ≡ true)
+    × (is_wide_start (restricted great) (state (1 ∷ 0 ∷ [])) ≡ false)
+unfolding see decimal_value ten_to fraction gcd gcd_within plus times over difference negated
+restricted_starts = (refl, refl, refl, refl, refl)
+
+-- ---- what passes a bound
 wide_choices : (excess (moment (with_edge None (sure l (write r great ∷ []))) none (state (0 ∷ 0 ∷ []))) ≡ Some IsWide)
     × (excess (moment (with_edge (Some (two O.Equal (ref x) (int 1))) (sure l (write r great ∷ []))) none (state (0 ∷ 0 ∷ []))) ≡ None)
 unfolding see decimal_value ten_to fraction gcd gcd_within plus times over difference negated

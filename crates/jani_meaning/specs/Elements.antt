@@ -37,6 +37,15 @@ first_number a (n ∷ ns) = location_number a n.name
 abbrev pub initial_number : Automaton → ℕ
 initial_number a = first_number a a.initial
 
+abbrev pub is_several : List Named → Bool
+is_several [] = false
+is_several (n ∷ []) = false
+is_several (n ∷ m ∷ ns) = true
+
+-- it may begin in several
+abbrev pub has_several_starts : Automaton → Bool
+has_several_starts a = is_several a.initial
+
 -- ---- variables
 -- a variable, and the number of the element that it belongs to; a global one belongs to none
 pub record Owned : Type 0 where

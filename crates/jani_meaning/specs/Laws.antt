@@ -1,15 +1,16 @@
 -- What holds of every JANI file, with faults or without: statements, which are proved of the functions of this crate.
 -- (jani-model specification, version 1: "Models" for type "mdp", "Automata", "Transient variables".)
-use Rattle.std.specs.Prelude.{◌≡◌, ℕ, ◌+◌, ◌<◌, map, length, ◌++◌, IsTrue, Some}
+use Rattle.std.specs.Prelude.{◌≡◌, ℕ, ◌+◌, ◌<◌, map, length, ◌++◌, IsTrue, Some, false}
 use Rattle.std.specs.List.{All}
 use Rattle.op_trees.specs.Tree.{AllNames}
 use Rattle.process_core.specs.Ready.{Values, Name}
 use Rattle.process_core.specs.Distribution.{IsProper}
 use Rattle.jani_tree.specs.Syntax.{Expression, Const, File}
 use Rattle.jani_tree.specs.Places.{bare_file}
-use Rattle.process_core.specs.Instance.{Valuation, numbered, constant_faults, column_faults}
+use Rattle.process_core.specs.Instance.{Valuation, numbered, constant_faults, column_faults, no_condition}
 use Rattle.jani_meaning.specs.Elements.{lasting, labels, structures}
 use Rattle.jani_meaning.specs.Scene.{constant_called, constant_value, constant, constant_names, column, scene}
+use Rattle.jani_meaning.specs.Moment.{moment}
 use Rattle.jani_meaning.specs.Process.{model}
 
 -- a state has a value for the location of each element and for each variable that is not transient
@@ -25,6 +26,10 @@ MarksOfTransients file = (v : Valuation) (s : Values) → length ((model file).m
 abbrev pub ChoicesAreProper : File → Type 0
 ChoicesAreProper file =
     (v : Valuation) (s : Values) → IsTrue ((model file).is_state v s) → All (λ c. IsProper ((model file).is_state v) c.outcome) ((model file).choices v s)
+
+-- a file without an initial condition has none at any state
+abbrev pub NoConditionIsTrue : File → Type 0
+NoConditionIsTrue file = (v : Valuation) (s : Values) → (scene file v).has_condition ≡ false → (moment file v s).condition ≡ no_condition
 
 -- the locations have no instance fault: the faults are those of the constants and of the variables, which are numbered from
 -- the number of elements on

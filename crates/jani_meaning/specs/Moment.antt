@@ -2,8 +2,8 @@
 -- (jani-model specification, version 1: "Edges", "Composition", "Transient variables"). All expressions read the state as
 -- it is before a choice. That no expression reads a transient variable is a rule of this project: one that is read has no
 -- value.
-use Rattle.std.specs.Prelude.{ℕ, pos, List, [], ◌∷◌, map, Bool, true, false, Option, Some, None, if◌then◌else◌, nat_eq, slice_get}
-use Rattle.std.specs.List.{find, filter, flat_map}
+use Rattle.std.specs.Prelude.{ℕ, pos, List, [], ◌∷◌, map, Bool, true, false, Option, Some, None, if◌then◌else◌, nat_eq, slice_get, ◌+◌, length, not, ◌&&◌, ◌||◌}
+use Rattle.std.specs.List.{find, filter, flat_map, list_any}
 use Rattle.std.specs.Option.{option_map}
 use Rattle.frac_core.specs.Fraction.{unit, whole}
 use Rattle.op_trees.specs.Seen.{Seen, known}
@@ -16,7 +16,8 @@ use Rattle.jani_tree.specs.Syntax.{Expression, Location, Destination, Edge, Auto
 use Rattle.jani_tree.specs.Syntax as syntax
 use Rattle.process_core.specs.Instance.{Valuation, Column, numbered, write_to, no_condition}
 use Rattle.op_trees.specs.Names.{is_called}
-use Rattle.jani_meaning.specs.Elements.{elements, location_number, Owned, labels, structures, column_number, structure_number}
+use Rattle.bridge_io.specs.declared.reason.Named.{Named}
+use Rattle.jani_meaning.specs.Elements.{elements, has_several_starts, location_number, Owned, labels, structures, column_number, structure_number}
 use Rattle.jani_meaning.specs.Scene.{see, constant, constant_names, counted, start_of, columns_of}
 
 -- a file at a state: its initial condition, the edges of each element at its current location, the vectors, the labels and the
@@ -49,6 +50,30 @@ is_current s i a x = is_number (location_number a x) (slice_get s i)
 
 abbrev pub current_location : Values → ℕ → Automaton → Option Location
 current_location s i a = find (λ l. is_current s i a l.name.name) a.locations
+
+-- ---- initial conditions
+-- the current location of the element is one that it may begin in; where there is but one, its column says so
+abbrev pub is_among : Values → ℕ → Automaton → List Named → Bool
+is_among s i a ns = list_any (λ n. is_current s i a n.name) ns
+
+abbrev pub begins_here : Values → ℕ → Automaton → Bool
+begins_here s i a = not (has_several_starts a) || is_among s i a a.initial
+
+abbrev pub begin_here : Values → ℕ → List Automaton → Bool
+begin_here s i [] = true
+begin_here s i (a ∷ as_) = begins_here s i a && begin_here s (i + 1) as_
+
+-- a missing "restrict-initial" is true
+abbrev pub restriction_seen : (Name → Seen) → Option Expression → Seen
+restriction_seen names None = no_condition
+restriction_seen names (Some e) = see e names
+
+-- false where an element is at none of its initial locations, else what "restrict-initial" comes out as, in which constants and
+-- global variables alone have a value
+abbrev pub condition_at : File → Valuation → Values → Seen
+condition_at file v s =
+    if begin_here s 0 (elements file) then restriction_seen (names_in file v s (length file.elements)) file.restrict
+    else known (Some (V.Truth false))
 
 -- ---- edges
 -- a missing guard is true
@@ -133,7 +158,7 @@ vector_of v = record { parts = map (option_map (λ x. x.name)) v.parts; result =
 
 abbrev pub moment : File → Valuation → Values → Moment
 moment file v s = record {
-  condition = no_condition;
+  condition = condition_at file v s;
   elements = numbered (λ i a. element_at file v s i a ∷ []) 0 (elements file);
   vectors = map vector_of file.vectors;
   labels = map (transient_at file v s) (labels file);

@@ -4,7 +4,7 @@ use Rattle.std.specs.Prelude.{Result, Ok, Err, slice_get}
 use Rattle.std.specs.Option.{option_map}
 use Rattle.decimal_json.specs.declared.tree.Json.{Json}
 use Rattle.jani_table.specs.Node.{Node, node, nodes}
-use Rattle.jani_table.specs.Faults.{first_of, second_of}
+use Rattle.jani_table.specs.Faults.{first_of}
 use Rattle.frac_core.specs.Fraction.{Fraction, same_number, is_wide}
 use Rattle.frac_core.specs.Results.{narrow}
 use Rattle.frac_core.specs.Laws.{same_number_is}
@@ -25,11 +25,6 @@ wide_differs x v e h w = by_test (same_number x v) refl
 pub first_node : (vs : List Json) → option_map node (slice_get vs 0) ≡ first_of (nodes vs)
 first_node [] = refl
 first_node (v ∷ vs) = refl
-
-pub second_node : (vs : List Json) → option_map node (slice_get vs 1) ≡ second_of (nodes vs)
-second_node [] = refl
-second_node (v ∷ []) = refl
-second_node (v ∷ w ∷ vs) = refl
 
 -- what is there is found
 pub found : {B : Type 0} (f : Option B → Option Node) (r : Option B) (p : Option Node) → f None ≡ None → f r ≡ p → r ≡ None → is_some p ≡ true → ⊥

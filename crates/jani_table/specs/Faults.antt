@@ -3,7 +3,7 @@
 use Rattle.std.specs.Prelude.{ℕ, List, [], ◌∷◌, ◌++◌, Bool, true, false, Option, Some, None, codes, bytes_eq, if◌then◌else◌, ◌||◌, ◌&&◌, not, is_some}
 use Rattle.std.specs.List.{list_any}
 use Rattle.bridge_io.specs.declared.reason.Reason.{Reason}
-use Rattle.bridge_io.specs.declared.reason.Reason.TheVariants.{LeftOut, MissingMember, UnknownMember, WrongShape, InputEnable, InitialSet, NoDestination}
+use Rattle.bridge_io.specs.declared.reason.Reason.TheVariants.{LeftOut, MissingMember, UnknownMember, WrongShape, InputEnable, NoDestination}
 use Rattle.bridge_io.specs.declared.reason.Fault.{Fault}
 use Rattle.jani_table.specs.declared.key.Key.{Key}
 use Rattle.jani_table.specs.declared.key.Key.TheVariants as K
@@ -97,7 +97,6 @@ object_kind F.System ms = Some O.System
 object_kind F.Element ms = Some O.Element
 object_kind F.Vector ms = Some O.Vector
 object_kind F.Boxed ms = Some O.Boxed
-object_kind F.ModelInitial ms = Some O.ModelInitial
 object_kind F.AutomatonInitial ms = Some O.AutomatonInitial
 object_kind F.Expression ms = Some (or_unclear (op_in (member K.Op ms)))
 object_kind f ms = None
@@ -107,10 +106,6 @@ object_kind f ms = None
 abbrev pub first_of : Nodes → Option Node
 first_of no_nodes = None
 first_of (more_nodes v vs) = Some v
-
-abbrev pub second_of : Nodes → Option Node
-second_of no_nodes = None
-second_of (more_nodes v vs) = first_of vs
 
 -- where there is no such item
 abbrev pub none_faults : ℕ → Reason → Option Node → List Fault
@@ -122,15 +117,10 @@ abbrev pub some_faults : ℕ → Reason → Option Node → List Fault
 some_faults at reason None = []
 some_faults at reason (Some v) = fault at reason
 
--- at such an item
-abbrev pub item_faults : Reason → Option Node → List Fault
-item_faults reason None = []
-item_faults reason (Some v) = fault (at_of v) reason
-
--- an edge has a destination, an automaton one initial location, and no actions are accepted everywhere
+-- an edge has a destination, an automaton an initial location, and no actions are accepted everywhere
 abbrev pub list_faults : Form → ℕ → Nodes → List Fault
 list_faults F.Destinations at vs = none_faults at NoDestination (first_of vs)
-list_faults F.InitialLocations at vs = none_faults at WrongShape (first_of vs) ++ item_faults InitialSet (second_of vs)
+list_faults F.InitialLocations at vs = none_faults at WrongShape (first_of vs)
 list_faults F.InputEnable at vs = some_faults at InputEnable (first_of vs)
 list_faults f at vs = []
 
@@ -146,13 +136,12 @@ missing_faults ms close (r ∷ rows) = row_faults ms close r ++ missing_faults m
 abbrev pub bound_faults : Fields → ℕ → List Fault
 bound_faults ms close = fault_unless (has K.LowerBound ms || has K.UpperBound ms) close MissingMember
 
--- A constant has no bounded type; a variable has an initial value, without which a variable that isn't transient stands
--- for several initial states; and conditions on initial states have to be true.
+-- A constant has no bounded type; a transient variable has an initial value; and the condition on the initial states of an
+-- automaton has to be true.
 abbrev pub other_faults : Kind → Fields → ℕ → ℕ → List Fault
 other_faults O.ConstantRange ms at close = fault_unless (not (is_word (codes "bounded") (member K.Kind ms))) at LeftOut ++ bound_faults ms close
 other_faults O.Range ms at close = bound_faults ms close
-other_faults O.Variable ms at close = fault_unless (has K.InitialValue ms) close (if is_true (member K.Transient ms) then MissingMember else InitialSet)
-other_faults O.ModelInitial ms at close = fault_unless (is_true (member K.Exp ms)) at InitialSet
+other_faults O.Variable ms at close = fault_unless (has K.InitialValue ms || not (is_true (member K.Transient ms))) close MissingMember
 other_faults O.AutomatonInitial ms at close = fault_unless (is_true (member K.Exp ms)) at LeftOut
 other_faults kind ms at close = []
 

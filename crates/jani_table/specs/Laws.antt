@@ -1,6 +1,6 @@
 -- What a value without faults has: its members and items have none, what is required is there, and each kind of value
 -- stands only where it may.
-use Rattle.std.proofs.Common.{◌≡◌, ℕ, ◌+◌, ◌<◌, refl, sym, ap, subst, ◌∙◌, List, [], ◌∷◌, ◌++◌, Option, Some, None, true, false, Bool, ◌||◌, ◌&&◌, not, if◌then◌else◌, is_some, ◌⊎◌, inl, inr, arith}
+use Rattle.std.proofs.Common.{◌≡◌, ℕ, ◌+◌, ◌<◌, refl, sym, ap, subst, ◌∙◌, List, [], ◌∷◌, ◌++◌, Option, Some, None, true, false, Bool, ◌||◌, ◌&&◌, not, if◌then◌else◌, is_some, inl, inr, arith}
 use Rattle.std.specs.Prelude.{bytes_eq}
 use Rattle.std.specs.List.{list_any}
 use Rattle.std.proofs.lemmas.Slice.Eq.{bytes_eq-Decides}
@@ -162,7 +162,6 @@ object_clean F.System v p c = object_only F.System O.System v (record { null = r
 object_clean F.Element v p c = object_only F.Element O.Element v (record { null = refl; truth = refl; number = λ d. refl; other = refl }) refl (λ s. refl) (λ ms. refl) c
 object_clean F.Vector v p c = object_only F.Vector O.Vector v (record { null = refl; truth = refl; number = λ d. refl; other = refl }) refl (λ s. refl) (λ ms. refl) c
 object_clean F.Boxed v p c = object_only F.Boxed O.Boxed v (record { null = refl; truth = refl; number = λ d. refl; other = refl }) refl (λ s. refl) (λ ms. refl) c
-object_clean F.ModelInitial v p c = object_only F.ModelInitial O.ModelInitial v (record { null = refl; truth = refl; number = λ d. refl; other = refl }) refl (λ s. refl) (λ ms. refl) c
 object_clean F.AutomatonInitial v p c = object_only F.AutomatonInitial O.AutomatonInitial v (record { null = refl; truth = refl; number = λ d. refl; other = refl }) refl (λ s. refl) (λ ms. refl) c
 object_clean f v p c = absurd (false≢true p)
 

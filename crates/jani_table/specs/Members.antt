@@ -27,7 +27,7 @@ model =
     ∷ (K.Actions, Optional, F.Actions)  -- no actions
     ∷ (K.Constants, Optional, F.Constants)  -- no constants
     ∷ (K.Variables, Optional, F.Variables)  -- no global variables
-    ∷ (K.RestrictInitial, Optional, F.ModelInitial)  -- true; the profile leaves out all other conditions
+    ∷ (K.RestrictInitial, Optional, F.Boxed)  -- true
     ∷ (K.Properties, Optional, F.Anything)  -- no properties; in a model they are passed over, jani_props judges them
     ∷ (K.Automata, Required, F.Automata)
     ∷ (K.System, Required, F.System)
@@ -72,7 +72,7 @@ variable_declaration =
     (K.Name, Required, F.Name)
     ∷ (K.Type, Required, F.VariableType)
     ∷ (K.Transient, Optional, F.Truth)  -- false
-    ∷ (K.InitialValue, Optional, F.Expression)  -- every value of the type, which the profile leaves out; a transient one has to have it
+    ∷ (K.InitialValue, Optional, F.Expression)  -- every value of the type; a transient one has to have it
     ∷ (K.Comment, Optional, F.Text)  -- nothing
     ∷ []
 
@@ -84,7 +84,7 @@ automaton =
     (K.Name, Required, F.Name)
     ∷ (K.Variables, Optional, F.Variables)  -- no variables of its own
     ∷ (K.Locations, Required, F.Locations)
-    ∷ (K.InitialLocations, Required, F.InitialLocations)  -- the profile leaves out several ones
+    ∷ (K.InitialLocations, Required, F.InitialLocations)
     ∷ (K.Edges, Required, F.Edges)
     ∷ (K.RestrictInitial, Optional, F.AutomatonInitial)  -- true; the profile leaves out all other conditions
     ∷ (K.Functions, Optional, F.LeftOut)  -- no functions; of the feature "functions", which the profile leaves out

@@ -23,7 +23,6 @@ plain_kind F.System = Some O.System
 plain_kind F.Element = Some O.Element
 plain_kind F.Vector = Some O.Vector
 plain_kind F.Boxed = Some O.Boxed
-plain_kind F.ModelInitial = Some O.ModelInitial
 plain_kind F.AutomatonInitial = Some O.AutomatonInitial
 plain_kind f = None
 

@@ -67,7 +67,7 @@ spelled K.Comment = codes "comment"
 abbrev pub Row : Type 0
 Row = Key × Need × Form
 
--- The members of each object. The conditions on initial states have those of a guard, and beside them a rule of their own.
+-- The members of each object. The condition on the initial states of an automaton has those of a guard, and beside them a rule of its own.
 abbrev pub rows_of : Kind → List Row
 rows_of O.Model = members.model
 rows_of O.Action = members.action
@@ -85,7 +85,6 @@ rows_of O.System = members.composition
 rows_of O.Element = members.element
 rows_of O.Vector = members.vector
 rows_of O.Boxed = members.guard
-rows_of O.ModelInitial = members.guard
 rows_of O.AutomatonInitial = members.guard
 rows_of O.Unary = members.unary
 rows_of O.Binary = members.binary

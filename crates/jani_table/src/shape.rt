@@ -4,7 +4,7 @@ ghost use Rattle.std.specs.Option.{IfNone, option_copied, option_map};
 ghost use Rattle.jani_table.specs.Node.{at_of, fields, node, nodes};
 ghost use Rattle.jani_table.specs.Table.{rows_of};
 ghost use Rattle.name_rules.specs.Least.{IsLeast, soonest};
-ghost use Rattle.jani_table.specs.Faults.{bound_faults, fault_unless, faults, first_of, has, is_true, is_word, list_faults, member, missing_faults, object_kind, op_in, op_kind, operand_count, other_faults, own_faults, row_faults, second_of};
+ghost use Rattle.jani_table.specs.Faults.{bound_faults, faults, first_of, has, is_true, is_word, list_faults, member, missing_faults, object_kind, op_in, op_kind, operand_count, other_faults, own_faults, row_faults};
 ghost use Rattle.jani_table.specs.declared.key.Key.TheVariants as K;
 ghost use Rattle.jani_table.specs.declared.table.Form.TheVariants as F;
 ghost use Rattle.jani_table.specs.declared.table.Kind.TheVariants as O;
@@ -129,7 +129,6 @@ pub fn object_kind(form: Form, members: &[Member]) -> Option<Kind>
         Form::Element => Some(Kind::Element),
         Form::Vector => Some(Kind::Vector),
         Form::Boxed => Some(Kind::Boxed),
-        Form::ModelInitial => Some(Kind::ModelInitial),
         Form::AutomatonInitial => Some(Kind::AutomatonInitial),
         Form::Expression => match named_operator(members) {
             Some(op) => Some(op_kind(op)),
@@ -199,27 +198,20 @@ fn judge_constant_range(
 fn judge_variable(members: &[Member], close: usize, best: Option<Fault>) -> Option<Fault>
     ensures { result ≡ soonest best (other_faults O.Variable (fields members.now) 0 close) }
 {
-    if has(Key::InitialValue, members) {
+    if has(Key::InitialValue, members) || !is_true(Key::Transient, members) {
         best
-    } else if is_true(Key::Transient, members) {
-        sooner(best, close, Reason::MissingMember)
     } else {
-        sooner(best, close, Reason::InitialSet)
+        sooner(best, close, Reason::MissingMember)
     }
 }
 
-fn judge_condition(
-    members: &[Member],
-    at: usize,
-    reason: Reason,
-    best: Option<Fault>,
-) -> Option<Fault>
-    ensures { result ≡ soonest best (fault_unless (is_true (member K.Exp (fields members.now))) at reason) }
+fn judge_condition(members: &[Member], at: usize, best: Option<Fault>) -> Option<Fault>
+    ensures { result ≡ soonest best (other_faults O.AutomatonInitial (fields members.now) at 0) }
 {
     if is_true(Key::Exp, members) {
         best
     } else {
-        sooner(best, at, reason)
+        sooner(best, at, Reason::LeftOut)
     }
 }
 
@@ -236,8 +228,7 @@ fn judge_other(
         Kind::ConstantRange => judge_constant_range(members, at, close, best),
         Kind::Range => judge_bounds(members, close, best),
         Kind::Variable => judge_variable(members, close, best),
-        Kind::ModelInitial => judge_condition(members, at, Reason::InitialSet, best),
-        Kind::AutomatonInitial => judge_condition(members, at, Reason::LeftOut, best),
+        Kind::AutomatonInitial => judge_condition(members, at, best),
         _ => best,
     }
 }
@@ -262,12 +253,6 @@ fn first(items: &List<Json>) -> Option<&Json>
     items.get(0)
 }
 
-fn second(items: &List<Json>) -> Option<&Json>
-    ensures { option_map node (option_copied result) ≡ second_of (nodes items.now) }
-{
-    items.get(1)
-}
-
 fn judge_destinations(at: usize, items: &List<Json>, best: Option<Fault>) -> Option<Fault>
     ensures { result ≡ soonest best (list_faults F.Destinations at (nodes items.now)) }
 {
@@ -286,17 +271,12 @@ fn judge_enabled(at: usize, items: &List<Json>, best: Option<Fault>) -> Option<F
     }
 }
 
-#[tactic(auto, using(name_rules::proofs::Soonest::soonest_append))]
-fn judge_initial(at: usize, items: &List<Json>, found: Option<Fault>) -> Option<Fault>
-    ensures { result ≡ soonest found (list_faults F.InitialLocations at (nodes items.now)) }
+fn judge_initial(at: usize, items: &List<Json>, best: Option<Fault>) -> Option<Fault>
+    ensures { result ≡ soonest best (list_faults F.InitialLocations at (nodes items.now)) }
 {
-    let best = match first(items) {
-        Some(_) => found,
-        None => sooner(found, at, Reason::WrongShape),
-    };
-    match second(items) {
-        Some(item) => sooner(best, offset(item), Reason::InitialSet),
-        None => best,
+    match first(items) {
+        Some(_) => best,
+        None => sooner(best, at, Reason::WrongShape),
     }
 }
 

@@ -40,8 +40,6 @@ pub enum Form {
     Expression,
     /// an object with an expression
     Boxed,
-    /// the condition on the initial states of a model, which has to be true
-    ModelInitial,
     /// the condition on the initial states of an automaton, which has to be true
     AutomatonInitial,
     /// the number 0
@@ -139,8 +137,6 @@ pub enum Kind {
     Vector,
     /// a guard or a probability
     Boxed,
-    /// the condition on the initial states of a model
-    ModelInitial,
     /// the condition on the initial states of an automaton
     AutomatonInitial,
     /// an operator with one operand
@@ -174,7 +170,7 @@ const MODEL: [Row; 14] = [
     (Key::Actions, Need::Optional, Form::Actions),
     (Key::Constants, Need::Optional, Form::Constants),
     (Key::Variables, Need::Optional, Form::Variables),
-    (Key::RestrictInitial, Need::Optional, Form::ModelInitial),
+    (Key::RestrictInitial, Need::Optional, Form::Boxed),
     (Key::Properties, Need::Optional, Form::Anything),
     (Key::Automata, Need::Required, Form::Automata),
     (Key::System, Need::Required, Form::System),
@@ -360,7 +356,6 @@ pub fn rows(kind: Kind) -> &'static [Row]
         Kind::Element => &ELEMENT,
         Kind::Vector => &VECTOR,
         Kind::Boxed => &BOXED,
-        Kind::ModelInitial => &BOXED,
         Kind::AutomatonInitial => &BOXED,
         Kind::Unary => &UNARY,
         Kind::Binary => &BINARY,

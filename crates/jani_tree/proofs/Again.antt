@@ -1,5 +1,5 @@
 -- The canonical value of a tree spells the tree.
-use Rattle.std.proofs.Common.{◌≡◌, ℕ, refl, List, [], ◌∷◌, Option, Some, None, Bool, true, false, arith}
+use Rattle.std.proofs.Common.{◌≡◌, ℕ, refl, sym, subst, List, [], ◌∷◌, Option, Some, None, Bool, true, false, if◌then◌else◌, arith}
 use Rattle.std.specs.Prelude.{map}
 use Rattle.basics.specs.Each.{each_unit}
 use Rattle.bridge_io.specs.declared.reason.Named.{Named}
@@ -14,12 +14,12 @@ use Rattle.jani_table.specs.declared.operator.JaniOp.TheVariants.{Ite, Or, And, 
 use Rattle.jani_table.specs.Node.{Node, nodes_of}
 use Rattle.jani_table.specs.Words.{ty_of, ty_text}
 use Rattle.jani_table.specs.Operators.{op_of, op_text, arity}
-use Rattle.jani_table.specs.Faults.{op_kind}
-use Rattle.jani_tree.specs.Syntax.{Expression, Const, VarKind, boolean, integer, number as real, real_bounded, one_sided, bounded, Var, Write, Location, Destination, Edge, Automaton, Vector, File}
-use Rattle.jani_tree.specs.Jani.{Each, IsItems, IsNamed, IsKeyed, IsExpr, IsBoxed, IsKindAt, IsConst, IsVar, IsWrite, IsLocation, IsDestination, IsEdge, IsAutomaton, IsPart, IsVector, IsSystem, IsFile}
+use Rattle.jani_table.specs.Faults.{op_kind, is_true}
+use Rattle.jani_tree.specs.Syntax.{Expression, is_always, Const, VarKind, boolean, integer, number as real, real_bounded, one_sided, bounded, Var, Write, Location, Destination, Edge, Automaton, Vector, File}
+use Rattle.jani_tree.specs.Jani.{Optional, Each, IsItems, IsNamed, IsKeyed, IsExpr, IsBoxed, IsKindAt, IsConst, IsVar, IsWrite, IsLocation, IsDestination, IsEdge, IsAutomaton, IsPart, IsVector, IsSystem, unless_always, IsFile}
 use Rattle.std.specs.List.{AllByRecursion as OfAll}
 use Rattle.basics.specs.Options.{IfAny as OfSome}
-use Rattle.jani_tree.specs.Canonical.{expr_node, boxed_node, kind_node, const_node, var_node, write_node, location_node, destination_node, edge_node, automaton_node, part_node, vector_node, system_node, file_node, keyed_node, name_node, list_node, HasOperands, HasBounds, ConstForm, VarForm, WriteForm, LocationForm, DestinationForm, EdgeForm, AutomatonForm, FileForm}
+use Rattle.jani_tree.specs.Canonical.{expr_node, boxed_node, kind_node, const_node, var_node, write_node, location_node, destination_node, edge_node, automaton_node, part_node, vector_node, system_node, file_node, keyed_node, name_node, list_node, HasOperands, HasBounds, ConstForm, VarForm, WriteForm, LocationForm, DestinationForm, EdgeForm, AutomatonForm, RestrictionForm, FileForm}
 
 -- ---- operators and types
 
@@ -206,12 +206,38 @@ system_again elements at vectors = record {
   vectors_are = plain_again IsVector vector_node vector_again 0 vectors;
 }
 
-pub file_again : (f : File) → FileForm f → IsFile (file_node f) f
-file_again f h = record {
-  actions = keyed_again f.actions 0 K.Name (λ n. refl);
-  constants = list_again IsConst const_node ConstForm const_again 0 f.constants h.constants;
-  variables = vars_again 0 f.variables h.variables;
-  automata = list_again IsAutomaton automaton_node AutomatonForm automaton_again 0 f.automata h.automata;
-  system = system_again f.elements f.elements_at f.vectors;
+not_always : (e : Expression) → is_always e ≡ false → is_true (Some (expr_node e)) ≡ false
+not_always (Truth at b) h = h
+not_always (Number at d) h = refl
+not_always (Name at x) h = refl
+not_always (One at o a) h = refl
+not_always (Two at o a b) h = refl
+not_always (Three at o a b c) h = refl
+
+restriction_again : (e : Expression) → RestrictionForm e → Optional IsBoxed (unless_always (Some (boxed_node e))) (Some e)
+restriction_again e h = subst (λ b. Optional IsBoxed (if b then None else Some (boxed_node e)) (Some e)) (sym (not_always e h.restricts)) (boxed_again e h.operands)
+
+file_parts : (actions : List Named) (constants : List Const) (variables : List Var) (restrict : Option Expression) (automata : List Automaton) (elements : List Named) (at : ℕ) (vectors : List Vector) (properties : Node) →
+    let f : File = record { actions = actions; constants = constants; variables = variables; restrict = restrict; automata = automata; elements = elements; elements_at = at; vectors = vectors; properties = properties } in
+    FileForm f → IsFile (file_node f) f
+file_parts actions constants variables None automata elements at vectors properties h = record {
+  actions = keyed_again actions 0 K.Name (λ n. refl);
+  constants = list_again IsConst const_node ConstForm const_again 0 constants h.constants;
+  variables = vars_again 0 variables h.variables;
+  restrict = tt;
+  automata = list_again IsAutomaton automaton_node AutomatonForm automaton_again 0 automata h.automata;
+  system = system_again elements at vectors;
   properties = refl;
 }
+file_parts actions constants variables (Some e) automata elements at vectors properties h = record {
+  actions = keyed_again actions 0 K.Name (λ n. refl);
+  constants = list_again IsConst const_node ConstForm const_again 0 constants h.constants;
+  variables = vars_again 0 variables h.variables;
+  restrict = restriction_again e h.restrict;
+  automata = list_again IsAutomaton automaton_node AutomatonForm automaton_again 0 automata h.automata;
+  system = system_again elements at vectors;
+  properties = refl;
+}
+
+pub file_again : (f : File) → FileForm f → IsFile (file_node f) f
+file_again f h = file_parts f.actions f.constants f.variables f.restrict f.automata f.elements f.elements_at f.vectors f.properties h

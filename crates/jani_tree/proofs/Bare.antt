@@ -15,7 +15,7 @@ use Rattle.jani_table.specs.Table.{spelled}
 use Rattle.jani_table.specs.Words.{ty_of}
 use Rattle.jani_table.specs.Faults.{part, member_text, op_in, is_true}
 use Rattle.jani_tree.specs.Syntax.{Expression, Const, VarKind, Var, Write, Location, Destination, Edge, Automaton, Vector, File}
-use Rattle.jani_tree.specs.Jani.{Optional, Each, IsItems, IsList, IsListAt, IsText, IsNamed, IsKeyed, IsOperation, IsExpr, IsBoxed, ty_in, Range, real_range, half_range, whole_range, range_of, range_in, IsWord, IsRange, IsKind, IsKindAt, IsConst, IsVar, IsWrite, IsLocation, IsDestination, IsEdge, IsAutomaton, IsPart, IsVector, IsSystem, IsKept, IsFile}
+use Rattle.jani_tree.specs.Jani.{Optional, Each, IsItems, IsList, IsListAt, IsText, IsNamed, IsKeyed, IsOperation, IsExpr, IsBoxed, ty_in, Range, real_range, half_range, whole_range, range_of, range_in, IsWord, IsRange, IsKind, IsKindAt, IsConst, IsVar, IsWrite, IsLocation, IsDestination, IsEdge, IsAutomaton, IsPart, IsVector, IsSystem, unless_always, IsKept, IsFile}
 use Rattle.op_trees.specs.Names.{bare_name}
 use Rattle.jani_tree.specs.Places.{bare_node, bare_nodes, bare_fields, bare_const, bare_kind, bare_var, bare_write, bare_location, bare_destination, bare_edge, bare_automaton, bare_part, bare_vector, bare_file, PlacesApart, OneTree}
 use Rattle.jani_tree.proofs.Unique.{same_file}
@@ -270,6 +270,19 @@ vector_bare v x p = record {
   result = optional_bare K.Result v IsNamed IsNamed bare_name x.result name_bare p.result;
 }
 
+always_bare : (o : Option Node) → unless_always (option_map bare_node o) ≡ option_map bare_node (unless_always o)
+always_bare None = refl
+always_bare (Some v) = ap (λ b. if b then None else Some (bare_node v)) (ap is_true (part_bare K.Exp v) ∙ true_bare (part K.Exp v)) ∙ by_truth (is_true (part K.Exp v))
+  where
+    by_truth : (b : Bool) → (if b then None else Some (bare_node v)) ≡ option_map bare_node (if b then None else Some v)
+    by_truth true = refl
+    by_truth false = refl
+
+restrict_bare : (v : Node) (e : Option Expression) → Optional IsBoxed (unless_always (part K.RestrictInitial v)) e → Optional IsBoxed (unless_always (part K.RestrictInitial (bare_node v))) (option_map bare e)
+restrict_bare v e p =
+    let o = part K.RestrictInitial v in
+    subst (λ o. Optional IsBoxed o (option_map bare e)) (sym (ap unless_always (part_bare K.RestrictInitial v) ∙ always_bare o)) (map_bare IsBoxed IsBoxed bare (unless_always o) e boxed_bare p)
+
 kept_bare : (o : Option Node) (p : Node) → IsKept o p → IsKept (option_map bare_node o) (bare_node p)
 kept_bare None p e = ap bare_node e
 kept_bare (Some v) p e = ap bare_node e
@@ -285,6 +298,7 @@ file_bare v f p = record {
   actions = list_bare (IsKeyed K.Name) (IsKeyed K.Name) bare_name (keyed_bare K.Name) K.Actions v f.actions p.actions;
   constants = list_bare IsConst IsConst bare_const const_bare K.Constants v f.constants p.constants;
   variables = list_bare IsVar IsVar bare_var var_bare K.Variables v f.variables p.variables;
+  restrict = restrict_bare v f.restrict p.restrict;
   automata = list_bare IsAutomaton IsAutomaton bare_automaton automaton_bare K.Automata v f.automata p.automata;
   system = one_bare K.System v (λ s. IsSystem s f.elements f.elements_at f.vectors) (λ s. IsSystem s (map bare_name f.elements) 0 (map bare_vector f.vectors)) (λ s q. system_bare s f q) p.system;
   properties = subst (λ o. IsKept o (bare_node f.properties)) (sym (part_bare K.Properties v)) (kept_bare (part K.Properties v) f.properties p.properties);

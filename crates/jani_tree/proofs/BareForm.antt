@@ -6,14 +6,14 @@ use Rattle.bridge_io.specs.declared.reason.Named.{Named}
 use Rattle.op_trees.specs.Tree.{Truth, Number, Name, One, Two, Three, bare}
 use Rattle.jani_table.specs.Node.{Node, null, truth, number, text, array, object, Nodes, no_nodes, more_nodes, Fields, no_fields, field}
 use Rattle.jani_table.specs.Faults.{member_text}
-use Rattle.jani_tree.specs.Syntax.{Expression, Const, VarKind, boolean, integer, number as real, real_bounded, one_sided, bounded, Var, Write, Location, Destination, Edge, Automaton, Vector, File}
+use Rattle.jani_tree.specs.Syntax.{Expression, is_always, Const, VarKind, boolean, integer, number as real, real_bounded, one_sided, bounded, Var, Write, Location, Destination, Edge, Automaton, Vector, File}
 use Rattle.std.specs.List.{AllByRecursion as OfAll}
 use Rattle.basics.specs.Options.{IfAny as OfSome}
 use Rattle.op_trees.specs.Names.{bare_name}
 use Rattle.jani_tree.specs.Places.{bare_node, bare_nodes, bare_fields, bare_const, bare_kind, bare_var, bare_write, bare_location, bare_destination, bare_edge, bare_automaton, bare_part, bare_vector, bare_file}
 use Rattle.jani_tree.proofs.Bare.{member_bare}
 use Rattle.basics.specs.Lists.{IsNotEmpty as HasItems}
-use Rattle.jani_tree.specs.Form.{HasOne, IsGiven, NormalNode, NormalNodes, NormalFields, KeysOnce, KeysOnceInside, KeysApart, NameForm, ExprForm, KindForm, ConstRead, VarRead, WriteRead, LocationRead, DestinationRead, EdgeRead, AutomatonRead, PartForm, VectorRead, FileWith}
+use Rattle.jani_tree.specs.Form.{IsGiven, NormalNode, NormalNodes, NormalFields, KeysOnce, KeysOnceInside, KeysApart, NameForm, ExprForm, KindForm, ConstRead, VarRead, WriteRead, LocationRead, DestinationRead, EdgeRead, AutomatonRead, PartForm, VectorRead, RestrictionRead, FileWith}
 
 -- the one holds exactly where the other does
 abbrev Alike : Type 0 → Type 0 → Type 0
@@ -31,11 +31,6 @@ module _ {A : Type 0} (F : A → Type 0) (f : A → A) (h : (x : A) → Alike (F
   items_alike : (xs : List A) → Alike (HasItems xs) (HasItems (map f xs))
   items_alike [] = (λ p. p, λ p. p)
   items_alike (x ∷ xs) = (λ p. p, λ p. p)
-
-  one_alike : (xs : List A) → Alike (HasOne xs) (HasOne (map f xs))
-  one_alike [] = (λ p. p, λ p. p)
-  one_alike (x ∷ []) = (λ p. p, λ p. p)
-  one_alike (x ∷ y ∷ xs) = (λ p. p, λ p. p)
 
   given_alike : (o : Option A) → Alike (IsGiven o) (IsGiven (option_map f o))
   given_alike None = (λ p. p, λ p. p)
@@ -115,8 +110,8 @@ module _ (P : List ℕ → Type 0) where
 
   var : (x : Var) → Alike (VarRead P x) (VarRead P (bare_var x))
   var x = (
-    λ p. record { name = p.name; kind = (kind x.kind).0 p.kind; start = (exprs x.start).0 p.start; begins = (given_alike (ExprForm P) bare expr x.start).0 p.begins },
-    λ p. record { name = p.name; kind = (kind x.kind).1 p.kind; start = (exprs x.start).1 p.start; begins = (given_alike (ExprForm P) bare expr x.start).1 p.begins },
+    λ p. record { name = p.name; kind = (kind x.kind).0 p.kind; start = (exprs x.start).0 p.start; begins = λ t. (given_alike (ExprForm P) bare expr x.start).0 (p.begins t) },
+    λ p. record { name = p.name; kind = (kind x.kind).1 p.kind; start = (exprs x.start).1 p.start; begins = λ t. (given_alike (ExprForm P) bare expr x.start).1 (p.begins t) },
   )
 
   write : (w : Write) → Alike (WriteRead P w) (WriteRead P (bare_write w))
@@ -168,7 +163,7 @@ module _ (P : List ℕ → Type 0) where
       variables = (all_alike (VarRead P) bare_var var a.variables).0 p.variables;
       locations = (all_alike (LocationRead P) bare_location location a.locations).0 p.locations;
       initial = (all_names a.initial).0 p.initial;
-      begins = (one_alike (NameForm P) bare_name name a.initial).0 p.begins;
+      begins = (items_alike (NameForm P) bare_name name a.initial).0 p.begins;
       edges = (all_alike (EdgeRead P) bare_edge edge a.edges).0 p.edges;
     },
     λ p. record {
@@ -176,7 +171,7 @@ module _ (P : List ℕ → Type 0) where
       variables = (all_alike (VarRead P) bare_var var a.variables).1 p.variables;
       locations = (all_alike (LocationRead P) bare_location location a.locations).1 p.locations;
       initial = (all_names a.initial).1 p.initial;
-      begins = (one_alike (NameForm P) bare_name name a.initial).1 p.begins;
+      begins = (items_alike (NameForm P) bare_name name a.initial).1 p.begins;
       edges = (all_alike (EdgeRead P) bare_edge edge a.edges).1 p.edges;
     },
   )
@@ -187,12 +182,27 @@ module _ (P : List ℕ → Type 0) where
     λ p. record { parts = (all_alike (PartForm P) bare_part names x.parts).1 p.parts; result = (names x.result).1 p.result },
   )
 
+  bare_always : (e : Expression) → is_always (bare e) ≡ is_always e
+  bare_always (Truth at b) = refl
+  bare_always (Number at d) = refl
+  bare_always (Name at x) = refl
+  bare_always (One at o a) = refl
+  bare_always (Two at o a b) = refl
+  bare_always (Three at o a b c) = refl
+
+  restriction : (e : Expression) → Alike (RestrictionRead P e) (RestrictionRead P (bare e))
+  restriction e = (
+    λ p. record { expression = (expr e).0 p.expression; restricts = bare_always e ∙ p.restricts },
+    λ p. record { expression = (expr e).1 p.expression; restricts = sym (bare_always e) ∙ p.restricts },
+  )
+
   file : (f : File) → Alike (FileWith P f) (FileWith P (bare_file f))
   file f = (
     λ p. record {
       actions = (all_names f.actions).0 p.actions;
       constants = (all_alike (ConstRead P) bare_const const f.constants).0 p.constants;
       variables = (all_alike (VarRead P) bare_var var f.variables).0 p.variables;
+      restrict = (some_alike (RestrictionRead P) bare restriction f.restrict).0 p.restrict;
       automata = (all_alike (AutomatonRead P) bare_automaton automaton f.automata).0 p.automata;
       elements = (all_names f.elements).0 p.elements;
       vectors = (all_alike (VectorRead P) bare_vector vector f.vectors).0 p.vectors;
@@ -202,6 +212,7 @@ module _ (P : List ℕ → Type 0) where
       actions = (all_names f.actions).1 p.actions;
       constants = (all_alike (ConstRead P) bare_const const f.constants).1 p.constants;
       variables = (all_alike (VarRead P) bare_var var f.variables).1 p.variables;
+      restrict = (some_alike (RestrictionRead P) bare restriction f.restrict).1 p.restrict;
       automata = (all_alike (AutomatonRead P) bare_automaton automaton f.automata).1 p.automata;
       elements = (all_names f.elements).1 p.elements;
       vectors = (all_alike (VectorRead P) bare_vector vector f.vectors).1 p.vectors;

@@ -1,9 +1,9 @@
 -- Which faults a value has does not depend on places: a value with every offset 0 has the same faults, each at 0.
-use Rattle.std.proofs.Common.{◌≡◌, ℕ, refl, sym, ap, ap₂, ◌∙◌, List, [], ◌∷◌, ◌++◌, map, Option, Some, None, Bool, true, false, ◌||◌, not, if◌then◌else◌, is_some}
+use Rattle.std.proofs.Common.{◌≡◌, ℕ, refl, sym, ap, ap₂, ◌∙◌, List, [], ◌∷◌, ◌++◌, map, Option, Some, None, Bool, true, false, ◌||◌, not, is_some}
 use Rattle.std.specs.Prelude.{codes}
 use Rattle.std.specs.Option.{option_map}
 use Rattle.bridge_io.specs.declared.reason.Reason.{Reason}
-use Rattle.bridge_io.specs.declared.reason.Reason.TheVariants.{MissingMember, UnknownMember, InitialSet, LeftOut}
+use Rattle.bridge_io.specs.declared.reason.Reason.TheVariants.{MissingMember, UnknownMember, LeftOut}
 use Rattle.bridge_io.specs.declared.reason.Fault.{Fault}
 use Rattle.jani_table.specs.declared.key.Key.{Key}
 use Rattle.jani_table.specs.declared.key.Key.TheVariants as K
@@ -14,9 +14,9 @@ use Rattle.jani_table.specs.declared.table.Kind.TheVariants as O
 use Rattle.jani_table.specs.Node.{Node, null, truth, number, text, array, object, Nodes, no_nodes, more_nodes, Fields, no_fields, field}
 use Rattle.jani_table.specs.Table.{Row, spelled, rows_of, is_required, known_form, item_form}
 use Rattle.jani_table.specs.Words.{kind_fault, null_fault, truth_fault, number_fault, word_fault}
-use Rattle.jani_table.specs.Faults.{fault, fault_if, fault_unless, faults, items_faults, members_faults, own_faults, other_faults, missing_faults, row_faults, list_faults, bound_faults, first_of, second_of, none_faults, some_faults, item_faults, member, has, by_form, by_kind, object_kind, op_in, or_unclear, is_true, is_word}
+use Rattle.jani_table.specs.Faults.{fault, fault_if, fault_unless, faults, items_faults, members_faults, own_faults, other_faults, missing_faults, row_faults, list_faults, bound_faults, first_of, none_faults, some_faults, member, has, by_form, by_kind, object_kind, op_in, or_unclear, is_true, is_word}
 use Rattle.jani_tree.specs.Places.{bare_node, bare_nodes, bare_fields}
-use Rattle.jani_tree.proofs.Bare.{member_bare, at_bare, op_bare, true_bare}
+use Rattle.jani_tree.proofs.Bare.{member_bare, op_bare, true_bare}
 
 abbrev bare_fault : Fault → Fault
 bare_fault x = record { reason = x.reason; at = 0 }
@@ -91,8 +91,8 @@ other_bare O.ConstantRange ms at close =
     (bounds_bare ms close)
 other_bare O.Range ms at close = bounds_bare ms close
 other_bare O.Variable ms at close =
-    unless_bare (has K.InitialValue ms) (has K.InitialValue (bare_fields ms)) close _ _ (has_bare K.InitialValue ms) (ap (λ b. if b then MissingMember else InitialSet) (is_true_bare K.Transient ms))
-other_bare O.ModelInitial ms at close = unless_bare (is_true (member K.Exp ms)) (is_true (member K.Exp (bare_fields ms))) at InitialSet InitialSet (is_true_bare K.Exp ms) refl
+    unless_bare (has K.InitialValue ms || not (is_true (member K.Transient ms))) (has K.InitialValue (bare_fields ms) || not (is_true (member K.Transient (bare_fields ms)))) close MissingMember MissingMember
+    (ap₂ (λ a b. a || not b) (has_bare K.InitialValue ms) (is_true_bare K.Transient ms)) refl
 other_bare O.AutomatonInitial ms at close = unless_bare (is_true (member K.Exp ms)) (is_true (member K.Exp (bare_fields ms))) at LeftOut LeftOut (is_true_bare K.Exp ms) refl
 other_bare kind ms at close = refl
 
@@ -106,10 +106,6 @@ first_bare : (vs : Nodes) → first_of (bare_nodes vs) ≡ option_map bare_node 
 first_bare no_nodes = refl
 first_bare (more_nodes v vs) = refl
 
-second_bare : (vs : Nodes) → second_of (bare_nodes vs) ≡ option_map bare_node (second_of vs)
-second_bare no_nodes = refl
-second_bare (more_nodes v vs) = first_bare vs
-
 no_item_bare : (at : ℕ) (r : Reason) (o : Option Node) → none_faults 0 r (option_map bare_node o) ≡ bare_faults (none_faults at r o)
 no_item_bare at r None = refl
 no_item_bare at r (Some v) = refl
@@ -118,15 +114,9 @@ an_item_bare : (at : ℕ) (r : Reason) (o : Option Node) → some_faults 0 r (op
 an_item_bare at r None = refl
 an_item_bare at r (Some v) = refl
 
-item_bare : (r : Reason) (o : Option Node) → item_faults r (option_map bare_node o) ≡ bare_faults (item_faults r o)
-item_bare r None = refl
-item_bare r (Some v) = ap (λ at. fault at r) (at_bare v)
-
 list_bare : (form : Form) (at : ℕ) (vs : Nodes) → list_faults form 0 (bare_nodes vs) ≡ bare_faults (list_faults form at vs)
 list_bare F.Destinations at vs = ap (none_faults 0 _) (first_bare vs) ∙ no_item_bare at _ (first_of vs)
-list_bare F.InitialLocations at vs =
-    two_bare (none_faults at _ (first_of vs)) (item_faults InitialSet (second_of vs)) _ _
-    (ap (none_faults 0 _) (first_bare vs) ∙ no_item_bare at _ (first_of vs)) (ap (item_faults InitialSet) (second_bare vs) ∙ item_bare InitialSet (second_of vs))
+list_bare F.InitialLocations at vs = ap (none_faults 0 _) (first_bare vs) ∙ no_item_bare at _ (first_of vs)
 list_bare F.InputEnable at vs = ap (some_faults 0 _) (first_bare vs) ∙ an_item_bare at _ (first_of vs)
 list_bare form at vs = refl
 

@@ -1,9 +1,9 @@
 -- The trees of values without faults have the form of trees that are read.
-use Rattle.std.proofs.Common.{◌≡◌, ℕ, ◌<◌, refl, sym, subst, List, [], ◌∷◌, length, Option, Some, None, Bool, true, false, if◌then◌else◌, is_some, arith}
+use Rattle.std.proofs.Common.{◌≡◌, ℕ, ◌<◌, refl, sym, subst, List, [], ◌∷◌, length, Option, Some, None, Bool, true, false, ◌||◌, not, ap, ◌∙◌, if◌then◌else◌, is_some, arith}
 use Rattle.std.specs.Prelude.{IsSomeAnd, bytes_eq, nat_lt}
 use Rattle.std.proofs.lemmas.Bool.Decides.{nat_tests}
 use Rattle.basics.specs.Lists.{append_left, append_right, IsNotEmpty as HasItems}
-use Rattle.bridge_io.specs.declared.reason.Reason.TheVariants.{TooLong, InitialSet}
+use Rattle.bridge_io.specs.declared.reason.Reason.TheVariants.{TooLong}
 use Rattle.bridge_io.specs.declared.reason.Named.{Named}
 use Rattle.op_trees.specs.declared.tree.Ty.{Ty}
 use Rattle.op_trees.specs.declared.tree.Ty.TheVariants as T
@@ -17,18 +17,18 @@ use Rattle.jani_table.specs.declared.table.Kind.TheVariants as O
 use Rattle.jani_table.specs.declared.operator.JaniOp.{JaniOp}
 use Rattle.jani_table.specs.declared.operator.JaniOp.TheVariants.{Ite, Not, Floor, Ceil}
 use Rattle.jani_table.specs.Operators.{arity}
-use Rattle.jani_table.specs.Node.{Node, null, truth, number, text, array, object, Nodes, no_nodes, more_nodes, Fields, no_fields, field, at_of}
+use Rattle.jani_table.specs.Node.{Node, null, truth, number, text, array, object, Nodes, no_nodes, more_nodes, Fields, no_fields, field}
 use Rattle.jani_table.specs.Table.{spelled, rows_of}
 use Rattle.jani_table.specs.Words.{ty_of, name_fault, unless}
-use Rattle.jani_table.specs.Faults.{faults, fault, list_faults, own_faults, missing_faults, other_faults, members_faults, items_faults, list_items_faults, object_faults, fault_if, part, part_form, is_known, member_text, items_in, op_kind}
+use Rattle.jani_table.specs.Faults.{faults, own_faults, missing_faults, other_faults, members_faults, items_faults, list_items_faults, object_faults, fault_if, part, part_form, is_known, is_true, member_text, items_in, op_kind}
 use Rattle.jani_table.specs.Parts.{is_plain, kind_of}
 use Rattle.jani_table.specs.Laws as laws
 use Rattle.jani_table.specs.Laws.{plain_part_there, part_clean, object_clean, list_clean, items_in_clean, unless_clean}
-use Rattle.jani_tree.specs.Syntax.{Expression, Const, VarKind, Var, Write, Location, Destination, Edge, Automaton, Vector, File}
-use Rattle.jani_tree.specs.Jani.{Optional, Each, IsItems, IsList, IsListAt, IsNamed, IsKeyed, IsOperation, IsExpr, IsBoxed, range_of, ty_in, IsWord, IsRange, IsKind, IsKindAt, IsConst, IsVar, IsWrite, IsLocation, IsDestination, IsEdge, IsAutomaton, IsPart, IsVector, IsSystem, IsKept, IsFile}
+use Rattle.jani_tree.specs.Syntax.{Expression, is_always, Const, VarKind, Var, Write, Location, Destination, Edge, Automaton, Vector, File}
+use Rattle.jani_tree.specs.Jani.{Optional, Each, IsItems, IsList, IsListAt, IsNamed, IsKeyed, IsOperation, IsExpr, IsBoxed, range_of, ty_in, IsWord, IsRange, IsKind, IsKindAt, IsConst, IsVar, IsWrite, IsLocation, IsDestination, IsEdge, IsAutomaton, IsPart, IsVector, IsSystem, unless_always, IsKept, IsFile}
 use Rattle.std.specs.List.{AllByRecursion as OfAll}
 use Rattle.basics.specs.Options.{IfAny as OfSome}
-use Rattle.jani_tree.specs.Form.{HasOne, IsGiven, IsShortName, NormalNode, NormalNodes, NormalFields, NameForm, ExprForm, KindForm, ConstRead, VarRead, WriteRead, LocationRead, DestinationRead, EdgeRead, AutomatonRead, PartForm, VectorRead, FileWith, FileShort, KeysOnce, KeysApart}
+use Rattle.jani_tree.specs.Form.{IsGiven, IsShortName, NormalNode, NormalNodes, NormalFields, NameForm, ExprForm, KindForm, ConstRead, VarRead, WriteRead, LocationRead, DestinationRead, EdgeRead, AutomatonRead, PartForm, VectorRead, RestrictionRead, FileShort, KeysOnce, KeysApart}
 
 -- ---- parts
 
@@ -229,14 +229,23 @@ const_read v x c n p = record {
   value = optional_read F.Constant K.Value v refl refl c n IsExpr (ExprForm IsShortName) x.value p.value expr_read;
 }
 
--- a variable has a first value
-start_there : (v : Node) → object_faults O.Variable v ≡ [] → is_some (part K.InitialValue v) ≡ true
-start_there (object at ms close) c = unless_clean (is_some (part K.InitialValue (object at ms close))) close _ (append_right (missing_faults ms close (rows_of O.Variable)) (other_faults O.Variable ms at close) (append_right (members_faults O.Variable ms) (own_faults O.Variable ms at close) c))
-start_there (null at) c = absurd cc
-start_there (truth at b) c = absurd cc
-start_there (number at d) c = absurd cc
-start_there (text at s) c = absurd cc
-start_there (array at vs) c = absurd cc
+asked_for : (a b : Bool) → (a || not b) ≡ true → b ≡ true → a ≡ true
+asked_for true b h t = refl
+asked_for false true h t = absurd cc
+asked_for false false h t = absurd cc
+
+-- a transient variable has a first value
+start_there : (v : Node) → object_faults O.Variable v ≡ [] → is_true (part K.Transient v) ≡ true → is_some (part K.InitialValue v) ≡ true
+start_there (object at ms close) c t =
+    let v : Node = object at ms close in
+    asked_for (is_some (part K.InitialValue v)) (is_true (part K.Transient v))
+    (unless_clean (is_some (part K.InitialValue v) || not (is_true (part K.Transient v))) close _
+    (append_right (missing_faults ms close (rows_of O.Variable)) (other_faults O.Variable ms at close) (append_right (members_faults O.Variable ms) (own_faults O.Variable ms at close) c))) t
+start_there (null at) c t = absurd cc
+start_there (truth at b) c t = absurd cc
+start_there (number at d) c t = absurd cc
+start_there (text at s) c t = absurd cc
+start_there (array at vs) c t = absurd cc
 
 given_of : {A : Type 0} (P : Node → A → Type 0) (o : Option Node) (x : Option A) → is_some o ≡ true → Optional P o x → IsGiven x
 given_of P o (Some x) s p = tt
@@ -248,7 +257,7 @@ var_read v x c n p = record {
   name = one_read F.Variable K.Name v refl refl c n (λ w. IsNamed w x.name) ((NameForm IsShortName) x.name) p.name (λ w c n q. name_read w x.name c n q);
   kind = one_read F.Variable K.Type v refl refl c n (λ w. IsKindAt w x.kind x.kind_at) ((KindForm IsShortName) x.kind) p.kind (λ w c n q. kind_read w x.kind c n q.kind);
   start = optional_read F.Variable K.InitialValue v refl refl c n IsExpr (ExprForm IsShortName) x.start p.start expr_read;
-  begins = given_of IsExpr (part K.InitialValue v) x.start (start_there v (object_clean F.Variable v refl c)) p.start;
+  begins = λ t. given_of IsExpr (part K.InitialValue v) x.start (start_there v (object_clean F.Variable v refl c) (sym p.transient ∙ t)) p.start;
 }
 
 value_read : (v : Node) (x : Write) → faults F.TransientValue v ≡ [] → NormalNode v → IsWrite v x → (WriteRead IsShortName) x
@@ -296,22 +305,20 @@ edge_read v x c n p = record {
   some = one_read F.Edge K.Destinations v refl refl c n (λ w. IsListAt IsDestination w x.destinations x.at) (HasItems x.destinations) p.destinations (λ w c n q. some_destination w x.destinations c q.items);
 }
 
--- there is one initial location
-one_initial : (v : Node) (xs : List Named) → faults F.InitialLocations v ≡ [] → IsItems IsNamed v xs → HasOne xs
-one_initial (array at no_nodes) xs c p = absurd cc
-one_initial (array at (more_nodes v no_nodes)) [] c p = absurd p.items
-one_initial (array at (more_nodes v no_nodes)) (x ∷ []) c p = tt
-one_initial (array at (more_nodes v no_nodes)) (x ∷ y ∷ xs) c p = absurd p.items.1
-one_initial (array at (more_nodes v (more_nodes w vs))) xs c p = absurd (let e : fault (at_of w) InitialSet ≡ [] = append_right (items_faults F.Name (more_nodes v (more_nodes w vs))) (list_faults F.InitialLocations at (more_nodes v (more_nodes w vs))) c in cc)
-one_initial (null at) xs c p = absurd cc
-one_initial (truth at b) xs c p = absurd cc
-one_initial (number at d) xs c p = absurd cc
-one_initial (text at s) xs c p = absurd cc
-one_initial (object at ms close) xs c p = absurd cc
+-- there is an initial location
+some_initial : (v : Node) (xs : List Named) → faults F.InitialLocations v ≡ [] → IsItems IsNamed v xs → HasItems xs
+some_initial (array at no_nodes) xs c p = absurd cc
+some_initial (array at (more_nodes v vs)) [] c p = absurd p.items
+some_initial (array at (more_nodes v vs)) (x ∷ xs) c p = tt
+some_initial (null at) xs c p = absurd cc
+some_initial (truth at b) xs c p = absurd cc
+some_initial (number at d) xs c p = absurd cc
+some_initial (text at s) xs c p = absurd cc
+some_initial (object at ms close) xs c p = absurd cc
 
-one_there : (o : Option Node) (xs : List Named) → is_some o ≡ true → ((w : Node) → o ≡ Some w → faults F.InitialLocations w ≡ []) → IsList IsNamed o xs → HasOne xs
-one_there None xs s c p = absurd cc
-one_there (Some w) xs s c p = one_initial w xs (c w refl) p
+initial_there : (o : Option Node) (xs : List Named) → is_some o ≡ true → ((w : Node) → o ≡ Some w → faults F.InitialLocations w ≡ []) → IsList IsNamed o xs → HasItems xs
+initial_there None xs s c p = absurd cc
+initial_there (Some w) xs s c p = some_initial w xs (c w refl) p
 
 automaton_read : (v : Node) (x : Automaton) → faults F.Automaton v ≡ [] → NormalNode v → IsAutomaton v x → (AutomatonRead IsShortName) x
 automaton_read v x c n p = record {
@@ -319,7 +326,7 @@ automaton_read v x c n p = record {
   variables = maybe_read F.Variable IsVar (VarRead IsShortName) var_read (part K.Variables v) x.variables (λ w e. list_clean F.Variables w refl (part_read F.Automaton K.Variables v refl refl c n w e)) (λ w e. part_normal K.Variables v w n e) p.variables;
   locations = maybe_read F.Location IsLocation (LocationRead IsShortName) location_read (part K.Locations v) x.locations (λ w e. list_clean F.Locations w refl (part_read F.Automaton K.Locations v refl refl c n w e)) (λ w e. part_normal K.Locations v w n e) p.locations;
   initial = maybe_read F.Name IsNamed (NameForm IsShortName) name_read (part K.InitialLocations v) x.initial (λ w e. list_clean F.InitialLocations w refl (part_read F.Automaton K.InitialLocations v refl refl c n w e)) (λ w e. part_normal K.InitialLocations v w n e) p.initial;
-  begins = one_there (part K.InitialLocations v) x.initial (plain_part_there F.Automaton K.InitialLocations v refl refl c) (λ w e. part_read F.Automaton K.InitialLocations v refl refl c n w e) p.initial;
+  begins = initial_there (part K.InitialLocations v) x.initial (plain_part_there F.Automaton K.InitialLocations v refl refl c) (λ w e. part_read F.Automaton K.InitialLocations v refl refl c n w e) p.initial;
   edges = maybe_read F.Edge IsEdge (EdgeRead IsShortName) edge_read (part K.Edges v) x.edges (λ w e. list_clean F.Edges w refl (part_read F.Automaton K.Edges v refl refl c n w e)) (λ w e. part_normal K.Edges v w n e) p.edges;
 }
 
@@ -349,11 +356,34 @@ kept_normal : (o : Option Node) (p : Node) → ((w : Node) → o ≡ Some w → 
 kept_normal None p n e = subst NormalNode (sym e) tt
 kept_normal (Some v) p n e = subst NormalNode (sym e) (n v refl)
 
+-- ---- the condition on the initial states
+
+not_always : (o : Option Node) (e : Expression) → is_true o ≡ false → IsSomeAnd o (λ w. IsExpr w e) → is_always e ≡ false
+not_always None e t p = absurd p
+not_always (Some w) (Truth at b) t p = sym (ap (λ w. is_true (Some w)) p) ∙ t
+not_always (Some w) (Number at d) t p = refl
+not_always (Some w) (Name at x) t p = refl
+not_always (Some w) (One at o a) t p = refl
+not_always (Some w) (Two at o a b) t p = refl
+not_always (Some w) (Three at o a b d) t p = refl
+
+restriction_read : (o : Option Node) (x : Option Expression) → ((w : Node) → o ≡ Some w → (faults F.Boxed w ≡ []) × NormalNode w) → Optional IsBoxed (unless_always o) x → OfSome (RestrictionRead IsShortName) x
+restriction_read None None h p = tt
+restriction_read None (Some e) h p = absurd p
+restriction_read (Some v) x h p = by_truth (is_true (part K.Exp v)) refl x p
+  where
+    by_truth : (b : Bool) → is_true (part K.Exp v) ≡ b → (x : Option Expression) → Optional IsBoxed (if b then None else Some v) x → OfSome (RestrictionRead IsShortName) x
+    by_truth true t None p = tt
+    by_truth true t (Some e) p = absurd p
+    by_truth false t None p = absurd p
+    by_truth false t (Some e) p = let g = h v refl in record { expression = boxed_read v e g.0 g.1 p; restricts = not_always (part K.Exp v) e t p }
+
 pub file_read : (v : Node) (x : File) → faults F.Model v ≡ [] → NormalNode v → IsFile v x → FileShort x
 file_read v x c n p = record {
   actions = maybe_read F.Action (IsKeyed K.Name) (NameForm IsShortName) keyed_action (part K.Actions v) x.actions (λ w e. list_clean F.Actions w refl (part_read F.Model K.Actions v refl refl c n w e)) (λ w e. part_normal K.Actions v w n e) p.actions;
   constants = maybe_read F.Constant IsConst (ConstRead IsShortName) const_read (part K.Constants v) x.constants (λ w e. list_clean F.Constants w refl (part_read F.Model K.Constants v refl refl c n w e)) (λ w e. part_normal K.Constants v w n e) p.constants;
   variables = maybe_read F.Variable IsVar (VarRead IsShortName) var_read (part K.Variables v) x.variables (λ w e. list_clean F.Variables w refl (part_read F.Model K.Variables v refl refl c n w e)) (λ w e. part_normal K.Variables v w n e) p.variables;
+  restrict = restriction_read (part K.RestrictInitial v) x.restrict (λ w e. (part_read F.Model K.RestrictInitial v refl refl c n w e, part_normal K.RestrictInitial v w n e)) p.restrict;
   automata = maybe_read F.Automaton IsAutomaton (AutomatonRead IsShortName) automaton_read (part K.Automata v) x.automata (λ w e. list_clean F.Automata w refl (part_read F.Model K.Automata v refl refl c n w e)) (λ w e. part_normal K.Automata v w n e) p.automata;
   elements = one_read F.Model K.System v refl refl c n (λ w. IsSystem w x.elements x.elements_at x.vectors) (OfAll (NameForm IsShortName) x.elements) p.system (λ w c n q. elements_read w x.elements x.elements_at x.vectors c n q);
   vectors = one_read F.Model K.System v refl refl c n (λ w. IsSystem w x.elements x.elements_at x.vectors) (OfAll (VectorRead IsShortName) x.vectors) p.system (λ w c n q. vectors_read w x.elements x.elements_at x.vectors c n q);

@@ -339,7 +339,7 @@ kept_system elements vectors e v =
 kept_system_at : (elements : List Named) (at : ℕ) (vectors : List Vector) → KeptNode (system_node elements 0 vectors) → KeptNode (system_node elements at vectors)
 kept_system_at elements at vectors h = record { proper = h.proper }
 
-pub kept_whole : (f : File) → OfAll (λ n. KeptNode (name_node n)) f.actions → KeptNode (list_node const_node 0 f.constants) → KeptNode (list_node var_node 0 f.variables) → KeptNode f.properties →
+pub kept_whole : (f : File) → OfAll (λ n. KeptNode (name_node n)) f.actions → KeptNode (list_node const_node 0 f.constants) → KeptNode (list_node var_node 0 f.variables) → OfSome KeptNode (option_map boxed_node f.restrict) → KeptNode f.properties →
     KeptNode (list_node automaton_node 0 f.automata) → KeptNode (system_node f.elements 0 f.vectors) → KeptNode (file_node f)
-kept_whole f a c v p m x =
-    kept_file head_members (file_members f) kept_head (kept_keyed_list K.Name 0 f.actions a, (c, (v, (p, (m, (kept_system_at f.elements f.elements_at f.vectors x, tt))))))
+kept_whole f a c v r p m x =
+    kept_file head_members (file_members f) kept_head (kept_keyed_list K.Name 0 f.actions a, (c, (v, (r, (p, (m, (kept_system_at f.elements f.elements_at f.vectors x, tt)))))))

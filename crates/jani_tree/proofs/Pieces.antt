@@ -246,7 +246,7 @@ head_text = codes "{\"jani-version\":1,\"name\":\"model\",\"type\":\"mdp\",\"fea
 abbrev declared_pieces : File → List (List ℕ)
 declared_pieces f =
     (codes ",\"constants\":" ++ node_text (list_node const_node 0 f.constants)) ∷ (codes ",\"variables\":" ++ node_text (list_node var_node 0 f.variables))
-    ∷ codes ",\"properties\":" ∷ node_text f.properties ∷ (codes ",\"automata\":" ++ node_text (list_node automaton_node 0 f.automata))
+    ∷ if_some (codes ",\"restrict-initial\":") (option_map boxed_node f.restrict) ∷ codes ",\"properties\":" ∷ node_text f.properties ∷ (codes ",\"automata\":" ++ node_text (list_node automaton_node 0 f.automata))
     ∷ codes ",\"system\":" ∷ node_text (system_node f.elements 0 f.vectors) ∷ codes "}" ∷ []
 
 abbrev pub file_pieces : File → List (List ℕ)

@@ -1,12 +1,12 @@
 -- The canonical value of a tree has no fault of shape, its numbers are in normal form, and no object of it has a key twice.
-use Rattle.std.proofs.Common.{◌≡◌, ℕ, ◌<◌, refl, sym, ap, subst, ◌∙◌, List, [], ◌∷◌, ◌++◌, length, Option, Some, None, Bool, true, false, is_some, if◌then◌else◌, arith}
+use Rattle.std.proofs.Common.{◌≡◌, ℕ, ◌<◌, refl, sym, ap, subst, ◌∙◌, List, [], ◌∷◌, ◌++◌, length, Option, Some, None, Bool, true, false, ◌||◌, not, is_some, if◌then◌else◌, arith}
 use Rattle.std.specs.Prelude.{pos, codes, nat_lt}
 use Rattle.std.specs.Option.{option_map}
 use Rattle.std.proofs.lemmas.Bool.Decides.{nat_tests}
 use Rattle.basics.specs.Lists.{append_right, append_both, append_left, IsNotEmpty as HasItems}
 use Rattle.bridge_io.specs.declared.reason.Fault.{Fault}
 use Rattle.bridge_io.specs.declared.reason.Named.{Named}
-use Rattle.bridge_io.specs.declared.reason.Reason.TheVariants.{TooLong, WrongShape, LeftOut, MissingMember, InitialSet}
+use Rattle.bridge_io.specs.declared.reason.Reason.TheVariants.{TooLong, WrongShape, LeftOut, MissingMember}
 use Rattle.frac_core.specs.Fraction.{same_number, unit}
 use Rattle.frac_core.specs.Decimal.{decimal_value, times-ten_to}
 use Rattle.op_trees.specs.Tree.{Truth, Number, Name, One, Two, Three}
@@ -22,12 +22,12 @@ use Rattle.jani_table.specs.declared.operator.JaniOp.{JaniOp}
 use Rattle.jani_table.specs.Node.{Node, null, truth, number, text, array, object, no_fields}
 use Rattle.jani_table.specs.Words.{name_fault, unless, ty_text, ty_of, feature_of, refused_of}
 use Rattle.jani_table.specs.Operators.{op_of, op_text}
-use Rattle.jani_table.specs.Faults.{faults, fault_if, or_unclear, op_kind, has, fault_unless, is_true, member}
+use Rattle.jani_table.specs.Faults.{faults, fault_if, or_unclear, op_kind, has, fault_unless, is_true, member, other_faults}
 use Rattle.jani_tree.specs.Syntax.{Expression, Const, VarKind, boolean, integer, number as real, real_bounded, one_sided, bounded, Var, Write, Location, Destination, Edge, Automaton, Vector, File}
 use Rattle.std.specs.List.{AllByRecursion as OfAll}
 use Rattle.basics.specs.Options.{IfAny as OfSome}
 use Rattle.jani_tree.specs.Canonical.{with_members, object_of, list_node, some_list, word, name_node, keyed_node, expr_node, boxed_node, bounded_word, kind_node, const_node, flag_node, var_node, write_node, location_node, destination_node, edge_node, automaton_node, part_node, vector_node, system_node, version_node, features_node, head_members, file_members, file_node, HasBounds, VarForm, AutomatonForm, FileForm}
-use Rattle.jani_tree.specs.Form.{HasOne, IsGiven, IsShortName, NormalNode, KeysOnce, FileWith, NameForm, ExprForm, KindForm, ConstRead, VarRead, WriteRead, LocationRead, DestinationRead, EdgeRead, AutomatonRead, PartForm, VectorRead}
+use Rattle.jani_tree.specs.Form.{IsGiven, IsShortName, NormalNode, KeysOnce, FileWith, NameForm, ExprForm, KindForm, ConstRead, VarRead, WriteRead, LocationRead, DestinationRead, EdgeRead, AutomatonRead, PartForm, VectorRead, RestrictionRead}
 use Rattle.jani_tree.proofs.Again.{op_again, kind_one, kind_two, kind_three, ty_again}
 use Rattle.jani_tree.proofs.Filled.{IsByParts, Good, has_members, object_good, list_good, some_list_good, option_good}
 
@@ -151,17 +151,24 @@ module _ (C : List Fault → Type 0) (by : IsByParts C) (IsName : List ℕ → T
       (K.Name, Some (name_node n)) ∷ (K.Type, Some (kind_node at k)) ∷ (K.Transient, flag_node b) ∷ (K.InitialValue, option_map expr_node start) ∷ (K.Comment, option_map word comment) ∷ []
 
   -- the first value of a variable is there
-  first_there : (b : Bool) (at : ℕ) (s : Bool) → b ≡ true → fault_unless b at (if s then MissingMember else InitialSet) ≡ []
-  first_there true at s e = refl
-  first_there false at s e = absurd cc
+  first_there : (a b : Bool) (at : ℕ) → a ≡ true → fault_unless (a || b) at MissingMember ≡ []
+  first_there true b at e = refl
+  first_there false b at e = absurd cc
 
-  var_parts : (n : Named) (k : VarKind) (at : ℕ) (b : Bool) (start : Option Expression) (comment : Option (List ℕ)) → (NameForm IsName) n → (KindForm IsName) k → HasBounds k → OfSome (ExprForm IsName) start → IsGiven start →
+  -- a variable that isn't transient needs none
+  none_needed : (n : Named) (k : VarKind) (at : ℕ) (comment : Option (List ℕ)) → other_faults O.Variable (with_members no_fields (var_members n k at false None comment)) 0 0 ≡ []
+  none_needed n k at None = refl
+  none_needed n k at (Some s) = refl
+
+  var_parts : (n : Named) (k : VarKind) (at : ℕ) (b : Bool) (start : Option Expression) (comment : Option (List ℕ)) → (NameForm IsName) n → (KindForm IsName) k → HasBounds k → OfSome (ExprForm IsName) start → (b ≡ true → IsGiven start) →
       Good C F.Variable (object_of 0 (var_members n k at b start comment))
-  var_parts n k at b None comment f g i h j = absurd j
+  var_parts n k at true None comment f g i h j = absurd (j refl)
+  var_parts n k at false None comment f g i h j =
+      object_good C by F.Variable O.Variable 0 (var_members n k at false None comment) refl (name_good n f, (kind_good at k g i, (tt, (tt, (note_good comment, tt))))) refl refl (none_needed n k at comment)
   var_parts n k at b (Some e) comment f g i h j =
       let ms = var_members n k at b (Some e) comment in
       object_good C by F.Variable O.Variable 0 ms refl (name_good n f, (kind_good at k g i, (flag_good b, (expr_good e h, (note_good comment, tt))))) refl refl
-      (first_there (has K.InitialValue (with_members no_fields ms)) 0 (is_true (member K.Transient (with_members no_fields ms))) (has_members K.InitialValue ms))
+      (first_there (has K.InitialValue (with_members no_fields ms)) (not (is_true (member K.Transient (with_members no_fields ms)))) 0 (has_members K.InitialValue ms))
 
   -- the form of a variable that is read, and its type has a value
   abbrev VarGood : Var → Type 0
@@ -198,10 +205,9 @@ module _ (C : List Fault → Type 0) (by : IsByParts C) (IsName : List ℕ → T
       ((K.Location, Some (name_node e.location)) ∷ (K.Action, option_map name_node e.action) ∷ (K.Guard, option_map boxed_node e.guard) ∷ (K.Destinations, Some (list_node destination_node e.at e.destinations)) ∷ [])
       refl (name_good e.location h.location, (names_good e.action h.action, (some_boxed_good e.guard h.guard, (destinations_good e.at e.destinations h.destinations h.some, tt)))) refl refl refl
 
-  initial_good : (ns : List Named) → OfAll (NameForm IsName) ns → HasOne ns → Good C F.InitialLocations (list_node name_node 0 ns)
+  initial_good : (ns : List Named) → OfAll (NameForm IsName) ns → HasItems ns → Good C F.InitialLocations (list_node name_node 0 ns)
   initial_good [] h s = absurd s
-  initial_good (n ∷ []) h s = list_good C by F.InitialLocations F.Name name_node (NameForm IsName) refl name_good 0 (n ∷ []) h refl
-  initial_good (n ∷ m ∷ ns) h s = absurd s
+  initial_good (n ∷ ns) h s = list_good C by F.InitialLocations F.Name name_node (NameForm IsName) refl name_good 0 (n ∷ ns) h refl
 
   both_all : {A : Type 0} (P Q : A → Type 0) (xs : List A) → OfAll P xs → OfAll Q xs → OfAll (λ x. P x × Q x) xs
   both_all P Q [] p q = tt
@@ -263,6 +269,9 @@ module _ (C : List Fault → Type 0) (by : IsByParts C) (IsName : List ℕ → T
   unfolding feature_of
   features_good = record { clean = by.none; normal = (tt, (tt, tt)); once = (tt, (tt, tt)) }
 
+  restriction_good : (e : Expression) → (RestrictionRead IsName) e → Good C F.Boxed (boxed_node e)
+  restriction_good e h = boxed_good e h.expression
+
   -- any value may stand as the properties
   anything_good : (v : Node) → NormalNode v → KeysOnce v → Good C F.Anything v
   anything_good v n k = record { clean = subst C (sym (any v)) by.none; normal = n; once = k }
@@ -292,10 +301,13 @@ module _ (C : List Fault → Type 0) (by : IsByParts C) (IsName : List ℕ → T
                   (
                     list_good C by F.Variables F.Variable var_node VarGood refl var_good 0 f.variables (both_all (VarRead IsName) VarForm f.variables h.variables g.variables) refl,
                     (
-                      anything_good f.properties h.properties k,
+                      option_good C by F.Boxed boxed_node (RestrictionRead IsName) restriction_good f.restrict h.restrict,
                       (
-                        list_good C by F.Automata F.Automaton automaton_node AutomatonGood refl automaton_good 0 f.automata (both_all (AutomatonRead IsName) AutomatonForm f.automata h.automata g.automata) refl,
-                        (system_good f.elements f.elements_at f.vectors h.elements h.vectors, tt),
+                        anything_good f.properties h.properties k,
+                        (
+                          list_good C by F.Automata F.Automaton automaton_node AutomatonGood refl automaton_good 0 f.automata (both_all (AutomatonRead IsName) AutomatonForm f.automata h.automata g.automata) refl,
+                          (system_good f.elements f.elements_at f.vectors h.elements h.vectors, tt),
+                        ),
                       ),
                     ),
                   ),

@@ -13,7 +13,7 @@ use Rattle.jani_table.specs.Node.{Node, null, truth, number, text, array, object
 use Rattle.jani_table.specs.Words.{ty_of}
 use Rattle.jani_table.specs.Faults.{part, items_in}
 use Rattle.jani_tree.specs.Syntax.{Expression, Const, VarKind, bounded, Var, Write, Location, Destination, Edge, Automaton, Vector, File}
-use Rattle.jani_tree.specs.Jani.{Optional, Each, IsItems, IsList, IsListAt, IsText, IsNamed, IsKeyed, IsOperation, IsExpr, IsBoxed, IsWord, IsRange, Range, real_range, half_range, whole_range, range_in, IsKind, IsKindAt, IsConst, IsVar, IsWrite, IsLocation, IsDestination, IsEdge, IsAutomaton, IsPart, IsVector, IsSystem, IsKept, IsFile}
+use Rattle.jani_tree.specs.Jani.{Optional, Each, IsItems, IsList, IsListAt, IsText, IsNamed, IsKeyed, IsOperation, IsExpr, IsBoxed, IsWord, IsRange, Range, real_range, half_range, whole_range, range_in, IsKind, IsKindAt, IsConst, IsVar, IsWrite, IsLocation, IsDestination, IsEdge, IsAutomaton, IsPart, IsVector, IsSystem, unless_always, IsKept, IsFile}
 
 both : (o : Option Node) (P Q : Node → Type 0) → IsSomeAnd o P → IsSomeAnd o Q → (w : Node) × P w × Q w
 both None P Q p q = absurd p
@@ -259,11 +259,12 @@ pub same_file : (v : Node) (c d : File) → IsFile v c → IsFile v d → c ≡ 
 same_file v c d p q =
     let system = both (part K.System v) (λ s. IsSystem s c.elements c.elements_at c.vectors) (λ s. IsSystem s d.elements d.elements_at d.vectors) p.system q.system in
     let elements = same_list_at (IsKeyed K.Automaton) (part K.Elements system.0) c.elements d.elements c.elements_at d.elements_at (same_keyed K.Automaton) system.1.elements_are system.2.elements_are in
-    ap {B = File} (λ x. record { actions = x; constants = c.constants; variables = c.variables; automata = c.automata; elements = c.elements; elements_at = c.elements_at; vectors = c.vectors; properties = c.properties }) (same_list (IsKeyed K.Name) (part K.Actions v) c.actions d.actions (same_keyed K.Name) p.actions q.actions)
-    ∙ (ap {B = File} (λ x. record { actions = d.actions; constants = x; variables = c.variables; automata = c.automata; elements = c.elements; elements_at = c.elements_at; vectors = c.vectors; properties = c.properties }) (same_list IsConst (part K.Constants v) c.constants d.constants same_const p.constants q.constants)
-    ∙ (ap {B = File} (λ x. record { actions = d.actions; constants = d.constants; variables = x; automata = c.automata; elements = c.elements; elements_at = c.elements_at; vectors = c.vectors; properties = c.properties }) (same_list IsVar (part K.Variables v) c.variables d.variables same_var p.variables q.variables)
-    ∙ (ap {B = File} (λ x. record { actions = d.actions; constants = d.constants; variables = d.variables; automata = x; elements = c.elements; elements_at = c.elements_at; vectors = c.vectors; properties = c.properties }) (same_list IsAutomaton (part K.Automata v) c.automata d.automata same_automaton p.automata q.automata)
-    ∙ (ap {B = File} (λ x. record { actions = d.actions; constants = d.constants; variables = d.variables; automata = d.automata; elements = x; elements_at = c.elements_at; vectors = c.vectors; properties = c.properties }) (elements.0)
-    ∙ (ap {B = File} (λ x. record { actions = d.actions; constants = d.constants; variables = d.variables; automata = d.automata; elements = d.elements; elements_at = x; vectors = c.vectors; properties = c.properties }) (elements.1)
-    ∙ (ap {B = File} (λ x. record { actions = d.actions; constants = d.constants; variables = d.variables; automata = d.automata; elements = d.elements; elements_at = d.elements_at; vectors = x; properties = c.properties }) (same_list IsVector (part K.Syncs system.0) c.vectors d.vectors same_vector system.1.vectors_are system.2.vectors_are)
-    ∙ ap {B = File} (λ x. record { actions = d.actions; constants = d.constants; variables = d.variables; automata = d.automata; elements = d.elements; elements_at = d.elements_at; vectors = d.vectors; properties = x }) (same_kept (part K.Properties v) c.properties d.properties p.properties q.properties)))))))
+    ap {B = File} (λ x. record { actions = x; constants = c.constants; variables = c.variables; restrict = c.restrict; automata = c.automata; elements = c.elements; elements_at = c.elements_at; vectors = c.vectors; properties = c.properties }) (same_list (IsKeyed K.Name) (part K.Actions v) c.actions d.actions (same_keyed K.Name) p.actions q.actions)
+    ∙ (ap {B = File} (λ x. record { actions = d.actions; constants = x; variables = c.variables; restrict = c.restrict; automata = c.automata; elements = c.elements; elements_at = c.elements_at; vectors = c.vectors; properties = c.properties }) (same_list IsConst (part K.Constants v) c.constants d.constants same_const p.constants q.constants)
+    ∙ (ap {B = File} (λ x. record { actions = d.actions; constants = d.constants; variables = x; restrict = c.restrict; automata = c.automata; elements = c.elements; elements_at = c.elements_at; vectors = c.vectors; properties = c.properties }) (same_list IsVar (part K.Variables v) c.variables d.variables same_var p.variables q.variables)
+    ∙ (ap {B = File} (λ x. record { actions = d.actions; constants = d.constants; variables = d.variables; restrict = x; automata = c.automata; elements = c.elements; elements_at = c.elements_at; vectors = c.vectors; properties = c.properties }) (same_optional IsBoxed (unless_always (part K.RestrictInitial v)) c.restrict d.restrict same_boxed p.restrict q.restrict)
+    ∙ (ap {B = File} (λ x. record { actions = d.actions; constants = d.constants; variables = d.variables; restrict = d.restrict; automata = x; elements = c.elements; elements_at = c.elements_at; vectors = c.vectors; properties = c.properties }) (same_list IsAutomaton (part K.Automata v) c.automata d.automata same_automaton p.automata q.automata)
+    ∙ (ap {B = File} (λ x. record { actions = d.actions; constants = d.constants; variables = d.variables; restrict = d.restrict; automata = d.automata; elements = x; elements_at = c.elements_at; vectors = c.vectors; properties = c.properties }) (elements.0)
+    ∙ (ap {B = File} (λ x. record { actions = d.actions; constants = d.constants; variables = d.variables; restrict = d.restrict; automata = d.automata; elements = d.elements; elements_at = x; vectors = c.vectors; properties = c.properties }) (elements.1)
+    ∙ (ap {B = File} (λ x. record { actions = d.actions; constants = d.constants; variables = d.variables; restrict = d.restrict; automata = d.automata; elements = d.elements; elements_at = d.elements_at; vectors = x; properties = c.properties }) (same_list IsVector (part K.Syncs system.0) c.vectors d.vectors same_vector system.1.vectors_are system.2.vectors_are)
+    ∙ ap {B = File} (λ x. record { actions = d.actions; constants = d.constants; variables = d.variables; restrict = d.restrict; automata = d.automata; elements = d.elements; elements_at = d.elements_at; vectors = d.vectors; properties = x }) (same_kept (part K.Properties v) c.properties d.properties p.properties q.properties))))))))

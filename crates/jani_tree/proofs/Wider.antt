@@ -1,12 +1,12 @@
 -- A form that asks less of names has all trees that one which asks more has.
-use Rattle.std.proofs.Common.{◌≡◌, ℕ, List, Option, Some, None}
+use Rattle.std.proofs.Common.{ℕ, List, Option, Some, None}
 use Rattle.basics.specs.Each.{each_then}
 use Rattle.bridge_io.specs.declared.reason.Named.{Named}
 use Rattle.op_trees.specs.Tree.{Truth, Number, Name, One, Two, Three}
 use Rattle.jani_tree.specs.Syntax.{Expression, Const, VarKind, boolean, integer, number as real, real_bounded, one_sided, bounded, Var, Write, Location, Destination, Edge, Automaton, Vector, File}
 use Rattle.basics.specs.Options.{IfAny as OfSome}
 use Rattle.basics.specs.Lists.{IsNotEmpty as HasItems}
-use Rattle.jani_tree.specs.Form.{IsShortName, NameForm, ExprForm, KindForm, ConstRead, VarRead, WriteRead, LocationRead, DestinationRead, EdgeRead, AutomatonRead, PartForm, VectorRead, FileWith, FileRead, FileShort}
+use Rattle.jani_tree.specs.Form.{IsShortName, NameForm, ExprForm, KindForm, ConstRead, VarRead, WriteRead, LocationRead, DestinationRead, EdgeRead, AutomatonRead, PartForm, VectorRead, RestrictionRead, FileWith, FileRead, FileShort}
 
 pub some_wider : {A : Type 0} (F G : A → Type 0) → ((x : A) → F x → G x) → (o : Option A) → OfSome F o → OfSome G o
 some_wider F G h None p = tt
@@ -79,11 +79,15 @@ module _ (P Q : List ℕ → Type 0) (wider : (s : List ℕ) → P s → Q s) wh
   vector : (x : Vector) → VectorRead P x → VectorRead Q x
   vector x p = record { parts = each_then (PartForm P) (PartForm Q) names x.parts p.parts; result = names x.result p.result }
 
+  restriction : (e : Expression) → RestrictionRead P e → RestrictionRead Q e
+  restriction e p = record { expression = expr e p.expression; restricts = p.restricts }
+
   pub file_wider : (f : File) → FileWith P f → FileWith Q f
   file_wider f p = record {
     actions = each_then (NameForm P) (NameForm Q) name f.actions p.actions;
     constants = each_then (ConstRead P) (ConstRead Q) const f.constants p.constants;
     variables = each_then (VarRead P) (VarRead Q) var f.variables p.variables;
+    restrict = some_wider (RestrictionRead P) (RestrictionRead Q) restriction f.restrict p.restrict;
     automata = each_then (AutomatonRead P) (AutomatonRead Q) automaton f.automata p.automata;
     elements = each_then (NameForm P) (NameForm Q) name f.elements p.elements;
     vectors = each_then (VectorRead P) (VectorRead Q) vector f.vectors p.vectors;

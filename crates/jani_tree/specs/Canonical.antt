@@ -15,7 +15,7 @@ use Rattle.jani_table.specs.Node.{Node, null, truth, number, text, array, object
 use Rattle.jani_table.specs.Table.{spelled}
 use Rattle.jani_table.specs.Words.{ty_text, feature_text}
 use Rattle.jani_table.specs.Operators.{op_text, arity}
-use Rattle.jani_tree.specs.Syntax.{Expression, Const, VarKind, boolean, integer, number as real, real_bounded, one_sided, bounded, Var, Write, Location, Destination, Edge, Automaton, Vector, File}
+use Rattle.jani_tree.specs.Syntax.{Expression, is_always, Const, VarKind, boolean, integer, number as real, real_bounded, one_sided, bounded, Var, Write, Location, Destination, Edge, Automaton, Vector, File}
 
 -- ---- objects and lists
 
@@ -144,7 +144,7 @@ head_members = (K.JaniVersion, Some version_node) ∷ (K.Name, Some (word (codes
 abbrev pub file_members : File → List (Key × Option Node)
 file_members f =
     (K.Actions, Some (list_node (keyed_node K.Name) 0 f.actions)) ∷ (K.Constants, Some (list_node const_node 0 f.constants))
-    ∷ (K.Variables, Some (list_node var_node 0 f.variables)) ∷ (K.Properties, Some f.properties)
+    ∷ (K.Variables, Some (list_node var_node 0 f.variables)) ∷ (K.RestrictInitial, option_map boxed_node f.restrict) ∷ (K.Properties, Some f.properties)
     ∷ (K.Automata, Some (list_node automaton_node 0 f.automata)) ∷ (K.System, Some (system_node f.elements f.elements_at f.vectors)) ∷ []
 
 abbrev pub file_node : File → Node
@@ -191,7 +191,13 @@ pub record AutomatonForm (a : Automaton) : Type 0 where
   pub locations : OfAll LocationForm a.locations
   pub edges : OfAll EdgeForm a.edges
 
+-- a condition on initial states isn't the literal true, which is read as none
+pub record RestrictionForm (e : Expression) : Type 0 where
+  pub operands : HasOperands e
+  pub restricts : is_always e ≡ false
+
 pub record FileForm (f : File) : Type 0 where
   pub constants : OfAll ConstForm f.constants
   pub variables : OfAll VarForm f.variables
+  pub restrict : OfSome RestrictionForm f.restrict
   pub automata : OfAll AutomatonForm f.automata

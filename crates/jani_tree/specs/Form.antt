@@ -1,8 +1,8 @@
 -- The form of trees: no name is empty, each literal is in normal form, each node has its operator's number of operands, each
--- variable has a first value, each automaton one initial location, and each edge a destination. Names in trees that are read
--- have at most 255 bytes besides; those in trees that are written may be longer. And that no object of a JSON value has a key
--- twice.
-use Rattle.std.specs.Prelude.{◌≡◌, ℕ, ◌<◌, List, [], ◌∷◌, length, true, Option, Some, None}
+-- transient variable has a first value, each automaton an initial location, each edge a destination, and a condition on the
+-- initial states isn't the literal true. Names in trees that are read have at most 255 bytes besides; those in trees that are
+-- written may be longer. That no object of a JSON value has a key twice. And that a file leaves one state alone to begin in.
+use Rattle.std.specs.Prelude.{◌≡◌, ℕ, ◌<◌, List, [], ◌∷◌, length, true, false, Option, Some, None}
 use Rattle.bridge_io.specs.declared.reason.Named.{Named}
 use Rattle.frac_core.specs.declared.decimal.Decimal.{Decimal}
 use Rattle.frac_core.specs.Decimal.{is_normal}
@@ -10,7 +10,7 @@ use Rattle.op_trees.specs.Tree.{Truth, Number, Name, One, Two, Three}
 use Rattle.jani_table.specs.Operators.{arity}
 use Rattle.jani_table.specs.Faults.{member_text}
 use Rattle.jani_table.specs.Node.{Node, null, truth, number, text, array, object, Nodes, no_nodes, more_nodes, Fields, no_fields, field}
-use Rattle.jani_tree.specs.Syntax.{Expression, Const, VarKind, boolean, integer, number as real, real_bounded, one_sided, bounded, Var, Write, Location, Destination, Edge, Automaton, Vector, File}
+use Rattle.jani_tree.specs.Syntax.{Expression, is_always, Const, VarKind, boolean, integer, number as real, real_bounded, one_sided, bounded, Var, Write, Location, Destination, Edge, Automaton, Vector, File}
 use Rattle.std.specs.List.{AllByRecursion as OfAll}
 use Rattle.basics.specs.Options.{IfAny as OfSome}
 use Rattle.basics.specs.Lists.{IsNotEmpty as HasItems}
@@ -102,7 +102,7 @@ module _ (IsName : List ℕ → Type 0) where
     pub name : NameForm x.name
     pub kind : KindForm x.kind
     pub start : OfSome ExprForm x.start
-    pub begins : IsGiven x.start
+    pub begins : x.transient ≡ true → IsGiven x.start
 
   pub record WriteRead (w : Write) : Type 0 where
     pub target : NameForm w.target
@@ -129,7 +129,7 @@ module _ (IsName : List ℕ → Type 0) where
     pub variables : OfAll VarRead a.variables
     pub locations : OfAll LocationRead a.locations
     pub initial : OfAll NameForm a.initial
-    pub begins : HasOne a.initial
+    pub begins : HasItems a.initial
     pub edges : OfAll EdgeRead a.edges
 
   abbrev pub PartForm : Option Named → Type 0
@@ -139,10 +139,15 @@ module _ (IsName : List ℕ → Type 0) where
     pub parts : OfAll PartForm x.parts
     pub result : OfSome NameForm x.result
 
+  pub record RestrictionRead (e : Expression) : Type 0 where
+    pub expression : ExprForm e
+    pub restricts : is_always e ≡ false
+
   pub record FileWith (f : File) : Type 0 where
     pub actions : OfAll NameForm f.actions
     pub constants : OfAll ConstRead f.constants
     pub variables : OfAll VarRead f.variables
+    pub restrict : OfSome RestrictionRead f.restrict
     pub automata : OfAll AutomatonRead f.automata
     pub elements : OfAll NameForm f.elements
     pub vectors : OfAll VectorRead f.vectors
@@ -155,3 +160,20 @@ FileRead = FileWith HasItems
 -- and none has more than 255 bytes
 abbrev pub FileShort : File → Type 0
 FileShort = FileWith IsShortName
+
+-- ---- one state to begin in
+
+-- a variable that isn't transient has a first value
+abbrev pub StartsOnce : Var → Type 0
+StartsOnce x = x.transient ≡ false → IsGiven x.start
+
+-- an automaton has one initial location, and each of its variables one first value
+pub record BeginsOnce (a : Automaton) : Type 0 where
+  pub variables : OfAll StartsOnce a.variables
+  pub initial : HasOne a.initial
+
+-- No state is initial but the one in which each variable has its first value and each automaton is at its initial location.
+pub record HasOneStart (f : File) : Type 0 where
+  pub restrict : f.restrict ≡ None
+  pub variables : OfAll StartsOnce f.variables
+  pub automata : OfAll BeginsOnce f.automata

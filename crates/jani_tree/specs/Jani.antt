@@ -1,6 +1,6 @@
 -- Which JSON value spells which tree: one definition for each object of the jani-model specification, version 1. The members
 -- of an object stand in any order, and a missing list is empty. Which values may stand at all is said by the faults.
-use Rattle.std.specs.Prelude.{◌≡◌, ℕ, List, [], ◌∷◌, Option, Some, None, IsSomeAnd, IsTrue}
+use Rattle.std.specs.Prelude.{◌≡◌, ℕ, List, [], ◌∷◌, Option, Some, None, IsSomeAnd, IsTrue, if◌then◌else◌}
 use Rattle.bridge_io.specs.declared.reason.Named.{Named}
 use Rattle.op_trees.specs.declared.tree.Ty.{Ty}
 use Rattle.op_trees.specs.declared.tree.Ty.TheVariants as T
@@ -72,9 +72,15 @@ IsExpr v (Two at o a b) = IsOperation v at o O.Binary × IsSomeAnd (part K.Left 
 IsExpr v (Three at o a b c) =
     IsOperation v at o O.Choice × IsSomeAnd (part K.If v) (λ w. IsExpr w a) × IsSomeAnd (part K.Then v) (λ w. IsExpr w b) × IsSomeAnd (part K.Else v) (λ w. IsExpr w c)
 
--- a guard, a probability: an object with the one member exp
+-- a guard, a probability, a condition on initial states: an object with the one member exp
 abbrev pub IsBoxed : Node → Expression → Type 0
 IsBoxed v e = IsSomeAnd (part K.Exp v) (λ w. IsExpr w e)
+
+-- A condition on initial states that is the literal true restricts nothing ("restrict-initial" is true where it is left out), and
+-- is none.
+abbrev pub unless_always : Option Node → Option Node
+unless_always None = None
+unless_always (Some v) = if is_true (part K.Exp v) then None else Some v
 
 -- ---- types
 
@@ -189,6 +195,7 @@ pub record IsFile (v : Node) (f : File) : Type 0 where
   pub actions : IsList (IsKeyed K.Name) (part K.Actions v) f.actions
   pub constants : IsList IsConst (part K.Constants v) f.constants
   pub variables : IsList IsVar (part K.Variables v) f.variables
+  pub restrict : Optional IsBoxed (unless_always (part K.RestrictInitial v)) f.restrict
   pub automata : IsList IsAutomaton (part K.Automata v) f.automata
   pub system : IsSomeAnd (part K.System v) (λ s. IsSystem s f.elements f.elements_at f.vectors)
   pub properties : IsKept (part K.Properties v) f.properties

@@ -78,6 +78,7 @@ bare_file f = record {
   actions = map bare_name f.actions;
   constants = map bare_const f.constants;
   variables = map bare_var f.variables;
+  restrict = option_map bare f.restrict;
   automata = map bare_automaton f.automata;
   elements = map bare_name f.elements;
   elements_at = 0;

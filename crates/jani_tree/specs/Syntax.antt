@@ -1,10 +1,10 @@
 -- The trees of JANI files without the addresses of their boxes (jani-model specification, version 1), and the tree that the
 -- code holds.
-use Rattle.std.specs.Prelude.{ℕ, List, map, Bool, Option}
+use Rattle.std.specs.Prelude.{ℕ, List, map, Bool, false, Option}
 use Rattle.std.specs.Option.{option_map}
 use Rattle.bridge_io.specs.declared.reason.Named.{Named}
 use Rattle.op_trees.specs.declared.tree.Ty.{Ty}
-use Rattle.op_trees.specs.Tree.{Tree, tree}
+use Rattle.op_trees.specs.Tree.{Tree, Truth, tree}
 use Rattle.jani_table.specs.declared.operator.JaniOp.{JaniOp}
 use Rattle.jani_table.specs.Node.{Node, node}
 use Rattle.jani_tree.specs.declared.syntax.JaniFile.{JaniFile}
@@ -21,6 +21,11 @@ use Rattle.jani_tree.specs.declared.syntax.JaniVector.{JaniVector}
 
 abbrev pub Expression : Type 0
 Expression = Tree JaniOp
+
+-- the literal true
+abbrev pub is_always : Expression → Bool
+is_always (Truth at b) = b
+is_always e = false
 
 pub record Const : Type 0 where
   pub name : Named
@@ -81,6 +86,7 @@ pub record File : Type 0 where
   pub actions : List Named
   pub constants : List Const
   pub variables : List Var
+  pub restrict : Option Expression
   pub automata : List Automaton
   pub elements : List Named
   pub elements_at : ℕ
@@ -132,6 +138,7 @@ file_of f = record {
   actions = f.actions;
   constants = map const_of f.constants;
   variables = map var_of f.variables;
+  restrict = option_map tree f.restrict;
   automata = map automaton_of f.automata;
   elements = f.elements;
   elements_at = f.elements_at;

@@ -12,7 +12,7 @@ ghost use Rattle.jani_table.specs.Faults.{faults, is_known, is_needed, is_true, 
 ghost use Rattle.jani_table.specs.Parts.{is_plain};
 ghost use Rattle.jani_table.specs.Parts as Parts;
 ghost use Rattle.jani_tree.specs.Syntax.{Automaton, Const, Destination, Edge, Location, Var, Vector, automaton_of, const_of, destination_of, edge_of, file_of, kind_of, location_of, var_of, vector_of, write_of};
-ghost use Rattle.jani_tree.specs.Jani.{IsAutomaton, IsConst, IsDestination, IsEdge, IsExpr, IsFile, IsItems, IsKept, IsKeyed, IsKind, IsKindAt, IsList, IsListAt, IsLocation, IsNamed, IsPart, IsRange, IsSystem, IsText, IsVar, IsVector, IsWrite, Optional, range_in, range_of, ty_in};
+ghost use Rattle.jani_tree.specs.Jani.{IsAutomaton, IsConst, IsDestination, IsEdge, IsExpr, IsFile, IsItems, IsKept, IsKeyed, IsKind, IsKindAt, IsList, IsListAt, IsLocation, IsNamed, IsPart, IsRange, IsSystem, IsText, IsVar, IsVector, IsWrite, IsBoxed, Optional, range_in, range_of, ty_in, unless_always};
 
 use crate::build::{
     Build, expression, expression_of, items, list, name_of, names_of, note_of, optional_boxed,
@@ -161,6 +161,7 @@ fn kind(alloc: Global, value: &Json) -> Result<JaniKind, AllocError>
     }
 }
 
+/// Whether a member is the literal true.
 fn flag(key: Key, value: &Json) -> bool
     ensures { result ≡ is_true (part key (node value.now)) }
 {
@@ -522,6 +523,22 @@ fn actions(alloc: Global, value: &Json) -> Result<List<Named>, AllocError>
     }
 }
 
+/// The condition on the initial states, unless it is the literal true.
+fn restriction(alloc: Global, value: &Json) -> Result<Option<JaniExpr>, AllocError>
+    requires { faults F.Model (node value.now) ≡ [] }
+    ensures { IfOk result (λ e. Optional IsBoxed (unless_always (part K.RestrictInitial (node value.now))) (option_map tree e)) }
+{
+    match optional_part(Form::Model, Key::RestrictInitial, value) {
+        Some(w) => {
+            if flag(Key::Exp, w) {
+                return Ok(None);
+            }
+            Ok(Some(expression_of(alloc, Form::Boxed, Key::Exp, w)?))
+        }
+        None => Ok(None),
+    }
+}
+
 fn properties(alloc: Global, value: &Json) -> Result<Json, AllocError>
     ensures { IfOk result (λ p. IsKept (part K.Properties (node value.now)) (node p)) }
 {
@@ -539,18 +556,19 @@ pub(crate) fn file(alloc: Global, value: &Json) -> Result<JaniFile, AllocError>
     let constants = list(alloc, Form::Model, Form::Constants, Key::Constants, value);
     let variables = list(alloc, Form::Model, Form::Variables, Key::Variables, value);
     let automata = list(alloc, Form::Model, Form::Automata, Key::Automata, value);
-    let declared = together(actions(alloc, value), together(constants, variables));
+    let begun = together(variables, restriction(alloc, value));
+    let declared = together(actions(alloc, value), together(constants, begun));
     let composed = together(automata, system_of(alloc, value));
     let rest = together(composed, properties(alloc, value));
-    let ((actions, (constants, variables)), ((automata, system), properties)) = together(
-        declared, rest,
-    )?;
+    let ((actions, (constants, (variables, restrict))), ((automata, system), properties)) =
+        together(declared, rest)?;
     let Composition { elements, vectors } = system;
     let ElementList { list: elements, at } = elements;
     Ok(JaniFile {
         actions,
         constants,
         variables,
+        restrict,
         automata,
         elements,
         elements_at: at,

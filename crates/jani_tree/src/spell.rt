@@ -449,6 +449,7 @@ fn push_file(out: &mut Vec<u8>, file: &JaniFile) -> Result<(), AllocError>
     push_keyed_list(out, b"{\"name\":", &file.actions)?;
     push_list(out, b",\"constants\":", &file.constants)?;
     push_list(out, b",\"variables\":", &file.variables)?;
+    push_some_boxed(out, b",\"restrict-initial\":", &file.restrict)?;
     out.extend_from_slice(b",\"properties\":")?;
     push_value(out, &file.properties)?;
     push_list(out, b",\"automata\":", &file.automata)?;

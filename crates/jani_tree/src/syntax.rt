@@ -16,6 +16,8 @@ pub struct JaniFile {
     pub actions: List<Named>,
     pub constants: List<JaniConst>,
     pub variables: List<JaniVar>,
+    /// The condition on the initial states, if there is one; it is not the literal true where a file was read.
+    pub restrict: Option<JaniExpr>,
     pub automata: List<JaniAutomaton>,
     /// The automata that take part, in the order of the composition.
     pub elements: List<Named>,
@@ -31,6 +33,7 @@ impl Drop for JaniFile {
             actions,
             constants,
             variables,
+            restrict,
             automata,
             elements,
             elements_at: _,
@@ -40,6 +43,7 @@ impl Drop for JaniFile {
         drop(actions);
         drop(constants);
         drop(variables);
+        drop(restrict);
         drop(automata);
         drop(elements);
         drop(vectors);
@@ -123,7 +127,7 @@ impl Drop for JaniKind {
     }
 }
 
-/// An automaton. Which location it begins in is the one of the list `initial`.
+/// An automaton. It begins in one of the locations of the list `initial`.
 pub struct JaniAutomaton {
     pub name: Named,
     pub variables: List<JaniVar>,

@@ -630,6 +630,7 @@ fn add_file(alloc: Global, members: &mut List<Member>, file: &JaniFile) -> Resul
     add_keyed(alloc, members, Key::Actions, 0, Key::Name, &file.actions)?;
     add_list(alloc, members, Key::Constants, 0, &file.constants)?;
     add_list(alloc, members, Key::Variables, 0, &file.variables)?;
+    add_some_boxed(alloc, members, Key::RestrictInitial, &file.restrict)?;
     let properties = copy_json(alloc, &file.properties)?;
     add(alloc, members, Key::Properties, properties)?;
     add_list(alloc, members, Key::Automata, 0, &file.automata)?;

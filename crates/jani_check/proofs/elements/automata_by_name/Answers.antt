@@ -1,7 +1,7 @@
 use Rattle.std.specs.Prelude.{map, bytes_eq}
 use Rattle.std.specs.List.{find}
 use Rattle.std.specs.Option.{option_map, option_or}
-use Rattle.std.proofs.Common.{◌≡◌, ap, refl, List, ℕ}
+use Rattle.std.proofs.Common.{ap, refl, List, ℕ}
 use Rattle.jani_tree.specs.Syntax.{Automaton, automaton_of}
 use Rattle.op_trees.specs.Names.{is_called}
 use Rattle.name_rules.proofs.Maps.{at}

@@ -20,7 +20,7 @@ returns c =
     let cs = map const_of c.args.constants.now in
     let v = under c.args.given.now in
     let table = c.args.table.now in
-    let e = fun_ext (λ (x : Name). ap known (ap (value_at [] table) (c.requires x) ∙ constant_at table (position (λ d. is_called x d.name) cs))) in
+    let e = c.constants_alone-run.ensures ∙ fun_ext (λ (x : Name). ap known (ap (value_at [] table) (c.requires x) ∙ constant_at table (position (λ d. is_called x d.name) cs))) in
     subst (λ l. IfOk c.each_value.result (λ rs. rs.items ≡ l))
     (ap (λ (names : Name → Seen). map (λ d. computed (constant_seen (v d.name.name) names d.value)) cs) e
     ∙ sym (map-map computed (λ (d : Const). constant_seen (v d.name.name) (names_by cs table) d.value) cs))

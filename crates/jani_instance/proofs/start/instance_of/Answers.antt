@@ -1,10 +1,11 @@
-use Rattle.std.proofs.Common.{◌∙◌}
+use Rattle.std.proofs.Common.{◌∙◌, map}
 use Rattle.std.proofs.lemmas.List.{length-map}
 use Rattle.instance_start.specs.Given.{given_by}
 use Rattle.jani_tree.specs.Syntax.{file_of}
 use Rattle.jani_meaning.specs.Elements.{automaton_called}
 use Rattle.jani_instance.specs.Actions.{actions_of}
-use Rattle.jani_instance.proofs.Whole.{right}
+use Rattle.jani_instance.specs.Initial.{numbers_in}
+use Rattle.jani_instance.proofs.Whole.{condition_is, right}
 use Rattle.jani_instance.proofs.start.instance_of.Goals as goal
 
 pub invariant_of-result : goal.invariant_of-result
@@ -22,6 +23,11 @@ invariant_of-result c =
         elements_are = built.elements_are.count ∙ length-map file.elements (automaton_called file);
         labels_are = built.labels_are;
         names_are = built.names_are;
+        condition_is = built.condition_is;
+        condition = λ s state.
+            condition_is file v actions_of made.store c.args.known.constants.items c.args.known.columns.items made.elements.items
+            known.columns_are.columns known.constants_are built.elements_are.count built.elements_are.built s state
+            c.args.known.places known.places_are (map numbers_in c.args.built.initial_locations.items) built.initial_are;
         right = λ s state.
             right file v actions_of made.store c.args.known.constants.items c.args.known.columns.items made.elements.items
             known.columns_are.columns known.constants_are built.elements_are.count built.elements_are.built s state

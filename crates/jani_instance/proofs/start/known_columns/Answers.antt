@@ -1,4 +1,4 @@
-use Rattle.std.proofs.Common.{◌∙◌, ap, refl, subst, map}
+use Rattle.std.proofs.Common.{◌∙◌, ap, subst, map}
 use Rattle.std.specs.Prelude.{MatchResult}
 use Rattle.state_choices.specs.Trimmed.{computed}
 use Rattle.state_choices.specs.Views.{seen_of}
@@ -19,7 +19,7 @@ returns c =
     let table = c.args.table.now in
     let listed = c.requires.listed in
     subst (λ cs. MatchResult c.columns.result (λ xs. AreColumns (scene file v) (map column_of xs.items)) (FailsIn cs (scene file v))) c.requires.opens
-    (c.columns.ensures (scene file v) refl
+    (c.columns.ensures (scene file v) listed.condition_is
     (ap (map seen_of) (c.as_slice-in-Ok-variables_of.ensures.value ∙ c.in-Ok.ensures ∙ ap (λ l. map computed (round_of (map const_of l) v table)) c.as_slice.ensures)
     ∙ constants_seen file v table c.requires.constants)
     (ap (map variable_of) c.as_slice-in-Ok-variables_of-2.ensures

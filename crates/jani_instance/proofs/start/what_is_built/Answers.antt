@@ -22,3 +22,4 @@ returns c = λ v tabled.
     (subst (λ l. IsPreparedOf places c.as_slice-2.result.now l made) c.as_slice-3.ensures.value c.in_ok-prepared.ensures))
     c.in_ok-linked.ensures.vectors_are
     (ap length c.as_slice-4.ensures.value ∙ sym (length-map c.args.listed.now.kinds.labels.items owned_at) ∙ ap length c.requires.listed.kinds_are.labels_are)
+    c.in_ok-linked.ensures.initial_are c.requires.listed.condition_is
