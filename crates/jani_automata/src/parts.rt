@@ -1,4 +1,4 @@
-// Constants, variables, labels and reward structures.
+// Constants, variables, the initial condition, labels and reward structures.
 
 ghost use Rattle.std.specs.Prelude.{◌≡◌, ◌++◌, Some, map, IfOk, OnOk};
 ghost use Rattle.std.specs.List.{zip};
@@ -6,7 +6,7 @@ ghost use Rattle.std.specs.Option.{option_map};
 ghost use Rattle.op_trees.specs.Tree.{tree};
 ghost use Rattle.prism_tree.specs.Syntax as prism;
 ghost use Rattle.jani_tree.specs.Syntax as jani;
-ghost use Rattle.jani_edges.specs.Parts.{instead, note, constant, kind_of, start_of, variable, label, structure};
+ghost use Rattle.jani_edges.specs.Parts.{instead, note, constant, kind_of, start_of, start_under, unless_always, restriction, variable, label, structure};
 ghost use Rattle.jani_edges.specs.Code.{name_in};
 
 use bridge_io::{List, Named, Text, together};
@@ -15,7 +15,7 @@ use jani_edges::{Names, NewNameMap, falsehood, image_if, instead_if, nought};
 use jani_tree::{JaniConst, JaniExpr, JaniKind, JaniVar};
 use name_table::{Entry, instead};
 use prism_images::image;
-use prism_tree::{PrismConst, PrismLabel, PrismRange, PrismRewards, PrismVar};
+use prism_tree::{PrismConst, PrismExpr, PrismLabel, PrismRange, PrismRewards, PrismVar};
 use std::alloc::{AllocError, Global};
 
 // ---- names
@@ -121,21 +121,39 @@ fn start_of(alloc: Global, x: &PrismVar, names: &NewNameMap) -> Result<JaniExpr,
     }
 }
 
+/// The first value, in a file without an initial condition.
+fn start_under(
+    alloc: Global,
+    has_condition: bool,
+    x: &PrismVar,
+    names: &NewNameMap,
+) -> Result<Option<JaniExpr>, AllocError>
+    ensures { IfOk result (λ r. option_map tree r ≡ start_under (name_in names.now) has_condition (option_map tree x.now.start) (option_map prism.range_of x.now.range)) }
+{
+    if has_condition {
+        return Ok(None);
+    }
+    let first = start_of(alloc, x, names)?;
+    Ok(Some(first))
+}
+
 /// A variable.
 fn variable(
     alloc: Global,
+    has_condition: bool,
     x: &PrismVar,
     e: &Entry,
     names: &NewNameMap,
 ) -> Result<JaniVar, AllocError>
-    ensures { IfOk result (λ r. jani.var_of r ≡ variable (name_in names.now) (prism.var_of x.now) e.now) }
+    ensures { IfOk result (λ r. jani.var_of r ≡ variable (name_in names.now) has_condition (prism.var_of x.now) e.now) }
 {
-    let values = together(start_of(alloc, x, names), kind_of(alloc, &x.range, names));
+    let start = start_under(alloc, has_condition, x, names);
+    let values = together(start, kind_of(alloc, &x.range, names));
     let ((name, note), (start, kind)) = together(noted(alloc, "variable:", &x.name, e), values)?;
     Ok(JaniVar {
         name,
         note,
-        start: Some(start),
+        start,
         kind,
         kind_at: 0,
         transient: false,
@@ -163,18 +181,26 @@ pub fn constants(
 /// The global variables: those of the file, then its labels, then its reward structures.
 pub fn global_variables(
     alloc: Global,
+    has_condition: bool,
     vars: &[&PrismVar],
     labels: &[PrismLabel],
     rewards: &[PrismRewards],
     names: &Names,
 ) -> Result<List<JaniVar>, AllocError>
     ensures { IfOk result (λ all. map jani.var_of all ≡
-        map (λ p. variable (name_in names.now.value) p.0 p.1) (zip (map (λ x. prism.var_of x.now) vars.now) names.now.variables.now)
+        map (λ p. variable (name_in names.now.value) has_condition p.0 p.1) (zip (map (λ x. prism.var_of x.now) vars.now) names.now.variables.now)
         ++ (map (λ p. label p.0 p.1) (zip (map prism.label_of labels.now) names.now.labels.now)
         ++ map (λ p. structure p.0 p.1) (zip (map prism.rewards_of rewards.now) names.now.rewards.now))) }
 {
     let mut all = List::new(alloc);
-    add_variables(alloc, &mut all, vars, names.variables, &names.value)?;
+    add_variables(
+        alloc,
+        &mut all,
+        has_condition,
+        vars,
+        names.variables,
+        &names.value,
+    )?;
     add_labels(alloc, &mut all, labels, names.labels)?;
     add_structures(alloc, &mut all, rewards, names.rewards)?;
     Ok(all)
@@ -184,18 +210,48 @@ pub fn global_variables(
 fn add_variables(
     alloc: Global,
     all: &mut List<JaniVar>,
+    has_condition: bool,
     vars: &[&PrismVar],
     entries: &[Entry],
     names: &NewNameMap,
 ) -> Result<(), AllocError>
     ensures { OnOk result (map jani.var_of all.new ≡ map jani.var_of all.old ++
-        map (λ p. variable (name_in names.now) p.0 p.1) (zip (map (λ x. prism.var_of x.now) vars.now) entries.now)) }
+        map (λ p. variable (name_in names.now) has_condition p.0 p.1) (zip (map (λ x. prism.var_of x.now) vars.now) entries.now)) }
 {
     let count = shorter(vars.len(), entries.len());
     for i in 0..count {
-        all.push(variable(alloc, vars[i], &entries[i], names)?)?;
+        all.push(variable(alloc, has_condition, vars[i], &entries[i], names)?)?;
     }
     Ok(())
+}
+
+// ---- the initial condition
+
+/// No condition where it is the literal true.
+fn unless_always(e: JaniExpr) -> Option<JaniExpr>
+    ensures { option_map tree result ≡ unless_always (tree e) }
+{
+    match e {
+        JaniExpr::Truth(_, true) => None,
+        other => Some(other),
+    }
+}
+
+/// What restricts the initial states.
+pub fn restriction(
+    alloc: Global,
+    init: &Option<PrismExpr>,
+    names: &NewNameMap,
+) -> Result<Option<JaniExpr>, AllocError>
+    ensures { IfOk result (λ r. option_map tree r ≡ restriction (name_in names.now) (option_map tree init.now)) }
+{
+    match init {
+        None => Ok(None),
+        Some(e) => {
+            let new = image(alloc, e, names)?;
+            Ok(unless_always(new))
+        }
+    }
 }
 
 // ---- labels and reward structures

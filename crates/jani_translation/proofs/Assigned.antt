@@ -21,6 +21,7 @@ use Rattle.process_core.specs.Instance.{Valuation}
 use Rattle.prism_flat.specs.Moment as prism_moment
 use Rattle.prism_flat.specs.Moment.{adds_of, item_at}
 use Rattle.prism_flat.specs.Process.{is_for_choices, choice_rewards, sum_for}
+use Rattle.prism_flat.specs.Scene.{has_condition}
 use Rattle.jani_tree.specs.Syntax.{File, Var}
 use Rattle.jani_tree.specs.Syntax as jani
 use Rattle.op_trees.specs.Names.{is_called}
@@ -70,13 +71,13 @@ found_structure (r ∷ rs) (u ∷ es) l h (suc k) e g =
     (found_structure rs es (omega arith) (λ i j a b d p q. h (suc i) (suc j) a b (λ r. d (omega arith)) p q) k e g)
 
 -- none of these variables has the name
-no_variable : (new : Name → Name) (z : Name) (vs : List prism.Var) (es : List Entry) → ((i : ℕ) (e : Entry) → slice_get es i ≡ Some e → bytes_eq e.name z ≡ false) →
-    position (λ y. is_called z y.name) (map (λ p. variable new p.0 p.1) (zip vs es)) ≡ None
-no_variable new z [] es h = refl
-no_variable new z (x ∷ vs) [] h = refl
-no_variable new z (x ∷ vs) (e ∷ es) h =
-    position_cons (λ y. is_called z y.name) (variable new x e) (map (λ p. variable new p.0 p.1) (zip vs es))
-    ∙ ap₂ (λ b p. cond b (Some 0) (option_map suc p)) (h 0 e refl) (no_variable new z vs es (λ i u g. h (suc i) u g))
+no_variable : (new : Name → Name) (any : Bool) (z : Name) (vs : List prism.Var) (es : List Entry) → ((i : ℕ) (e : Entry) → slice_get es i ≡ Some e → bytes_eq e.name z ≡ false) →
+    position (λ y. is_called z y.name) (map (λ p. variable new any p.0 p.1) (zip vs es)) ≡ None
+no_variable new any z [] es h = refl
+no_variable new any z (x ∷ vs) [] h = refl
+no_variable new any z (x ∷ vs) (e ∷ es) h =
+    position_cons (λ y. is_called z y.name) (variable new any x e) (map (λ p. variable new any p.0 p.1) (zip vs es))
+    ∙ ap₂ (λ b p. cond b (Some 0) (option_map suc p)) (h 0 e refl) (no_variable new any z vs es (λ i u g. h (suc i) u g))
 
 module _ (file : prism.File) where
   pub structure_here : (i k : ℕ) (e : Entry) → slice_get (new_names file).rewards k ≡ Some e → structure_number (translated file) i e.name ≡ Some k
@@ -91,10 +92,10 @@ module _ (file : prism.File) where
       let p = a.0 in
       let m = length (translated file).elements in
       column_is file i e.name
-      ∙ ap (λ ps. option_map (λ k. m + k) (position (λ y. is_called e.name y.name) (map (λ p. variable (new_names file).value p.0 p.1) ps)))
+      ∙ ap (λ ps. option_map (λ k. m + k) (position (λ y. is_called e.name y.name) (map (λ p. variable (new_names file).value (has_condition file) p.0 p.1) ps)))
       (sym (zip-take (variables file) (drop (length file.constants) (entries file))))
       ∙ ap (option_map (λ k. m + k))
-      (no_variable (new_names file).value e.name (variables file) (new_names file).variables
+      (no_variable (new_names file).value (has_condition file) e.name (variables file) (new_names file).variables
       (λ j u h.
       let b = slice_get-take (length (variables file)) j (drop (length file.constants) (entries file)) u h in
       let q = b.0 in

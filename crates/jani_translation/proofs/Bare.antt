@@ -6,7 +6,7 @@ use Rattle.std.proofs.Common.{refl, sym, ap, ap₂, ◌∙◌}
 use Rattle.std.proofs.Math.Path.{fun_ext}
 use Rattle.basics.specs.Lists.{map_agree}
 use Rattle.bridge_io.specs.declared.reason.Named.{Named}
-use Rattle.op_trees.specs.Tree.{Two, Three, bare}
+use Rattle.op_trees.specs.Tree.{Truth, Number, Name as At, One, Two, Three, bare}
 use Rattle.process_core.specs.Product.{map-map}
 use Rattle.process_core.specs.Ready.{Name, same_label}
 use Rattle.prism_tree.specs.declared.syntax.ItemOn.{ItemOn}
@@ -16,19 +16,21 @@ use Rattle.prism_tree.specs.Syntax.{Body, Command, Branch, Label, Item, Rewards}
 use Rattle.prism_print.specs.Same.{bare_body, bare_branch, bare_command, bare_const, bare_item, bare_label, bare_on, bare_range, bare_rewards}
 use Rattle.prism_print.specs.Same as source
 use Rattle.process_core.specs.Instance.{numbered, only_if}
+use Rattle.basics.specs.Options.{is_some-map}
 use Rattle.basics.specs.Mapped.{chosen_mapped, kept_mapped, any_mapped, joined, turned, gathered, some_turned}
+use Rattle.prism_flat.specs.Scene.{has_condition}
 use Rattle.jani_table.specs.declared.operator.JaniOp.TheVariants.{Add, Ite}
 use Rattle.op_trees.specs.Names.{bare_name}
 use Rattle.jani_tree.specs.Places.{bare_kind, bare_var, bare_write, bare_destination, bare_edge, bare_automaton, bare_vector}
 use Rattle.jani_tree.specs.Places as target
-use Rattle.jani_tree.specs.Syntax.{Expression, number, bounded, Write}
+use Rattle.jani_tree.specs.Syntax.{Expression, is_always, number, bounded, Write}
 use Rattle.jani_meaning.proofs.Bare.{numbered_mapped, mapped_numbered}
 use Rattle.name_table.specs.declared.entry.Entry.{Entry}
 use Rattle.name_table.specs.Asks.{bodies, variables, actions, action_of, NewNames, new_names}
 use Rattle.name_table.proofs.Bare.{action-bare, called-bare, bodies-bare, variables-bare, actions-bare, new_names-bare}
 use Rattle.prism_images.specs.Image.{image}
 use Rattle.prism_images.proofs.Bare.{image-bare}
-use Rattle.jani_translation.specs.Parts.{made, instead_if, note, nought, constant, kind_of, start_of, variable, label, structure}
+use Rattle.jani_translation.specs.Parts.{made, instead_if, note, nought, constant, kind_of, restriction, start_of, start_under, unless_always, variable, label, structure}
 use Rattle.jani_translation.specs.Automata.{loc, zz_silent, zz_monitor, for_states, for_silent, for_action, has_items, has_silent, earning_actions, earns_silently, is_some_name, has_monitor, item_value, sum_behind, sum_to, reward_of, rewards_of, label_value, location_values, write, destination, edge_action, edge, automaton, module_automaton, module_automata, monitor_edge, monitor_edges, automata}
 use Rattle.jani_translation.specs.Translated.{has_command, part_if, silent_vector, silent_vectors, global_variables, jani_actions, action_vector, vectors, translated_by, translated}
 
@@ -83,10 +85,32 @@ module _ (new : Name → Name) where
   start-bare None (Some r) = image-bare new r.low
   start-bare None None = refl
 
-  variable-bare : (x : prism.Var) (e : Entry) → variable new (source.bare_var x) e ≡ bare_var (variable new x e)
-  variable-bare x e =
-      ap₂ (λ k s. record { name = record { name = e.name; at = 0 }; kind = k; kind_at = 0; transient = false; start = Some s; note = note (codes "variable:") (Some x.name.name) e })
-      (kind-bare x.range) (start-bare x.start x.range)
+  under-bare : (any : Bool) (o : Option prism.Expression) (r : Option prism.Range) →
+      start_under new any (option_map bare o) (option_map bare_range r) ≡ option_map bare (start_under new any o r)
+  under-bare true o r = refl
+  under-bare false o r = ap Some (start-bare o r)
+
+  variable-bare : (any : Bool) (x : prism.Var) (e : Entry) → variable new any (source.bare_var x) e ≡ bare_var (variable new any x e)
+  variable-bare any x e =
+      ap₂ (λ k s. record { name = record { name = e.name; at = 0 }; kind = k; kind_at = 0; transient = false; start = s; note = note (codes "variable:") (Some x.name.name) e })
+      (kind-bare x.range) (under-bare any x.start x.range)
+
+  -- ---- the initial condition
+  always-bare : (e : Expression) → is_always (bare e) ≡ is_always e
+  always-bare (Truth at b) = refl
+  always-bare (Number at d) = refl
+  always-bare (At at x) = refl
+  always-bare (One at o a) = refl
+  always-bare (Two at o a b) = refl
+  always-bare (Three at o a b c) = refl
+
+  unless-bare : (b : Bool) (e : Expression) → (if b then None else Some (bare e)) ≡ option_map bare (if b then None else Some e)
+  unless-bare true e = refl
+  unless-bare false e = refl
+
+  restriction-bare : (o : Option prism.Expression) → restriction new (option_map bare o) ≡ option_map bare (restriction new o)
+  restriction-bare None = refl
+  restriction-bare (Some e) = ap unless_always (image-bare new e) ∙ ap (λ b. if b then None else Some (bare (image new e))) (always-bare (image new e)) ∙ unless-bare (is_always (image new e)) (image new e)
 
 -- ---- what rewards there are
 -- a kind of items that doesn't depend on places
@@ -258,8 +282,8 @@ module _ (names : NewNames) where
     globals-bare : global_variables names (source.bare_file file) ≡ map bare_var (global_variables names file)
     globals-bare =
         joined bare_var _ _ _ _
-        (ap (λ xs. map (λ p. variable names.value p.0 p.1) (zip xs names.variables)) (variables-bare file)
-        ∙ each_turned source.bare_var bare_var (variable names.value) (variable-bare names.value) (variables file) names.variables)
+        (ap₂ (λ any xs. map (λ p. variable names.value any p.0 p.1) (zip xs names.variables)) (is_some-map bare file.init) (variables-bare file)
+        ∙ each_turned source.bare_var bare_var (variable names.value (has_condition file)) (variable-bare names.value (has_condition file)) (variables file) names.variables)
         (joined bare_var _ _ _ _ (each_turned bare_label bare_var label (λ l e. refl) file.labels names.labels)
         (each_turned bare_rewards bare_var structure structure-bare file.rewards names.rewards))
 
@@ -267,6 +291,13 @@ module _ (names : NewNames) where
     by-bare =
         ap₂ (λ as_ cs. record (translated_by names (source.bare_file file)) { actions = as_; constants = cs }) actions_of-bare
         (each_turned bare_const target.bare_const (constant names.value) (constant-bare names.value) file.constants names.constants)
+        ∙ ap (λ (o : Option Expression). record (target.bare_file (translated_by names file)) {
+          variables = global_variables names (source.bare_file file);
+          restrict = o;
+          automata = automata names (source.bare_file file);
+          elements = map (λ a. a.name) (automata names (source.bare_file file));
+          vectors = vectors names (source.bare_file file);
+        }) (restriction-bare names.value file.init)
         ∙ ap₂ (λ xs vs. record (target.bare_file (translated_by names file)) {
           variables = xs;
           automata = automata names (source.bare_file file);

@@ -15,6 +15,7 @@ use Rattle.process_core.specs.Ready.{Values, Name, Write, Reward, Update, Ready}
 use Rattle.prism_tree.specs.Syntax as prism
 use Rattle.prism_names.specs.Names.{unchanged, written_name, is_formula, see}
 use Rattle.process_core.specs.Instance.{Valuation, Truths, Column, numbered, only_if, domain_at, fits_in}
+use Rattle.prism_flat.specs.Scene.{has_condition}
 use Rattle.prism_flat.specs.Scene as prism_scene
 use Rattle.prism_flat.specs.Moment as prism_moment
 use Rattle.jani_tree.specs.Syntax.{Automaton, Var, File}
@@ -67,7 +68,7 @@ new_structures file = map (λ p. structure p.0 p.1) (zip file.rewards (new_names
 structures_in : (file : prism.File) → filter (λ x. x.transient && not (is_boolean x.kind)) (translated file).variables ≡ new_structures file
 structures_in file =
     let names = new_names file in
-    filter-none (λ x. x.transient && not (is_boolean x.kind)) (λ p. variable names.value p.0 p.1) (λ p. refl) (zip (variables file) names.variables) _
+    filter-none (λ x. x.transient && not (is_boolean x.kind)) (λ p. variable names.value (has_condition file) p.0 p.1) (λ p. refl) (zip (variables file) names.variables) _
     ∙ filter-none (λ x. x.transient && not (is_boolean x.kind)) (λ p. label p.0 p.1) (λ p. refl) (zip file.labels names.labels) _
     ∙ filter-all (λ x. x.transient && not (is_boolean x.kind)) (λ p. structure p.0 p.1) (λ p. refl) (zip file.rewards names.rewards)
 
@@ -114,26 +115,26 @@ module _ (file : prism.File) (v w : Valuation) (sound : IsSoundUnder file v) (al
       (sym (slice_get-drop (rewards_at file (entries file)) j (entries file)) ∙ t.1) (sym (slice_get-drop (length file.constants) k (entries file)) ∙ d.at))
 
 -- ---- columns
-module _ (new : Name → Name) (old : Name → Seen) (x z : Name) where
+module _ (new : Name → Name) (any : Bool) (old : Name → Seen) (x z : Name) where
   found_place : (vs : List prism.Var) (es : List Entry) (k : ℕ) → k < length (map (λ y. y.name.name) vs) → get_or (map (λ y. y.name.name) vs) k x ≡ x → Agrees x z (map (λ y. y.name.name) vs) es →
-      position (λ y. is_called z y.name) (map (λ p. variable new p.0 p.1) (zip vs es)) ≡ Some (prism_moment.place_of (map (prism_scene.column unchanged old) vs) x)
+      position (λ y. is_called z y.name) (map (λ p. variable new any p.0 p.1) (zip vs es)) ≡ Some (prism_moment.place_of (map (prism_scene.column any unchanged old) vs) x)
   found_place [] es k l g a = absurd (omega arith)
   found_place (y ∷ vs) [] k l g a = absurd a
   found_place (y ∷ vs) (e ∷ es) zero l g a =
       let same : bytes_eq y.name.name x ≡ true = ap (λ n. bytes_eq n x) g ∙ bytes_eq-self x in
-      position_cons (λ y. is_called z y.name) (variable new y e) (map (λ p. variable new p.0 p.1) (zip vs es))
+      position_cons (λ y. is_called z y.name) (variable new any y e) (map (λ p. variable new any p.0 p.1) (zip vs es))
       ∙ by_test (bytes_eq e.name z) (bytes_eq y.name.name x) a.0 same
     where
       by_test : (b c : Bool) → b ≡ c → c ≡ true →
-          cond b (Some 0) (option_map suc (position (λ y. is_called z y.name) (map (λ p. variable new p.0 p.1) (zip vs es))))
-          ≡ Some (cond (not c) (1 + prism_moment.place_of (map (prism_scene.column unchanged old) vs) x) 0)
+          cond b (Some 0) (option_map suc (position (λ y. is_called z y.name) (map (λ p. variable new any p.0 p.1) (zip vs es))))
+          ≡ Some (cond (not c) (1 + prism_moment.place_of (map (prism_scene.column any unchanged old) vs) x) 0)
       by_test true true h q = refl
       by_test true false h q = absurd cc
       by_test false c h q = absurd cc
   found_place (y ∷ vs) (e ∷ es) (suc k) l g a =
-      position_cons (λ y. is_called z y.name) (variable new y e) (map (λ p. variable new p.0 p.1) (zip vs es))
+      position_cons (λ y. is_called z y.name) (variable new any y e) (map (λ p. variable new any p.0 p.1) (zip vs es))
       ∙ ap (λ p. cond (bytes_eq e.name z) (Some 0) (option_map suc p)) (found_place vs es k (omega arith) g a.1)
-      ∙ by_test (bytes_eq e.name z) (bytes_eq y.name.name x) a.0 (prism_moment.place_of (map (prism_scene.column unchanged old) vs) x)
+      ∙ by_test (bytes_eq e.name z) (bytes_eq y.name.name x) a.0 (prism_moment.place_of (map (prism_scene.column any unchanged old) vs) x)
     where
       by_test : (b c : Bool) → b ≡ c → (n : ℕ) → cond b (Some 0) (Some (suc n)) ≡ Some (cond (not c) (1 + n) 0)
       by_test true true h n = refl
@@ -208,7 +209,7 @@ module _ (file : prism.File) (v w : Valuation) (sound : IsSoundUnder file v) (al
   place_here i x c =
       column_is file i (new x)
       ∙ ap (option_map (λ k. n + k))
-      (found_place new (prism_scene.constant_names file v unchanged) x (new x) (variables file) (drop (length file.constants) (entries file)) c.0 c.1 c.2 (variables_agree file v w sound alike x)
+      (found_place new (has_condition file) (prism_scene.constant_names file v unchanged) x (new x) (variables file) (drop (length file.constants) (entries file)) c.0 c.1 c.2 (variables_agree file v w sound alike x)
       ∙ ap (λ cs. Some (prism_moment.place_of cs x)) (sym (variable_columns file v sound.written.modules)))
 
   domain_here : (k : ℕ) → domain_at (jani_scene.columns_of g w) (n + k) ≡ domain_at (prism_scene.columns_of file v) k

@@ -19,6 +19,7 @@ use Rattle.prism_flat.specs.Moment as prism_moment
 use Rattle.prism_flat.specs.Moment.{item_at}
 use Rattle.prism_flat.specs.Process.{state_reward}
 use Rattle.process_core.specs.Bounds.{summed}
+use Rattle.prism_flat.specs.Scene.{has_condition}
 use Rattle.jani_tree.specs.Syntax.{Automaton, Location, Var, File}
 use Rattle.jani_tree.specs.Syntax as jani
 use Rattle.op_trees.specs.Names.{is_called}
@@ -189,7 +190,7 @@ new_labels file = map (λ p. label p.0 p.1) (zip file.labels (new_names file).la
 labels_in : (file : prism.File) → filter (λ x. x.transient && is_boolean x.kind) (translated file).variables ≡ new_labels file
 labels_in file =
     let names = new_names file in
-    filter-none (λ x. x.transient && is_boolean x.kind) (λ p. variable names.value p.0 p.1) (λ p. refl) (zip (variables file) names.variables) _
+    filter-none (λ x. x.transient && is_boolean x.kind) (λ p. variable names.value (has_condition file) p.0 p.1) (λ p. refl) (zip (variables file) names.variables) _
     ∙ filter-both (λ x. x.transient && is_boolean x.kind) (λ p. label p.0 p.1) (λ p. refl) (zip file.labels names.labels) (new_structures file)
     ∙ ap (λ r. new_labels file ++ r)
     (ap (filter (λ x. x.transient && is_boolean x.kind)) (sym (append-nil (new_structures file)))

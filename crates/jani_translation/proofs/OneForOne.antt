@@ -6,11 +6,12 @@ use Rattle.std.proofs.Common.{refl, sym, ap, ap₂, ◌∙◌, arith, length-app
 use Rattle.std.proofs.lemmas.List.{length-map}
 use Rattle.prism_tree.specs.Syntax as prism
 use Rattle.process_core.specs.Instance.{only_if}
+use Rattle.prism_flat.specs.Scene.{has_condition}
 use Rattle.jani_tree.specs.Syntax.{Automaton, Write}
 use Rattle.name_table.specs.declared.entry.Entry.{Entry}
 use Rattle.prism_images.specs.Image.{image}
 use Rattle.name_table.specs.Asks.{bodies, variables, NewNames, new_names}
-use Rattle.jani_translation.specs.Parts.{constant, variable, label, structure, kind_of, start_of}
+use Rattle.jani_translation.specs.Parts.{constant, variable, label, structure, kind_of, start_under}
 use Rattle.jani_translation.specs.Automata.{earns_silently, has_monitor, edge, module_automata, monitor, location_values}
 use Rattle.jani_translation.specs.Laws.{OneAutomatonEach, OneElementEach, ModulesComeFirst, OneEdgeEach, ConstantTypes, ConstantValues, VariableKinds, VariableStarts, OneTransientEach}
 use Rattle.jani_translation.proofs.Each.{map-zip, length-zip, n_bodies, for_constants, for_variables, for_labels, for_rewards, for_modules}
@@ -96,13 +97,13 @@ filter-none p f h (x ∷ xs) rest = dropped (p (f x)) (h x) (filter-none p f h x
 
 -- the variables that are not transient are the translated variables
 pub lasting_are : (file : prism.File) →
-    filter (λ x. not x.transient) (map (λ p. variable (new_names file).value p.0 p.1) (zip (variables file) (new_names file).variables)
+    filter (λ x. not x.transient) (map (λ p. variable (new_names file).value (has_condition file) p.0 p.1) (zip (variables file) (new_names file).variables)
     ++ (map (λ p. label p.0 p.1) (zip file.labels (new_names file).labels) ++ map (λ p. structure p.0 p.1) (zip file.rewards (new_names file).rewards)))
-    ≡ map (λ p. variable (new_names file).value p.0 p.1) (zip (variables file) (new_names file).variables)
+    ≡ map (λ p. variable (new_names file).value (has_condition file) p.0 p.1) (zip (variables file) (new_names file).variables)
 lasting_are file =
-    let vs = map (λ p. variable (new_names file).value p.0 p.1) (zip (variables file) (new_names file).variables) in
+    let vs = map (λ p. variable (new_names file).value (has_condition file) p.0 p.1) (zip (variables file) (new_names file).variables) in
     let structures = map (λ p. structure p.0 p.1) (zip file.rewards (new_names file).rewards) in
-    filter-all (λ x. not x.transient) (λ p. variable (new_names file).value p.0 p.1) (λ p. refl) (zip (variables file) (new_names file).variables) _
+    filter-all (λ x. not x.transient) (λ p. variable (new_names file).value (has_condition file) p.0 p.1) (λ p. refl) (zip (variables file) (new_names file).variables) _
     ∙ ap (λ r. vs ++ r)
     (filter-none (λ x. not x.transient) (λ p. label p.0 p.1) (λ p. refl) (zip file.labels (new_names file).labels) structures
     ∙ ap (filter (λ x. not x.transient)) (sym (append-nil structures))
@@ -112,19 +113,19 @@ lasting_are file =
 pub variable_kinds : (file : prism.File) → VariableKinds file
 variable_kinds file =
     ap (map (λ x. x.kind)) (lasting_are file)
-    ∙ map-zip (λ x. x.kind) (variable (new_names file).value) (λ x. kind_of (new_names file).value x.range) (λ x e. refl) (variables file) (new_names file).variables (for_variables file)
+    ∙ map-zip (λ x. x.kind) (variable (new_names file).value (has_condition file)) (λ x. kind_of (new_names file).value x.range) (λ x e. refl) (variables file) (new_names file).variables (for_variables file)
 
 pub variable_starts : (file : prism.File) → VariableStarts file
 variable_starts file =
     ap (map (λ x. x.start)) (lasting_are file)
-    ∙ map-zip (λ x. x.start) (variable (new_names file).value) (λ x. Some (start_of (new_names file).value x.start x.range)) (λ x e. refl) (variables file) (new_names file).variables (for_variables file)
+    ∙ map-zip (λ x. x.start) (variable (new_names file).value (has_condition file)) (λ x. start_under (new_names file).value (has_condition file) x.start x.range) (λ x e. refl) (variables file) (new_names file).variables (for_variables file)
 
 pub one_transient_each : (file : prism.File) → OneTransientEach file
 one_transient_each file =
     let structures = map (λ p. structure p.0 p.1) (zip file.rewards (new_names file).rewards) in
     let labels = map (λ p. label p.0 p.1) (zip file.labels (new_names file).labels) in
     ap length
-    (filter-none (λ x. x.transient) (λ p. variable (new_names file).value p.0 p.1) (λ p. refl) (zip (variables file) (new_names file).variables) (labels ++ structures)
+    (filter-none (λ x. x.transient) (λ p. variable (new_names file).value (has_condition file) p.0 p.1) (λ p. refl) (zip (variables file) (new_names file).variables) (labels ++ structures)
     ∙ filter-all (λ x. x.transient) (λ p. label p.0 p.1) (λ p. refl) (zip file.labels (new_names file).labels) structures
     ∙ ap (λ r. labels ++ r)
     (ap (filter (λ x. x.transient)) (sym (append-nil structures))

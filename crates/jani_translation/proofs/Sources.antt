@@ -84,4 +84,4 @@ abbrev pub nameless : List Item → Rewards
 nameless is = record { name = None; items = is }
 
 abbrev pub file : List Const → List Var → List Module → List Label → List Rewards → File
-file cs gs ms ls rs = record { constants = cs; globals = gs; formulas = []; modules = ms; labels = ls; rewards = rs; end = 0 }
+file cs gs ms ls rs = record { constants = cs; globals = gs; formulas = []; modules = ms; labels = ls; rewards = rs; init = None; end = 0 }

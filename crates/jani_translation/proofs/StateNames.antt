@@ -11,6 +11,7 @@ use Rattle.process_core.specs.Ready.{Values, Name}
 use Rattle.prism_tree.specs.Syntax as prism
 use Rattle.prism_names.specs.Names.{unchanged}
 use Rattle.process_core.specs.Instance.{numbered}
+use Rattle.prism_flat.specs.Scene.{has_condition}
 use Rattle.prism_flat.specs.Scene as prism_scene
 use Rattle.prism_flat.specs.Moment as prism_moment
 use Rattle.jani_tree.specs.Syntax.{Automaton, Var}
@@ -64,7 +65,7 @@ owned_filter (x ∷ vs) = kept (not x.transient) (owned_filter vs)
 
 -- the variables that last, under their new names
 abbrev pub new_variables : prism.File → List Var
-new_variables file = map (λ p. variable (new_names file).value p.0 p.1) (zip (variables file) (drop (length file.constants) (entries file)))
+new_variables file = map (λ p. variable (new_names file).value (has_condition file) p.0 p.1) (zip (variables file) (drop (length file.constants) (entries file)))
 
 pub lasting_owned : (file : prism.File) → lasting (translated file) ≡ owned_by None (new_variables file)
 lasting_owned file =
@@ -72,7 +73,7 @@ lasting_owned file =
     ap (λ r. filter is_lasting (owned_by None g.variables ++ r)) (owned_more file)
     ∙ ap (filter is_lasting) (append-nil (owned_by None g.variables))
     ∙ owned_filter g.variables
-    ∙ ap (owned_by None) (lasting_are file ∙ ap (map (λ p. variable (new_names file).value p.0 p.1)) (zip-take (variables file) (drop (length file.constants) (entries file))))
+    ∙ ap (owned_by None) (lasting_are file ∙ ap (map (λ p. variable (new_names file).value (has_condition file) p.0 p.1)) (zip-take (variables file) (drop (length file.constants) (entries file))))
 
 pub column_is : (file : prism.File) (i : ℕ) (z : Name) →
     column_number (translated file) i z ≡ option_map (λ k. length (translated file).elements + k) (position (λ y. is_called z y.name) (new_variables file))
@@ -96,21 +97,21 @@ value_next : (u : Value) (s : Values) (p : Option ℕ) (d : Option Value) → ja
 value_next u s None d = refl
 value_next u s (Some k) d = refl
 
-module _ (new : Name → Name) (old : Name → Seen) (constants : Name → Option Value) (x z : Name) where
+module _ (new : Name → Name) (any : Bool) (old : Name → Seen) (constants : Name → Option Value) (x z : Name) where
   value_alike : (vs : List prism.Var) (es : List Entry) (s : Values) (d : Option Value) → Agrees x z (map (λ y. y.name.name) vs) es → length s ≡ length vs → d ≡ constants x →
-      jani_moment.value_in s (position (λ y. is_called z y.name) (map (λ p. variable new p.0 p.1) (zip vs es))) d
-      ≡ prism_moment.value_in (map (prism_scene.column unchanged old) vs) s constants x
+      jani_moment.value_in s (position (λ y. is_called z y.name) (map (λ p. variable new any p.0 p.1) (zip vs es))) d
+      ≡ prism_moment.value_in (map (prism_scene.column any unchanged old) vs) s constants x
   value_alike [] es s d a l e = e
   value_alike (y ∷ vs) [] s d a l e = absurd a
   value_alike (y ∷ vs) (k ∷ es) [] d a l e = absurd cc
   value_alike (y ∷ vs) (k ∷ es) (u ∷ s) d a l e =
-      ap (λ p. jani_moment.value_in (u ∷ s) p d) (position_cons (λ y. is_called z y.name) (variable new y k) (map (λ p. variable new p.0 p.1) (zip vs es)))
-      ∙ by_test (bytes_eq k.name z) (bytes_eq y.name.name x) (position (λ y. is_called z y.name) (map (λ p. variable new p.0 p.1) (zip vs es))) a.0
+      ap (λ p. jani_moment.value_in (u ∷ s) p d) (position_cons (λ y. is_called z y.name) (variable new any y k) (map (λ p. variable new any p.0 p.1) (zip vs es)))
+      ∙ by_test (bytes_eq k.name z) (bytes_eq y.name.name x) (position (λ y. is_called z y.name) (map (λ p. variable new any p.0 p.1) (zip vs es))) a.0
       (value_alike vs es s d a.1 (omega arith) e)
     where
-      by_test : (b c : Bool) (p : Option ℕ) → b ≡ c → jani_moment.value_in s p d ≡ prism_moment.value_in (map (prism_scene.column unchanged old) vs) s constants x →
+      by_test : (b c : Bool) (p : Option ℕ) → b ≡ c → jani_moment.value_in s p d ≡ prism_moment.value_in (map (prism_scene.column any unchanged old) vs) s constants x →
           jani_moment.value_in (u ∷ s) (cond b (Some 0) (option_map suc p)) d
-          ≡ (if c then Some u else prism_moment.value_in (map (prism_scene.column unchanged old) vs) s constants x)
+          ≡ (if c then Some u else prism_moment.value_in (map (prism_scene.column any unchanged old) vs) s constants x)
       by_test true true p h r = refl
       by_test true false p h r = absurd cc
       by_test false true p h r = absurd cc
@@ -125,7 +126,7 @@ names_seen_alike file v w sound alike s l i x =
     ap known
     (ap (λ p. jani_moment.value_in (state_of file s) p (jani_scene.constant g w z)) (column_is file i z)
     ∙ value_behind (λ a. at_home) g.elements s found (jani_scene.constant g w z)
-    ∙ value_alike new (prism_scene.constant_names file v unchanged) (prism_scene.constant file v) x z (variables file) (drop (length file.constants) (entries file)) s (jani_scene.constant g w z)
+    ∙ value_alike new (has_condition file) (prism_scene.constant_names file v unchanged) (prism_scene.constant file v) x z (variables file) (drop (length file.constants) (entries file)) s (jani_scene.constant g w z)
     (variables_agree file v w sound alike x) l (constant_same file v w sound alike x)
     ∙ ap (λ cs. prism_moment.value_in cs s (prism_scene.constant file v) x) (sym (variable_columns file v sound.written.modules)))
     ∙ ap (λ f. f x) (sym (given_reading file (λ y. known (prism_moment.value_in (prism_scene.columns_of file v) s (prism_scene.constant file v) y)) sound.written.formulas))

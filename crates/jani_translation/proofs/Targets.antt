@@ -72,4 +72,4 @@ vector parts result = record { parts = parts; result = result; at = 0 }
 -- the elements are the automata
 abbrev pub file : List Named → List Const → List Var → List Automaton → List Named → List Vector → File
 file acts cs vs as_ es ss =
-    record { actions = acts; constants = cs; variables = vs; automata = as_; elements = es; elements_at = 0; vectors = ss; properties = array 0 no_nodes }
+    record { actions = acts; constants = cs; variables = vs; restrict = None; automata = as_; elements = es; elements_at = 0; vectors = ss; properties = array 0 no_nodes }

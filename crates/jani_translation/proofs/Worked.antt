@@ -97,6 +97,7 @@ copied_module = record {
       ∷ p.copy_of K M x y ∷ [];
   labels = [];
   rewards = [];
+  init = None;
   end = 0;
 }
 
@@ -360,6 +361,7 @@ placed_file : translated placed
           ∷ record { name = put y 70; kind = boolean; kind_at = 0; transient = true; start = Some (Truth 0 false); note = None }
           ∷ record { name = put r 80; kind = jani.number; kind_at = 0; transient = true; start = Some (j.int 0); note = None }
           ∷ [];
+      restrict = None;
       automata =
           record {
             name = put M 30;

@@ -1,5 +1,5 @@
 -- A file that is written out: its names are read as they are given, and its columns, parts and states are those of its bodies.
-use Rattle.std.specs.Prelude.{◌≡◌, List, [], ◌∷◌, ◌++◌, map, length, true}
+use Rattle.std.specs.Prelude.{◌≡◌, List, [], ◌∷◌, ◌++◌, map, length, Bool, true}
 use Rattle.std.specs.List.{flat_map, list_all}
 use Rattle.std.proofs.Common.{refl, sym, ap, ap₂, ◌∙◌}
 use Rattle.std.proofs.lemmas.List.{map-append}
@@ -14,6 +14,7 @@ use Rattle.prism_names.specs.Names.{unchanged, formula_body, Part, part_of, read
 use Rattle.process_core.specs.Instance.{Valuation}
 use Rattle.prism_flat.specs.Kept.{is_plain}
 use Rattle.prism_flat.specs.Scene as prism_scene
+use Rattle.prism_flat.specs.Scene.{has_condition}
 use Rattle.name_table.specs.Asks.{contents, bodies, variables}
 
 -- without formulas a name is seen as it is given
@@ -37,15 +38,16 @@ module _ (file : prism.File) where
   pub written_parts : list_all is_plain file.modules ≡ true → map (part_of file) file.modules ≡ map body_part (bodies file)
   written_parts h = parts_of file.modules h
 
-  columns_of_bodies : (v : Valuation) (ms : List Body) →
-      flat_map (prism_scene.part_columns file v) (map body_part ms) ≡ flat_map (λ m. map (prism_scene.column unchanged (prism_scene.constant_names file v unchanged)) m.vars) ms
-  columns_of_bodies v [] = refl
-  columns_of_bodies v (m ∷ ms) = ap (λ r. map (prism_scene.column unchanged (prism_scene.constant_names file v unchanged)) m.vars ++ r) (columns_of_bodies v ms)
+  columns_of_bodies : (any : Bool) (v : Valuation) (ms : List Body) →
+      flat_map (prism_scene.part_columns file any v) (map body_part ms) ≡ flat_map (λ m. map (prism_scene.column any unchanged (prism_scene.constant_names file v unchanged)) m.vars) ms
+  columns_of_bodies any v [] = refl
+  columns_of_bodies any v (m ∷ ms) = ap (λ r. map (prism_scene.column any unchanged (prism_scene.constant_names file v unchanged)) m.vars ++ r) (columns_of_bodies any v ms)
 
   pub variable_columns : (v : Valuation) → list_all is_plain file.modules ≡ true →
-      prism_scene.columns_of file v ≡ map (prism_scene.column unchanged (prism_scene.constant_names file v unchanged)) (variables file)
+      prism_scene.columns_of file v ≡ map (prism_scene.column (has_condition file) unchanged (prism_scene.constant_names file v unchanged)) (variables file)
   variable_columns v h =
-      let col = prism_scene.column unchanged (prism_scene.constant_names file v unchanged) in
-      ap (λ ps. map col file.globals ++ flat_map (prism_scene.part_columns file v) ps) (written_parts h)
-      ∙ ap (λ r. map col file.globals ++ r) (columns_of_bodies v (bodies file) ∙ sym (map-flat_map col (λ m. m.vars) (bodies file)))
+      let any = has_condition file in
+      let col = prism_scene.column any unchanged (prism_scene.constant_names file v unchanged) in
+      ap (λ ps. map col file.globals ++ flat_map (prism_scene.part_columns file any v) ps) (written_parts h)
+      ∙ ap (λ r. map col file.globals ++ r) (columns_of_bodies any v (bodies file) ∙ sym (map-flat_map col (λ m. m.vars) (bodies file)))
       ∙ sym (map-append col file.globals (flat_map (λ m. m.vars) (bodies file)))

@@ -7,10 +7,11 @@ use Rattle.prism_tree.specs.Syntax as prism
 use Rattle.process_core.specs.Instance.{Valuation, only_if}
 use Rattle.prism_flat.specs.Kept.{IsWrittenOut}
 use Rattle.prism_flat.specs.Moment.{moment}
+use Rattle.prism_flat.specs.Scene.{has_condition}
 use Rattle.jani_meaning.specs.Moment as jani
 use Rattle.prism_images.specs.Image.{image}
 use Rattle.name_table.specs.Asks.{bodies, variables, new_names}
-use Rattle.jani_translation.specs.Parts.{kind_of, start_of}
+use Rattle.jani_translation.specs.Parts.{kind_of, start_under}
 use Rattle.jani_translation.specs.Automata.{has_items, for_action, earns_silently, has_monitor, edge}
 use Rattle.jani_translation.specs.Translated.{silent_vectors, translated}
 
@@ -42,7 +43,8 @@ abbrev pub ConstantValues : prism.File → Type 0
 ConstantValues file =
     map (λ c. c.value) (translated file).constants ≡ map (λ c. option_map (image (new_names file).value) c.value) file.constants
 
--- the variables that are not transient have the ranges and the first values of those of the file, in order
+-- the variables that are not transient have the ranges of those of the file, in order, and their first values, unless the file has an
+-- initial condition
 abbrev pub VariableKinds : prism.File → Type 0
 VariableKinds file =
     map (λ x. x.kind) (filter (λ x. not x.transient) (translated file).variables)
@@ -51,7 +53,7 @@ VariableKinds file =
 abbrev pub VariableStarts : prism.File → Type 0
 VariableStarts file =
     map (λ x. x.start) (filter (λ x. not x.transient) (translated file).variables)
-    ≡ map (λ x. Some (start_of (new_names file).value x.start x.range)) (variables file)
+    ≡ map (λ x. start_under (new_names file).value (has_condition file) x.start x.range) (variables file)
 
 -- there is a transient variable for each label and for each reward structure
 abbrev pub OneTransientEach : prism.File → Type 0

@@ -1,13 +1,13 @@
 -- The constants, variables, labels and reward structures of a PRISM file as those of a JANI file (this project's own rule;
 -- the members are those of the jani-model specification, version 1: "Models", "Constants", "Variables", "Types"). The
 -- places that the trees keep are of no account.
-use Rattle.std.specs.Prelude.{ℕ, List, [], ◌++◌, codes, true, false, Option, Some, None, if◌then◌else◌, unwrap_or}
+use Rattle.std.specs.Prelude.{ℕ, List, [], ◌++◌, codes, Bool, true, false, Option, Some, None, if◌then◌else◌, unwrap_or}
 use Rattle.std.specs.Option.{option_map}
 use Rattle.bridge_io.specs.declared.reason.Named.{Named}
 use Rattle.op_trees.specs.Tree.{Truth, Number}
 use Rattle.process_core.specs.Ready.{Name}
 use Rattle.prism_tree.specs.Syntax as prism
-use Rattle.jani_tree.specs.Syntax.{Expression, Const, VarKind, boolean, number, bounded, Var}
+use Rattle.jani_tree.specs.Syntax.{Expression, is_always, Const, VarKind, boolean, number, bounded, Var}
 use Rattle.name_table.specs.declared.entry.Entry.{Entry}
 use Rattle.prism_images.specs.Image.{nought_literal, image}
 use Rattle.name_table.specs.Asks.{called}
@@ -31,6 +31,10 @@ nought = Number 0 nought_literal
 abbrev pub falsehood : Expression
 falsehood = Truth 0 false
 
+-- a condition: the literal true restricts nothing, and is left out
+abbrev pub unless_always : Expression → Option Expression
+unless_always e = if is_always e then None else Some e
+
 module _ (new : Name → Name) where
   -- ---- constants keep their types
   abbrev pub constant : prism.Const → Entry → Const
@@ -53,15 +57,25 @@ module _ (new : Name → Name) where
   start_of None (Some r) = image new r.low
   start_of None None = falsehood
 
-  abbrev pub variable : prism.Var → Entry → Var
-  variable x e = record {
+  -- where the file has an initial condition, a variable may begin with any of its values
+  abbrev pub start_under : Bool → Option prism.Expression → Option prism.Range → Option Expression
+  start_under true e r = None
+  start_under false e r = Some (start_of e r)
+
+  abbrev pub variable : Bool → prism.Var → Entry → Var
+  variable has_condition x e = record {
     name = instead x.name e.name;
     kind = kind_of x.range;
     kind_at = 0;
     transient = false;
-    start = Some (start_of x.start x.range);
+    start = start_under has_condition x.start x.range;
     note = note (codes "variable:") (Some x.name.name) e;
   }
+
+  -- ---- the initial condition
+  abbrev pub restriction : Option prism.Expression → Option Expression
+  restriction None = None
+  restriction (Some e) = unless_always (image new e)
 
 -- ---- labels and reward structures
 -- a label is a boolean transient variable, first false

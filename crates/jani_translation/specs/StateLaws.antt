@@ -41,14 +41,10 @@ abbrev pub NamesSeenAlike : prism.File → Type 0
 NamesSeenAlike file = (v w : Valuation) → IsSoundUnder file v → GivesAlike file v w → (s : Values) → length s ≡ length (variables file) → (i : ℕ) (x : Name) →
     jani_moment.names_in (translated file) w (state_of file s) i ((new_names file).value x) ≡ prism_moment.names_in file v s unchanged x
 
--- The same are states, and the same are initial.
+-- The same are states.
 abbrev pub StatesAlike : prism.File → Type 0
 StatesAlike file = (v w : Valuation) → IsSoundUnder file v → GivesAlike file v w → (s : Values) →
     (jani_process.model (translated file)).is_state w (state_of file s) ≡ (prism_process.model file).is_state v s
-
-abbrev pub InitialAlike : prism.File → Type 0
-InitialAlike file = (v w : Valuation) → IsSoundUnder file v → GivesAlike file v w → (s : Values) →
-    (jani_process.model (translated file)).is_initial w (state_of file s) ≡ (prism_process.model file).is_initial v s
 
 -- Each state of the translated file goes with a state of the file, and with one alone.
 abbrev pub StatesAreThese : prism.File → Type 0
@@ -94,6 +90,21 @@ module _ (file : prism.File) (v : Valuation) (s : Values) where
   -- Where there is a monitor, the expressions of the items for choices are sound at the state.
   pub record ItemsAreSound : Type 0 where
     pub items : has_monitor file ≡ true → All (λ r. All SoundItem (filter (λ i. not (for_states i.on)) r.items)) file.rewards
+
+-- ---- initial states
+-- the initial condition, if there is one, is sound at the state
+abbrev pub ConditionIsSound : prism.File → Valuation → Values → Type 0
+ConditionIsSound file v s = IfSome file.init (IsSoundHere file v s)
+
+-- It comes out the same, the locations of the elements, of which there is one each, being as good as any.
+abbrev pub ConditionSeenAlike : prism.File → Type 0
+ConditionSeenAlike file = (v w : Valuation) → IsSoundUnder file v → GivesAlike file v w → (s : Values) → length s ≡ length (variables file) → ConditionIsSound file v s →
+    (jani_moment.moment (translated file) w (state_of file s)).condition ≡ (prism_moment.moment file v s).condition
+
+-- The same states are initial.
+abbrev pub InitialAlike : prism.File → Type 0
+InitialAlike file = (v w : Valuation) → IsSoundUnder file v → GivesAlike file v w → (s : Values) → IsTrue ((prism_process.model file).is_state v s) → ConditionIsSound file v s →
+    (jani_process.model (translated file)).is_initial w (state_of file s) ≡ (prism_process.model file).is_initial v s
 
 -- ---- commands
 -- a write of the same value, behind so many columns

@@ -8,10 +8,11 @@ use Rattle.process_core.specs.Ready.{Name, same_label}
 use Rattle.prism_tree.specs.Syntax as prism
 use Rattle.prism_tree.specs.Syntax.{Body}
 use Rattle.process_core.specs.Instance.{numbered, only_if}
+use Rattle.prism_flat.specs.Scene.{has_condition}
 use Rattle.jani_table.specs.Node.{array, no_nodes}
 use Rattle.jani_tree.specs.Syntax.{Var, Vector, File}
 use Rattle.name_table.specs.Asks.{bodies, variables, actions, action_of, NewNames, new_names}
-use Rattle.jani_translation.specs.Parts.{made, constant, variable, label, structure}
+use Rattle.jani_translation.specs.Parts.{made, constant, variable, restriction, label, structure}
 use Rattle.jani_translation.specs.Automata.{zz_silent, has_items, for_action, has_silent, earns_silently, has_monitor, automata}
 
 -- some command of the module has the action
@@ -38,7 +39,7 @@ module _ (names : NewNames) where
   -- the global variables: those of the file, then its labels, then its reward structures
   abbrev pub global_variables : prism.File → List Var
   global_variables file =
-      map (λ p. variable names.value p.0 p.1) (zip (variables file) names.variables)
+      map (λ p. variable names.value (has_condition file) p.0 p.1) (zip (variables file) names.variables)
       ++ (map (λ p. label p.0 p.1) (zip file.labels names.labels) ++ map (λ p. structure p.0 p.1) (zip file.rewards names.rewards))
 
   -- the actions of the commands, then zz_silent, if it is used
@@ -64,6 +65,7 @@ module _ (names : NewNames) where
     actions = jani_actions file;
     constants = map (λ p. constant names.value p.0 p.1) (zip file.constants names.constants);
     variables = global_variables file;
+    restrict = restriction names.value file.init;
     automata = automata names file;
     elements = map (λ a. a.name) (automata names file);
     elements_at = 0;

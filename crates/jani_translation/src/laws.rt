@@ -4,7 +4,7 @@ ghost use Rattle.prism_tree.specs.Syntax.{File};
 ghost use Rattle.jani_translation.specs.Laws.{OneAutomatonEach, OneElementEach, ModulesComeFirst, OneEdgeEach, ConstantTypes, ConstantValues, VariableKinds, VariableStarts, OneTransientEach, VectorsWatched};
 ghost use Rattle.jani_translation.specs.NameLaws.{ValuesDiffer, ConstantNames, ActionsDiffer, ActionsAreNotSilent};
 ghost use Rattle.jani_translation.specs.SeenLaws.{SameConstants, ConstantsSeenAlike, ColumnsSeenAlike, FaultsAlike};
-ghost use Rattle.jani_translation.specs.StateLaws.{ElementsAreAutomata, NamesSeenAlike, StatesAlike, InitialAlike, StatesAreThese, StatesDiffer, EdgesWatched, LabelsSeenAlike, MarksAlike, ChoicesInOrder, ChoicesWatched};
+ghost use Rattle.jani_translation.specs.StateLaws.{ElementsAreAutomata, NamesSeenAlike, StatesAlike, ConditionSeenAlike, InitialAlike, StatesAreThese, StatesDiffer, EdgesWatched, LabelsSeenAlike, MarksAlike, ChoicesInOrder, ChoicesWatched};
 
 /// There is an automaton for each module, and one more with a monitor; its edges are those of the module's commands, in
 /// order. Constants and variables stand one for one, with their types, and there is a transient variable for each label
@@ -50,7 +50,7 @@ pub fn seen_law()
 
 /// The elements of the translated file are its automata. With each of them at its one location, a state of the file is a
 /// state of the translated file, which has no others, and names are seen the same there. Its edges are the commands, its
-/// marks are the same, and so are its choices with their rewards, in order; but where the monitor earns rewards for commands
+/// initial condition comes out the same, its marks are the same, and so are its choices with their rewards, in order; but where the monitor earns rewards for commands
 /// without action, their choices come last and not first, so that each choice occurs equally often. The conditions are those
 /// of `seen_law`, that the expressions of commands, labels and items are sound at the state, and for marks that there is a
 /// module, whose location gives them their values.
@@ -58,6 +58,7 @@ pub fn state_law()
     ensures elements { (file : File) → ElementsAreAutomata file }
     ensures names { (file : File) → NamesSeenAlike file }
     ensures states { (file : File) → StatesAlike file }
+    ensures condition { (file : File) → ConditionSeenAlike file }
     ensures initial { (file : File) → InitialAlike file }
     ensures onto { (file : File) → StatesAreThese file }
     ensures one { (file : File) → StatesDiffer file }

@@ -12,6 +12,7 @@ use Rattle.prism_check.specs.Demands.{type_by, var_type}
 use Rattle.prism_check.specs.TypeFaults as source
 use Rattle.prism_check.specs.TypeFaults.{types}
 use Rattle.prism_check.specs.Flattened.{IsFlat}
+use Rattle.prism_flat.specs.Scene.{has_condition}
 use Rattle.jani_tree.specs.Syntax.{Expression, Const, VarKind, boolean, integer, Var}
 use Rattle.jani_check.specs.Things.{is_called, kind_type, const_thing, var_thing, thing_type, global_thing, types_by, is_transient}
 use Rattle.jani_check.specs.TypeFaults.{is_variable}
@@ -71,15 +72,15 @@ var_step v k o p true false e q r = absurd cc
 var_step v k o p false true e q r = absurd cc
 var_step v k o p false false e q r = r refl
 
-vars_found : (new : Name → Name) (x z : Name) (vs : List prism.Var) (es : List Entry) (rest : List Var) → Agrees x z (map (λ v. v.name.name) vs) es →
+vars_found : (new : Name → Name) (any : Bool) (x z : Name) (vs : List prism.Var) (es : List Entry) (rest : List Var) → Agrees x z (map (λ v. v.name.name) vs) es →
     (find (λ v. is_called x v.name) vs ≡ None → find (λ v. is_called z v.name) rest ≡ None) →
-    option_map var_thing (find (λ v. is_called z v.name) (map (λ p. variable new p.0 p.1) (zip vs es) ++ rest))
+    option_map var_thing (find (λ v. is_called z v.name) (map (λ p. variable new any p.0 p.1) (zip vs es) ++ rest))
     ≡ option_map (λ v. var_thing (source_var v)) (find (λ v. is_called x v.name) vs)
-vars_found new x z [] es rest a h = ap (option_map var_thing) (h refl)
-vars_found new x z (v ∷ vs) [] rest a h = absurd a
-vars_found new x z (v ∷ vs) (e ∷ es) rest a h =
-    var_step v (variable new v e) _ _ (bytes_eq e.name z) (bytes_eq v.name.name x) a.0 (kind_same new v.range v.name v.name None None)
-    (λ f. vars_found new x z vs es rest a.1 (λ n. h (ap (λ b. cond b (Some v) (find (λ v. is_called x v.name) vs)) f ∙ n)))
+vars_found new any x z [] es rest a h = ap (option_map var_thing) (h refl)
+vars_found new any x z (v ∷ vs) [] rest a h = absurd a
+vars_found new any x z (v ∷ vs) (e ∷ es) rest a h =
+    var_step v (variable new any v e) _ _ (bytes_eq e.name z) (bytes_eq v.name.name x) a.0 (kind_same new v.range v.name v.name None None)
+    (λ f. vars_found new any x z vs es rest a.1 (λ n. h (ap (λ b. cond b (Some v) (find (λ v. is_called x v.name) vs)) f ∙ n)))
 
 -- ---- a name that is none of them becomes the empty name
 none_step : {A : Type 0} (v : A) (o : Option A) (b : Bool) (n m : Name) → (o ≡ None → m ≡ []) → cond b (Some v) o ≡ None → (if b then n else m) ≡ []
@@ -175,8 +176,8 @@ module _ (file : prism.File) (flat : IsFlat file) (x : Name) where
       (ap (λ ps. option_map const_thing (find (λ k. is_called z k.name) (map (λ p. constant new p.0 p.1) ps))) (zip-take file.constants (entries file))
       ∙ consts_found new x z file.constants (entries file) (agrees_front x z constants (map (λ v. v.name.name) (variables file)) (entries file) agree))
       (λ none.
-      ap (λ ps. option_map var_thing (find (λ v. is_called z v.name) (map (λ p. variable new p.0 p.1) ps ++ rest))) (zip-take (variables file) (drop (length file.constants) (entries file)))
-      ∙ vars_found new x z (variables file) (drop (length file.constants) (entries file)) rest
+      ap (λ ps. option_map var_thing (find (λ v. is_called z v.name) (map (λ p. variable new (has_condition file) p.0 p.1) ps ++ rest))) (zip-take (variables file) (drop (length file.constants) (entries file)))
+      ∙ vars_found new (has_condition file) x z (variables file) (drop (length file.constants) (entries file)) rest
       (agrees_back (λ c. c.name.name) x z file.constants (map (λ v. v.name.name) (variables file)) (entries file) agree)
       (λ h. rest_none (becomes_empty (mapped_none (λ c. const_thing (source_const c)) (find (λ c. is_called x c.name) file.constants) none) h)))
 

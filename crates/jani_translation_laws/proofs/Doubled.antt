@@ -16,6 +16,7 @@ use Rattle.process_core.specs.Product.{map-map}
 use Rattle.process_core.proofs.Targets.{Distinct, firsts_distinct}
 use Rattle.prism_tree.specs.Syntax as prism
 use Rattle.process_core.specs.Instance.{only_if}
+use Rattle.prism_flat.specs.Scene.{has_condition}
 use Rattle.jani_tree.specs.Syntax.{Write, Automaton}
 use Rattle.name_rules.proofs.Plain.{Apart, not_doubled}
 use Rattle.jani_check.specs.NameFaults.{doubled, var_names, global_names, automaton_names, doubled_in}
@@ -118,12 +119,12 @@ module _ (file : prism.File) where
   values_named =
       let es = entries file in
       let c = map-zip-right (λ x. x.name.name) (constant names.value) (λ e. e.name) (λ x e. refl) file.constants names.constants (for_constants file) in
-      let v = map-zip-right (λ x. x.name.name) (variable names.value) (λ e. e.name) (λ x e. refl) (variables file) names.variables (for_variables file) in
+      let v = map-zip-right (λ x. x.name.name) (variable names.value (has_condition file)) (λ e. e.name) (λ x e. refl) (variables file) names.variables (for_variables file) in
       let l = map-zip-right (λ x. x.name.name) label (λ e. e.name) (λ x e. refl) file.labels names.labels (for_labels file) in
       let r = map-zip-right (λ x. x.name.name) structure (λ e. e.name) structure_name file.rewards names.rewards (for_rewards file) in
       let t = (translated file).constants in
       let on : cs ≡ 0 + cs = omega arith in
-      let xs = map (λ p. variable names.value p.0 p.1) (zip (variables file) names.variables) in
+      let xs = map (λ p. variable names.value (has_condition file) p.0 p.1) (zip (variables file) names.variables) in
       let ys = map (λ p. label p.0 p.1) (zip file.labels names.labels) in
       let zs = map (λ p. structure p.0 p.1) (zip file.rewards names.rewards) in
       map-append (λ n. n.name) (map (λ x. x.name) t) (var_names (xs ++ (ys ++ zs)))

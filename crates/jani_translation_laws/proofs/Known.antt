@@ -19,7 +19,7 @@ use Rattle.prism_names.specs.Names.{part_of}
 use Rattle.prism_flat.specs.Kept.{is_plain, IsWrittenOut}
 use Rattle.prism_print.specs.Printable.{IsPrintableExpression, IsPrintableConst, IsPrintableRange, IsPrintableVar, IsPrintableLabel, IsPrintableWrite, IsPrintableBranch, AreBranches, IsPrintableCommand, IsPrintableModule, IsPrintableItem, IsPrintableRewards}
 use Rattle.op_trees.specs.Wanted.{wanted_by}
-use Rattle.prism_check.specs.Demands.{Demand, fixed, written, var_type, const_demands, range_demands, var_demands, branch_demands, command_demands, part_demands, label_demands, item_demands, rewards_demands, formula_demands, outer_demands}
+use Rattle.prism_check.specs.Demands.{Demand, fixed, written, var_type, const_demands, range_demands, var_demands, branch_demands, command_demands, part_demands, label_demands, item_demands, rewards_demands, formula_demands, init_demands, outer_demands}
 use Rattle.prism_check.specs.NameFaults.{is_among, values, unless_known, unknown, unknown_in}
 use Rattle.prism_check.proofs.NamesIn.{listed_names}
 use Rattle.prism_check.specs.Flattened.{IsFlat}
@@ -76,6 +76,7 @@ pub record IsGood (file : File) : Type 0 where
   pub bodies : Each (GoodBody file) (bodies file)
   pub labels : Each (GoodLabel file) file.labels
   pub rewards : Each (GoodRewards file) file.rewards
+  pub init : IfAny (Good file) file.init
 
 -- ---- the names of constants and variables
 
@@ -112,6 +113,10 @@ module _ (file : File) (w : IsWrittenOut file) where
   good_var x p k =
       let r = each_parts Fine (range_demands x.range) (map (fixed (wanted_by (var_type x))) (if_some x.start)) k in
       (good_range x.range p.1 r.0, optional (var_type x) x.start p.2 r.1)
+
+  good_init : (o : Option Expression) → IfAny IsPrintableExpression o → Each Fine (init_demands o) → IfAny (Good file) o
+  good_init None p k = tt
+  good_init (Some e) p k = good e p k.0
 
   good_label : (l : Label) → IsPrintableLabel l → Each Fine (label_demands l) → GoodLabel file l
   good_label l p k = good l.body p.1 k.0
@@ -173,9 +178,10 @@ is_good file h =
     let u = append_parts (flat_map (unknown file) (outer_demands file)) (flat_map (unknown file) (flat_map formula_demands file.formulas) ++ flat_map (unknown_in file) file.modules) (no_name_fault file h).unknown in
     let v = append_parts (flat_map (unknown file) (flat_map formula_demands file.formulas)) (flat_map (unknown_in file) file.modules) u.1 in
     let F : Demand → Type 0 = λ d. unknown file d ≡ [] in
-    let a = each_parts F (flat_map const_demands file.constants) (flat_map var_demands file.globals ++ (flat_map label_demands file.labels ++ flat_map rewards_demands file.rewards)) (empty_each (unknown file) (outer_demands file) u.0) in
-    let b = each_parts F (flat_map var_demands file.globals) (flat_map label_demands file.labels ++ flat_map rewards_demands file.rewards) a.1 in
-    let c = each_parts F (flat_map label_demands file.labels) (flat_map rewards_demands file.rewards) b.1 in
+    let a = each_parts F (flat_map const_demands file.constants) (flat_map var_demands file.globals ++ (flat_map label_demands file.labels ++ (flat_map rewards_demands file.rewards ++ init_demands file.init))) (empty_each (unknown file) (outer_demands file) u.0) in
+    let b = each_parts F (flat_map var_demands file.globals) _ a.1 in
+    let c = each_parts F (flat_map label_demands file.labels) _ b.1 in
+    let d = each_parts F (flat_map rewards_demands file.rewards) (init_demands file.init) c.1 in
     let bs = good_bodies file w file.modules w.modules p.modules (empty_each (unknown_in file) file.modules v.1) in
     record {
       constants = each_with IsPrintableConst (λ x. Each F (const_demands x)) (GoodConst file) (good_const file w) file.constants p.constants (each_of F const_demands file.constants a.0);
@@ -185,5 +191,6 @@ is_good file h =
           (body_vars file w (bodies file) bs);
       bodies = bs;
       labels = each_with IsPrintableLabel (λ x. Each F (label_demands x)) (GoodLabel file) (good_label file w) file.labels p.labels (each_of F label_demands file.labels c.0);
-      rewards = each_with IsPrintableRewards (λ x. Each F (rewards_demands x)) (GoodRewards file) (good_rewards file w) file.rewards p.rewards (each_of F rewards_demands file.rewards c.1);
+      rewards = each_with IsPrintableRewards (λ x. Each F (rewards_demands x)) (GoodRewards file) (good_rewards file w) file.rewards p.rewards (each_of F rewards_demands file.rewards d.0);
+      init = good_init file w file.init p.init d.1;
     }

@@ -1,5 +1,5 @@
 -- No expression of a translated file reads a transient variable, and no edge assigns to a label.
-use Rattle.std.specs.Prelude.{◌≡◌, ℕ, List, [], ◌∷◌, ◌++◌, map, Bool, true, false, ◌||◌, Option, Some, None}
+use Rattle.std.specs.Prelude.{◌≡◌, ℕ, List, [], ◌∷◌, ◌++◌, map, Bool, true, false, ◌||◌, Option, Some, None, if◌then◌else◌}
 use Rattle.std.specs.List.{flat_map, zip}
 use Rattle.std.specs.Option.{option_map}
 use Rattle.std.proofs.Common.{refl, ap, ◌∙◌}
@@ -18,18 +18,20 @@ use Rattle.prism_tree.specs.Syntax as prism
 use Rattle.process_core.specs.Instance.{only_if}
 use Rattle.prism_check.specs.Flattened.{IsFlat}
 use Rattle.jani_table.specs.declared.operator.JaniOp.{JaniOp}
-use Rattle.jani_tree.specs.Syntax.{Write}
+use Rattle.prism_flat.specs.Scene.{has_condition}
+use Rattle.jani_tree.specs.Syntax.{Write, is_always}
 use Rattle.name_rules.specs.Least.{fault_if}
 use Rattle.jani_check.specs.Things.{kind_type, global_thing, is_transient}
 use Rattle.basics.specs.Options.{if_some}
 use Rattle.op_trees.specs.Wanted.{wanted_by}
-use Rattle.jani_check.specs.Demands.{fixed, const_demands, bound_demands, var_demands, outer_demands}
+use Rattle.op_trees.specs.declared.wanted.Wanted.TheVariants as W
+use Rattle.jani_check.specs.Demands.{fixed, varying, const_demands, bound_demands, var_demands, outer_demands}
 use Rattle.jani_check.specs.ProfileFaults.{reads, read_fault, demand_profile, start_faults, given_again, given_after}
 use Rattle.jani_check.specs.NameFaults.{is_among}
 use Rattle.jani_translation.specs.Entry.{Entry}
 use Rattle.prism_images.specs.Image.{image, image_one}
 use Rattle.jani_translation.specs.Asks.{bodies, variables, new_names}
-use Rattle.jani_translation.specs.Parts.{constant, variable, kind_of, start_of, label, structure}
+use Rattle.jani_translation.specs.Parts.{constant, variable, kind_of, restriction, start_of, label, structure}
 use Rattle.jani_translation.specs.Automata.{zz_monitor, earns_silently, has_monitor, automaton, location_values, module_automata, monitor_edges, monitor}
 use Rattle.jani_translation.specs.Translated.{translated}
 use Rattle.jani_translation_laws.specs.ProfileLaws.{StartsFit, ValuesGivenOnce, OuterReadsFit}
@@ -37,11 +39,15 @@ use Rattle.jani_translation_laws.proofs.Alike.{lasts}
 use Rattle.jani_translation_laws.proofs.Outer.{nothing_each}
 
 -- ---- first values
+variable_starts : (new : Name → Name) (any : Bool) (x : prism.Var) (e : Entry) → start_faults (variable new any x e) ≡ []
+variable_starts new true x e = refl
+variable_starts new false x e = refl
+
 pub starts_fit : (file : prism.File) → StartsFit file
 starts_fit file =
     let names = new_names file in
-    flat_map_both start_faults (map (λ p. variable names.value p.0 p.1) (zip (variables file) names.variables)) _
-    (nothing_each start_faults (variable names.value) (λ x e. refl) (variables file) names.variables)
+    flat_map_both start_faults (map (λ p. variable names.value (has_condition file) p.0 p.1) (zip (variables file) names.variables)) _
+    (nothing_each start_faults (variable names.value (has_condition file)) (variable_starts names.value (has_condition file)) (variables file) names.variables)
     (flat_map_both start_faults (map (λ p. label p.0 p.1) (zip file.labels names.labels)) (map (λ p. structure p.0 p.1) (zip file.rewards names.rewards))
     (nothing_each start_faults label (λ l e. refl) file.labels names.labels)
     (nothing_each start_faults structure (λ r e. refl) file.rewards names.rewards))
@@ -109,19 +115,41 @@ module _ (file : prism.File) (flat : IsFlat file) where
       (append_both (reads (global_thing (translated file)) (image (new_names file).value r.high)) _ (none_read r.high)
       (append_both (reads (global_thing (translated file)) (image (new_names file).value e)) [] (none_read e) refl))
 
+  -- where there is a condition there is no first value
+  bounds_read : (r : Option prism.Range) → flat_map (demand_profile (global_thing (translated file))) (bound_demands (kind_of (new_names file).value r) ++ []) ≡ []
+  bounds_read None = refl
+  bounds_read (Some r) =
+      append_both (reads (global_thing (translated file)) (image (new_names file).value r.low)) _ (none_read r.low)
+      (append_both (reads (global_thing (translated file)) (image (new_names file).value r.high)) [] (none_read r.high) refl)
+
+  variable_reads : (any : Bool) (x : prism.Var) (e : Entry) → flat_map (demand_profile (global_thing (translated file))) (var_demands (variable (new_names file).value any x e)) ≡ []
+  variable_reads true x e = bounds_read x.range
+  variable_reads false x e = start_reads (kind_type (kind_of (new_names file).value x.range)) x.range x.start
+
+  restriction_reads : (o : Option prism.Expression) → flat_map (demand_profile (global_thing (translated file))) (map (varying W.Bool) (if_some (restriction (new_names file).value o))) ≡ []
+  restriction_reads None = refl
+  restriction_reads (Some e) = by_always (is_always (image (new_names file).value e))
+    where
+      by_always : (b : Bool) →
+          flat_map (demand_profile (global_thing (translated file))) (map (varying W.Bool) (if_some (if b then None else Some (image (new_names file).value e)))) ≡ []
+      by_always true = refl
+      by_always false = append_both (reads (global_thing (translated file)) (image (new_names file).value e)) [] (none_read e) refl
+
   outer_reads : flat_map (demand_profile (global_thing (translated file))) (outer_demands (translated file)) ≡ []
   outer_reads =
       let names = new_names file in
       let F = demand_profile (global_thing (translated file)) in
-      flat_map_both F (flat_map const_demands (translated file).constants) (flat_map var_demands (translated file).variables)
+      flat_map_both F (flat_map const_demands (translated file).constants) _
       (flat_map-flat_map F const_demands (translated file).constants
       ∙ nothing_each (λ c. flat_map F (const_demands c)) (constant names.value) (λ c e. value_reads c.ty c.value) file.constants names.constants)
+      (flat_map_both F (flat_map var_demands (translated file).variables) (map (varying W.Bool) (if_some (translated file).restrict))
       (flat_map-flat_map F var_demands (translated file).variables
-      ∙ flat_map_both (λ v. flat_map F (var_demands v)) (map (λ p. variable names.value p.0 p.1) (zip (variables file) names.variables)) _
-      (nothing_each (λ v. flat_map F (var_demands v)) (variable names.value) (λ v e. start_reads (kind_type (kind_of names.value v.range)) v.range v.start) (variables file) names.variables)
+      ∙ flat_map_both (λ v. flat_map F (var_demands v)) (map (λ p. variable names.value (has_condition file) p.0 p.1) (zip (variables file) names.variables)) _
+      (nothing_each (λ v. flat_map F (var_demands v)) (variable names.value (has_condition file)) (variable_reads (has_condition file)) (variables file) names.variables)
       (flat_map_both (λ v. flat_map F (var_demands v)) (map (λ p. label p.0 p.1) (zip file.labels names.labels)) (map (λ p. structure p.0 p.1) (zip file.rewards names.rewards))
       (nothing_each (λ v. flat_map F (var_demands v)) label (λ l e. refl) file.labels names.labels)
       (nothing_each (λ v. flat_map F (var_demands v)) structure (λ r e. refl) file.rewards names.rewards)))
+      (restriction_reads file.init))
 
 pub outer_reads_fit : (file : prism.File) → OuterReadsFit file
 outer_reads_fit file flat = outer_reads file flat

@@ -42,7 +42,7 @@ use Rattle.jani_translation_laws.specs.MeaningLaws.{GivesTyped}
 use Rattle.jani_translation.specs.Correspond.{GivenAlike, Correspond}
 use Rattle.jani_translation_laws.specs.SameMeaning.{placed, homes, label_in, MeansTheSame, TranslationMeansTheSame}
 use Rattle.jani_translation_laws.proofs.Constants.{flat_is_sound}
-use Rattle.jani_translation_laws.proofs.States.{commands_are_sound, marks_are_sound, items_are_sound}
+use Rattle.jani_translation_laws.proofs.States.{commands_are_sound, marks_are_sound, items_are_sound, condition_is_sound}
 
 -- ---- faults
 module _ (n : ℕ) where
@@ -118,7 +118,7 @@ module _ (file : prism.File) (flat : IsFlat file) (v w : Valuation) (gives : Giv
     into = state_in;
     one = λ s t a b e. states_differ file s t e;
     onto = λ u h. states_are_these file v w (flat_is_sound file flat v gives) alike u h;
-    initial = λ s h. sym (initial_alike file v w (flat_is_sound file flat v gives) alike s);
+    initial = λ s h. sym (initial_alike file v w (flat_is_sound file flat v gives) alike s h (condition_is_sound file flat v gives s h));
     marks = λ s h. sym (marks_alike file v w (flat_is_sound file flat v gives) alike s (marks_are_sound file flat v gives s h));
     choices = λ s h. choices_watched file v w (flat_is_sound file flat v gives) alike s (commands_are_sound file flat v gives s h) (items_are_sound file flat v gives s h);
   }

@@ -12,7 +12,7 @@ use Rattle.prism_tree.specs.Syntax.{Expression, Const, Range, Var, Label, Body, 
 use Rattle.prism_names.specs.Names.{part_of}
 use Rattle.prism_flat.specs.Kept.{is_plain}
 use Rattle.op_trees.specs.Wanted.{wanted_by}
-use Rattle.prism_check.specs.Demands.{Demand, fixed, varying, var_type, const_demands, range_demands, var_demands, command_demands, label_demands, item_demands, rewards_demands, part_demands, formula_demands, outer_demands}
+use Rattle.prism_check.specs.Demands.{Demand, fixed, varying, var_type, const_demands, range_demands, var_demands, command_demands, label_demands, item_demands, rewards_demands, part_demands, formula_demands, init_demands, outer_demands}
 use Rattle.prism_check.specs.NameFaults.{unknown, unknown_in}
 use Rattle.prism_check.specs.TypeFaults.{types, type_faults_of, has_variable, demand_faults, repeated_writes, part_faults, numbered_faults}
 use Rattle.name_rules.specs.Least.{fault_if}
@@ -130,11 +130,12 @@ module _ (file : File) (flat : IsFlat file) where
   abbrev pub IsFineItem : Item → Type 0
   IsFineItem i = HasType file T.Bool i.guard × HasType file T.Real i.value
 
-  last_fine : Each (IsFine 0) (flat_map label_demands file.labels) × Each (IsFine 0) (flat_map rewards_demands file.rewards)
+  last_fine : Each (IsFine 0) (flat_map label_demands file.labels) × (Each (IsFine 0) (flat_map rewards_demands file.rewards) × Each (IsFine 0) (init_demands file.init))
   last_fine =
       let r = each_parts (IsFine 0) (flat_map const_demands file.constants) _ outer_fine in
       let s = each_parts (IsFine 0) (flat_map var_demands file.globals) _ r.1 in
-      each_parts (IsFine 0) (flat_map label_demands file.labels) (flat_map rewards_demands file.rewards) s.1
+      let t = each_parts (IsFine 0) (flat_map label_demands file.labels) _ s.1 in
+      (t.0, each_parts (IsFine 0) (flat_map rewards_demands file.rewards) (init_demands file.init) t.1)
 
   pub labels_fine : Each IsFineLabel file.labels
   labels_fine =
@@ -149,4 +150,12 @@ module _ (file : File) (flat : IsFlat file) where
   pub rewards_fine : Each (λ r. Each IsFineItem r.items) file.rewards
   rewards_fine =
       each_then (λ r. Each (IsFine 0) (rewards_demands r)) (λ r. Each IsFineItem r.items) (λ r h. items_fine r.items h) file.rewards
-      (each_of (IsFine 0) rewards_demands file.rewards last_fine.1)
+      (each_of (IsFine 0) rewards_demands file.rewards last_fine.1.0)
+
+  -- ---- the initial condition
+  varying_if : (o : Option Expression) → Each (IsFine 0) (init_demands o) → IfAny (HasType file T.Bool) o
+  varying_if None h = tt
+  varying_if (Some e) h = varying_fine 0 T.Bool e h.0
+
+  pub init_fine : IfAny (HasType file T.Bool) file.init
+  init_fine = varying_if file.init last_fine.1.1

@@ -22,7 +22,7 @@ use Rattle.op_trees.specs.Names.{is_called}
 use Rattle.prism_names.specs.Names.{unchanged, see}
 use Rattle.process_core.specs.Instance as instance
 use Rattle.process_core.specs.Instance.{Valuation, is_in, is_state, range_has, range_from}
-use Rattle.prism_flat.specs.Scene.{constant_called, constant, constant_names, column, columns_of, domain_of}
+use Rattle.prism_flat.specs.Scene.{constant_called, constant, constant_names, column, columns_of, domain_of, has_condition}
 use Rattle.prism_flat.specs.Moment.{value_in, names_in}
 use Rattle.prism_flat.specs.Process.{model}
 use Rattle.basics.specs.Options.{IfAny}
@@ -35,14 +35,14 @@ use Rattle.prism_images.proofs.Typed.{agreeing}
 use Rattle.jani_translation.specs.Asks.{bodies, variables}
 use Rattle.jani_translation.specs.Automata.{for_states}
 use Rattle.jani_translation.specs.SeenLaws.{IsSound}
-use Rattle.jani_translation.specs.StateLaws.{IsSoundHere, SoundWrite, SoundBranch, SoundCommand, CommandsAreSound, SoundItem, MarksAreSound, ItemsAreSound}
+use Rattle.jani_translation.specs.StateLaws.{ConditionIsSound, IsSoundHere, SoundWrite, SoundBranch, SoundCommand, CommandsAreSound, SoundItem, MarksAreSound, ItemsAreSound}
 use Rattle.jani_translation.proofs.Written.{given_reading, variable_columns}
 use Rattle.jani_translation.proofs.Clean.{values_distinct, variable_types, declared_type}
 use Rattle.prism_check.proofs.Typed.{HasType, no_name_fault, types_declared}
-use Rattle.jani_translation_laws.proofs.Sources.{IsFineLabel, IsFineItem, bodies_fine, labels_fine, rewards_fine}
+use Rattle.jani_translation_laws.proofs.Sources.{init_fine, IsFineLabel, IsFineItem, bodies_fine, labels_fine, rewards_fine}
 use Rattle.jani_translation_laws.proofs.Writes.{IsFineWrite, no_constant}
 use Rattle.jani_translation_laws.proofs.Edges.{IsFineBranch, IsFineCommand, commands_fine}
-use Rattle.jani_translation_laws.specs.MeaningLaws.{GivesTyped, FlatCommandsAreSound, FlatMarksAreSound, FlatItemsAreSound}
+use Rattle.jani_translation_laws.specs.MeaningLaws.{FlatConditionIsSound, GivesTyped, FlatCommandsAreSound, FlatMarksAreSound, FlatItemsAreSound}
 use Rattle.jani_translation_laws.proofs.Agreeing.{all_then, AreTyped, sound, value_typed}
 use Rattle.jani_translation_laws.proofs.Constants.{constant_typed}
 
@@ -74,29 +74,29 @@ ranged None u h = absurd cc
 ranged (Some r) (V.Truth b) h = absurd cc
 ranged (Some r) (V.Number q) h = first_true (nat_eq q.den 1) _ h
 
-module _ (old : Name → Seen) where
+module _ (any : Bool) (old : Name → Seen) where
   in_domain : (r : Option prism.Range) (u : Value) → is_in (domain_of old r) u ≡ true → IsTrue (has_type (type_by r) u)
   in_domain None (V.Truth b) h = refl
   in_domain None (V.Number q) h = absurd cc
   in_domain (Some r) u h = ranged (range_from (see r.low old) (see r.high old)) u h
 
-  length_is : (vs : List prism.Var) (s : Values) → is_state (map (column unchanged old) vs) s ≡ true → length s ≡ length vs
+  length_is : (vs : List prism.Var) (s : Values) → is_state (map (column any unchanged old) vs) s ≡ true → length s ≡ length vs
   length_is [] [] h = refl
   length_is [] (u ∷ s) h = absurd cc
   length_is (y ∷ vs) [] h = absurd cc
-  length_is (y ∷ vs) (u ∷ s) h = ap suc (length_is vs s (second_true (is_in (domain_of old y.range) u) (is_state (map (column unchanged old) vs) s) h))
+  length_is (y ∷ vs) (u ∷ s) h = ap suc (length_is vs s (second_true (is_in (domain_of old y.range) u) (is_state (map (column any unchanged old) vs) s) h))
 
   in_typed : (x : Name) (constants : Name → Option Value) (t : Option Ty) → AgreesWith t (constants x) → (vs : List prism.Var) (s : Values) →
-      is_state (map (column unchanged old) vs) s ≡ true → AgreesWith (option_or (declared_type x vs) t) (value_in (map (column unchanged old) vs) s constants x)
+      is_state (map (column any unchanged old) vs) s ≡ true → AgreesWith (option_or (declared_type x vs) t) (value_in (map (column any unchanged old) vs) s constants x)
   in_typed x constants t a [] s h = a
   in_typed x constants t a (y ∷ vs) [] h = absurd cc
   in_typed x constants t a (y ∷ vs) (u ∷ s) h =
-      by_test (bytes_eq y.name.name x) (in_typed x constants t a vs s (second_true (is_in (domain_of old y.range) u) (is_state (map (column unchanged old) vs) s) h))
+      by_test (bytes_eq y.name.name x) (in_typed x constants t a vs s (second_true (is_in (domain_of old y.range) u) (is_state (map (column any unchanged old) vs) s) h))
     where
-      by_test : (b : Bool) → AgreesWith (option_or (declared_type x vs) t) (value_in (map (column unchanged old) vs) s constants x) →
+      by_test : (b : Bool) → AgreesWith (option_or (declared_type x vs) t) (value_in (map (column any unchanged old) vs) s constants x) →
           AgreesWith (option_or (option_map var_type (cond b (Some y) (find (λ v. is_called x v.name) vs))) t)
-          (if b then Some u else value_in (map (column unchanged old) vs) s constants x)
-      by_test true r = some_agrees (var_type y) u (in_domain y.range u (first_true (is_in (domain_of old y.range) u) (is_state (map (column unchanged old) vs) s) h))
+          (if b then Some u else value_in (map (column any unchanged old) vs) s constants x)
+      by_test true r = some_agrees (var_type y) u (in_domain y.range u (first_true (is_in (domain_of old y.range) u) (is_state (map (column any unchanged old) vs) s) h))
       by_test false r = r
 
 module _ (file : prism.File) (flat : IsFlat file) (v : Valuation) (gives : GivesTyped file v) (s : Values) (state : (model file).is_state v s ≡ true) where
@@ -104,11 +104,11 @@ module _ (file : prism.File) (flat : IsFlat file) (v : Valuation) (gives : Gives
   abbrev here : Name → Option Value
   here x = value_in (columns_of file v) s (constant file v) x
 
-  columns_state : is_state (map (column unchanged (constant_names file v unchanged)) (variables file)) s ≡ true
+  columns_state : is_state (map (column (has_condition file) unchanged (constant_names file v unchanged)) (variables file)) s ≡ true
   columns_state = subst (λ cs. is_state cs s ≡ true) (variable_columns file v flat.form.modules) state
 
   values : length s ≡ length (variables file)
-  values = length_is (constant_names file v unchanged) (variables file) s columns_state
+  values = length_is (has_condition file) (constant_names file v unchanged) (variables file) s columns_state
 
   types_are : (x : Name) → types file x ≡ option_or (option_map (λ c. c.ty) (constant_called file x)) (declared_type x (variables file))
   types_are x = types_declared file flat x ∙ ap (option_or (option_map (λ c. c.ty) (constant_called file x))) (variable_types file flat x)
@@ -126,7 +126,7 @@ module _ (file : prism.File) (flat : IsFlat file) (v : Valuation) (gives : Gives
       (subst (λ t. AgreesWith t (constant file v x)) (types_are x) (constant_typed file flat v gives x)) in
       subst (λ t. AgreesWith t (here x)) (sym (types_turned x))
       (subst (λ cs. AgreesWith (option_or (declared_type x (variables file)) c) (value_in cs s (constant file v) x)) (sym (variable_columns file v flat.form.modules))
-      (in_typed (constant_names file v unchanged) x (constant file v) c a (variables file) s columns_state))
+      (in_typed (has_condition file) (constant_names file v unchanged) x (constant file v) c a (variables file) s columns_state))
 
   names_are : names_in file v s unchanged ≡ (λ x. known (here x))
   names_are = given_reading file (λ x. known (here x)) flat.form.formulas
@@ -139,6 +139,13 @@ module _ (file : prism.File) (flat : IsFlat file) (v : Valuation) (gives : Gives
       subst (λ n. IsNoNumber (see e n).value) (sym names_are)
       (agreeing (Some T.Bool) (see e (λ x. known (here x))).value (value_typed file flat here here_typed T.Bool e p h))
 
+  sound_if : (w : Ty) (o : Option prism.Expression) → IfAny (HasType file w) o → IfSome o (IsSoundHere file v s)
+  sound_if w None h = tt
+  sound_if w (Some e) h = sound_here w e h
+
+  pub condition_sound : ConditionIsSound file v s
+  condition_sound = sound_if T.Bool file.init (init_fine file flat)
+
   -- ---- commands
   some_true : (o : Option Ty) (t : Ty) → o ≡ Some t → IsTrue (is_some o)
   some_true o t e = subst (λ p. IsTrue (is_some p)) (sym e) refl
@@ -149,12 +156,8 @@ module _ (file : prism.File) (flat : IsFlat file) (v : Valuation) (gives : Gives
     sound_here h.ty y.value h.value,
   )
 
-  weight_sound : (o : Option prism.Expression) → IfAny (HasType file T.Real) o → IfSome o (IsSoundHere file v s)
-  weight_sound None h = tt
-  weight_sound (Some e) h = sound_here T.Real e h
-
   branch_sound : (b : prism.Branch) → IsFineBranch file flat b → SoundBranch file v s b
-  branch_sound b h = (weight_sound b.weight h.0, all_then (IsFineWrite file flat) (SoundWrite file v s) write_sound b.writes h.1)
+  branch_sound b h = (sound_if T.Real b.weight h.0, all_then (IsFineWrite file flat) (SoundWrite file v s) write_sound b.writes h.1)
 
   command_sound : (c : prism.Command) → IsFineCommand file flat c → SoundCommand file v s c
   command_sound c h = (sound_here T.Bool c.guard h.0, all_then (IsFineBranch file flat) (SoundBranch file v s) branch_sound c.branches h.1)
@@ -201,6 +204,9 @@ module _ (file : prism.File) (flat : IsFlat file) (v : Valuation) (gives : Gives
 
   pub choice_items_sound : ItemsAreSound file v s
   choice_items_sound = record { items = λ m. all_then (λ r. Each IsGoodItem r.items) (λ r. All (SoundItem file v s) (filter (λ i. not (for_states i.on)) r.items)) (items_sound (λ i. not (for_states i.on))) file.rewards good_items }
+
+pub condition_is_sound : (file : prism.File) → FlatConditionIsSound file
+condition_is_sound file flat v gives s state = condition_sound file flat v gives s state
 
 pub commands_are_sound : (file : prism.File) → FlatCommandsAreSound file
 commands_are_sound file flat v gives s state = commands_sound file flat v gives s state

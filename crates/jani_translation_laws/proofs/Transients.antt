@@ -9,6 +9,7 @@ use Rattle.basics.specs.Lists.{slice_get-drop}
 use Rattle.bridge_io.specs.declared.reason.Named.{Named}
 use Rattle.process_core.specs.Ready.{Name}
 use Rattle.prism_tree.specs.Syntax as prism
+use Rattle.prism_flat.specs.Scene.{has_condition}
 use Rattle.jani_tree.specs.Syntax.{Const, Var}
 use Rattle.jani_check.specs.Things.{is_called, const_thing, var_thing, global_thing}
 use Rattle.jani_translation.specs.NameClass.TheVariants.{Label}
@@ -68,11 +69,11 @@ module _ (file : prism.File) where
       (λ i u l h. values_apart file i j u e (omega arith) b (λ q. absurd (omega arith)) h g)
 
   vars_before : (j : ℕ) (e : Entry) (rest : List Var) → labels_at file (entries file) < j + 1 → j < modules_at file (entries file) → slice_get (entries file) j ≡ Some e →
-      find (λ v. is_called e.name v.name) (map (λ p. variable (new_names file).value p.0 p.1) (zip (variables file) (new_names file).variables) ++ rest) ≡ find (λ v. is_called e.name v.name) rest
+      find (λ v. is_called e.name v.name) (map (λ p. variable (new_names file).value (has_condition file) p.0 p.1) (zip (variables file) (new_names file).variables) ++ rest) ≡ find (λ v. is_called e.name v.name) rest
   vars_before j e rest a b g =
       let at = length file.constants in
-      ap (λ ps. find (λ v. is_called e.name v.name) (map (λ p. variable (new_names file).value p.0 p.1) ps ++ rest)) (zip-take (variables file) (drop at (entries file)))
-      ∙ none_before (λ (v : Var). v.name) (variable (new_names file).value) (λ v e. refl) e.name (variables file) (drop at (entries file)) rest
+      ap (λ ps. find (λ v. is_called e.name v.name) (map (λ p. variable (new_names file).value (has_condition file) p.0 p.1) ps ++ rest)) (zip-take (variables file) (drop at (entries file)))
+      ∙ none_before (λ (v : Var). v.name) (variable (new_names file).value (has_condition file)) (λ v e. refl) e.name (variables file) (drop at (entries file)) rest
       (λ i u l h. values_apart file (at + i) j u e (omega arith) b (λ q. absurd (omega arith)) (sym (slice_get-drop at i (entries file)) ∙ h) g)
 
   label_stands : (k : ℕ) (p : prism.Label × Entry) → slice_get (zip file.labels (drop (labels_at file (entries file)) (entries file))) k ≡ Some p →

@@ -20,17 +20,19 @@ use Rattle.process_core.specs.Ready.{Name}
 use Rattle.prism_tree.specs.declared.syntax.ItemOn.{ItemOn}
 use Rattle.prism_tree.specs.Syntax as prism
 use Rattle.process_core.specs.Instance.{numbered, only_if}
+use Rattle.op_trees.specs.declared.wanted.Wanted.TheVariants as W
+use Rattle.prism_flat.specs.Scene.{has_condition}
 use Rattle.jani_table.specs.declared.operator.JaniOp.TheVariants.{Add}
-use Rattle.jani_tree.specs.Syntax.{Expression, Const, Var, Write, Destination, Edge, Automaton, Vector}
+use Rattle.jani_tree.specs.Syntax.{Expression, Const, Var, Write, Destination, Edge, Automaton, Vector, is_always}
 use Rattle.basics.specs.Options.{if_some, IfAny}
 use Rattle.op_trees.specs.Wanted.{wanted_by}
-use Rattle.jani_check.specs.Demands.{Demand, fixed, assigned, given, const_demands, bound_demands, var_demands, destination_demands, edge_demands, automaton_demands, outer_demands}
+use Rattle.jani_check.specs.Demands.{Demand, fixed, varying, assigned, given, const_demands, bound_demands, var_demands, destination_demands, edge_demands, automaton_demands, outer_demands}
 use Rattle.jani_check.specs.NameFaults.{is_among, global_names, automaton_names, unless_known, unknown_by, edge_locations, locations_used, actions_used, unknown_in, vector_actions}
 use Rattle.jani_translation.specs.Entry.{Entry}
 use Rattle.prism_images.specs.Image.{image}
 use Rattle.prism_images.proofs.Form.{one_names}
 use Rattle.jani_translation.specs.Asks.{bodies, variables, actions, new_name, value_names, entries, some_from, labels_at, rewards_at}
-use Rattle.jani_translation.specs.Parts.{made, instead, instead_if, kind_of, start_of, constant, variable, label, structure}
+use Rattle.jani_translation.specs.Parts.{made, instead, instead_if, kind_of, restriction, start_of, constant, variable, label, structure}
 use Rattle.jani_translation.specs.Automata.{loc, zz_silent, zz_monitor, for_states, for_silent, for_action, earning_actions, earns_silently, has_monitor, item_value, sum_behind, sum_to, reward_of, rewards_of, label_value, location_values, write, destination, edge_action, edge, automaton, module_automata, monitor_edge, monitor_edges, monitor, has_silent, has_items}
 use Rattle.jani_translation.specs.Translated.{has_command, part_if, silent_vector, silent_vectors, action_vector, translated}
 use Rattle.jani_translation.proofs.Fresh.{enough}
@@ -171,9 +173,19 @@ module _ (file : prism.File) where
     starts None (Some r) g h = clean r.low h.0
     starts None None g h = refl
 
-    variable_fine : (x : prism.Var) (e : Entry) → GoodVar file x → Each Fine (var_demands (variable (names file).value x e))
-    variable_fine x e g =
+    variable_fine : (any : Bool) (x : prism.Var) (e : Entry) → GoodVar file x → Each Fine (var_demands (variable (names file).value any x e))
+    variable_fine true x e g = each_join Fine (bound_demands (kind_of (names file).value x.range)) _ (bounds x.range g.0) tt
+    variable_fine false x e g =
         each_join Fine (bound_demands (kind_of (names file).value x.range)) _ (bounds x.range g.0) (starts x.start x.range g.1 g.0, tt)
+
+    -- ---- the initial condition
+    restriction_fine : (o : Option prism.Expression) → IfAny (Good file) o → Each Fine (map (varying W.Bool) (if_some (restriction (names file).value o)))
+    restriction_fine None g = tt
+    restriction_fine (Some e) g = by_always (is_always (image (names file).value e))
+      where
+        by_always : (b : Bool) → Each Fine (map (varying W.Bool) (if_some (if b then None else Some (image (names file).value e))))
+        by_always true = tt
+        by_always false = (clean e g, tt)
 
     -- ---- rewards
     item_clean : (i : prism.Item) → GoodItem file i → Clean (item_value (names file) i)
@@ -359,23 +371,25 @@ module _ (file : prism.File) where
   outer_known g =
       let new = (names file).value in
       let cons = map (λ p. constant new p.0 p.1) (zip file.constants (names file).constants) in
-      let xs = map (λ p. variable new p.0 p.1) (zip (variables file) (names file).variables) in
+      let xs = map (λ p. variable new (has_condition file) p.0 p.1) (zip (variables file) (names file).variables) in
       let ys = map (λ p. label p.0 p.1) (zip file.labels (names file).labels) in
       let zs = map (λ p. structure p.0 p.1) (zip file.rewards (names file).rewards) in
       let ConstFine : Const → Type 0 = λ c. Each FineHere (const_demands c) in
       let VarFine : Var → Type 0 = λ x. Each FineHere (var_demands x) in
       each_empty (unknown_by global) (outer_demands (translated file))
-      (each_join FineHere (flat_map const_demands cons) (flat_map var_demands (xs ++ (ys ++ zs)))
+      (each_join FineHere (flat_map const_demands cons) (flat_map var_demands (xs ++ (ys ++ zs)) ++ map (varying W.Bool) (if_some (translated file).restrict))
       (each_flat ConstFine FineHere const_demands (λ c h. h) cons
       (each_map (λ p. GoodConst file p.0 × Unit {0}) ConstFine (λ p. constant new p.0 p.1) (λ p h. optional global all_global (p.0).ty (p.0).value h.0)
       (zip file.constants (names file).constants) (each_zip (GoodConst file) (λ e. Unit {0}) file.constants (names file).constants g.constants (any_entry (names file).constants))))
+      (each_join FineHere (flat_map var_demands (xs ++ (ys ++ zs))) (map (varying W.Bool) (if_some (translated file).restrict))
       (each_flat VarFine FineHere var_demands (λ x h. h) (xs ++ (ys ++ zs))
       (each_join VarFine xs (ys ++ zs)
-      (each_map (λ p. GoodVar file p.0 × Unit {0}) VarFine (λ p. variable new p.0 p.1) (λ p h. variable_fine global all_global p.0 p.1 h.0)
+      (each_map (λ p. GoodVar file p.0 × Unit {0}) VarFine (λ p. variable new (has_condition file) p.0 p.1) (λ p h. variable_fine global all_global (has_condition file) p.0 p.1 h.0)
       (zip (variables file) (names file).variables) (each_zip (GoodVar file) (λ e. Unit {0}) (variables file) (names file).variables g.variables (any_entry (names file).variables)))
       (each_join VarFine ys zs
       (each_any VarFine (λ p. label p.0 p.1) (λ p. (refl, tt)) (zip file.labels (names file).labels))
-      (each_any VarFine (λ p. structure p.0 p.1) (λ p. (refl, tt)) (zip file.rewards (names file).rewards))))))
+      (each_any VarFine (λ p. structure p.0 p.1) (λ p. (refl, tt)) (zip file.rewards (names file).rewards)))))
+      (restriction_fine global all_global file.init g.init)))
     where
       any_entry : (es : List Entry) → Each (λ e. Unit {0}) es
       any_entry [] = tt

@@ -47,6 +47,7 @@ example = record {
   }) ∷ [];
   labels = record { name = named (codes "x"); body = at_one } ∷ [];
   rewards = record { name = Some (named (codes "r")); items = record { on = On.Action (named (codes "a")); guard = at_one; value = At 0 (codes "c") } ∷ [] } ∷ [];
+  init = None;
   end = 0;
 }
 
@@ -66,6 +67,7 @@ printable = record {
   );
   labels = ((refl, (refl, (refl, refl), (refl, refl))), tt);
   rewards = ((refl, (((refl, refl), (refl, (refl, refl), (refl, refl)), (refl, refl)), tt)), tt);
+  init = tt;
 }
 
 sound : faults example ≡ []

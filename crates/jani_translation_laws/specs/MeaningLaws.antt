@@ -9,7 +9,7 @@ use Rattle.process_core.specs.Instance.{Valuation}
 use Rattle.prism_flat.specs.Process.{model}
 use Rattle.prism_check.specs.Flattened.{IsFlat}
 use Rattle.jani_translation.specs.SeenLaws.{IsSoundUnder}
-use Rattle.jani_translation.specs.StateLaws.{CommandsAreSound, MarksAreSound, ItemsAreSound}
+use Rattle.jani_translation.specs.StateLaws.{CommandsAreSound, ConditionIsSound, MarksAreSound, ItemsAreSound}
 
 -- what the valuation gives each constant without an expression, where it gives something, is a value of its type
 abbrev pub GivesTyped : prism.File → Valuation → Type 0
@@ -22,6 +22,10 @@ FlatIsSound file = IsFlat file → (v : Valuation) → GivesTyped file v → IsS
 -- At a state it has a value for each variable, and the expressions of commands are sound there; what they write are variables.
 abbrev pub FlatCommandsAreSound : prism.File → Type 0
 FlatCommandsAreSound file = IsFlat file → (v : Valuation) → GivesTyped file v → (s : Values) → (model file).is_state v s ≡ true → CommandsAreSound file v s
+
+-- At a state the initial condition, if there is one, is sound.
+abbrev pub FlatConditionIsSound : prism.File → Type 0
+FlatConditionIsSound file = IsFlat file → (v : Valuation) → GivesTyped file v → (s : Values) → (model file).is_state v s ≡ true → ConditionIsSound file v s
 
 -- There is a module, and at a state the expressions of labels and items are sound, and no guard of an item is a number.
 abbrev pub FlatMarksAreSound : prism.File → Type 0

@@ -1,7 +1,7 @@
 // Laws of files without faults: functions that do nothing, whose contracts are the laws.
 
 ghost use Rattle.prism_tree.specs.Syntax.{File};
-ghost use Rattle.jani_translation_laws.specs.MeaningLaws.{FlatCommandsAreSound, FlatIsSound, FlatItemsAreSound, FlatMarksAreSound};
+ghost use Rattle.jani_translation_laws.specs.MeaningLaws.{FlatCommandsAreSound, FlatConditionIsSound, FlatIsSound, FlatItemsAreSound, FlatMarksAreSound};
 ghost use Rattle.jani_translation_laws.specs.SameMeaning.{TranslationMeansTheSame};
 
 /// Where a valuation gives each constant without an expression a value of its type, or none, the expressions of constants,
@@ -10,9 +10,10 @@ pub fn sound_under_law()
     ensures sound { (file : File) → FlatIsSound file }
 {}
 
-/// So at each state are the expressions of commands, labels and items. There is a value for each variable, what commands write
+/// So at each state are the initial condition and the expressions of commands, labels and items. There is a value for each variable, what commands write
 /// are variables, there is a module, and no guard of an item is a number.
 pub fn sound_at_states_law()
+    ensures condition { (file : File) → FlatConditionIsSound file }
     ensures commands { (file : File) → FlatCommandsAreSound file }
     ensures marks { (file : File) → FlatMarksAreSound file }
     ensures items { (file : File) → FlatItemsAreSound file }

@@ -126,7 +126,7 @@ module _ (old : prism.File) (new : jani.File) (m : CarryMap) (same : bare_file n
   module _ (v : Valuation) (d e : Process) (stepped : IsSteppedPrism old v d) (wide : length e.columns ≡ n + length (lasting new)) where
     scene_columns : length (prism_scene.columns_of written v) ≡ k
     scene_columns =
-        ap length (variable_columns written v (is_written_out old).modules) ∙ length-map (variables written) (prism_scene.column unchanged (prism_scene.constant_names written v unchanged))
+        ap length (variable_columns written v (is_written_out old).modules) ∙ length-map (variables written) (prism_scene.column (prism_scene.has_condition written) unchanged (prism_scene.constant_names written v unchanged))
 
     columns_here : length d.columns ≡ k
     columns_here = stepped.columns ∙ ap length (sym (columns-flat old v)) ∙ scene_columns

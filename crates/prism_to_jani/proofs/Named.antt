@@ -8,6 +8,7 @@ use Rattle.process_core.specs.Instance.{only_if}
 use Rattle.process_core.specs.Product.{map-map}
 use Rattle.process_core.specs.Ready.{Name}
 use Rattle.prism_tree.specs.Syntax as prism
+use Rattle.prism_flat.specs.Scene.{has_condition}
 use Rattle.prism_names.specs.Flat.{flat}
 use Rattle.jani_tree.specs.Places.{bare_automaton, bare_const, bare_file, bare_var}
 use Rattle.op_trees.specs.Names.{bare_name}
@@ -53,11 +54,11 @@ module _ (old : prism.File) where
 
   variables_named : map (λ x. x.name.name) (translated file).variables ≡ names_of n.variables ++ (names_of n.labels ++ names_of n.rewards)
   variables_named =
-      let xs = map (λ p. variable n.value p.0 p.1) (zip (variables file) n.variables) in
+      let xs = map (λ p. variable n.value (has_condition file) p.0 p.1) (zip (variables file) n.variables) in
       let ys = map (λ p. label p.0 p.1) (zip file.labels n.labels) in
       let zs = map (λ p. structure p.0 p.1) (zip file.rewards n.rewards) in
       map-append (λ x. x.name.name) xs (ys ++ zs)
-      ∙ ap₂ (λ a b. a ++ b) (map-zip-right (λ x. x.name.name) (variable n.value) (λ e. e.name) (λ x e. refl) (variables file) n.variables (for_variables file))
+      ∙ ap₂ (λ a b. a ++ b) (map-zip-right (λ x. x.name.name) (variable n.value (has_condition file)) (λ e. e.name) (λ x e. refl) (variables file) n.variables (for_variables file))
       (map-append (λ x. x.name.name) ys zs
       ∙ ap₂ (λ a b. a ++ b) (map-zip-right (λ x. x.name.name) label (λ e. e.name) (λ x e. refl) file.labels n.labels (for_labels file))
       (map-zip-right (λ x. x.name.name) structure (λ e. e.name) structure_named file.rewards n.rewards (for_rewards file)))

@@ -1,6 +1,8 @@
 // A file translated.
 
 ghost use Rattle.std.specs.Prelude.{◌≡◌, map, IfOk};
+ghost use Rattle.std.specs.Option.{option_map};
+ghost use Rattle.op_trees.specs.Tree.{tree};
 ghost use Rattle.prism_tree.specs.Syntax as prism;
 ghost use Rattle.prism_tree.specs.Syntax.{var_of};
 ghost use Rattle.jani_tree.specs.Syntax as jani;
@@ -15,8 +17,8 @@ use crate::naming::names;
 use crate::syncs::{jani_actions, vectors};
 use bridge_io::{List, Named, Text};
 use decimal_json::Json;
-use jani_automata::{Names, constants, file_automata, global_variables};
-use jani_tree::{JaniAutomaton, JaniConst, JaniFile, JaniVar, JaniVector};
+use jani_automata::{Names, constants, file_automata, global_variables, restriction};
+use jani_tree::{JaniAutomaton, JaniConst, JaniExpr, JaniFile, JaniVar, JaniVector};
 use name_table::{Entry, NameTable, actions, flat_names, variables};
 use prism_tree::{PrismFile, PrismVar};
 use std::alloc::{AllocError, Global};
@@ -160,14 +162,18 @@ fn translated_by(
     )?;
     let variables = global_variables(
         alloc,
+        file.init.is_some(),
         vars,
         file.labels.as_slice(),
         file.rewards.as_slice(),
         names,
     )?;
+    let restrict = restriction(alloc, &file.init, &names.value)?;
     let automata = file_automata(alloc, file, acts, names)?;
     let vectors = vectors(alloc, file, acts, names)?;
-    let all = filed(alloc, actions, constants, variables, automata, vectors)?;
+    let all = filed(
+        alloc, actions, constants, variables, restrict, automata, vectors,
+    )?;
     Ok(all)
 }
 
@@ -177,18 +183,20 @@ fn filed(
     actions: List<Named>,
     constants: List<JaniConst>,
     variables: List<JaniVar>,
+    restrict: Option<JaniExpr>,
     automata: List<JaniAutomaton>,
     vectors: List<JaniVector>,
 ) -> Result<JaniFile, AllocError>
     ensures { IfOk result
         (λ r. jani.file_of r
-        ≡ filed actions (map jani.const_of constants) (map jani.var_of variables) (map jani.automaton_of automata) (map jani.vector_of vectors)) }
+        ≡ filed actions (map jani.const_of constants) (map jani.var_of variables) (option_map tree restrict) (map jani.automaton_of automata) (map jani.vector_of vectors)) }
 {
     let elements = elements(alloc, automata.as_slice())?;
     Ok(JaniFile {
         actions,
         constants,
         variables,
+        restrict,
         automata,
         elements,
         elements_at: 0,

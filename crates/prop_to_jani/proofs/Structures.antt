@@ -9,6 +9,7 @@ use Rattle.basics.specs.Mapped.{found_mapped, kept_mapped, mapped, some_mapped}
 use Rattle.basics.specs.Members.{position_cons}
 use Rattle.basics.specs.Texts.{bytes_eq-self}
 use Rattle.prism_tree.specs.Syntax as prism
+use Rattle.prism_flat.specs.Scene.{has_condition}
 use Rattle.jani_tree.specs.Syntax.{Var, File}
 use Rattle.jani_tree.specs.Places.{bare_const, bare_var, bare_file}
 use Rattle.jani_check.proofs.Bare.{var_thing-bare}
@@ -41,7 +42,7 @@ pub structures_named : (file : prism.File) → structures (translated file) ≡ 
 structures_named file =
     let n = new_names file in
     let rs = map (λ p. structure p.0 p.1) (zip file.rewards n.rewards) in
-    none_of (variable n.value) (λ x e. refl) (zip (variables file) n.variables) (map (λ p. label p.0 p.1) (zip file.labels n.labels) ++ rs)
+    none_of (variable n.value (has_condition file)) (λ x e. refl) (zip (variables file) n.variables) (map (λ p. label p.0 p.1) (zip file.labels n.labels) ++ rs)
     ∙ none_of label (λ x e. refl) (zip file.labels n.labels) rs
     ∙ all_of (zip file.rewards n.rewards)
     ∙ map-zip-right (λ v. v.name.name) structure (λ e. e.name) structure_name file.rewards n.rewards (for_rewards file)

@@ -28,6 +28,7 @@ with_properties f v = record {
   actions = f.actions;
   constants = f.constants;
   variables = f.variables;
+  restrict = f.restrict;
   automata = f.automata;
   elements = f.elements;
   elements_at = f.elements_at;

@@ -3,6 +3,7 @@ use Rattle.std.proofs.Common.{◌≡◌, suc, ◌+◌, ◌≤◌, ◌<◌, ◌^�
 use Rattle.std.specs.List.{zip}
 use Rattle.std.proofs.lemmas.List.{length-map}
 use Rattle.prism_tree.specs.Syntax as prism
+use Rattle.prism_flat.specs.Scene.{has_condition}
 use Rattle.process_core.specs.Instance.{only_if}
 use Rattle.jani_tree.specs.Syntax.{Write, File}
 use Rattle.jani_tree.specs.Places.{bare_const, bare_var, bare_automaton, bare_file}
@@ -38,10 +39,10 @@ module _ (file : prism.File) where
 
   variables_many : length (translated file).variables ≡ length (variables file) + (length file.labels + length file.rewards)
   variables_many =
-      let vs = map (λ p. variable names.value p.0 p.1) (zip (variables file) names.variables) in
+      let vs = map (λ p. variable names.value (has_condition file) p.0 p.1) (zip (variables file) names.variables) in
       let ls = map (λ p. label p.0 p.1) (zip file.labels names.labels) in
       let rs = map (λ p. structure p.0 p.1) (zip file.rewards names.rewards) in
-      let v : length vs ≡ length (variables file) = paired (λ p. variable names.value p.0 p.1) (variables file) names.variables (for_variables file) in
+      let v : length vs ≡ length (variables file) = paired (λ p. variable names.value (has_condition file) p.0 p.1) (variables file) names.variables (for_variables file) in
       let l : length ls ≡ length file.labels = paired (λ p. label p.0 p.1) file.labels names.labels (for_labels file) in
       let r : length rs ≡ length file.rewards = paired (λ p. structure p.0 p.1) file.rewards names.rewards (for_rewards file) in
       let a = length-append vs (ls ++ rs) in

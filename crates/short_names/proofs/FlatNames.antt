@@ -80,7 +80,7 @@ module _ (file : File) (short : HasShortNames file) where
         commands = each_map ShortCommand IsShortCommand (flat_command file (part_of file m).rename) (command_short (part_of file m).rename p.rename) (part_of file m).commands p.commands;
       }
 
-  bodies_short : (ms : List Module) → Each ShortModule ms → Each IsShortBody (bodies (record { constants = []; globals = []; formulas = []; modules = map (flat_module file) ms; labels = []; rewards = []; end = 0 }))
+  bodies_short : (ms : List Module) → Each ShortModule ms → Each IsShortBody (bodies (record { constants = []; globals = []; formulas = []; modules = map (flat_module file) ms; labels = []; rewards = []; init = None; end = 0 }))
   bodies_short [] s = tt
   bodies_short (m ∷ ms) s = (body_short m s.0, bodies_short ms s.1)
 

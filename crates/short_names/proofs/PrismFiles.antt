@@ -12,8 +12,8 @@ use Rattle.prism_lex.specs.declared.symbols.Symbol.TheVariants as S
 use Rattle.prism_lex.specs.Tokens.{TokenFaults}
 use Rattle.prism_tree.specs.declared.syntax.ItemOn.TheVariants.{InState}
 use Rattle.prism_tree.specs.Syntax.{Expression, File, moved}
-use Rattle.prism_tree.specs.Lang.{Lang, token, ◌>>◌, with_last, front}
-use Rattle.prism_tree.specs.Grammar.{name, named, unquoted, quoted, expr, const_type, const_item, range, var, global_item, formula_item, label_item, write, update, weighted, updates, one_branch, command, body, pair, copy, module_item, on_action, reward, rewards_item, Section, a_const, a_global, a_formula, a_module, a_label, a_rewards, empty, with_section, section, file_over}
+use Rattle.prism_tree.specs.Lang.{Lang, token, ◌>>◌, folding, with_last, front}
+use Rattle.prism_tree.specs.Grammar.{name, named, unquoted, quoted, expr, const_type, const_item, range, var, global_item, formula_item, label_item, write, update, weighted, updates, one_branch, command, body, pair, copy, module_item, on_action, reward, rewards_item, Section, a_const, a_global, a_formula, a_module, a_label, a_rewards, empty, with_section, section, init_if, init_item, items, with_init, file_over}
 use Rattle.prism_tree.specs.Faults.{SyntaxFaults, of_tokens, of_grammar, none}
 use Rattle.prism_print.proofs.SpelledFiles.{V}
 use Rattle.prism_print.proofs.Keeping.{Keeps, IsKept, then_keeps, any_then, gives_keeps, never_keeps, or_keeps, token_keeps, many_keeps, folding_keeps, optional_keeps, any_keeps, expr_keeps}
@@ -163,11 +163,26 @@ with_short f (a_module x) p q = record { constants = p.constants; globals = p.gl
 with_short f (a_label x) p q = record { constants = p.constants; globals = p.globals; formulas = p.formulas; modules = p.modules; labels = each_last ShortLabel f.labels x p.labels q; rewards = p.rewards }
 with_short f (a_rewards x) p q = record { constants = p.constants; globals = p.globals; formulas = p.formulas; modules = p.modules; labels = p.labels; rewards = each_last ShortRewards f.rewards x p.rewards q }
 
+sections_keep : (f : File) → HasShortNames f → Keeps IsAccepted (folding with_section (section expr V) f) HasShortNames
+sections_keep f p = folding_keeps (section expr V) HasShortNames with_section f section_keeps p with_short
+
+init_keeps : (o : Option Expression) → Keeps IsAccepted (init_if expr V o) ShortExpression
+unfolding init_item
+init_keeps None = word_then (K.Word W.Init) (then_keeps expression_keeps (λ e p. word_then (K.Word W.Endinit) (gives_keeps e p)))
+init_keeps (Some e) = never_keeps
+
+-- a condition declares nothing
+with_condition : (f : File) (e : Expression) → HasShortNames f → HasShortNames (with_init f e)
+with_condition f e p = record { constants = p.constants; globals = p.globals; formulas = p.formulas; modules = p.modules; labels = p.labels; rewards = p.rewards }
+
+items_keep : (f : File) → HasShortNames f → Keeps IsAccepted (items expr V f) HasShortNames
+unfolding items
+items_keep f p = then_keeps (sections_keep f p) (λ g q. or_keeps (gives_keeps g q) (then_keeps (init_keeps g.init) (λ e r. sections_keep (with_init g e) (with_condition g e q))))
+
 file_keeps : (end : ℕ) → Keeps IsAccepted (file_over expr V end) HasShortNames
 unfolding file_over
 file_keeps end =
-    then_keeps (folding_keeps (section expr V) HasShortNames with_section (empty end) section_keeps begun with_short) (λ f p.
-    word_then (K.Word W.Mdp) (folding_keeps (section expr V) HasShortNames with_section f section_keeps p with_short))
+    then_keeps (items_keep (empty end) begun) (λ f p. word_then (K.Word W.Mdp) (items_keep f p))
   where
     begun : HasShortNames (empty end)
     begun = record { constants = tt; globals = tt; formulas = tt; modules = tt; labels = tt; rewards = tt }

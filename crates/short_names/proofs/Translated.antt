@@ -1,5 +1,5 @@
 -- The form of a translated file, whatever holds of each of its new names and of the three names of its own.
-use Rattle.std.specs.Prelude.{ℕ, List, [], ◌∷◌, ◌++◌, map, length, Bool, true, false, Option, Some, None, nat_eq, if◌then◌else◌}
+use Rattle.std.specs.Prelude.{◌≡◌, ℕ, List, [], ◌∷◌, ◌++◌, map, length, Bool, true, false, Option, Some, None, nat_eq, if◌then◌else◌}
 use Rattle.std.specs.List.{filter, zip, AllByRecursion as Each}
 use Rattle.std.specs.Option.{option_map}
 use Rattle.std.proofs.Common.{refl, arith, drop, length-drop}
@@ -9,21 +9,22 @@ use Rattle.op_trees.specs.Tree.{Truth, Number, Name as At, One, Two, Three, AllN
 use Rattle.op_trees.specs.SeenLaws.{names_then}
 use Rattle.process_core.specs.Ready.{Name}
 use Rattle.prism_tree.specs.Syntax as prism
+use Rattle.prism_flat.specs.Scene.{has_condition}
 use Rattle.prism_tree.specs.declared.syntax.ItemOn.{ItemOn}
 use Rattle.process_core.specs.Instance.{numbered, only_if}
 use Rattle.basics.specs.Options.{IfAny}
 use Rattle.prism_print.specs.Printable.{IsPrintableExpression, AreBranches}
 use Rattle.prism_print.proofs.Printable.{literals}
 use Rattle.jani_table.specs.declared.operator.JaniOp.TheVariants.{Add}
-use Rattle.jani_tree.specs.Syntax.{Expression, Write, Edge, Automaton}
+use Rattle.jani_tree.specs.Syntax.{Expression, Write, Edge, Automaton, is_always}
 use Rattle.basics.specs.Lists.{IsNotEmpty as HasItems}
-use Rattle.jani_tree.specs.Form.{NameForm, ExprForm, KindForm, ConstRead, VarRead, WriteRead, DestinationRead, EdgeRead, AutomatonRead, PartForm, VectorRead, FileWith}
+use Rattle.jani_tree.specs.Form.{NameForm, ExprForm, KindForm, ConstRead, VarRead, WriteRead, DestinationRead, EdgeRead, AutomatonRead, PartForm, VectorRead, RestrictionRead, FileWith}
 use Rattle.name_table.specs.declared.entry.Entry.{Entry}
 use Rattle.prism_images.specs.Image.{image, image_one}
 use Rattle.prism_images.specs.Laws.{HasItsOperands}
 use Rattle.prism_images.proofs.Form.{form_kept}
 use Rattle.name_table.specs.Asks.{bodies, variables, actions, value_names, NewNames, new_names, entries, some_from, labels_at, rewards_at, modules_at, actions_at}
-use Rattle.jani_translation.specs.Parts.{made, instead, instead_if, nought, kind_of, start_of, constant, variable, label, structure}
+use Rattle.jani_translation.specs.Parts.{made, instead, instead_if, nought, kind_of, restriction, start_of, start_under, constant, variable, label, structure}
 use Rattle.jani_translation.specs.Automata.{loc, zz_silent, zz_monitor, for_states, for_silent, for_action, earning_actions, earns_silently, has_monitor, item_value, sum_behind, sum_to, reward_of, rewards_of, label_value, location_values, write, destination, edge_action, edge, automaton, module_automata, monitor_edge, monitor_edges, monitor, automata, has_silent, has_items}
 use Rattle.jani_translation.specs.Translated.{has_command, part_if, silent_vector, silent_vectors, global_variables, jani_actions, action_vector, vectors, translated}
 use Rattle.jani_translation_laws.proofs.Known.{IsKnown, Good, GoodConst, GoodRange, GoodVar, GoodLabel, GoodWrite, GoodBranch, GoodCommand, GoodBody, GoodItem, GoodRewards, IsGood, is_good}
@@ -112,18 +113,22 @@ module _ (P : Name → Type 0) (file : prism.File) (all : Each (λ e. P e.name) 
   start_form None (Some r) g h = form r.low h.0
   start_form None None g h = tt
 
-  variable_read : (x : prism.Var) (e : Entry) → GoodVar file x → HasName e → (VarRead P) (variable names.value x e)
-  variable_read x e g n = record { name = n; kind = kind_form x.range g.0; start = start_form x.start x.range g.1 g.0; begins = tt }
+  variable_read : (x : prism.Var) (e : Entry) → GoodVar file x → HasName e → (VarRead P) (variable names.value (has_condition file) x e)
+  variable_read x e g n = record { name = n; kind = kind_form x.range g.0; start = under_form (has_condition file) (start_form x.start x.range g.1 g.0); begins = λ t. absurd cc }
+    where
+      under_form : (any : Bool) → ExprForm P (start_of names.value x.start x.range) → IfAny (ExprForm P) (start_under names.value any x.start x.range)
+      under_form true h = tt
+      under_form false h = h
 
   label_read : (l : prism.Label) (e : Entry) → HasName e → (VarRead P) (label l e)
-  label_read l e n = record { name = n; kind = tt; start = tt; begins = tt }
+  label_read l e n = record { name = n; kind = tt; start = tt; begins = λ t. tt }
 
   instead_name : (o : Option Named) (x : Name) → P x → (NameForm P) (instead_if o x)
   instead_name None x n = n
   instead_name (Some m) x n = n
 
   structure_read : (r : prism.Rewards) (e : Entry) → HasName e → (VarRead P) (structure r e)
-  structure_read r e n = record { name = instead_name r.name e.name n; kind = tt; start = nought_form P; begins = tt }
+  structure_read r e n = record { name = instead_name r.name e.name n; kind = tt; start = nought_form P; begins = λ t. tt }
 
   -- ---- rewards
   item_form : (i : prism.Item) → GoodItem file i → (ExprForm P) (item_value names i)
@@ -290,17 +295,26 @@ module _ (P : Name → Type 0) (file : prism.File) (all : Each (λ e. P e.name) 
 
   variables_read : IsGood file → Each (VarRead P) (global_variables names file)
   variables_read g =
-      let vs = map (λ p. variable names.value p.0 p.1) (zip (variables file) names.variables) in
+      let vs = map (λ p. variable names.value (has_condition file) p.0 p.1) (zip (variables file) names.variables) in
       let ls = map (λ p. label p.0 p.1) (zip file.labels names.labels) in
       let rs = map (λ p. structure p.0 p.1) (zip file.rewards names.rewards) in
       each_join (VarRead P) vs (ls ++ rs)
-      (each_map (λ p. GoodVar file p.0 × HasName p.1) (VarRead P) (λ p. variable names.value p.0 p.1) (λ p h. variable_read p.0 p.1 h.0 h.1) (zip (variables file) names.variables)
+      (each_map (λ p. GoodVar file p.0 × HasName p.1) (VarRead P) (λ p. variable names.value (has_condition file) p.0 p.1) (λ p h. variable_read p.0 p.1 h.0 h.1) (zip (variables file) names.variables)
       (each_zip (GoodVar file) HasName (variables file) names.variables g.variables (names_from (length file.constants) (length (variables file)))))
       (each_join (VarRead P) ls rs
       (each_map (λ p. GoodLabel file p.0 × HasName p.1) (VarRead P) (λ p. label p.0 p.1) (λ p h. label_read p.0 p.1 h.1) (zip file.labels names.labels)
       (each_zip (GoodLabel file) HasName file.labels names.labels g.labels (names_from (labels_at file (entries file)) (length file.labels))))
       (each_map (λ p. GoodRewards file p.0 × HasName p.1) (VarRead P) (λ p. structure p.0 p.1) (λ p h. structure_read p.0 p.1 h.1) (zip file.rewards names.rewards)
       (each_zip (GoodRewards file) HasName file.rewards names.rewards g.rewards (names_from (rewards_at file (entries file)) (length file.rewards)))))
+
+  -- the condition isn't the literal true
+  restriction_read : (o : Option prism.Expression) → IfAny (Good file) o → IfAny (RestrictionRead P) (restriction names.value o)
+  restriction_read None g = tt
+  restriction_read (Some e) g = by_always (is_always (image names.value e)) refl
+    where
+      by_always : (b : Bool) → is_always (image names.value e) ≡ b → IfAny (RestrictionRead P) (if b then None else Some (image names.value e))
+      by_always true h = tt
+      by_always false h = record { expression = form e g; restricts = h }
 
   elements_form : (as_ : List Automaton) → Each (AutomatonRead P) as_ → Each (NameForm P) (map (λ a. a.name) as_)
   elements_form as_ h = each_map (AutomatonRead P) (NameForm P) (λ a. a.name) (λ a r. r.name) as_ h
@@ -313,6 +327,7 @@ module _ (P : Name → Type 0) (file : prism.File) (all : Each (λ e. P e.name) 
         actions = actions_form;
         constants = constants_read g.constants;
         variables = variables_read g;
+        restrict = restriction_read file.init g.init;
         automata = as_;
         elements = elements_form (translated file).automata as_;
         vectors = vectors_read;

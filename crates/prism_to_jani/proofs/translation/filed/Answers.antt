@@ -1,5 +1,7 @@
 use Rattle.std.specs.Prelude.{map}
+use Rattle.std.specs.Option.{option_map}
 use Rattle.std.proofs.Common.{◌∙◌, ap, ap₂}
+use Rattle.op_trees.specs.Tree.{tree}
 use Rattle.jani_table.specs.Node.{array, nodes}
 use Rattle.jani_table.specs.NodeLaws.{node_array}
 use Rattle.jani_tree.specs.Syntax.{File, const_of, var_of, automaton_of, vector_of}
@@ -11,6 +13,7 @@ returns c =
       actions = c.args.actions;
       constants = map const_of c.args.constants;
       variables = map var_of c.args.variables;
+      restrict = option_map tree c.args.restrict;
       automata = map automaton_of c.args.automata;
       elements = es;
       elements_at = 0;
