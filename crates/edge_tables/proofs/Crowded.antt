@@ -19,7 +19,7 @@ use Rattle.jani_meaning.specs.Elements.{Owned, is_owner, is_own, is_global, plac
 use Rattle.process_core.specs.Instance.{numbered}
 use Rattle.prism_translation.specs.Elements.{Element, elements, may_use}
 use Rattle.prism_translation.specs.Marks.{Given, given_by}
-use Rattle.prism_translation.specs.Refused.{values_given, result_commands, result_nodes, is_too_large}
+use Rattle.prism_translation.specs.Refused.{values_given, result_commands, result_nodes, has_large_result}
 use Rattle.prism_translation.proofs.Numbered.{numbered_from}
 use Rattle.edge_tables.specs.Counts.{has_many_commands, value_count, is_crowded, some_crowded, crowded_from, usable_among}
 
@@ -136,8 +136,8 @@ all_elements_crowded vars k [] = refl
 all_elements_crowded vars k (a ∷ autos) = ap₂ (λ b c. b || c) (sym (one_element vars k a)) (all_elements_crowded vars (k + 1) autos)
 
 -- ---- the file
-pub too_large_is : (file : File) → is_too_large file ≡ (has_many_commands file || crowded_from (usable_among (labels file)) 0 (jani.elements file))
-too_large_is file =
+pub large_result_is : (file : File) → has_large_result file ≡ (has_many_commands file || crowded_from (usable_among (labels file)) 0 (jani.elements file))
+large_result_is file =
     ap (λ b. nat_lt 200000 (result_commands file) || (nat_lt 2000000 (result_nodes file) || b))
     (any_exchange (λ o el. nat_lt 1024 (values_given o el)) (labels file) (elements file) ∙ all_elements_crowded (labels file) 0 (jani.elements file))
     ∙ sym (or_assoc (nat_lt 200000 (result_commands file)) (nat_lt 2000000 (result_nodes file)) (crowded_from (usable_among (labels file)) 0 (jani.elements file)))

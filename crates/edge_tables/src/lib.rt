@@ -10,6 +10,7 @@ mod parts;
 mod places;
 mod shared;
 mod splits;
+mod starts;
 mod sums;
 mod values;
 
@@ -20,4 +21,5 @@ pub use parts::{is_another, part_of};
 pub use places::Places;
 pub use shared::judge_shared;
 pub use splits::{VectorSplit, all_splits};
+pub use starts::{has_condition, has_many_starts};
 pub use values::has_many_values;

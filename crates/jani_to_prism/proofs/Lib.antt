@@ -3,6 +3,7 @@ pub mod Named
 mod ActionLabels
 mod GainItems
 mod GivenTo
+mod Joining
 mod LineLists
 mod LongActions
 mod MapKept

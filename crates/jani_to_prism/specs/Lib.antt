@@ -7,6 +7,7 @@ pub use Rattle.prism_translation_laws.specs.Refused
 pub mod Asks
 pub mod Gains
 pub mod Given
+pub mod Joining
 pub mod LineParts
 pub mod MapParts
 pub mod NamedTargets

@@ -2,8 +2,11 @@
 
 ghost use Rattle.std.specs.Prelude.{◌≡◌, ℕ, map, IfOk};
 ghost use Rattle.std.specs.List.{All};
+ghost use Rattle.std.specs.Option.{option_map};
+ghost use Rattle.op_trees.specs.Tree.{tree};
 ghost use Rattle.prism_tree.specs.Syntax as prism;
 ghost use Rattle.process_core.specs.Instance.{numbered};
+ghost use Rattle.prism_targets.specs.Conditions.{condition};
 ghost use Rattle.prism_targets.specs.Elements.{elements, lasting_variables};
 ghost use Rattle.prism_targets.specs.Targets.{targets};
 ghost use Rattle.prism_targets.specs.Translated.{translated_by};
@@ -21,6 +24,7 @@ ghost use Rattle.jani_to_prism.specs.Parts.{globals_in, modules_in, labels_in, r
 
 use crate::gains::{Gain, gains};
 use crate::given::GivenTable;
+use crate::initial::condition;
 use crate::labels::labels;
 use crate::rewards::structures;
 use bridge_io::{List, together};
@@ -31,7 +35,7 @@ use prism_modules::{
     lasting_variables, modules,
 };
 use prism_targets::{ElementServing, Places, Serving, Target};
-use prism_tree::{PrismFile, PrismLabel, PrismModule, PrismRewards, PrismVar};
+use prism_tree::{PrismExpr, PrismFile, PrismLabel, PrismModule, PrismRewards, PrismVar};
 use std::alloc::{AllocError, Global};
 
 /// The variables that stay global, and the modules.
@@ -226,6 +230,23 @@ fn moving_by(
     moving(alloc, names, els, vars.as_slice(), serving)
 }
 
+/// The initial condition, by the parts of the file.
+fn condition_by(
+    alloc: Global,
+    names: &Names,
+    els: &[Element],
+    lasting: &[OwnedVar],
+) -> Result<Option<PrismExpr>, AllocError>
+    requires names { IsReady names.now }
+    requires elements { map element_of els.now ≡ elements (file_in names.now) }
+    requires located { All IsElement els.now }
+    requires lasting { map owned_of lasting.now ≡ lasting_of_file (file_in names.now) }
+    ensures { IfOk result (λ r. option_map tree r ≡ condition (file_in names.now) (names_in names.now)) }
+{
+    let vars = lasting_variables(alloc, lasting)?;
+    condition(alloc, names, els, vars.as_slice())
+}
+
 /// The file under its new names, where these are its elements, its parts, and what its edges serve.
 pub(crate) fn file_by(
     alloc: Global,
@@ -257,7 +278,12 @@ pub(crate) fn file_by(
         parts.structures.as_slice(),
         serving.targets.as_slice(),
     );
-    let (constants, (moving, marks)) = together(constants(alloc, names), together(moving, marks))?;
+    let init = condition_by(alloc, names, els, parts.lasting.as_slice());
+    let marked = together(moving, marks);
+    let (init, (constants, (moving, marks))) = together(
+        init,
+        together(constants(alloc, names), marked),
+    )?;
     Ok(PrismFile {
         constants,
         globals: moving.globals,
@@ -265,6 +291,7 @@ pub(crate) fn file_by(
         modules: moving.modules,
         labels: marks.labels,
         rewards: marks.rewards,
+        init,
         end: 0,
     })
 }

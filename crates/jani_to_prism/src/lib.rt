@@ -8,6 +8,7 @@ mod carry;
 mod file;
 mod gains;
 mod given;
+mod initial;
 mod label_pairs;
 mod labels;
 mod laws;

@@ -28,6 +28,7 @@ pub(crate) fn file_names<'a>(
     let names = new_names(
         alloc,
         file,
+        parts.automata.as_slice(),
         parts.lasting.as_slice(),
         parts.labels.len(),
         parts.structures.len(),

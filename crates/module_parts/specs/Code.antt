@@ -6,6 +6,7 @@ use Rattle.process_core.specs.Ready.{Name}
 use Rattle.jani_tree.specs.Syntax.{File, Automaton, file_of, automaton_of}
 use Rattle.op_trees.specs.Names.{is_called}
 use Rattle.jani_meaning.specs.Elements.{Owned, lasting, place_of}
+use Rattle.jani_meaning.specs.Scene.{has_condition}
 use Rattle.name_rules.specs.Names.{under}
 use Rattle.name_table.specs.JaniParts.{owned_of}
 use Rattle.process_core.specs.Instance.{numbered}
@@ -44,10 +45,11 @@ constant_in n x = unwrap_or (name_at_some n.entries.constants.now (under n.const
 abbrev pub value_in : Names → ℕ → Name → Name
 value_in n k x = unwrap_or (option_or (name_at_some n.entries.variables.now (place_in n.lasting k x)) (name_at_some n.entries.constants.now (under n.constants x))) []
 
--- the numbers are those of the file
+-- the numbers are those of the file, and so is what is said of an initial condition
 pub record IsReady (n : Names) : Type 0 where
   pub lasting_are : (k : ℕ) (x : Name) → place_in n.lasting k x ≡ place_of (lasting (file_in n)) k x
   pub constants_are : (x : Name) → under n.constants x ≡ position (λ c. is_called x c.name) (file_in n).constants
+  pub condition_is : n.has_condition ≡ has_condition (file_in n)
 
 -- ---- variables
 -- a variable that is not transient, with its number

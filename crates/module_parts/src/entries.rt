@@ -21,13 +21,15 @@ pub struct Classes<'a> {
     pub actions: &'a [Entry],
 }
 
-/// What the names of a file become: its entries, and the numbers of its variables that are not transient and of its constants.
+/// What the names of a file become: its entries, and the numbers of its variables that are not transient and of its constants; and
+/// whether it has an initial condition.
 #[derive(Drop)]
 pub struct Names<'a> {
     pub file: &'a JaniFile,
     pub entries: Classes<'a>,
     pub lasting: Places<'a>,
     pub constants: NameMap<'a, usize>,
+    pub has_condition: bool,
 }
 
 impl<'a> Names<'a> {

@@ -18,6 +18,8 @@ pub use gathered::{FileParts, file_parts};
 pub use homes::{at_home, globals, lasting_variables, shared};
 pub use images::image;
 pub use naming::new_names;
-pub use parts::{LastingVar, constants, counted, falsehood, image_if, is_there, truth, variable};
+pub use parts::{
+    LastingVar, constants, counted, falsehood, image_if, is_there, scope_of, truth, variable,
+};
 pub use updates::branches;
 pub use writers::WriterTable;

@@ -6,10 +6,11 @@ ghost use Rattle.std.specs.Option.{option_map};
 ghost use Rattle.op_trees.specs.Tree.{tree};
 ghost use Rattle.prism_tree.specs.Syntax as prism;
 ghost use Rattle.jani_tree.specs.Syntax as jani;
+ghost use Rattle.jani_meaning.specs.Scene.{has_condition};
 ghost use Rattle.name_table.specs.JaniParts.{owned_of};
 ghost use Rattle.name_table.specs.PrismAsks.{value_name};
 ghost use Rattle.jani_images.specs.Image.{image};
-ghost use Rattle.edge_tables.specs.Parts.{counted, constant, range_of, variable, scope_of, is_there};
+ghost use Rattle.edge_tables.specs.Parts.{counted, constant, range_of, start_under, variable, scope_of, is_there};
 ghost use Rattle.edge_tables.specs.Modules.{truth, falsehood};
 ghost use Rattle.module_parts.specs.Code.{file_in, names_in, IsReady, lasting_of};
 
@@ -150,7 +151,7 @@ fn range_of(
 }
 
 /// The element that a variable's expressions are read in.
-pub(crate) fn scope_of(names: &Names, var: &OwnedVar) -> usize
+pub fn scope_of(names: &Names, var: &OwnedVar) -> usize
     ensures { result ≡ scope_of (file_in names.now) (names_in names.now) (owned_of var.now) }
 {
     match var.owner {
@@ -166,6 +167,24 @@ pub struct LastingVar<'a> {
     pub owned: OwnedVar<'a>,
 }
 
+/// The first value, in a file without an initial condition.
+fn start_of(
+    alloc: Global,
+    names: &Names,
+    element: usize,
+    start: &Option<JaniExpr>,
+) -> Result<Option<PrismExpr>, AllocError>
+    requires { IsReady names.now }
+    ensures { IfOk result (λ r. option_map tree r ≡
+        start_under (file_in names.now) (names_in names.now) (has_condition (file_in names.now))
+        (option_map (image (value_name (file_in names.now) (names_in names.now) element)) (option_map tree start.now))) }
+{
+    if names.has_condition {
+        return Ok(None);
+    }
+    image_if(alloc, names, element, start)
+}
+
 /// A variable that is not transient. `Err` is want of memory.
 pub fn variable(alloc: Global, names: &Names, x: &LastingVar) -> Result<PrismVar, AllocError>
     requires { IsReady names.now }
@@ -174,7 +193,7 @@ pub fn variable(alloc: Global, names: &Names, x: &LastingVar) -> Result<PrismVar
     let element = scope_of(names, &x.owned);
     let new = name_at(names.entries.variables, x.number);
     let var = x.owned.var;
-    let start = image_if(alloc, names, element, &var.start);
+    let start = start_of(alloc, names, element, &var.start);
     let values = together(start, range_of(alloc, names, element, &var.kind));
     let (name, (start, range)) = together(instead(alloc, &var.name, new), values)?;
     Ok(PrismVar { name, range, start })

@@ -1,12 +1,16 @@
 // Elements as modules.
 
-ghost use Rattle.std.specs.Prelude.{◌≡◌, ◌++◌, ℕ, map, IfOk};
+ghost use Rattle.std.specs.Prelude.{◌≡◌, ◌++◌, ℕ, Some, map, IfOk};
+ghost use Rattle.std.specs.Option.{option_map};
 ghost use Rattle.std.specs.List.{All};
+ghost use Rattle.op_trees.specs.Tree.{tree};
+ghost use Rattle.jani_meaning.specs.Elements.{initial_number};
+ghost use Rattle.jani_meaning.specs.Scene.{has_condition};
 ghost use Rattle.prism_tree.specs.Syntax as prism;
 ghost use Rattle.prism_tree.specs.Syntax.{plain};
 ghost use Rattle.process_core.specs.Instance.{only_if};
 ghost use Rattle.prism_targets.specs.Elements.{elements, has_several, at_home};
-ghost use Rattle.prism_targets.specs.Parts.{location_variable, variable};
+ghost use Rattle.prism_targets.specs.Parts.{counted, location_variable, start_under, variable};
 ghost use Rattle.prism_targets.specs.Modules.{module_of};
 ghost use Rattle.prism_targets.specs.Code.{element_served};
 ghost use Rattle.prism_targets.specs.Serving.{served_in};
@@ -19,11 +23,25 @@ use gathering::NumberLists;
 use module_parts::{Element, LastingVar, Names, counted, name_at, variable};
 use name_table::made;
 use prism_targets::ElementServing;
-use prism_tree::{PlainModule, PrismModule, PrismRange, PrismVar};
+use prism_tree::{PlainModule, PrismExpr, PrismModule, PrismRange, PrismVar};
 use std::alloc::{AllocError, Global};
+
+/// The location that an element begins in, in a file without an initial condition.
+fn location_start(names: &Names, el: &Element) -> Option<PrismExpr>
+    requires names { IsReady names.now }
+    requires element { IsElement el.now }
+    ensures { option_map tree result ≡
+        start_under (file_in names.now) (names_in names.now) (has_condition (file_in names.now)) (Some (counted (initial_number (element_of el.now).automaton))) }
+{
+    if names.has_condition {
+        return None;
+    }
+    Some(counted(el.initial()))
+}
 
 /// The location variable of an element counts its locations from 0 on.
 fn location_variable(alloc: Global, names: &Names, el: &Element) -> Result<PrismVar, AllocError>
+    requires names { IsReady names.now }
     requires element { IsElement el.now }
     ensures { IfOk result (λ r. prism.var_of r ≡ location_variable (file_in names.now) (names_in names.now) (element_of el.now)) }
 {
@@ -34,7 +52,7 @@ fn location_variable(alloc: Global, names: &Names, el: &Element) -> Result<Prism
             low: counted(0),
             high: counted(last),
         }),
-        start: Some(counted(el.initial())),
+        start: location_start(names, el),
     })
 }
 
@@ -64,6 +82,7 @@ fn location_variables(
     names: &Names,
     el: &Element,
 ) -> Result<List<PrismVar>, AllocError>
+    requires names { IsReady names.now }
     requires element { IsElement el.now }
     ensures { IfOk result (λ all. map prism.var_of all ≡
         only_if (has_several (element_of el.now)) (location_variable (file_in names.now) (names_in names.now) (element_of el.now))) }

@@ -10,5 +10,5 @@ pub use element_modules::modules;
 pub use module_parts::{
     Classes, Element, FileParts, LastingVar, Names, WriterTable, at_home, constants, counted,
     elements, falsehood, file_parts, globals, image, image_if, is_there, lasting_variables,
-    name_at, new_names, shared, truth,
+    name_at, new_names, scope_of, shared, truth,
 };

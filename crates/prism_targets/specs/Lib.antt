@@ -3,6 +3,7 @@ pub use Rattle.edge_tables.specs.Places
 pub mod Made
 pub mod Code
 pub mod Serving
+pub use Rattle.prism_translation.specs.Conditions
 pub use Rattle.prism_translation.specs.Elements
 pub use Rattle.prism_translation.specs.Modules
 pub use Rattle.prism_translation.specs.Parts

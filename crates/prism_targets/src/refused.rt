@@ -7,14 +7,15 @@ ghost use Rattle.jani_tree.specs.Syntax.{automaton_of, file_of};
 ghost use Rattle.jani_meaning.specs.Elements.{elements, lasting as lasting_of, labels as labels_of, structures as structures_of};
 ghost use Rattle.name_table.specs.JaniParts.{owned_of};
 ghost use Rattle.prism_translation.specs.Elements as spec;
-ghost use Rattle.prism_translation.specs.Refused.{is_too_large, refused};
+ghost use Rattle.prism_translation.specs.Refused.{has_large_result, is_too_large, refused};
 ghost use Rattle.edge_tables.specs.Tables.{table_in};
 ghost use Rattle.edge_tables.specs.Counts.{crowded_from, has_many_commands, usable_among};
 ghost use Rattle.edge_tables.specs.Code.{table_view};
 
 use bridge_io::{Fault, Reason};
 use edge_tables::{
-    ElementEdges, Places, all_splits, element_edges, has_many_values, has_too_many, judge_shared,
+    ElementEdges, Places, all_splits, element_edges, has_many_starts, has_many_values,
+    has_too_many, judge_shared,
 };
 use jani_tree::{JaniAutomaton, JaniFile};
 use name_table::OwnedVar;
@@ -43,7 +44,7 @@ pub fn least_refused<'a>(
     if shared.is_some() {
         return Ok(shared);
     }
-    let large = is_too_large(alloc, file, automata, edges.as_slice(), labels)?;
+    let large = is_too_large(alloc, file, automata, edges.as_slice(), lasting, labels)?;
     Ok(too_large_if(large))
 }
 
@@ -67,12 +68,33 @@ fn is_too_large<'a>(
     file: &'a JaniFile,
     automata: &[&JaniAutomaton],
     edges: &[ElementEdges<'a>],
+    lasting: &[OwnedVar],
+    labels: &[OwnedVar],
+) -> Result<bool, AllocError>
+    requires automata { map (λ a. automaton_of a.now) automata.now ≡ elements (file_of file.now) }
+    requires lasting { map owned_of lasting.now ≡ lasting_of (file_of file.now) }
+    requires labels { map owned_of labels.now ≡ labels_of (file_of file.now) }
+    requires edges { map table_view edges.now ≡ map (table_in (file_of file.now)) (spec.elements (file_of file.now)) }
+    ensures { IfOk result (λ b. b ≡ is_too_large (file_of file.now)) }
+{
+    if has_many_starts(file, automata, lasting) {
+        return Ok(true);
+    }
+    has_large_result(alloc, file, automata, edges, labels)
+}
+
+/// Whether the translation would have too many commands or nodes, or a label too many values.
+fn has_large_result<'a>(
+    alloc: Global,
+    file: &'a JaniFile,
+    automata: &[&JaniAutomaton],
+    edges: &[ElementEdges<'a>],
     labels: &[OwnedVar],
 ) -> Result<bool, AllocError>
     requires automata { map (λ a. automaton_of a.now) automata.now ≡ elements (file_of file.now) }
     requires labels { map owned_of labels.now ≡ labels_of (file_of file.now) }
     requires edges { map table_view edges.now ≡ map (table_in (file_of file.now)) (spec.elements (file_of file.now)) }
-    ensures { IfOk result (λ b. b ≡ is_too_large (file_of file.now)) }
+    ensures { IfOk result (λ b. b ≡ has_large_result (file_of file.now)) }
 {
     if has_large_modules(alloc, file, edges)? {
         return Ok(true);

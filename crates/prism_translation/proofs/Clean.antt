@@ -208,7 +208,7 @@ module _ (file : File) (c : IsChecked file) where
       record {
         form = form;
         names = names_apart a.variables own.1 own.0;
-        locations = distinct_names TwiceNamed (location_names a) (append_right (doubled_after TwiceNamed (global_names file) (var_names a.variables)) _ once);
+        locations = distinct_names TwiceNamed (location_names a) (append_left (doubled TwiceNamed (location_names a)) (doubled TwiceNamed a.initial) (append_right (doubled_after TwiceNamed (global_names file) (var_names a.variables)) _ once));
         demands =
             judged_each file a.variables (automaton_demands a)
             (append_left (flat_map (unknown_by (λ x. is_among (global_names file) x || is_among (var_names a.variables) x)) (automaton_demands a)) _ known)

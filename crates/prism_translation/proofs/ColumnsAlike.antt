@@ -41,7 +41,7 @@ module _ (file : File) (v : Valuation) where
   names = new_names file
 
   abbrev pub column_here : prism.Var → Column
-  column_here x = prism_scene.column unchanged (prism_scene.constant_names (translated file) v unchanged) x
+  column_here x = prism_scene.column (prism_scene.has_condition (translated file)) unchanged (prism_scene.constant_names (translated file) v unchanged) x
 
   -- what a column has, and what the column of the file with a number has
   module _ {X : Type 0} (get : Column → X) (there : ℕ → X) where
@@ -59,7 +59,7 @@ module _ (file : File) (v : Valuation) where
           (All-filter _ IsThere (lasting_variables file) variables) (All-filter _ IsThere (lasting_variables file) variables)
 
       module_alike : (el : Element) → get (column_here (location_variable file names el)) ≡ there el.number →
-          map get (prism_scene.part_columns (translated file) v (part_of (translated file) (plain (module_of file names el)))) ≡ map there (module_columns file el)
+          map get (prism_scene.part_columns (translated file) (prism_scene.has_condition (translated file)) v (part_of (translated file) (plain (module_of file names el)))) ≡ map there (module_columns file el)
       module_alike el h =
           ap (map get) (map-append column_here (only_if (has_several el) (location_variable file names el)) (map (variable file names) (at_home file el.number)))
           ∙ map-append get (map column_here (only_if (has_several el) (location_variable file names el))) (map column_here (map (variable file names) (at_home file el.number)))
@@ -74,11 +74,11 @@ module _ (file : File) (v : Valuation) where
       -- each column has what the column has that it is
       pub columns_alike : map get (prism_scene.columns_of (translated file) v) ≡ map there (columns file)
       columns_alike =
-          map-append get (map column_here (map (variable file names) (shared file))) (flat_map (prism_scene.part_columns (translated file) v) (map (part_of (translated file)) (map (λ el. plain (module_of file names el)) (elements file))))
+          map-append get (map column_here (map (variable file names) (shared file))) (flat_map (prism_scene.part_columns (translated file) (prism_scene.has_condition (translated file)) v) (map (part_of (translated file)) (map (λ el. plain (module_of file names el)) (elements file))))
           ∙ ap₂ (λ a b. a ++ b) (variables_alike (shared file) (All-filter _ IsThere (lasting_variables file) variables))
-          (ap (λ ms. map get (flat_map (prism_scene.part_columns (translated file) v) ms)) (map-map (part_of (translated file)) (λ el. plain (module_of file names el)) (elements file))
-          ∙ ap (map get) (flat_map-map (prism_scene.part_columns (translated file) v) (λ el. part_of (translated file) (plain (module_of file names el))) (elements file))
-          ∙ map-flat_map get (λ el. prism_scene.part_columns (translated file) v (part_of (translated file) (plain (module_of file names el)))) (elements file)
+          (ap (λ ms. map get (flat_map (prism_scene.part_columns (translated file) (prism_scene.has_condition (translated file)) v) ms)) (map-map (part_of (translated file)) (λ el. plain (module_of file names el)) (elements file))
+          ∙ ap (map get) (flat_map-map (prism_scene.part_columns (translated file) (prism_scene.has_condition (translated file)) v) (λ el. part_of (translated file) (plain (module_of file names el))) (elements file))
+          ∙ map-flat_map get (λ el. prism_scene.part_columns (translated file) (prism_scene.has_condition (translated file)) v (part_of (translated file) (plain (module_of file names el)))) (elements file)
           ∙ flat_map_agree_in _ (λ el. map there (module_columns file el)) (elements file) (λ k d l. module_alike (get_or (elements file) k d) (locations k d l))
           ∙ sym (map-flat_map there (module_columns file) (elements file)))
           ∙ sym (map-append there (map (column_of file) (shared file)) (flat_map (module_columns file) (elements file)))

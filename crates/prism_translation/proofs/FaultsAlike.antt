@@ -10,6 +10,7 @@ use Rattle.op_trees.specs.declared.tree.Value.{Value}
 use Rattle.op_trees.specs.Seen.{Seen, known}
 use Rattle.op_trees.specs.SeenLaws.{names_then}
 use Rattle.process_core.specs.Process.{IsIn}
+use Rattle.process_core.specs.Product.{map-map}
 use Rattle.process_core.specs.declared.data.FaultKind.TheVariants.{ConstUndef, EmptyRange, InitOutside}
 use Rattle.process_core.specs.Ready.{Name}
 use Rattle.choice_laws.specs.Columns.{counting, stands}
@@ -37,11 +38,16 @@ use Rattle.prism_translation.proofs.Domains.{constants_here_are, range_at, domai
 use Rattle.prism_translation.proofs.NamesAlike.{see_constant, constant_alike, constants_long, name_is}
 use Rattle.prism_translation.proofs.Coverage.{all_within}
 use Rattle.prism_translation.proofs.States.{IsSingle, single, jani_columns_long}
-use Rattle.prism_translation.proofs.Starts.{start, starts_alike, starts_there}
+use Rattle.prism_translation.proofs.Starts.{flags_alike, shown, start, start_shown, starts_alike, starts_there}
 
 -- ---- faults of columns, by what they are of
-abbrev faults_of : ℕ → Domain → Option Seen → List Fault
-faults_of j d o = domain_faults j d ++ first_faults false j d o
+abbrev faults_of : Bool → ℕ → Domain → Option Seen → List Fault
+faults_of any j d o = domain_faults j d ++ first_faults any j d o
+
+-- first values count only where there is no initial condition
+first_counts : (any : Bool) (j : ℕ) (d : Domain) (o : Option Seen) → first_faults any j d o ≡ first_faults any j d (shown any o)
+first_counts true j d o = refl
+first_counts false j d o = refl
 
 module _ (file : File) where
   placed_range : (p : ℕ) (r : Option Range) → map (placed file) (range_faults p r) ≡ range_faults (column_at file p) r
@@ -64,38 +70,46 @@ module _ (file : File) where
       by_test true = refl
       by_test false = refl
 
-  placed_first : (p : ℕ) (d : Domain) (o : Option Seen) → map (placed file) (first_faults false p d o) ≡ first_faults false (column_at file p) d o
-  placed_first p d None = refl
-  placed_first p d (Some z) = placed_value p d z.value
+  placed_first : (any : Bool) (p : ℕ) (d : Domain) (o : Option Seen) → map (placed file) (first_faults any p d o) ≡ first_faults any (column_at file p) d o
+  placed_first true p d o = refl
+  placed_first false p d None = refl
+  placed_first false p d (Some z) = placed_value p d z.value
 
-  placed_column : (p : ℕ) (c : Column) → map (placed file) (column_faults false p c) ≡ faults_of (column_at file p) c.domain c.first
-  placed_column p c =
-      map-append (placed file) (domain_faults p c.domain) (first_faults false p c.domain c.first)
-      ∙ ap₂ (λ a b. a ++ b) (placed_domain p c.domain) (placed_first p c.domain c.first)
+  placed_column : (any : Bool) (p : ℕ) (c : Column) → map (placed file) (column_faults any p c) ≡ faults_of any (column_at file p) c.domain (shown any c.first)
+  placed_column any p c =
+      map-append (placed file) (domain_faults p c.domain) (first_faults any p c.domain c.first)
+      ∙ ap₂ (λ a b. a ++ b) (placed_domain p c.domain) (placed_first any p c.domain c.first ∙ first_counts any (column_at file p) c.domain c.first)
+
+  own_column : (any : Bool) (p : ℕ) (c : Column) → column_faults any p c ≡ faults_of any p c.domain (shown any c.first)
+  own_column any p c = ap (λ l. domain_faults p c.domain ++ l) (first_counts any p c.domain c.first)
 
   module _ (v w : Valuation) (sound : FileIsSound file) (alike : GivesAlike file v w) where
     abbrev range : ℕ → Domain
     range j = range_at file v w sound alike j
 
+    -- whether there is an initial condition
+    abbrev any : Bool
+    any = jani_scene.has_condition file
+
     abbrev first : ℕ → Option Seen
-    first j = start file v w sound alike j
+    first j = start_shown file v w sound alike j
 
     abbrev at_column : ℕ → List Fault
-    at_column j = faults_of j (range j) (first j)
+    at_column j = faults_of any j (range j) (first j)
 
     -- columns by their numbers
-    by_columns : (f : ℕ → Column → List Fault) (at : ℕ → ℕ) → ((p : ℕ) (c : Column) → f p c ≡ faults_of (at p) c.domain c.first) → (k : ℕ) (cs : List Column) (js : List ℕ) →
+    by_columns : (f : ℕ → Column → List Fault) (at : ℕ → ℕ) → ((p : ℕ) (c : Column) → f p c ≡ faults_of any (at p) c.domain (shown any c.first)) → (k : ℕ) (cs : List Column) (js : List ℕ) →
         ((i : ℕ) → i < length js → slice_get js i ≡ Some (at (k + i))) →
-        map (λ (c : Column). c.domain) cs ≡ map range js → map (λ (c : Column). c.first) cs ≡ map first js → numbered f k cs ≡ flat_map at_column js
+        map (λ (c : Column). c.domain) cs ≡ map range js → map (λ (c : Column). shown any c.first) cs ≡ map first js → numbered f k cs ≡ flat_map at_column js
     by_columns f at h k [] [] n e g = refl
     by_columns f at h k [] (j ∷ js) n e g = absurd cc
     by_columns f at h k (c ∷ cs) [] n e g = absurd cc
     by_columns f at h k (c ∷ cs) (j ∷ js) n e g =
         let d = cons_parts c.domain (range j) (map (λ (c : Column). c.domain) cs) (map range js) e in
-        let s = cons_parts c.first (first j) (map (λ (c : Column). c.first) cs) (map first js) g in
+        let s = cons_parts (shown any c.first) (first j) (map (λ (c : Column). shown any c.first) cs) (map first js) g in
         let here : at k ≡ j = same_Some (at k) j (ap (λ m. Some (at m)) (let o : k ≡ k + 0 = omega arith in o) ∙ sym (n 0 (omega arith))) in
         ap₂ (λ a b. a ++ b)
-        (h k c ∙ ap₂ (λ i x. faults_of i x c.first) here d.0 ∙ ap (faults_of j (range j)) s.0)
+        (h k c ∙ ap₂ (λ i x. faults_of any i x (shown any c.first)) here d.0 ∙ ap (faults_of any j (range j)) s.0)
         (by_columns f at h (k + 1) cs js (λ i l. n (suc i) (omega arith) ∙ ap (λ m. Some (at m)) (let o : k + suc i ≡ (k + 1) + i = omega arith in o)) d.1 s.1)
 
     -- ---- constants
@@ -179,10 +193,10 @@ module _ (file : File) where
     map-numbered h f k [] = refl
     map-numbered h f k (x ∷ xs) = map-append h (f k x) (numbered f (k + 1) xs) ∙ ap (λ l. map h (f k x) ++ l) (map-numbered h f (k + 1) xs)
 
-    prism_faults : map (placed file) (numbered (column_faults false) 0 prism_columns) ≡ flat_map at_column cols
+    prism_faults : map (placed file) (numbered (column_faults any) 0 prism_columns) ≡ flat_map at_column cols
     prism_faults =
-        map-numbered (placed file) (column_faults false) 0 prism_columns
-        ∙ by_columns (λ p c. map (placed file) (column_faults false p c)) (column_at file) placed_column 0 prism_columns cols
+        map-numbered (placed file) (column_faults any) 0 prism_columns
+        ∙ by_columns (λ p c. map (placed file) (column_faults any p c)) (column_at file) (placed_column any) 0 prism_columns cols
         (λ i l. slice_get-get_or cols i 0 l ∙ sym (ap (λ (o : Option ℕ). Some (unwrap_or o 0)) (ap (slice_get cols) (let e : 0 + i ≡ i = omega arith in e) ∙ slice_get-get_or cols i 0 l)))
         (domains_alike file v w sound alike) (starts_alike file v w sound alike)
 
@@ -191,24 +205,37 @@ module _ (file : File) where
         listed d 0 (map f jani_columns) (λ j. get_or (map f jani_columns) j d) (λ i l. ap (λ j. get_or (map f jani_columns) j d) (let e : 0 + i ≡ i = omega arith in e))
         ∙ ap (λ m. map (λ j. get_or (map f jani_columns) j d) (counting 0 m)) (length-map jani_columns f ∙ jani_columns_long file v w sound alike)
 
-    jani_faults : numbered (column_faults false) 0 jani_columns ≡ flat_map at_column (counting 0 total)
+    firsts_there : (b : Bool) → map (λ (c : Column). shown b c.first) jani_columns ≡ map (λ j. shown b (start file v w sound alike j)) (counting 0 total)
+    firsts_there b =
+        sym (map-map (shown b) (λ (c : Column). c.first) jani_columns)
+        ∙ ap (map (shown b)) (by_length (Some (known None)) (λ (c : Column). c.first))
+        ∙ map-map (shown b) (start file v w sound alike) (counting 0 total)
+
+    jani_faults : numbered (column_faults any) 0 jani_columns ≡ flat_map at_column (counting 0 total)
     jani_faults =
-        by_columns (column_faults false) (λ i. i) (λ p c. refl) 0 jani_columns (counting 0 total)
+        by_columns (column_faults any) (λ i. i) (own_column any) 0 jani_columns (counting 0 total)
         (λ i l. counting_at 0 total i (let e = length-counting 0 total in omega arith))
-        (by_length Truths (λ (c : Column). c.domain)) (by_length (Some (known None)) (λ (c : Column). c.first))
+        (by_length Truths (λ (c : Column). c.domain)) (firsts_there any)
 
     -- a single location has no fault
     none_there : (j : ℕ) → IsSingle file v w sound alike j → at_column j ≡ []
     none_there j k =
         let few = ltb-false 1 (length k.element.automaton.locations) k.few in
         let none : length k.element.automaton.locations - 1 ≡ 0 = omega arith in
-        ap₂ (λ d (z : Option Seen). faults_of j d z) (k.range_is ∙ ap (λ m. Between (jani_scene.counted 0) (jani_scene.counted m)) none) (starts_there file v w sound alike j k)
+        ap₂ (λ d (z : Option Seen). faults_of any j d z) (k.range_is ∙ ap (λ m. Between (jani_scene.counted 0) (jani_scene.counted m)) none) (starts_there file v w sound alike j k)
+        ∙ single_fine any
+      where
+        single_fine : (b : Bool) → faults_of b j (Between (jani_scene.counted 0) (jani_scene.counted 0)) (shown b (Some (jani_scene.counted 0))) ≡ []
+        single_fine true = refl
+        single_fine false = refl
 
     -- The same faults are there.
     pub faults_alike : (f : Fault) → IsIn f (map (placed file) (instance_faults (prism_scene.scene (translated file) v))) ↔ IsIn f (instance_faults (jani_scene.scene file w))
     faults_alike f =
         let A = numbered constant_faults 0 (jani_scene.scene file w).constants in
-        let whole = map-append (placed file) (numbered constant_faults 0 (prism_scene.scene (translated file) v).constants) (numbered (column_faults false) 0 prism_columns) ∙ ap₂ (λ a b. a ++ b) constants_alike prism_faults in
+        let whole =
+        ap (λ b. map (placed file) (numbered constant_faults 0 (prism_scene.scene (translated file) v).constants ++ numbered (column_faults b) 0 prism_columns)) (flags_alike file v w sound alike)
+        ∙ map-append (placed file) (numbered constant_faults 0 (prism_scene.scene (translated file) v).constants) (numbered (column_faults any) 0 prism_columns) ∙ ap₂ (λ a b. a ++ b) constants_alike prism_faults in
         let other = ap (λ l. A ++ l) jani_faults in (
           (λ h. subst (λ l. IsIn f l) (sym other) (onward A (in_either f A (flat_map at_column cols) (subst (λ l. IsIn f l) whole h)))),
           (λ h. subst (λ l. IsIn f l) (sym whole) (backward A (in_either f A (flat_map at_column (counting 0 total)) (subst (λ l. IsIn f l) other h)))),

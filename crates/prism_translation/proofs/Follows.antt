@@ -315,7 +315,7 @@ module _ (file : File) (v w : Valuation) (s : Values) where
   abbrev pub is_here : Element → Name → Bool
   is_here el x = jani_moment.is_current u el.number el.automaton x
 
-  location_seen : (el : Element) (x : Name) → LocationColumn el →
+  pub location_seen : (el : Element) (x : Name) → LocationColumn el →
       (prism_names.see (is_there file names el.number (location_number el.automaton x)) env).value ≡ Some (V.Truth (is_here el x))
   unfolding prism_names.see
   location_seen el x k =

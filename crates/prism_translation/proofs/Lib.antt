@@ -24,6 +24,7 @@ pub mod SoundEdges
 pub mod States
 pub mod OneToOne
 pub mod Starts
+pub mod Conditions
 pub mod FaultsAlike
 pub mod MarksAlike
 pub mod Small

@@ -135,6 +135,19 @@ element_numbers k xs i d l = ap (λ (el : Element). el.number) (element_at k xs 
 pub automaton_at : (k : ℕ) (xs : List Automaton) (i : ℕ) (d : Element) (e : Automaton) → i < length xs → (get_or (numbered_from k xs) i d).automaton ≡ get_or xs i e
 automaton_at k xs i d e l = ap (λ (el : Element). el.automaton) (element_at k xs i d e l)
 
+pub element_has : (P : Automaton → Type 0) (k : ℕ) (xs : List Automaton) → All P xs → All (λ (el : Element). P el.automaton) (numbered_from k xs)
+element_has P k xs h i d l =
+    let n = element_length k xs in
+    let e = d.automaton in
+    subst P (sym (automaton_at k xs i d e (omega arith))) (h i e (omega arith))
+
+-- what holds of the automata of elements holds of the automata
+pub element_all : (P : Automaton → Type 0) (k : ℕ) (xs : List Automaton) → All (λ (el : Element). P el.automaton) (numbered_from k xs) → All P xs
+element_all P k xs h i e l =
+    let n = element_length k xs in
+    let d : Element = record { number = 0; automaton = e } in
+    subst P (automaton_at k xs i d e (omega arith)) (h i d (omega arith))
+
 pub element_once : (k : ℕ) (xs : List Automaton) (j : ℕ) → count_by (λ el. nat_eq el.number j) (numbered_from k xs) ≤ 1
 element_once = once_from element_made element_number (λ i x. refl)
 

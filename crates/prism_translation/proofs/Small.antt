@@ -6,6 +6,7 @@ use Rattle.std.proofs.Common.{refl, sym, ap, inr, arith}
 use Rattle.std.proofs.lemmas.List.Elements.{All-nil, All-cons}
 use Rattle.std.proofs.Math.Bool.{or-false}
 use Rattle.std.proofs.lemmas.Option.{same_Some}
+use Rattle.basics.specs.Lists.{IsNotEmpty}
 use Rattle.bridge_io.specs.declared.reason.Named.{Named}
 use Rattle.frac_core.specs.Fraction.{Fraction}
 use Rattle.frac_core.specs.Decimal.{decimal_value-whole}
@@ -45,7 +46,7 @@ abbrev machine : Automaton
 machine = record { name = name (codes "A"); variables = []; locations = spot ∷ []; initial = name (codes "l") ∷ []; edges = move ∷ [] }
 
 abbrev pub small : File
-small = record { actions = []; constants = []; variables = x_var ∷ r_var ∷ []; automata = machine ∷ []; elements = name (codes "A") ∷ []; elements_at = 0; vectors = []; properties = array 0 no_nodes }
+small = record { actions = []; constants = []; variables = x_var ∷ r_var ∷ []; restrict = None; automata = machine ∷ []; elements = name (codes "A") ∷ []; elements_at = 0; vectors = []; properties = array 0 no_nodes }
 
 abbrev el : Element
 el = record { number = 0; automaton = machine }
@@ -73,6 +74,8 @@ small_sound = record {
   constants = λ i d l. absurd (let no : ⊥ = omega arith in no);
   kinds = one (λ o. SoundKind small (scope_of small (new_names small) o) o.var.kind) (record { owner = None; var = x_var }) tt;
   starts = one (λ o. SoundStart small (scope_of small (new_names small) o) o.var.start) (record { owner = None; var = x_var }) (tt, tt);
+  restrict = tt;
+  begins = one (λ e. IsNotEmpty e.automaton.initial) el tt;
   edges = one (λ e. All (λ q. KnownEdge small e.number q.edge) (placed_edges e)) el
       (one (λ q. KnownEdge small 0 q.edge) p ((tt, inr (record { number = 0; stands_there = refl })), one (KnownDestination small 0) way known_way));
   vectors = All-nil (HasPart small);

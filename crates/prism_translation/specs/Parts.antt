@@ -1,6 +1,6 @@
 -- The constants and variables of a JANI file as those of a PRISM file (this project's own rule; PRISM manual, "The PRISM
 -- Language": "Constants", "Modules And Variables"). The places that the trees keep are of no account.
-use Rattle.std.specs.Prelude.{ℕ, ◌-◌, pos, length, false, Option, Some, None, unwrap_or}
+use Rattle.std.specs.Prelude.{ℕ, ◌-◌, pos, length, Bool, true, false, Option, Some, None, unwrap_or}
 use Rattle.std.specs.Option.{option_map}
 use Rattle.frac_core.specs.declared.decimal.Decimal.{Decimal}
 use Rattle.op_trees.specs.Tree.{Number, Name as At, Two}
@@ -9,6 +9,7 @@ use Rattle.prism_tree.specs.declared.operator.PrismOp.TheVariants.{Equal}
 use Rattle.prism_tree.specs.Syntax as prism
 use Rattle.jani_tree.specs.Syntax.{VarKind, boolean, integer, number, real_bounded, one_sided, bounded, Const, Var, File}
 use Rattle.jani_meaning.specs.Elements.{Owned, initial_number}
+use Rattle.jani_meaning.specs.Scene.{has_condition}
 use Rattle.name_table.specs.PrismAsks.{NewNames, name_at, value_name, outside}
 use Rattle.jani_images.specs.Image.{image}
 use Rattle.prism_translation.specs.Elements.{Element, Lasting}
@@ -48,11 +49,16 @@ module _ (file : File) (names : NewNames) where
   abbrev pub scope_of : Owned → ℕ
   scope_of o = unwrap_or o.owner (outside file)
 
-  abbrev pub variable_by : (Name → Name) → Var → Name → prism.Var
-  variable_by new x y = record { name = instead x.name y; range = range_of new x.kind; start = first_of new x }
+  -- in a file with an initial condition no variable has one of its own
+  abbrev pub start_under : Bool → Option prism.Expression → Option prism.Expression
+  start_under true start = None
+  start_under false start = start
+
+  abbrev pub variable_by : Bool → (Name → Name) → Var → Name → prism.Var
+  variable_by has_condition new x y = record { name = instead x.name y; range = range_of new x.kind; start = start_under has_condition (first_of new x) }
 
   abbrev pub variable : Lasting → prism.Var
-  variable x = variable_by (value_name file names (scope_of x.owned)) x.owned.var (name_at names.variables x.number)
+  variable x = variable_by (has_condition file) (value_name file names (scope_of x.owned)) x.owned.var (name_at names.variables x.number)
 
   -- ---- locations
   abbrev pub location_name : ℕ → Name
@@ -63,7 +69,7 @@ module _ (file : File) (names : NewNames) where
   location_variable el = record {
     name = made (location_name el.number);
     range = Some (record { low = counted 0; high = counted (length el.automaton.locations - 1) });
-    start = Some (counted (initial_number el.automaton));
+    start = start_under (has_condition file) (Some (counted (initial_number el.automaton)));
   }
 
   -- the element is at the location of this number

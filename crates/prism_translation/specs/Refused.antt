@@ -6,7 +6,9 @@ use Rattle.bridge_io.specs.declared.reason.Reason.TheVariants.{SharedWrite, TooL
 use Rattle.op_trees.specs.Tree.{node_count}
 use Rattle.jani_tree.specs.Syntax.{Expression, Destination, Edge, File}
 use Rattle.name_rules.specs.Least.{fault, fault_if, or_else}
-use Rattle.jani_meaning.specs.Elements.{Owned, labels}
+use Rattle.jani_meaning.specs.Elements as jani
+use Rattle.jani_meaning.specs.Elements.{Owned, labels, lasting}
+use Rattle.jani_meaning.specs.Scene.{has_condition}
 use Rattle.prism_translation.specs.Elements.{Element, elements, edges_of, Placed, placed_edges, some_write, is_to, is_reward, Lasting, lasting_variables, writers, may_use}
 use Rattle.prism_translation.specs.Targets.{targets, serves, serves_silently, is_blocked}
 use Rattle.prism_translation.specs.Marks.{given_by}
@@ -60,10 +62,19 @@ result_commands file =
 abbrev pub values_given : Owned → Element → ℕ
 values_given o el = if may_use el.number o.owner then length (given_by o.var.name.name el) else 0
 
-abbrev pub is_too_large : File → Bool
-is_too_large file =
+-- the initial condition has more parts than an expression may, or one of its parts has
+abbrev pub has_many_starts : File → Bool
+has_many_starts file =
+    has_condition file && (list_any (λ a. nat_lt 1024 (length a.initial)) (jani.elements file) || nat_lt 1024 (length file.elements + length (lasting file)))
+
+-- commands or nodes, or values of a label
+abbrev pub has_large_result : File → Bool
+has_large_result file =
     nat_lt 200000 (result_commands file) || (nat_lt 2000000 (result_nodes file)
     || list_any (λ o. list_any (λ el. nat_lt 1024 (values_given o el)) (elements file)) (labels file))
+
+abbrev pub is_too_large : File → Bool
+is_too_large file = has_many_starts file || has_large_result file
 
 abbrev pub size_faults : File → List Fault
 size_faults file = fault_if (is_too_large file) 0 TooLarge

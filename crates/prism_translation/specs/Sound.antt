@@ -6,6 +6,7 @@ use Rattle.std.specs.List.{filter, flat_map, list_any, position, All}
 use Rattle.frac_core.specs.Fraction.{Fraction, nought}
 use Rattle.frac_core.specs.Decimal.{decimal_value}
 use Rattle.frac_core.specs.declared.decimal.Decimal.{Decimal}
+use Rattle.basics.specs.Lists.{IsNotEmpty}
 use Rattle.op_trees.specs.Tree.{Truth, Number, AllNames}
 use Rattle.process_core.specs.Ready.{Values, Name, Reward}
 use Rattle.process_core.specs.Choices.{number_of, assigned}
@@ -15,6 +16,7 @@ use Rattle.jani_tree.specs.Canonical.{HasOperands}
 use Rattle.op_trees.specs.Names.{is_called}
 use Rattle.jani_meaning.specs.Elements.{Owned, location_number, lasting, place_of, labels, structures}
 use Rattle.jani_meaning.specs.Moment.{reward_at}
+use Rattle.jani_meaning.specs.Scene.{has_condition}
 use Rattle.name_table.specs.PrismAsks.{name_at, outside}
 use Rattle.prism_translation.specs.Elements.{Element, elements, Placed, placed_edges, rewards, may_use}
 use Rattle.prism_translation.specs.Targets.{part_of, edges_named, reward_writer}
@@ -58,9 +60,9 @@ module _ (file : File) where
   SoundKind k real_bounded = Unit {0}
   SoundKind k one_sided = Unit {0}
 
-  -- there is an "initial-value"
+  -- there is an "initial-value", or the file has an initial condition
   abbrev pub SoundStart : ℕ → Option Expression → Type 0
-  SoundStart k None = ⊥
+  SoundStart k None = has_condition file ≡ true
   SoundStart k (Some e) = NamesConstants k e
 
   abbrev pub KnownDestination : ℕ → Destination → Type 0
@@ -131,8 +133,12 @@ pub record FileIsSound (file : File) : Type 0 where
   -- the expressions of constants, and the bounds of variables, name constants alone (9, 14), and operators have their operands
   pub constants : All (λ d. IfSome d.value (IsConstantExpression file)) file.constants
   pub kinds : All (λ o. SoundKind file (scope_of file (new_names file) o) o.var.kind) (lasting file)
-  -- and so do first values, which are there (37)
+  -- and so do first values, which are there, or there is an initial condition
   pub starts : All (λ o. SoundStart file (scope_of file (new_names file) o) o.var.start) (lasting file)
+  -- "restrict-initial" names constants and global variables that are not transient (9, 28), and each automaton has an initial
+  -- location (25)
+  pub restrict : IfSome file.restrict (KnownExpression file (outside file))
+  pub begins : All (λ el. IsNotEmpty el.automaton.initial) (elements file)
   -- the expressions of edges name constants and variables that are not transient (9, 28)
   pub edges : All (λ el. All (λ p. KnownEdge file el.number p.edge) (placed_edges el)) (elements file)
   pub vectors : All (HasPart file) file.vectors

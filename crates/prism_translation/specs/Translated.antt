@@ -9,6 +9,7 @@ use Rattle.jani_meaning.specs.Elements.{labels, structures}
 use Rattle.name_table.specs.PrismAsks.{NewNames, name_at}
 use Rattle.prism_translation.specs.Elements.{elements, shared}
 use Rattle.prism_translation.specs.Names.{new_names}
+use Rattle.prism_translation.specs.Conditions.{condition}
 use Rattle.prism_translation.specs.Parts.{constant, variable}
 use Rattle.prism_translation.specs.Modules.{module_of}
 use Rattle.prism_translation.specs.Marks.{label, structure}
@@ -21,6 +22,7 @@ translated_by names file = record {
   modules = map (λ el. plain (module_of file names el)) (elements file);
   labels = map (λ p. label file names p.0 p.1.name) (zip (labels file) names.labels);
   rewards = numbered (λ j o. structure file names j o (name_at names.rewards j) ∷ []) 0 (structures file);
+  init = condition file names;
   end = 0;
 }
 

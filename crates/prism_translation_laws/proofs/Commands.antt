@@ -1,5 +1,5 @@
 -- What stands in modules has no fault of types, and commands write what they may.
-use Rattle.std.specs.Prelude.{◌≡◌, ◌⊎◌, ℕ, ◌<◌, [], ◌++◌, map, length, Bool, true, false, ◌&&◌, Option, Some, None, is_none, is_some, get_or, if◌then◌else◌}
+use Rattle.std.specs.Prelude.{◌≡◌, ◌⊎◌, ℕ, ◌-◌, ◌<◌, [], ◌++◌, map, length, Bool, true, false, ◌&&◌, Option, Some, None, is_none, is_some, get_or, if◌then◌else◌}
 use Rattle.std.specs.List.{flat_map, filter, list_any, All, AllByRecursion as Each}
 use Rattle.std.specs.Option.{option_map}
 use Rattle.std.proofs.Common.{refl, sym, ap, ◌∙◌, subst, inl, inr}
@@ -25,13 +25,14 @@ use Rattle.prism_check.specs.TypeFaults.{types, variable_called, type_faults_of,
 use Rattle.jani_tree.specs.Syntax.{Write, Destination, Expression, File}
 use Rattle.jani_check.specs.Things.{kind_type}
 use Rattle.jani_check.specs.Faults.{IsChecked}
-use Rattle.jani_meaning.specs.Elements.{Owned, is_lasting, is_owner, lasting, place_of, location_number}
+use Rattle.jani_meaning.specs.Elements.{Owned, initial_number, is_lasting, is_owner, lasting, place_of, location_number}
 use Rattle.prism_translation.specs.PrismAsks.{NewNames, name_at}
 use Rattle.prism_translation.specs.Image.{image}
 use Rattle.prism_translation.specs.Elements.{Element, elements, has_several, may_use, Placed, placed_edges, some_write, Lasting, lasting_variables, is_at, is_to, home, own, adopted, at_home}
 use Rattle.prism_translation.specs.Targets.{serves, serves_silently, is_blocked}
 use Rattle.prism_translation.specs.Names.{new_names}
-use Rattle.prism_translation.specs.Parts.{made, counted, location_name, location_variable, is_there, variable}
+use Rattle.jani_meaning.specs.Scene.{has_condition}
+use Rattle.prism_translation.specs.Parts.{made, counted, location_name, location_variable, is_there, start_under, variable}
 use Rattle.prism_translation.specs.Modules.{Action, actions, new, guard, write_by, write, location_write, weight, branch, is_single, command, commands_of, blocking, commands, module_of}
 use Rattle.prism_translation.specs.Translated.{translated}
 use Rattle.prism_translation.specs.Refused.{shared_faults}
@@ -215,12 +216,21 @@ module _ (file : File) (checked : IsChecked file) where
       (All-filter (λ (x : Lasting). is_owner k x.owned.owner) (LastingFine file checked) (lasting_variables file) (lasting_fine file checked))
       (All-filter (λ x. is_none x.owned.owner && is_at k (home file x)) (LastingFine file checked) (lasting_variables file) (lasting_fine file checked))
 
+  location_declared : (k : ℕ) (here : Element) (b : Bool) → flat_map (demand_faults (translated file) k)
+      (var_demands (record {
+        name = made (location_name file names here.number);
+        range = Some (record { low = counted 0; high = counted (length here.automaton.locations - 1) });
+        start = start_under file names b (Some (counted (initial_number here.automaton)));
+      })) ≡ []
+  location_declared k here true = refl
+  location_declared k here false = refl
+
   vars_clean : (k : ℕ) (here : Element) → flat_map (demand_faults (translated file) k) (flat_map var_demands (only_if (has_several here) (location_variable file names here) ++ map (variable file names) (at_home file here.number))) ≡ []
   vars_clean k here =
       let F = demand_faults (translated file) k in
       nothing_of F var_demands (only_if (has_several here) (location_variable file names here) ++ map (variable file names) (at_home file here.number))
       (All-append (λ v. flat_map F (var_demands v) ≡ []) (only_if (has_several here) (location_variable file names here)) (map (variable file names) (at_home file here.number))
-      (only_all (λ v. flat_map F (var_demands v) ≡ []) (has_several here) (location_variable file names here) (λ e. refl))
+      (only_all (λ v. flat_map F (var_demands v) ≡ []) (has_several here) (location_variable file names here) (λ e. location_declared k here (has_condition file)))
       (All-map (λ v. flat_map F (var_demands v) ≡ []) (variable file names) (at_home file here.number) (λ i d l. variable_clean file checked k (get_or (at_home file here.number) i d) (home_fine here.number i d l))))
 
 -- ---- the statements

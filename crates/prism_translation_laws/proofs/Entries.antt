@@ -14,7 +14,7 @@ use Rattle.prism_translation.specs.Entry.{Entry}
 use Rattle.prism_translation.specs.Rule.{may_be_called, is_identifier}
 use Rattle.prism_translation.specs.Entries.{Ask, count_of, entries_of}
 use Rattle.prism_translation.proofs.EntryLemmas.{Comes, was_kept, was_made, placed}
-use Rattle.prism_translation.proofs.Valid.{made_named, made_free, made_may}
+use Rattle.name_table.proofs.Valid.{made_named, made_free, made_may}
 use Rattle.std.specs.List.{AllByRecursion as Each}
 
 -- ---- entries

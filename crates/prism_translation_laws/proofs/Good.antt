@@ -13,7 +13,7 @@ use Rattle.process_core.specs.Ready.{Name}
 use Rattle.prism_tree.specs.Syntax.{Expression, Const, Range, Var, Label, Write, Branch, Command, Body, Module, plain, copied, Item, Rewards, File}
 use Rattle.prism_print.specs.Printable.{IsIdentifier, IsTitle, IsPrintableExpression, IsPrintableConst, IsPrintableRange, IsPrintableVar, IsPrintableFormula, IsPrintableLabel, IsPrintableWrite, IsPrintableBranch, AreBranches, IsPrintableCommand, IsPrintableModule, IsPrintableOn, IsPrintableItem, IsPrintableRewards, IsPrintable}
 use Rattle.op_trees.specs.Wanted.{wanted_by}
-use Rattle.prism_check.specs.Demands.{Demand, fixed, written, type_by, const_demands, range_demands, var_demands, branch_demands, command_demands, label_demands, item_demands, rewards_demands, formula_demands, outer_demands}
+use Rattle.prism_check.specs.Demands.{Demand, fixed, written, type_by, const_demands, range_demands, var_demands, branch_demands, command_demands, label_demands, item_demands, rewards_demands, formula_demands, init_demands, outer_demands}
 use Rattle.prism_check.specs.NameFaults.{is_among, values, unless_known, unknown_by, unknown, unknown_in, unknown_names}
 use Rattle.prism_translation_laws.proofs.Lists.{any_then}
 
@@ -142,6 +142,10 @@ module _ (known : Name → Bool) where
       each_join Fine (flat_map var_demands m.vars) (flat_map command_demands m.commands) (each_flat GoodVar Fine var_demands fine_var m.vars g.1)
       (each_flat GoodCommand Fine command_demands fine_command m.commands g.2)
 
+  fine_init : (o : Option Expression) → IfAny Good o → Each Fine (init_demands o)
+  fine_init None g = tt
+  fine_init (Some e) g = (g.1, tt)
+
 -- ---- a file
 abbrev pub is_value : File → Name → Bool
 is_value file = is_among (values file)
@@ -153,6 +157,7 @@ pub record IsGood (file : File) : Type 0 where
   pub modules : Each (GoodModule (is_value file)) file.modules
   pub labels : Each (GoodLabel (is_value file)) file.labels
   pub rewards : Each (GoodRewards (is_value file)) file.rewards
+  pub init : IfAny (Good (is_value file)) file.init
 
 pub good_printable : (file : File) → IsGood file → IsPrintable file
 good_printable file g =
@@ -164,6 +169,7 @@ good_printable file g =
       modules = each_then (GoodModule known) IsPrintableModule (print_module known) file.modules g.modules;
       labels = each_then (GoodLabel known) IsPrintableLabel (print_label known) file.labels g.labels;
       rewards = each_then (GoodRewards known) IsPrintableRewards (print_rewards known) file.rewards g.rewards;
+      init = any_then (Good known) IsPrintableExpression (λ e h. h.0) file.init g.init;
     }
 
 known_in : (file : File) (m : Module) → GoodModule (is_value file) m → unknown_in file m ≡ []
@@ -176,13 +182,14 @@ good_known file g =
     let F : Demand → Type 0 = λ d. unknown file d ≡ [] in
     append_both (flat_map (unknown file) (outer_demands file)) (flat_map (unknown file) (flat_map formula_demands file.formulas) ++ flat_map (unknown_in file) file.modules)
     (each_empty (unknown file) (outer_demands file)
-    (each_join F (flat_map const_demands file.constants) (flat_map var_demands file.globals ++ (flat_map label_demands file.labels ++ flat_map rewards_demands file.rewards))
+    (each_join F (flat_map const_demands file.constants) (flat_map var_demands file.globals ++ (flat_map label_demands file.labels ++ (flat_map rewards_demands file.rewards ++ init_demands file.init)))
     (each_flat (GoodConst known) F const_demands (fine_const known) file.constants g.constants)
-    (each_join F (flat_map var_demands file.globals) (flat_map label_demands file.labels ++ flat_map rewards_demands file.rewards)
+    (each_join F (flat_map var_demands file.globals) (flat_map label_demands file.labels ++ (flat_map rewards_demands file.rewards ++ init_demands file.init))
     (each_flat (GoodVar known) F var_demands (fine_var known) file.globals g.globals)
-    (each_join F (flat_map label_demands file.labels) (flat_map rewards_demands file.rewards)
+    (each_join F (flat_map label_demands file.labels) (flat_map rewards_demands file.rewards ++ init_demands file.init)
     (each_flat (GoodLabel known) F label_demands (fine_label known) file.labels g.labels)
-    (each_flat (GoodRewards known) F rewards_demands (fine_rewards known) file.rewards g.rewards)))))
+    (each_join F (flat_map rewards_demands file.rewards) (init_demands file.init)
+    (each_flat (GoodRewards known) F rewards_demands (fine_rewards known) file.rewards g.rewards) (fine_init known file.init g.init))))))
     (append_both (flat_map (unknown file) (flat_map formula_demands file.formulas)) (flat_map (unknown_in file) file.modules)
     (ap (λ fs. flat_map (unknown file) (flat_map formula_demands fs)) g.formulas)
     (each_empty (unknown_in file) file.modules (each_then (GoodModule known) (λ m. unknown_in file m ≡ []) (known_in file) file.modules g.modules)))

@@ -8,11 +8,12 @@ use Rattle.op_trees.specs.Names.{names_of}
 use Rattle.process_core.specs.Ready.{Name}
 use Rattle.process_core.specs.Instance.{numbered}
 use Rattle.basics.specs.Lists.{IsNotEmpty as HasItems}
-use Rattle.jani_tree.specs.Form.{ExprForm, KindForm, ConstRead, VarRead, WriteRead, LocationRead, DestinationRead, EdgeRead, AutomatonRead}
+use Rattle.jani_tree.specs.Form.{ExprForm, KindForm, ConstRead, VarRead, WriteRead, LocationRead, DestinationRead, EdgeRead, AutomatonRead, RestrictionRead}
 use Rattle.jani_tree.specs.Syntax.{Expression, Const, VarKind, boolean, integer, number, real_bounded, one_sided, bounded, Var, Write, Location, Destination, Edge, Automaton, File}
 use Rattle.jani_check.specs.Things.{kind_type}
 use Rattle.basics.specs.Options.{if_some, IfAny}
 use Rattle.op_trees.specs.Wanted.{wanted_by}
+use Rattle.op_trees.specs.declared.wanted.Wanted.TheVariants as W
 use Rattle.jani_check.specs.Demands.{Demand, fixed, varying, assigned, given, const_demands, bound_demands, var_demands, location_demands, destination_demands, edge_demands, automaton_demands}
 use Rattle.jani_check.specs.ProfileFaults.{start_faults}
 use Rattle.jani_check.specs.Faults.{IsChecked}
@@ -27,6 +28,7 @@ use Rattle.prism_translation.proofs.Scopes.{own_vars, NamesApart}
 use Rattle.prism_translation.proofs.Clean.{IsJudged, starts_outside, names_outside, demands_outside}
 use Rattle.prism_translation.proofs.Expressions.{known_names, known_assigned, known_given}
 use Rattle.prism_translation.proofs.Elements.{IsElement, elements_are, judged_element}
+use Rattle.prism_translation_laws.proofs.Lists.{any_then}
 
 -- ---- parts of a file that have the form of trees, and name what is known
 module _ (P : Name → Type 0) where
@@ -140,6 +142,7 @@ FineElement file el = FineAutomaton (IsKnown file el.number) el.automaton
 pub record IsFine (file : File) : Type 0 where
   pub constants : Each (λ c. IfAny (Fine (IsKnown file (outside file))) c.value) file.constants
   pub variables : Each (FineOwned file) (jani.variables file)
+  pub restrict : IfAny (Fine (IsKnown file (outside file))) file.restrict
   pub elements : Each (FineElement file) (elements file)
 
 owned_fine : (file : File) (o : Option ℕ) (xs : List Var) → Each (FineVar (IsKnown file (unwrap_or o (outside file)))) xs → Each (λ x. start_faults x ≡ []) xs → Each (FineOwned file) (owned_by o xs)
@@ -157,18 +160,24 @@ module _ (file : File) (checked : IsChecked file) where
   is_fine =
       let P = IsKnown file (outside file) in
       let names = names_outside file checked in
+      let restricting = map (varying W.Bool) (if_some file.restrict) in
+      let rest = each_rest J (flat_map const_demands file.constants) (flat_map var_demands file.variables ++ restricting) (demands_outside file checked) in
       let met = demands_outside file checked in
       record {
         constants =
             (each_with (ConstRead HasItems) (λ c. Each J (const_demands c)) (λ c. IfAny (Fine P) c.value) (fine_const file (outside file) names) file.constants checked.form.constants
-            (each_of J const_demands file.constants (of_front J (flat_map const_demands file.constants) (flat_map var_demands file.variables) met)));
+            (each_of J const_demands file.constants (of_front J (flat_map const_demands file.constants) (flat_map var_demands file.variables ++ restricting) met)));
         variables =
             (each_join (FineOwned file) (owned_by None file.variables) (numbered (λ i a. owned_by (Some i) a.variables) 0 (jani.elements file))
             (owned_fine file None file.variables
-            (fine_vars file (outside file) names file.variables checked.form.variables (each_rest J (flat_map const_demands file.constants) (flat_map var_demands file.variables) met))
+            (fine_vars file (outside file) names file.variables checked.form.variables (of_front J (flat_map var_demands file.variables) restricting rest))
             (starts_outside file checked))
             (of_numbered (IsElement file) (FineOwned file) (λ i a. record { number = i; automaton = a }) (λ i a. owned_by (Some i) a.variables)
             (λ i a is. owned_fine file (Some i) a.variables (element_fine (record { number = i; automaton = a }) is).0 (judged_element file checked (record { number = i; automaton = a }) is).starts)
             0 (jani.elements file) (elements_are file checked)));
+        restrict =
+            fine_by file (outside file) names (varying W.Bool) (varying_named file (outside file) names W.Bool) file.restrict
+            (any_then (RestrictionRead HasItems) (ExprForm HasItems) (λ e r. r.expression) file.restrict checked.form.restrict)
+            (each_rest J (flat_map var_demands file.variables) restricting rest);
         elements = (each_then (IsElement file) (FineElement file) element_fine (elements file) (elements_are file checked));
       }

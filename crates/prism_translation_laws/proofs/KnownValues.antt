@@ -1,21 +1,26 @@
 -- The constants, variables and edges of a file without faults: what their expressions name.
-use Rattle.std.specs.Prelude.{◌≡◌, ℕ, List, ◌++◌, map, Option, Some, None, slice_get, IfSome}
-use Rattle.std.specs.List.{flat_map, All, position, AllByRecursion as OfAll}
+use Rattle.std.specs.Prelude.{◌≡◌, ℕ, List, ◌++◌, map, true, ◌||◌, Option, Some, None, is_none, is_some, get_or, slice_get, IfSome}
+use Rattle.std.specs.List.{flat_map, list_any, All, position, AllByRecursion as OfAll}
+use Rattle.std.proofs.Common.{refl, ap}
+use Rattle.std.proofs.lemmas.Bool.{or_right}
 use Rattle.std.proofs.lemmas.List.Elements.{All-from_recursion}
 use Rattle.basics.specs.Each.{each_then, each_with, each_rest, each_of, map_each, each_join, each_filter}
 use Rattle.process_core.specs.Instance.{numbered}
 use Rattle.jani_tree.specs.Syntax.{Expression, VarKind, boolean, integer, number, real_bounded, one_sided, bounded, Const, Var, Location, Destination, Edge, File}
 use Rattle.basics.specs.Lists.{IsNotEmpty as HasItems}
-use Rattle.jani_tree.specs.Form.{IsGiven, ExprForm, KindForm, ConstRead, VarRead, WriteRead, LocationRead, DestinationRead, EdgeRead}
+use Rattle.jani_tree.specs.Form.{ExprForm, KindForm, ConstRead, VarRead, WriteRead, LocationRead, DestinationRead, EdgeRead, RestrictionRead}
 use Rattle.jani_check.specs.Things.{kind_type}
 use Rattle.basics.specs.Options.{if_some, IfAny as OfSome}
 use Rattle.op_trees.specs.Names.{is_called}
 use Rattle.op_trees.specs.Wanted.{wanted_by}
+use Rattle.op_trees.specs.declared.wanted.Wanted.TheVariants as W
+use Rattle.choice_laws.proofs.Walks.{has_any}
 use Rattle.jani_check.specs.Demands.{Demand, fixed, varying, assigned, given, const_demands, bound_demands, var_demands, location_demands, destination_demands, edge_demands}
 use Rattle.jani_check.specs.Faults.{IsChecked}
 use Rattle.jani_check.proofs.Profiled.{operands}
 use Rattle.jani_meaning.specs.Elements as jani
-use Rattle.jani_meaning.specs.Elements.{Owned, owned_by, lasting}
+use Rattle.jani_meaning.specs.Elements.{Owned, has_several_starts, owned_by, lasting}
+use Rattle.jani_meaning.specs.Scene.{begins_anywhere, has_condition}
 use Rattle.prism_translation.specs.PrismAsks.{outside}
 use Rattle.prism_translation.specs.Elements.{Element, elements, Placed, placed_edges}
 use Rattle.prism_translation.specs.Names.{new_names}
@@ -27,6 +32,7 @@ use Rattle.prism_translation.proofs.Clean.{IsJudged, names_apart_outside, names_
 use Rattle.prism_translation.proofs.Expressions.{known_expression, known_assigned, known_given, constant_expression}
 use Rattle.prism_translation.proofs.Distinct.{stands_first}
 use Rattle.prism_translation.proofs.Elements.{IsElement, elements_are, judged_element}
+use Rattle.prism_translation_laws.proofs.Lists.{any_then}
 
 -- ---- by what is known in an element, or outside of all
 module _ (file : File) (k : ℕ) (names : NamesApart file (own_vars file k)) where
@@ -45,20 +51,16 @@ module _ (file : File) (k : ℕ) (names : NamesApart file (own_vars file k)) whe
   kind_sound one_sided p j = tt
   kind_sound (bounded low high) p j = (constant_expression file k names _ low j.0 (operands low p.0), constant_expression file k names _ high j.1.0 (operands high p.1))
 
-  start_sound : (w : _) (o : Option Expression) → OfSome (ExprForm HasItems) o → IsGiven o → OfAll Judged (map (fixed w) (if_some o)) → SoundStart file k o
-  start_sound w None p g j = absurd g
-  start_sound w (Some e) p g j = constant_expression file k names w e j.0 (operands e p)
-
   pub record SoundVar (x : Var) : Type 0 where
     pub kind : SoundKind file k x.kind
-    pub start : SoundStart file k x.start
+    pub start : IfSome x.start (NamesConstants file k)
 
   pub vars_sound : (xs : List Var) → OfAll (VarRead HasItems) xs → OfAll Judged (flat_map var_demands xs) → OfAll SoundVar xs
   vars_sound xs p j =
       each_with (VarRead HasItems) (λ x. OfAll Judged (var_demands x)) SoundVar
       (λ x f d. record {
         kind = kind_sound x.kind f.kind (of_front Judged (bound_demands x.kind) (map (fixed (wanted_by (kind_type x.kind))) (if_some x.start)) d);
-        start = start_sound (wanted_by (kind_type x.kind)) x.start f.start f.begins (each_rest Judged (bound_demands x.kind) (map (fixed (wanted_by (kind_type x.kind))) (if_some x.start)) d);
+        start = some_constant (wanted_by (kind_type x.kind)) x.start f.start (each_rest Judged (bound_demands x.kind) (map (fixed (wanted_by (kind_type x.kind))) (if_some x.start)) d);
       }) xs p (each_of Judged var_demands xs j)
 
   -- ---- edges
@@ -94,13 +96,20 @@ module _ (file : File) (k : ℕ) (names : NamesApart file (own_vars file k)) whe
 
 module _ (file : File) (c : IsChecked file) where
   -- ---- outside of elements
+  abbrev restricting : List Demand
+  restricting = map (varying W.Bool) (if_some file.restrict)
+
+  -- global variables, and the condition on initial states
+  behind_constants : OfAll (IsJudged file (own_vars file (outside file))) (flat_map var_demands file.variables ++ restricting)
+  behind_constants = each_rest (IsJudged file (own_vars file (outside file))) (flat_map const_demands file.constants) (flat_map var_demands file.variables ++ restricting) (demands_outside file c)
+
   pub constants_sound : All (λ d. IfSome d.value (IsConstantExpression file)) file.constants
   constants_sound =
       All-from_recursion (λ d. IfSome d.value (IsConstantExpression file)) file.constants
       (each_with (ConstRead HasItems) (λ d. OfAll (IsJudged file (own_vars file (outside file))) (const_demands d)) (λ d. IfSome d.value (IsConstantExpression file))
       (λ d p j. some_constant file (outside file) (names_outside file c) _ d.value p.value j) file.constants c.form.constants
       (each_of (IsJudged file (own_vars file (outside file))) const_demands file.constants
-      (of_front (IsJudged file (own_vars file (outside file))) (flat_map const_demands file.constants) (flat_map var_demands file.variables) (demands_outside file c))))
+      (of_front (IsJudged file (own_vars file (outside file))) (flat_map const_demands file.constants) (flat_map var_demands file.variables ++ restricting) (demands_outside file c))))
 
   pub constants_named : (i : ℕ) (d : Const) → slice_get file.constants i ≡ Some d → position (λ e. is_called d.name.name e.name) file.constants ≡ Some i
   constants_named i d e = stands_first (λ (x : Const). x.name) file.constants (names_apart_outside file c).constants i d e
@@ -108,7 +117,7 @@ module _ (file : File) (c : IsChecked file) where
   -- ---- variables
   record SoundOwned (o : Owned) : Type 0 where
     kind : SoundKind file (scope_of file (new_names file) o) o.var.kind
-    start : SoundStart file (scope_of file (new_names file) o) o.var.start
+    start : IfSome o.var.start (NamesConstants file (scope_of file (new_names file) o))
 
   element_vars : (el : Element) → IsElement file el → OfAll SoundOwned (owned_by (Some el.number) el.automaton.variables)
   element_vars el is =
@@ -125,7 +134,7 @@ module _ (file : File) (c : IsChecked file) where
       to_map SoundOwned (λ x. record { owner = None; var = x }) file.variables
       (each_then (SoundVar file (outside file) (names_outside file c)) (λ x. SoundOwned (record { owner = None; var = x })) (λ x s. record { kind = s.kind; start = s.start }) file.variables
       (vars_sound file (outside file) (names_outside file c) file.variables c.form.variables
-      (each_rest (IsJudged file (own_vars file (outside file))) (flat_map const_demands file.constants) (flat_map var_demands file.variables) (demands_outside file c))))
+      (of_front (IsJudged file (own_vars file (outside file))) (flat_map var_demands file.variables) restricting behind_constants)))
 
   lasting_sound : OfAll SoundOwned (lasting file)
   lasting_sound =
@@ -140,9 +149,28 @@ module _ (file : File) (c : IsChecked file) where
       (each_then SoundOwned (λ o. SoundKind file (scope_of file (new_names file) o) o.var.kind) (λ o s. s.kind) (lasting file) lasting_sound)
 
   pub starts_sound : All (λ o. SoundStart file (scope_of file (new_names file) o) o.var.start) (lasting file)
-  starts_sound =
-      All-from_recursion (λ o. SoundStart file (scope_of file (new_names file) o) o.var.start) (lasting file)
-      (each_then SoundOwned (λ o. SoundStart file (scope_of file (new_names file) o) o.var.start) (λ o s. s.start) (lasting file) lasting_sound)
+  starts_sound i d l =
+      let o = get_or (lasting file) i d in
+      by_start (scope_of file (new_names file) o) o.var.start (All-from_recursion SoundOwned (lasting file) lasting_sound i d l).start (λ e. anywhere (has_any begins_anywhere (lasting file) i d l (ap is_none e)))
+    where
+      anywhere : list_any begins_anywhere (lasting file) ≡ true → has_condition file ≡ true
+      anywhere h = or_right (is_some file.restrict) (list_any has_several_starts (jani.elements file) || list_any begins_anywhere (lasting file)) (or_right (list_any has_several_starts (jani.elements file)) (list_any begins_anywhere (lasting file)) h)
+
+      by_start : (k : ℕ) (s : Option Expression) → IfSome s (NamesConstants file k) → (s ≡ None → has_condition file ≡ true) → SoundStart file k s
+      by_start k None h n = n refl
+      by_start k (Some e) h n = h
+
+  -- ---- initial states
+  pub restrict_sound : IfSome file.restrict (KnownExpression file (outside file))
+  restrict_sound =
+      some_known file (outside file) (names_outside file c) W.Bool file.restrict
+      (any_then (RestrictionRead HasItems) (ExprForm HasItems) (λ e r. r.expression) file.restrict c.form.restrict)
+      (each_rest (IsJudged file (own_vars file (outside file))) (flat_map var_demands file.variables) restricting behind_constants)
+
+  pub begins_sound : All (λ el. HasItems el.automaton.initial) (elements file)
+  begins_sound =
+      All-from_recursion (λ el. HasItems el.automaton.initial) (elements file)
+      (each_then (IsElement file) (λ el. HasItems el.automaton.initial) (λ el is. (judged_element file c el is).form.begins) (elements file) (elements_are file c))
 
   -- ---- edges
   element_edges : (el : Element) → IsElement file el → All (λ p. KnownEdge file el.number p.edge) (placed_edges el)

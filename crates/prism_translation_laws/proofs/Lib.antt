@@ -18,6 +18,7 @@ pub mod Declared
 pub mod Expressions
 pub mod Members
 pub mod Outer
+pub mod Initial
 pub mod Homes
 pub mod Commands
 pub mod Once

@@ -63,10 +63,10 @@ nought_digits d h =
 -- a variable that begins as it has to
 record Begins (x : Var) : Type 0 where
   starts : start_faults x ≡ []
-  given : IsGiven x.start
+  given : x.transient ≡ true → IsGiven x.start
 
 first_of_transient : (x : Var) → x.transient ≡ true → Begins x → (e : Expression) × (x.start ≡ Some e) × (is_first (kind_type x.kind) e ≡ true)
-first_of_transient x t b = by_start x.start refl b.given (sym (ap (λ c. if c then flat_map (first_fault (kind_type x.kind)) (if_some x.start) else []) t) ∙ b.starts)
+first_of_transient x t b = by_start x.start refl (b.given t) (sym (ap (λ c. if c then flat_map (first_fault (kind_type x.kind)) (if_some x.start) else []) t) ∙ b.starts)
   where
     by_start : (o : Option Expression) → x.start ≡ o → IsGiven o → flat_map (first_fault (kind_type x.kind)) (if_some o) ≡ [] → (e : Expression) × (x.start ≡ Some e) × (is_first (kind_type x.kind) e ≡ true)
     by_start None q g f = absurd g

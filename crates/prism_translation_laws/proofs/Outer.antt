@@ -1,4 +1,4 @@
--- What stands outside of modules has no fault of types: constants, global variables, labels and reward structures.
+-- What stands outside of modules and isn't the initial condition has no fault of types: constants, global variables, labels and reward structures.
 use Rattle.std.specs.Prelude.{◌≡◌, ℕ, ◌<◌, List, [], ◌∷◌, ◌++◌, map, length, Bool, true, false, not, Option, Some, None, is_none, get_or, unwrap_or, if◌then◌else◌}
 use Rattle.std.specs.List.{flat_map, filter, zip, All, AllByRecursion as Each}
 use Rattle.std.specs.Option.{option_map}
@@ -32,7 +32,8 @@ use Rattle.prism_translation.specs.PrismAsks.{NewNames, name_at, value_name, out
 use Rattle.prism_translation.specs.Image.{image}
 use Rattle.prism_translation.specs.Elements.{Element, elements, has_several, Placed, Lasting, lasting_variables, may_use, is_at, shared, home}
 use Rattle.prism_translation.specs.Names.{new_names}
-use Rattle.prism_translation.specs.Parts.{range_of, scope_of, constant, variable, is_there}
+use Rattle.jani_meaning.specs.Scene.{has_condition}
+use Rattle.prism_translation.specs.Parts.{range_of, scope_of, start_under, constant, variable, is_there}
 use Rattle.prism_translation.specs.Modules.{truth, falsehood, actions}
 use Rattle.prism_translation.specs.Marks.{Given, given_by, given_to, first_writes, assigned_to, given_image, given_where, label_body, first_value, label, state_item, target_item, target_items_by, target_items, or_nought, structure}
 use Rattle.prism_translation.specs.Translated.{translated}
@@ -75,7 +76,7 @@ module _ (file : File) (checked : IsChecked file) where
   value_clean i vs k t (Some e) h =
       append_both (demand_faults (translated file) i (fixed (wanted_by t) (image (value_name file names k) e))) [] (fixed_clean file checked i vs k t e h) refl
 
-  consts_clean : flat_map (demand_faults (translated file) 0) (flat_map const_demands (translated file).constants) ≡ []
+  pub consts_clean : flat_map (demand_faults (translated file) 0) (flat_map const_demands (translated file).constants) ≡ []
   consts_clean =
       nothing_of (demand_faults (translated file) 0) const_demands (translated file).constants
       (All-map (λ c. flat_map (demand_faults (translated file) 0) (const_demands c) ≡ []) (λ p. constant file names p.0 p.1.name) (zip file.constants names.constants)
@@ -95,6 +96,11 @@ module _ (file : File) (checked : IsChecked file) where
   range_clean i vs k real_bounded h = refl
   range_clean i vs k one_sided h = refl
 
+  start_clean : (i : ℕ) (b : Bool) (t : Ty) (s : Option prism.Expression) → flat_map (demand_faults (translated file) i) (map (fixed (wanted_by t)) (if_some s)) ≡ [] →
+      flat_map (demand_faults (translated file) i) (map (fixed (wanted_by t)) (if_some (start_under file names b s))) ≡ []
+  start_clean i true t s h = refl
+  start_clean i false t s h = h
+
   abbrev pub LastingFine : Lasting → Type 0
   LastingFine x = (x.owned.var.transient ≡ false) × IsFineOwned file checked x.owned
 
@@ -104,9 +110,9 @@ module _ (file : File) (checked : IsChecked file) where
       let kind = x.owned.var.kind in
       let vs = own_variables file k in
       flat_map_both (demand_faults (translated file) i) (range_demands (range_of file names (value_name file names k) kind)) _ (range_clean i vs k kind h.1.1)
-      (ap (λ t. flat_map (demand_faults (translated file) i) (map (fixed (wanted_by t)) (if_some (option_map (image (value_name file names k)) x.owned.var.start))))
+      (ap (λ t. flat_map (demand_faults (translated file) i) (map (fixed (wanted_by t)) (if_some (start_under file names (has_condition file) (option_map (image (value_name file names k)) x.owned.var.start)))))
       (kind_kept file names (value_name file names k) x.owned.var.transient kind h.0 h.1.0)
-      ∙ value_clean i vs k (kind_type kind) x.owned.var.start h.1.2)
+      ∙ start_clean i (has_condition file) (kind_type kind) (option_map (image (value_name file names k)) x.owned.var.start) (value_clean i vs k (kind_type kind) x.owned.var.start h.1.2))
 
   pub lasting_fine : All LastingFine (lasting_variables file)
   lasting_fine =
@@ -117,7 +123,7 @@ module _ (file : File) (checked : IsChecked file) where
       not_true true h = absurd cc
       not_true false h = refl
 
-  globals_clean : flat_map (demand_faults (translated file) 0) (flat_map var_demands (translated file).globals) ≡ []
+  pub globals_clean : flat_map (demand_faults (translated file) 0) (flat_map var_demands (translated file).globals) ≡ []
   globals_clean =
       nothing_of (demand_faults (translated file) 0) var_demands (translated file).globals
       (All-map (λ v. flat_map (demand_faults (translated file) 0) (var_demands v) ≡ []) (variable file names) (shared file)
@@ -181,7 +187,7 @@ module _ (file : File) (checked : IsChecked file) where
       body_truth (first_value file names o) (given_to file o) (first_truth o bool (All-filter is_label (IsFineOwned file checked) (variables file) (variables_fine file checked) i d l))
       (givens_good o (All-filter is_label (Stands file checked) (variables file) (stands_all file checked) i d l) T.Bool (λ ty e h. subst (λ t. HasType ty t e) bool h))
 
-  labels_clean : flat_map (demand_faults (translated file) 0) (flat_map label_demands (translated file).labels) ≡ []
+  pub labels_clean : flat_map (demand_faults (translated file) 0) (flat_map label_demands (translated file).labels) ≡ []
   labels_clean =
       nothing_of (demand_faults (translated file) 0) label_demands (translated file).labels
       (All-map (λ b. flat_map (demand_faults (translated file) 0) (label_demands b) ≡ []) (λ p. label file names p.0 p.1.name) (zip (labels file) names.labels)
@@ -276,14 +282,7 @@ module _ (file : File) (checked : IsChecked file) where
       (nought_good is (All-append IsGoodItem (map (state_item file names) (given_to file o)) (flat_map (target_items file names j) (actions file names)) h (target_items_good j))))
       (All-nil IsClean)
 
-  rewards_clean : flat_map (demand_faults (translated file) 0) (flat_map rewards_demands (translated file).rewards) ≡ []
+  pub rewards_clean : flat_map (demand_faults (translated file) 0) (flat_map rewards_demands (translated file).rewards) ≡ []
   rewards_clean =
       nothing_of (demand_faults (translated file) 0) rewards_demands (translated file).rewards
       (numbered_all (λ o. All IsGoodItem (map (state_item file names) (given_to file o))) IsClean (λ j o. structure file names j o (name_at names.rewards j) ∷ []) structure_clean 0 (structures file) state_items_good)
-
-pub outer_types_fit : (file : File) → OuterTypesFit file
-outer_types_fit file checked =
-    let F = demand_faults (translated file) 0 in
-    flat_map_both F (flat_map const_demands (translated file).constants) _ (consts_clean file checked)
-    (flat_map_both F (flat_map var_demands (translated file).globals) _ (globals_clean file checked)
-    (flat_map_both F (flat_map label_demands (translated file).labels) (flat_map rewards_demands (translated file).rewards) (labels_clean file checked) (rewards_clean file checked)))

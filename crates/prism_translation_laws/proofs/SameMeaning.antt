@@ -26,7 +26,7 @@ use Rattle.prism_translation.specs.StateLaws.{state_of, old_label}
 use Rattle.prism_translation.specs.Translated.{translated}
 use Rattle.prism_translation.proofs.Clean.{has_element}
 use Rattle.prism_translation_laws.specs.SameMeaning.{CheckedIsSound, CorrespondingAreAlike, MeansTheSame, TranslationMeansTheSame, MeaningStays}
-use Rattle.prism_translation_laws.proofs.KnownValues.{constants_named, constants_sound, kinds_sound, starts_sound, edges_sound}
+use Rattle.prism_translation_laws.proofs.KnownValues.{begins_sound, constants_named, constants_sound, kinds_sound, restrict_sound, starts_sound, edges_sound}
 use Rattle.prism_translation_laws.proofs.Marks.{marks_are_sound}
 use Rattle.prism_translation_laws.proofs.Pays.{assigned_once, edges_pay_alike}
 use Rattle.prism_translation_laws.proofs.Writers.{vectors_have_parts, one_writer_each_vector}
@@ -38,6 +38,8 @@ file_is_sound file c = record {
   constants = constants_sound file c;
   kinds = kinds_sound file c;
   starts = starts_sound file c;
+  restrict = restrict_sound file c;
+  begins = begins_sound file c;
   edges = edges_sound file c;
   vectors = vectors_have_parts file c;
   one_writer = one_writer_each_vector file c;

@@ -182,14 +182,22 @@ module _ (file : File) (checked : IsChecked file) where
 
   pub constants_fine : Each (λ c. IfAny (IsFixed file [] c.ty) c.value) file.constants
   constants_fine =
-      let r = each_parts (IsMet file []) (flat_map const_demands file.constants) (flat_map var_demands file.variables) outer_met in
+      let r = each_parts (IsMet file []) (flat_map const_demands file.constants) (flat_map var_demands file.variables ++ map (varying (wanted_by T.Bool)) (if_some file.restrict)) outer_met in
       each_then (λ c. Each (IsMet file []) (const_demands c)) (λ c. IfAny (IsFixed file [] c.ty) c.value) (λ c h. if_fixed file [] c.ty c.value h) file.constants
       (each_of (IsMet file []) const_demands file.constants r.0)
 
+  behind_constants : Each (IsMet file []) (flat_map var_demands file.variables) × Each (IsMet file []) (map (varying (wanted_by T.Bool)) (if_some file.restrict))
+  behind_constants =
+      let restricting = map (varying (wanted_by T.Bool)) (if_some file.restrict) in
+      let r = each_parts (IsMet file []) (flat_map const_demands file.constants) (flat_map var_demands file.variables ++ restricting) outer_met in
+      each_parts (IsMet file []) (flat_map var_demands file.variables) restricting r.1
+
   globals_fine : Each (IsFineVar file []) file.variables
   globals_fine =
-      let r = each_parts (IsMet file []) (flat_map const_demands file.constants) (flat_map var_demands file.variables) outer_met in
-      vars_fine file [] file.variables (kinds_outside file checked) r.1
+      vars_fine file [] file.variables (kinds_outside file checked) behind_constants.0
+
+  pub restrict_fine : IfAny (IsFine file [] T.Bool) file.restrict
+  restrict_fine = if_varying file [] T.Bool file.restrict behind_constants.1
 
   -- ---- all variables, each beside the own ones of its element
   abbrev pub IsFineOwned : Owned → Type 0

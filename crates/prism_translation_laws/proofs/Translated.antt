@@ -1,6 +1,6 @@
 -- The parts of a translated file may be spelled, and their names are declared.
 use Rattle.std.specs.List.{flat_map, filter, zip, list_any, fold, AllByRecursion as Each}
-use Rattle.std.specs.Prelude.{◌≡◌, ◌<◌, ℕ, ◌+◌, ◌-◌, List, [], ◌∷◌, ◌++◌, map, length, Bool, true, false, not, ◌&&◌, Option, Some, None, is_none, unwrap_or, if◌then◌else◌}
+use Rattle.std.specs.Prelude.{◌≡◌, ◌<◌, ℕ, ◌+◌, ◌-◌, List, [], ◌∷◌, ◌++◌, map, length, Bool, true, false, not, ◌&&◌, Option, Some, None, is_none, unwrap_or, if◌then◌else◌, slice_get}
 use Rattle.std.proofs.Common.{refl, sym, ap, subst, ◌∙◌, arith}
 use Rattle.std.specs.Option.{option_map}
 use Rattle.std.proofs.lemmas.Option.{slice_get_within}
@@ -17,7 +17,7 @@ use Rattle.basics.specs.Options.{if_some, if_some as if_there, IfAny}
 use Rattle.process_core.specs.Ready.{Name}
 use Rattle.prism_lex.specs.declared.token.TokenKind.TheVariants.{Ident}
 use Rattle.prism_lex.specs.Tokens.{IsKind}
-use Rattle.prism_tree.specs.declared.operator.PrismOp.TheVariants.{And, Equal, Ite}
+use Rattle.prism_tree.specs.declared.operator.PrismOp.TheVariants.{And, Equal, Ite, Or}
 use Rattle.prism_tree.specs.Syntax as prism
 use Rattle.process_core.specs.Instance.{only_if}
 use Rattle.prism_print.specs.Printable.{HasWeight, AreBranches}
@@ -35,7 +35,10 @@ use Rattle.prism_translation.specs.Image.{image}
 use Rattle.prism_translation.specs.Elements.{Element, elements, has_several, Placed, placed_edges, rewards, Lasting, lasting_variables, home, own, adopted, at_home, is_at, may_use}
 use Rattle.prism_translation.specs.Targets.{Target, targets, targets_by, vector_targets, silent_targets, reward_writer, edges_named, names as names_it, is_silent, serves, serves_silently, is_blocked}
 use Rattle.prism_translation.specs.Names.{new_names}
-use Rattle.prism_translation.specs.Parts.{made, counted, constant, range_of, scope_of, variable, location_name, location_variable, is_there}
+use Rattle.prism_flat.specs.Joined.{joined}
+use Rattle.jani_meaning.specs.Scene.{has_condition}
+use Rattle.prism_translation.specs.Conditions.{condition_parts, location_part, places, restriction_part, some_of, start_part}
+use Rattle.prism_translation.specs.Parts.{made, counted, constant, range_of, scope_of, start_under, variable, location_name, location_variable, is_there}
 use Rattle.prism_translation.specs.Modules.{truth, falsehood, all_of, Action, actions, guard, write_by, write, location_write, weight, branch, is_single, command, commands_of, blocking, commands, module_of}
 use Rattle.prism_translation.specs.Marks.{Given, given_by, given_to, first_writes, assigned_to, given_image, given_where, label_body, first_value, label, state_item, target_item, target_items_by, target_items, or_nought, structure}
 use Rattle.prism_translation.specs.Translated.{translated}
@@ -48,7 +51,7 @@ use Rattle.prism_translation_laws.proofs.Images.{counted_good, name_good, two_go
 use Rattle.prism_translation_laws.proofs.Entries.{IsValidName}
 use Rattle.prism_translation_laws.proofs.Known.{Fine, FineKind, FineWrite, FineLocation, FineDestination, FineEdge, FineOwned, FineElement, IsFine, is_fine}
 use Rattle.prism_translation_laws.proofs.Segments.{variable_spelled, valid_from, valid_actions, labels_spelled, location_spelled, module_spelled, reward_spelled}
-use Rattle.prism_translation_laws.proofs.Values.{known_good, place_good, location_value}
+use Rattle.prism_translation_laws.proofs.Values.{known_good, place_good, location_value, variable_value}
 
 -- those that are kept pass the test
 each_kept : {A : Type 0} (P : A → Type 0) (p : A → Bool) (xs : List A) → Each P xs → Each (λ x. P x × (p x ≡ true)) (filter p xs)
@@ -91,6 +94,10 @@ module _ (file : File) (all : IsFine file) (some : 0 < length file.elements) whe
   range_good k one_sided f = tt
   range_good k (bounded low high) f = (new_good k low f.0, new_good k high f.1)
 
+  started_good : (b : Bool) (s : Option prism.Expression) → IfAny (Good known) s → IfAny (Good known) (start_under file names b s)
+  started_good true s g = tt
+  started_good false s g = g
+
   abbrev GoodLasting : Lasting → Type 0
   GoodLasting x = GoodVar known (variable file names x)
 
@@ -102,7 +109,7 @@ module _ (file : File) (all : IsFine file) (some : 0 < length file.elements) whe
       let f = at_each (FineOwned file) (lasting file) i o (each_filter (FineOwned file) is_lasting (jani.variables file) all.variables) e in
       let k = scope_of file names o in
       subst (λ j. Each GoodLasting (record { number = j; owned = o } ∷ [])) z
-      ((variable_spelled file i (slice_get_within (lasting file) i o e), range_good k o.var.kind f.var.0, new_any k o.var.start f.var.1), tt))
+      ((variable_spelled file i (slice_get_within (lasting file) i o e), range_good k o.var.kind f.var.0, started_good (has_condition file) (option_map (image (value_name file names k)) o.var.start) (new_any k o.var.start f.var.1)), tt))
 
   some_good : (p : Lasting → Bool) → Each (GoodVar known) (map (variable file names) (filter p (lasting_variables file)))
   some_good p = each_map GoodLasting (GoodVar known) (variable file names) (λ x g. g) (filter p (lasting_variables file)) (each_filter GoodLasting p (lasting_variables file) variables_good)
@@ -256,7 +263,7 @@ module _ (file : File) (all : IsFine file) (some : 0 < length file.elements) whe
       module_spelled file el.number g.within,
       each_join (GoodVar known) (only_if (has_several el) (location_variable file names el)) (map (variable file names) (at_home file el.number))
           (each_only (GoodVar known) (has_several el) (location_variable file names el)
-          (λ h. (location_spelled file el.number g.within, (counted_good known 0, counted_good known (length el.automaton.locations - 1)), counted_good known (initial_number el.automaton))))
+          (λ h. (location_spelled file el.number g.within, (counted_good known 0, counted_good known (length el.automaton.locations - 1)), started_good (has_condition file) (Some (counted (initial_number el.automaton))) (counted_good known (initial_number el.automaton)))))
           (each_map GoodLasting (GoodVar known) (variable file names) (λ x v. v) (at_home file el.number)
           (each_join GoodLasting (own file el.number) (adopted file el.number)
           (each_filter GoodLasting (λ x. is_owner el.number x.owned.owner) (lasting_variables file) variables_good)
@@ -373,6 +380,56 @@ module _ (file : File) (all : IsFine file) (some : 0 < length file.elements) whe
         (each_flat GoodAction (GoodItem known) (target_items file names j) (λ t h. target_good j t.name t.target.maker h.1 h.0) (actions file names) actions_good)),
   )
 
+  -- ---- the initial condition
+  some_joined : (e : prism.Expression) (es : List prism.Expression) → Good known e → Each (Good known) es → Good known (joined Or e es)
+  some_joined e [] g h = g
+  some_joined e (x ∷ xs) g h = some_joined (Two 0 Or e x) xs (two_good known 0 Or e x refl g h.0) h.1
+
+  some_of_good : (es : List prism.Expression) → Each (Good known) es → Good known (some_of es)
+  some_of_good [] h = truth_good true
+  some_of_good (e ∷ es) h = some_joined e es h.0 h.1
+
+  places_good : (el : Element) → GoodElement el → Each (Good known) (location_part file names el)
+  places_good el g =
+      each_only (Good known) (has_several el) (some_of (places file names el))
+      (λ h. some_of_good (places file names el) (each_any (Good known) (λ (n : Named). is_there file names el.number (location_number el.automaton n.name)) (λ n. there_good el g h (location_number el.automaton n.name)) el.automaton.initial))
+
+  start_part_good : (i : ℕ) (o : Owned) → slice_get (lasting file) i ≡ Some o → Each (Good known) (start_part file names (record { number = i; owned = o }))
+  start_part_good i o e = by_start o.var.start f.var.1
+    where
+      f : FineOwned file o
+      f = at_each (FineOwned file) (lasting file) i o (each_filter (FineOwned file) is_lasting (jani.variables file) all.variables) e
+
+      k : ℕ
+      k = scope_of file names o
+
+      within : i < length (lasting file)
+      within = slice_get_within (lasting file) i o e
+
+      by_start : (s : Option Expression) → IfAny (Fine (IsKnown file k)) s →
+          Each (Good known) (map (λ e. Two 0 Equal (At 0 (name_at names.variables i)) (image (value_name file names k) e)) (if_some s))
+      by_start None h = tt
+      by_start (Some e) h =
+          (two_good known 0 Equal (At 0 (name_at names.variables i)) (image (value_name file names k) e) refl (name_good known 0 (name_at names.variables i) (variable_spelled file i within) (variable_value file some i within)) (new_good k e h), tt)
+
+  starts_good : Each (Good known) (flat_map (start_part file names) (lasting_variables file))
+  starts_good =
+      each_flat (λ x. Each (Good known) (start_part file names x)) (Good known) (start_part file names) (λ x g. g) (lasting_variables file)
+      (each_numbered (λ x. Each (Good known) (start_part file names x)) (λ i o. record { number = i; owned = o } ∷ []) 0 (lasting file)
+      (λ i o e. let z : i ≡ 0 + i = omega arith in subst (λ j. Each (λ x. Each (Good known) (start_part file names x)) (record { number = j; owned = o } ∷ [])) z (start_part_good i o e, tt)))
+
+  restriction_good : (o : Option Expression) → IfAny (Fine (IsKnown file (outside file))) o → Each (Good known) (map (image (value_name file names (outside file))) (if_some o))
+  restriction_good None h = tt
+  restriction_good (Some e) h = (new_good (outside file) e h, tt)
+
+  condition_good : (b : Bool) → IfAny (Good known) (if b then Some (all_of (condition_parts file names)) else None)
+  condition_good false = tt
+  condition_good true =
+      all_of_good (condition_parts file names)
+      (each_join (Good known) (flat_map (location_part file names) (elements file)) (flat_map (start_part file names) (lasting_variables file) ++ restriction_part file names)
+      (each_flat GoodElement (Good known) (location_part file names) places_good (elements file) elements_good)
+      (each_join (Good known) (flat_map (start_part file names) (lasting_variables file)) (restriction_part file names) starts_good (restriction_good file.restrict all.restrict)))
+
   -- ---- the file
   is_good : IsGood (translated file)
   is_good = record {
@@ -388,6 +445,7 @@ module _ (file : File) (all : IsFine file) (some : 0 < length file.elements) whe
     rewards =
         each_numbered (GoodRewards known) (λ j o. structure file names j o (name_at names.rewards j) ∷ []) 0 (structures file)
         (λ j o e. let z : j ≡ 0 + j = omega arith in subst (λ i. Each (GoodRewards known) (structure file names i o (name_at names.rewards i) ∷ [])) z (structure_good j o (slice_get_within (structures file) j o e), tt));
+    init = condition_good (has_condition file);
   }
 
 pub translated_good : (file : File) → IsChecked file → IsGood (translated file)

@@ -16,7 +16,7 @@ use Rattle.prism_translation.specs.Modules.{module_of, commands}
 use Rattle.prism_translation.specs.Translated.{translated}
 use Rattle.prism_translation.proofs.Numbered.{numbered_from}
 use Rattle.prism_translation_laws.specs.TypeLaws.{NoTypeFault}
-use Rattle.prism_translation_laws.proofs.Outer.{outer_types_fit}
+use Rattle.prism_translation_laws.proofs.Initial.{outer_types_fit}
 use Rattle.prism_translation_laws.proofs.Commands.{module_types_fit}
 use Rattle.prism_translation_laws.proofs.Once.{written_once}
 

@@ -120,6 +120,7 @@ fn text_of_parts<'a>(
     let names = new_names(
         alloc,
         file,
+        parts.automata.as_slice(),
         parts.lasting.as_slice(),
         parts.labels.len(),
         parts.structures.len(),

@@ -1,21 +1,15 @@
-use Rattle.std.specs.Prelude.{◌≡◌, ◌||◌, List, Bool, IfOk}
-use Rattle.std.proofs.Common.{◌∙◌, ap, ap₂, sym, subst}
-use Rattle.jani_tree.specs.Syntax.{Automaton, file_of}
-use Rattle.jani_meaning.specs.Elements as jani
-use Rattle.jani_meaning.specs.Elements.{Owned, labels}
-use Rattle.edge_tables.specs.Counts.{crowded_from, usable_among}
-use Rattle.edge_tables.proofs.Crowded.{too_large_is}
+use Rattle.std.specs.Prelude.{◌≡◌, ◌||◌, Bool, IfOk}
+use Rattle.std.proofs.Common.{◌∙◌, ap, sym, subst}
+use Rattle.jani_tree.specs.Syntax.{file_of}
+use Rattle.prism_translation.specs.Refused.{has_large_result}
 use Rattle.prism_targets.proofs.refused.is_too_large.Goals as goal
 
-pub returns-then-branch : goal.returns-then-branch
-returns-then-branch c =
-    let file = file_of c.args.file.now in
-    sym (too_large_is file ∙ ap (λ b. b || crowded_from (usable_among (labels file)) 0 (jani.elements file)) (sym c.in_ok-has_large_modules.ensures ∙ c.if-branch.true))
+pub returns-then-has_many_starts : goal.returns-then-has_many_starts
+returns-then-has_many_starts c = sym (ap (λ b. b || has_large_result (file_of c.args.file.now)) (sym c.has_many_starts.ensures ∙ c.if-has_many_starts.true))
 
 pub returns : goal.returns
 returns c =
     let file = file_of c.args.file.now in
-    subst (λ (y : Bool). IfOk c.has_large_labels.result (λ b. b ≡ y))
-    (ap₂ (λ (vars : List Owned) (l : List Automaton). crowded_from (usable_among vars) 0 l) c.requires.labels c.requires.automata
-    ∙ sym (too_large_is file ∙ ap (λ b. b || crowded_from (usable_among (labels file)) 0 (jani.elements file)) (sym c.in_ok-has_large_modules.ensures ∙ c.if-branch.false)))
-    c.has_large_labels.ensures
+    subst (λ (y : Bool). IfOk c.has_large_result.result (λ b. b ≡ y))
+    (sym (ap (λ b. b || has_large_result file) (sym c.has_many_starts.ensures ∙ c.if-has_many_starts.false)))
+    c.has_large_result.ensures

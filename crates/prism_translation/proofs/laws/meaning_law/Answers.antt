@@ -6,7 +6,7 @@ use Rattle.prism_translation.proofs.NamesAlike.{constant_alike}
 use Rattle.prism_translation.proofs.Domains.{domains_alike}
 use Rattle.prism_translation.proofs.States.{state_long, states_into, states_onto}
 use Rattle.prism_translation.proofs.OneToOne.{states_one}
-use Rattle.prism_translation.proofs.Starts.{initial_alike}
+use Rattle.prism_translation.proofs.Conditions.{initial_alike}
 use Rattle.prism_translation.proofs.FaultsAlike.{faults_alike}
 use Rattle.prism_translation.proofs.SoundEdges.{choices_meant}
 use Rattle.prism_translation.proofs.MarksAlike.{marks_alike}

@@ -1,4 +1,4 @@
-use Rattle.prism_translation_laws.proofs.Outer.{outer_types_fit}
+use Rattle.prism_translation_laws.proofs.Initial.{outer_types_fit}
 use Rattle.prism_translation_laws.proofs.types.outer_law.Goals as goal
 
 pub returns : goal.returns
