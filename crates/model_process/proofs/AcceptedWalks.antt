@@ -1,7 +1,9 @@
 -- Where a walk comes to its end, what is written of it is accepted.
+use Rattle.std.specs.Prelude.{◌↔◌, IsTrue}
+use Rattle.std.specs.Option.{MatchOption}
 use Rattle.std.proofs.Common.{◌≡◌, ℕ, List, [], ◌∷◌, false, Some, Ok, refl, sym, subst}
 use Rattle.process_core.specs.Ready.{Values}
-use Rattle.process_core.specs.Steps.{Process}
+use Rattle.process_core.specs.Steps.{IsProcess, Process}
 use Rattle.process_texts.specs.Laws.{StateReadsBack}
 use Rattle.prism_print.specs.Laws.{SpelledIsPrintable}
 use Rattle.row_check.specs.declared.data.Verdict.TheVariants.{Yes}
@@ -27,6 +29,7 @@ use Rattle.model_process.specs.Claims.{HasVerdict, judged}
 use Rattle.model_process.specs.WrittenPaths.{IsWalk, WalksEndWithYes, WalksAreNotRefused, WalksAreAccepted}
 use Rattle.model_process.proofs.JaniProcess.{jani_readable}
 use Rattle.model_process.proofs.PrismProcess.{prism_readable}
+use Rattle.model_process.proofs.Lawful.{described_is_process}
 use Rattle.model_process.proofs.ReadableProcess.{IsReadableProcess}
 use Rattle.model_process.proofs.WalkVerdicts.{along_takes, seeded_takes, walked_checks}
 
@@ -36,10 +39,12 @@ not_done d n g text (unfit i a e) = cc
 not_done d n g text (wide a b e) = cc
 not_done d n g text (faulty a b m e) = cc
 
--- the test of the first state is never wide
-never_wide : (lang : Lang) (bytes : List ℕ) (d : Description) → Describes lang bytes d → (g : List Assignment) (s : Values) → (process_for d g).has_wide_initial s ≡ false
-never_wide Prism bytes d h g s = subst (λ x. (process_for x g).has_wide_initial s ≡ false) (sym h.2) refl
-never_wide Jani bytes d h g s = subst (λ x. (process_for x g).has_wide_initial s ≡ false) (sym h.2) refl
+-- where a process has a first state, the test of that is not wide
+first_narrow : (p : Process) → IsProcess p → (f : Values) → p.first ≡ Some f → p.has_wide_initial f ≡ false
+first_narrow p is f e =
+    let known : (s : Values) → (IsTrue (p.is_initial s) ↔ (s ≡ f)) × (p.has_wide_initial s ≡ false) =
+    subst (λ o. MatchOption o (Unit {0}) (λ g. (s : Values) → (IsTrue (p.is_initial s) ↔ (s ≡ g)) × (p.has_wide_initial s ≡ false))) e is.first in
+    (known f).1
 
 module _ (printable : SpelledIsPrintable) (prism_short : PrismNamesAreShort) (alike : DescribedAlike) (jani_short : JaniNamesAreShort) (texts : JaniLabelsAreTexts) where
   readable : (lang : Lang) (bytes : List ℕ) (d : Description) → Describes lang bytes d → (g : List Assignment) → IsStartable d g → IsReadableProcess (process_for d g)
@@ -67,7 +72,7 @@ module _ (printable : SpelledIsPrintable) (prism_short : PrismNamesAreShort) (al
     walks_end_with_yes bytes text path w c ask (d, h, begun_not u) = absurd (not_done d (words_before w) w.given text u)
     walks_end_with_yes bytes text path w c ask (d, h, shown s r report e) =
         let p = process_for d w.given in
-        let checks = job_checks p (readable w.lang bytes d h w.given s) (λ x i. never_wide w.lang bytes d h w.given x) text w.job r ask.walk report e in
+        let checks = job_checks p (readable w.lang bytes d h w.given s) (first_narrow p (described_is_process printable alike jani_short w.lang bytes d w.given h s)) text w.job r ask.walk report e in
         let verdict : HasVerdict (process_for d c.given) c.claim (text ∷ []) (Judged Yes) =
         subst (λ g. HasVerdict (process_for d g) c.claim (text ∷ []) (Judged Yes)) (sym ask.constants) (subst (λ (x : Claim). HasVerdict p x (text ∷ []) (Judged Yes)) (sym ask.claim) checks) in
         (d, subst (λ l. Describes l bytes d) (sym ask.language) h, judged (subst (IsStartable d) (sym ask.constants) s) (Judged Yes) verdict refl)

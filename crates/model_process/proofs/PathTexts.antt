@@ -22,16 +22,13 @@ use Rattle.walk_texts.specs.Jobs.{IsNarrowStep, IsNarrowWalk}
 use Rattle.walk_texts.specs.Lines.{label_text, step_line, path_text}
 use Rattle.model_process.specs.ReadBack.{SpellsLabel, IsReadableStep, IsReadable, path_along}
 use Rattle.process_texts.proofs.StateTexts.{Lacks, lacks_join, state_no_feed, state_no_space, state_utf8}
-use Rattle.process_texts.proofs.NameTexts.{name_lacks, spelled_utf8}
+use Rattle.process_texts.proofs.NameTexts.{dash_no_name, name_lacks, spelled_utf8}
 use Rattle.row_check.proofs.OneLine.{line_then, one_line}
 
 -- ---- labels
 label_no_feed : (l : Option Name) → Lacks 10 (label_text l)
 label_no_feed None = refl
 label_no_feed (Some x) = name_lacks x
-
-dash_no_name : is_name (45 ∷ []) ≡ true → ⊥
-dash_no_name e = cc
 
 quote_no_dash : (u : List ℕ) → 34 ∷ u ≡ 45 ∷ [] → ⊥
 quote_no_dash u f = let z : true ≡ false = ap (λ w. nat_eq 34 (slice_index w 0)) f in cc

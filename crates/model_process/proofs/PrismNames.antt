@@ -14,7 +14,7 @@ use Rattle.prism_tree.specs.declared.syntax.NamePair.{NamePair}
 use Rattle.prism_tree.specs.Syntax.{Var, Command, Body, Module, plain, copied, File}
 use Rattle.prism_names.specs.Names.{Part, copy_of, part_of, parts, module_called, module_name, renaming, unchanged}
 use Rattle.prism_print.specs.Printable.{IsIdentifier, IsPrintable, IsPrintableCommand, IsPrintableModule, IsPrintablePair, IsPrintableVar, IsPrintableBody}
-use Rattle.prism_check.specs.Scene.{columns_of, column, constant_names, part_columns}
+use Rattle.prism_check.specs.Scene.{columns_of, column, constant_names, has_condition, part_columns}
 use Rattle.prism_check.specs.Moment.{command_at, names_in, moment, part_at}
 use Rattle.prism_check.specs.Process.{choices, choice_rewards}
 use Rattle.short_names.specs.ShortNames.{HasShortNames, ShortBody, ShortCommand, ShortModule, ShortNamed, ShortPair, ShortVar}
@@ -105,14 +105,14 @@ module _ (file : File) (form : IsPrintable file) (short : HasShortNames file) wh
   abbrev IsGoodColumn : Column → Type 0
   IsGoodColumn c = IsGood c.name
 
-  part_named : (v : Valuation) (p : Part) → IsGoodPart p → Each IsGoodColumn (part_columns file v p)
-  part_named v p h = each_map IsGoodVar IsGoodColumn (column p.rename (constant_names file v p.rename)) (λ x k. h.rename x.name.name k) p.vars h.vars
+  part_named : (v : Valuation) (p : Part) → IsGoodPart p → Each IsGoodColumn (part_columns file (has_condition file) v p)
+  part_named v p h = each_map IsGoodVar IsGoodColumn (column (has_condition file) p.rename (constant_names file v p.rename)) (λ x k. h.rename x.name.name k) p.vars h.vars
 
   columns_named : (v : Valuation) → Each IsGoodColumn (columns_of file v)
   columns_named v =
-      each_join IsGoodColumn (map (column unchanged (constant_names file v unchanged)) file.globals) (flat_map (part_columns file v) (parts file))
-      (each_map IsGoodVar IsGoodColumn (column unchanged (constant_names file v unchanged)) (λ x k. k) file.globals (vars_good file.globals form.globals short.globals))
-      (each_flat IsGoodPart IsGoodColumn (part_columns file v) (part_named v) (parts file) parts_good)
+      each_join IsGoodColumn (map (column (has_condition file) unchanged (constant_names file v unchanged)) file.globals) (flat_map (part_columns file (has_condition file) v) (parts file))
+      (each_map IsGoodVar IsGoodColumn (column (has_condition file) unchanged (constant_names file v unchanged)) (λ x k. k) file.globals (vars_good file.globals form.globals short.globals))
+      (each_flat IsGoodPart IsGoodColumn (part_columns file (has_condition file) v) (part_named v) (parts file) parts_good)
 
   no_feed : (x : Name) → is_name x ≡ true → Lacks 10 x
   no_feed x e = subst (Lacks 10) (ap (λ b. if b then x else quoted x) e) (name_lacks x)

@@ -135,22 +135,25 @@ module _ (known : Known) where
         let modules = map bare_module (map (specialised_module known) file.modules) in
         let constants = map bare_const (map (specialised_const given known) file.constants) in
         let globals = map bare_var (map (rewritten_var (folding_by known)) file.globals) in
-        ap₂ (λ cs gs. record { constants = cs; globals = gs; formulas = map bare_formula file.formulas; modules = map (specialised_module known) (map bare_module file.modules); labels = labels; rewards = rewards; end = 0 })
+        let init = option_map (folded known) (option_map bare file.init) in
+        ap₂ (λ cs gs. record { constants = cs; globals = gs; formulas = map bare_formula file.formulas; modules = map (specialised_module known) (map bare_module file.modules); labels = labels; rewards = rewards; init = init; end = 0 })
         (turned bare_const bare_const (specialised_const given known) (specialised_const given known) const-bare file.constants)
         (turned bare_var bare_var (rewritten_var (folding_by known)) (rewritten_var (folding_by known)) var-bare file.globals)
-        ∙ ap₂ (λ ms ls. record { constants = constants; globals = globals; formulas = map bare_formula file.formulas; modules = ms; labels = ls; rewards = rewards; end = 0 })
+        ∙ ap₂ (λ ms ls. record { constants = constants; globals = globals; formulas = map bare_formula file.formulas; modules = ms; labels = ls; rewards = rewards; init = init; end = 0 })
         (turned bare_module bare_module (specialised_module known) (specialised_module known) module-bare file.modules)
         (turned bare_label bare_label (rewritten_label (folding_by known)) (rewritten_label (folding_by known)) label-bare file.labels)
-        ∙ ap (λ rs. record {
+        ∙ ap₂ (λ rs o. record {
           constants = constants;
           globals = globals;
           formulas = map bare_formula file.formulas;
           modules = modules;
           labels = map bare_label (map (rewritten_label (folding_by known)) file.labels);
           rewards = rs;
+          init = o;
           end = 0;
         })
         (turned bare_rewards bare_rewards (rewritten_rewards (folding_by known)) (rewritten_rewards (folding_by known)) rewards-bare file.rewards)
+        (some-bare file.init)
 
 -- ---- files
 specialised-bare : (file : File) (given : Valuation) → specialised (bare_file file) given ≡ bare_file (specialised file given)

@@ -10,7 +10,7 @@ use Rattle.prism_tree.specs.declared.syntax.ItemOn.TheVariants.{InState, Silent,
 use Rattle.prism_tree.specs.declared.syntax.NamePair.{NamePair}
 use Rattle.prism_tree.specs.Syntax.{Expression, Const, Range, Var, Formula, Label, Write, Branch, Command, Body, Module, plain, copied, Item, Rewards, File}
 use Rattle.prism_print.specs.Same.{bare_const, bare_range, bare_var, bare_formula, bare_label, bare_write, bare_branch, bare_command, bare_body, bare_pair, bare_module, bare_on, bare_item, bare_rewards, bare_file}
-use Rattle.prism_print.specs.Text.{operator_text, is_function, is_node, enclosed, expression_text, behind, listed, const_text, range_text, var_text, formula_text, label_text, write_text, update_text, weight_text, branch_text, action_text, command_text, before_commands, body_text, pair_text, module_text, on_text, item_text, title_text, rewards_text, file_text, type_text}
+use Rattle.prism_print.specs.Text.{operator_text, is_function, is_node, enclosed, expression_text, behind, listed, const_text, range_text, var_text, formula_text, label_text, write_text, update_text, weight_text, branch_text, action_text, command_text, before_commands, body_text, pair_text, module_text, on_text, item_text, title_text, rewards_text, init_text, file_text, type_text}
 
 -- ---- expressions
 node-bare : (e : Expression) → is_node (bare e) ≡ is_node e
@@ -135,17 +135,23 @@ rewards-bare r =
     (listed-bare (codes "  ") (codes "  ") item_text bare_item item-bare r.items)
 
 -- ---- files
+init-bare : (o : Option Expression) → init_text (option_map bare o) ≡ init_text o
+init-bare None = refl
+init-bare (Some e) = ap (λ t. codes "\ninit " ++ (t ++ codes " endinit\n")) (text-bare e)
+
 file-bare : (f : File) → file_text (bare_file f) ≡ file_text f
 file-bare f =
+    let init = init_text (option_map bare f.init) in
     ap₂ (λ c g. codes "mdp\n" ++ (c ++ (g ++ (listed (codes "\n") [] formula_text (map bare_formula f.formulas) ++ (listed (codes "\n") (codes "\n") module_text (map bare_module f.modules)
-    ++ (listed (codes "\n") [] label_text (map bare_label f.labels) ++ listed (codes "\n") (codes "\n") rewards_text (map bare_rewards f.rewards)))))))
+    ++ (listed (codes "\n") [] label_text (map bare_label f.labels) ++ (listed (codes "\n") (codes "\n") rewards_text (map bare_rewards f.rewards) ++ init)))))))
     (listed-bare (codes "\n") [] const_text bare_const const-bare f.constants) (listed-bare (codes "\nglobal ") (codes "global ") var_text bare_var var-bare f.globals)
     ∙ ap₂ (λ a m. codes "mdp\n" ++ (listed (codes "\n") [] const_text f.constants ++ (listed (codes "\nglobal ") (codes "global ") var_text f.globals ++ (a ++ (m
-    ++ (listed (codes "\n") [] label_text (map bare_label f.labels) ++ listed (codes "\n") (codes "\n") rewards_text (map bare_rewards f.rewards)))))))
+    ++ (listed (codes "\n") [] label_text (map bare_label f.labels) ++ (listed (codes "\n") (codes "\n") rewards_text (map bare_rewards f.rewards) ++ init)))))))
     (listed-bare (codes "\n") [] formula_text bare_formula formula-bare f.formulas) (listed-bare (codes "\n") (codes "\n") module_text bare_module module-bare f.modules)
     ∙ ap₂ (λ l r. codes "mdp\n" ++ (listed (codes "\n") [] const_text f.constants ++ (listed (codes "\nglobal ") (codes "global ") var_text f.globals
     ++ (listed (codes "\n") [] formula_text f.formulas ++ (listed (codes "\n") (codes "\n") module_text f.modules ++ (l ++ r))))))
-    (listed-bare (codes "\n") [] label_text bare_label label-bare f.labels) (listed-bare (codes "\n") (codes "\n") rewards_text bare_rewards rewards-bare f.rewards)
+    (listed-bare (codes "\n") [] label_text bare_label label-bare f.labels)
+    (ap₂ (λ r i. r ++ i) (listed-bare (codes "\n") (codes "\n") rewards_text bare_rewards rewards-bare f.rewards) (init-bare f.init))
 
 -- files that are the same but for places have one text
 pub one_prism_text : (f g : File) → bare_file f ≡ bare_file g → file_text f ≡ file_text g

@@ -199,16 +199,17 @@ system-bare f =
 
 file_members-bare : (f : File) → file_members (bare_file f) ≡ map bare_entry (file_members f)
 file_members-bare f =
-    ap₂ (λ a c. (K.Actions, Some a) ∷ (K.Constants, Some c) ∷ (K.Variables, Some (list_node var_node 0 (map bare_var f.variables))) ∷ (K.Properties, Some (bare_node f.properties))
+    ap₂ (λ a c. (K.Actions, Some a) ∷ (K.Constants, Some c) ∷ (K.Variables, Some (list_node var_node 0 (map bare_var f.variables)))
+    ∷ (K.RestrictInitial, option_map boxed_node (option_map bare f.restrict)) ∷ (K.Properties, Some (bare_node f.properties))
     ∷ (K.Automata, Some (list_node automaton_node 0 (map bare_automaton f.automata))) ∷ (K.System, Some (system_node (map bare_name f.elements) 0 (map bare_vector f.vectors))) ∷ [])
     (list-bare (keyed_node K.Name) bare_name (keyed-bare K.Name) 0 f.actions) (list-bare const_node bare_const const-bare 0 f.constants)
     ∙ ap₂ (λ v a. (K.Actions, Some (bare_node (list_node (keyed_node K.Name) 0 f.actions))) ∷ (K.Constants, Some (bare_node (list_node const_node 0 f.constants))) ∷ (K.Variables, Some v)
-    ∷ (K.Properties, Some (bare_node f.properties)) ∷ (K.Automata, Some a) ∷ (K.System, Some (system_node (map bare_name f.elements) 0 (map bare_vector f.vectors))) ∷ [])
+    ∷ (K.RestrictInitial, option_map boxed_node (option_map bare f.restrict)) ∷ (K.Properties, Some (bare_node f.properties)) ∷ (K.Automata, Some a) ∷ (K.System, Some (system_node (map bare_name f.elements) 0 (map bare_vector f.vectors))) ∷ [])
     (list-bare var_node bare_var var-bare 0 f.variables) (list-bare automaton_node bare_automaton automaton-bare 0 f.automata)
-    ∙ ap (λ s. (K.Actions, Some (bare_node (list_node (keyed_node K.Name) 0 f.actions))) ∷ (K.Constants, Some (bare_node (list_node const_node 0 f.constants)))
-    ∷ (K.Variables, Some (bare_node (list_node var_node 0 f.variables))) ∷ (K.Properties, Some (bare_node f.properties))
+    ∙ ap₂ (λ r s. (K.Actions, Some (bare_node (list_node (keyed_node K.Name) 0 f.actions))) ∷ (K.Constants, Some (bare_node (list_node const_node 0 f.constants)))
+    ∷ (K.Variables, Some (bare_node (list_node var_node 0 f.variables))) ∷ (K.RestrictInitial, r) ∷ (K.Properties, Some (bare_node f.properties))
     ∷ (K.Automata, Some (bare_node (list_node automaton_node 0 f.automata))) ∷ (K.System, Some s) ∷ [])
-    (system-bare f)
+    (some-bare boxed_node bare boxed-bare f.restrict) (system-bare f)
 
 file-bare : (f : File) → file_node (bare_file f) ≡ bare_node (file_node f)
 file-bare f =

@@ -73,15 +73,15 @@ name_lacks x = by_test (is_name x) refl
     by_test false e = quoted_lacks x
 
 -- ---- UTF-8, and no dash
-no_dash : is_name (45 ∷ []) ≡ true → ⊥
-no_dash e = cc
+pub dash_no_name : is_name (45 ∷ []) ≡ true → ⊥
+dash_no_name e = cc
 
 pub spelled_utf8 : (w : List ℕ) (x : Name) → SpellsName w x → is_utf8 w ≡ true
 spelled_utf8 w x (plain n l e) = is_utf8-from_IsUtf8 w (IsUtf8-from_ascii w (name_ascii w n))
 spelled_utf8 w x (string s) = is_utf8-from_IsUtf8 w (string_utf8 w x s)
 
 pub spelled_apart : (w : List ℕ) (x : Name) → SpellsName w x → w ≡ 45 ∷ [] → ⊥
-spelled_apart w x (plain n l e) d = no_dash (ap is_name (sym d) ∙ n)
+spelled_apart w x (plain n l e) d = dash_no_name (ap is_name (sym d) ∙ n)
 spelled_apart w x (string s) d = by_first (s.inner ++ 34 ∷ []) (sym s.text ∙ d)
   where
     by_first : (u : List ℕ) → 34 ∷ u ≡ 45 ∷ [] → ⊥

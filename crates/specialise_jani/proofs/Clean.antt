@@ -33,7 +33,7 @@ use Rattle.process_core.specs.Product.{map-map}
 use Rattle.process_core.specs.Instance.{Valuation}
 use Rattle.jani_table.specs.declared.operator.JaniOp.{JaniOp}
 use Rattle.jani_table.specs.Operators.{jani_meaning, standard}
-use Rattle.jani_tree.specs.Syntax.{Expression, Const, Var, Write, Destination, Edge, Automaton, File}
+use Rattle.jani_tree.specs.Syntax.{Expression, is_always, Const, Var, Write, Destination, Edge, Automaton, File}
 use Rattle.jani_tree.specs.Form.{AutomatonRead, ExprForm}
 use Rattle.jani_check.specs.declared.things.Thing.{Thing}
 use Rattle.jani_check.specs.Things.{beside, const_called, const_thing, global_thing, is_constant, is_label, is_reward, is_transient, kind_type, thing_type, types_by, var_called, var_thing}
@@ -56,7 +56,7 @@ use Rattle.constant_folding.proofs.Typed.{fold_is_typed}
 use Rattle.constant_folding.proofs.Uncircled.{circles_less}
 use Rattle.specialise_jani.specs.Literal.{jani_literal}
 use Rattle.specialise_jani.specs.LiteralLaws.{jani_literals, jani_monotone}
-use Rattle.specialise_jani.specs.Specialised.{any_const, any_constants, folded, folded_automaton, folded_destination, folded_edge, folded_var, folded_write, known_constants, specialised, specialised_const}
+use Rattle.specialise_jani.specs.Specialised.{any_const, any_constants, folded, folded_automaton, folded_destination, folded_edge, folded_restriction, folded_var, folded_write, known_constants, specialised, specialised_const}
 use Rattle.specialise_jani.specs.Clean.{SpecialisedIsClean}
 use Rattle.specialise_jani.proofs.ConstantLaws.{own_const}
 use Rattle.specialise_jani.proofs.Demanding.{HasForm, automaton_form, consts_carried, folded_demand, in_automaton, in_vars, outer_form}
@@ -395,8 +395,8 @@ module _ (file : File) (checked : IsChecked file) (values : Valuation) (fitting 
       (all_fine known global (outer_demands file) unknown_parts.0 (append_left (flat_map (demand_faults global) (outer_demands file)) _ type_parts.1)
       (append_left (flat_map (demand_profile global) (outer_demands file)) _ profile_parts.1)) (outer_form file checked.form)
 
-  outer_split : Each (IsSound known global) (flat_map const_demands file.constants) × Each (IsSound known global) (flat_map var_demands file.variables)
-  outer_split = each_parts (IsSound known global) (flat_map const_demands file.constants) (flat_map var_demands file.variables) outer_sound
+  outer_split : Each (IsSound known global) (flat_map const_demands file.constants) × Each (IsSound known global) (flat_map var_demands file.variables ++ map (varying W.Bool) (if_some file.restrict))
+  outer_split = each_parts (IsSound known global) (flat_map const_demands file.constants) (flat_map var_demands file.variables ++ map (varying W.Bool) (if_some file.restrict)) outer_sound
 
   -- ---- known constants have values of their types
   const_sound : (x : Name) (c : Const) → const_called file x ≡ Some c → Each (IsSound known global) (const_demands c)
@@ -441,12 +441,24 @@ module _ (file : File) (checked : IsChecked file) (values : Valuation) (fitting 
   abbrev step : (d : Demand) → IsSound known global d → IsFine known global (folded_demand K d)
   step = carried K known_typed known global known_gives
 
+  restriction_fine : (o : Option Expression) → Each (IsSound known global) (map (varying W.Bool) (if_some o)) →
+      Each (IsFine known global) (map (varying W.Bool) (if_some (option_map (folded_restriction K) o)))
+  restriction_fine None h = tt
+  restriction_fine (Some e) h = by_always (is_always (folded K e))
+    where
+      by_always : (b : Bool) → Each (IsFine known global) (map (varying W.Bool) ((if b then e else folded K e) ∷ []))
+      by_always true = (h.0.fine, tt)
+      by_always false = (step (varying W.Bool e) h.0, tt)
+
   outer_fine : Each (IsFine known global) (outer_demands new)
   outer_fine =
-      each_join (IsFine known global) (flat_map const_demands (map (specialised_const values K) file.constants)) (flat_map var_demands (map (folded_var K) file.variables))
+      let rest = each_parts (IsSound known global) (flat_map var_demands file.variables) (map (varying W.Bool) (if_some file.restrict)) outer_split.1 in
+      each_join (IsFine known global) (flat_map const_demands (map (specialised_const values K) file.constants)) _
       (consts_carried K (IsSound known global) (IsFine known global) step values (literal_fine K known_typed known global known_gives) file.constants consts_fit outer_split.0)
+      (each_join (IsFine known global) (flat_map var_demands (map (folded_var K) file.variables)) _
       (subst (Each (IsFine known global)) (sym (in_vars K file.variables))
-      (each_map (IsSound known global) (IsFine known global) (folded_demand K) step (flat_map var_demands file.variables) outer_split.1))
+      (each_map (IsSound known global) (IsFine known global) (folded_demand K) step (flat_map var_demands file.variables) rest.0))
+      (restriction_fine file.restrict rest.1))
 
   -- ---- automata
   type_rest : (flat_map (automaton_faults global) file.automata ++ flat_map (clashing_writes file) file.vectors) ≡ []

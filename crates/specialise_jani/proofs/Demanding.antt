@@ -15,7 +15,7 @@ use Rattle.op_trees.specs.Wanted.{wanted_by}
 use Rattle.process_core.specs.Instance.{Valuation}
 use Rattle.jani_table.specs.Operators.{jani_meaning}
 use Rattle.jani_tree.specs.Syntax.{Expression, Const, VarKind, boolean, integer, number, real_bounded, one_sided, bounded, Var, Location, Destination, Edge, Automaton, File}
-use Rattle.jani_tree.specs.Form.{AutomatonRead, ConstRead, DestinationRead, EdgeRead, ExprForm, FileRead, KindForm, LocationRead, VarRead, WriteRead}
+use Rattle.jani_tree.specs.Form.{AutomatonRead, ConstRead, DestinationRead, EdgeRead, ExprForm, FileRead, KindForm, LocationRead, RestrictionRead, VarRead, WriteRead}
 use Rattle.jani_check.specs.Things.{kind_type}
 use Rattle.jani_check.specs.Demands.{Demand, assigned, automaton_demands, bound_demands, const_demands, destination_demands, edge_demands, fixed, given, location_demands, outer_demands, var_demands, varying}
 use Rattle.constant_folding.specs.Constants.{specialised_value}
@@ -72,11 +72,16 @@ automaton_form a p =
     (each_flat (LocationRead HasItems) HasForm location_demands location_form a.locations p.locations)
     (each_flat (EdgeRead HasItems) HasForm edge_demands edge_form a.edges p.edges))
 
+restriction_form : (o : Option Expression) → IfAny (RestrictionRead HasItems) o → Each HasForm (map (varying W.Bool) (if_some o))
+restriction_form None p = tt
+restriction_form (Some e) p = (p.expression, tt)
+
 pub outer_form : (file : File) → FileRead file → Each HasForm (outer_demands file)
 outer_form file p =
-    each_join HasForm (flat_map const_demands file.constants) (flat_map var_demands file.variables)
+    each_join HasForm (flat_map const_demands file.constants) _
     (each_flat (ConstRead HasItems) HasForm const_demands (λ c q. optional_form (fixed (wanted_by c.ty)) (λ e. refl) c.value q.value) file.constants p.constants)
-    (each_flat (VarRead HasItems) HasForm var_demands var_form file.variables p.variables)
+    (each_join HasForm (flat_map var_demands file.variables) (map (varying W.Bool) (if_some file.restrict))
+    (each_flat (VarRead HasItems) HasForm var_demands var_form file.variables p.variables) (restriction_form file.restrict p.restrict))
 
 -- ---- a demand with its expression folded
 module _ (K : Known) where

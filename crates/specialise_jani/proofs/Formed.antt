@@ -1,5 +1,5 @@
 -- A specialised file has the form of trees, where the file has it.
-use Rattle.std.specs.Prelude.{List, [], ◌∷◌, map, Option, Some, None}
+use Rattle.std.specs.Prelude.{◌≡◌, List, [], ◌∷◌, map, Bool, true, false, Option, Some, None, if◌then◌else◌}
 use Rattle.std.specs.List.{AllByRecursion as Each}
 use Rattle.std.specs.Option.{option_map}
 use Rattle.std.proofs.Common.{refl}
@@ -11,8 +11,8 @@ use Rattle.op_trees.specs.declared.tree.Value.{Value}
 use Rattle.process_core.specs.Instance.{Valuation}
 use Rattle.jani_table.specs.declared.operator.JaniOp.TheVariants.{Div}
 use Rattle.jani_table.specs.Operators.{jani_meaning}
-use Rattle.jani_tree.specs.Syntax.{Expression, Const, VarKind, boolean, integer, number, real_bounded, one_sided, bounded, Var, Write, Location, Destination, Edge, Automaton, File}
-use Rattle.jani_tree.specs.Form.{AutomatonRead, ConstRead, DestinationRead, EdgeRead, ExprForm, FileRead, IsGiven, KindForm, LocationRead, VarRead, WriteRead}
+use Rattle.jani_tree.specs.Syntax.{Expression, is_always, Const, VarKind, boolean, integer, number, real_bounded, one_sided, bounded, Var, Write, Location, Destination, Edge, Automaton, File}
+use Rattle.jani_tree.specs.Form.{AutomatonRead, ConstRead, DestinationRead, EdgeRead, ExprForm, FileRead, IsGiven, KindForm, LocationRead, RestrictionRead, VarRead, WriteRead}
 use Rattle.constant_folding.specs.Constants.{specialised_value}
 use Rattle.constant_folding.specs.Known.{Known}
 use Rattle.constant_folding.specs.ValueLiteralLaws.{literal_holds}
@@ -20,7 +20,7 @@ use Rattle.constant_folding.proofs.Kept.{fold_holds}
 use Rattle.constant_folding.proofs.WholeNumbers.{whole_normal}
 use Rattle.specialise_jani.specs.Literal.{jani_literal, whole_tree}
 use Rattle.specialise_jani.specs.LiteralLaws.{jani_literals, whole_holds}
-use Rattle.specialise_jani.specs.Specialised.{folded, folded_automaton, folded_destination, folded_edge, folded_kind, folded_location, folded_var, folded_write, specialised_by, specialised_const}
+use Rattle.specialise_jani.specs.Specialised.{folded, folded_automaton, folded_destination, folded_edge, folded_kind, folded_location, folded_restriction, folded_var, folded_write, specialised_by, specialised_const}
 
 abbrev Formed : Expression → Type 0
 Formed = ExprForm HasItems
@@ -53,7 +53,7 @@ module _ (K : Known) where
   still_given (Some e) p = tt
 
   var_formed : (x : Var) → VarRead HasItems x → VarRead HasItems (folded_var K x)
-  var_formed x p = record { name = p.name; kind = kind_formed x.kind p.kind; start = optional_formed x.start p.start; begins = still_given x.start p.begins }
+  var_formed x p = record { name = p.name; kind = kind_formed x.kind p.kind; start = optional_formed x.start p.start; begins = λ t. still_given x.start (p.begins t) }
 
   write_formed : (w : Write) → WriteRead HasItems w → WriteRead HasItems (folded_write K w)
   write_formed w p = record { target = p.target; value = folded_formed w.value p.value }
@@ -98,11 +98,19 @@ module _ (K : Known) where
   const_formed : (values : Valuation) (c : Const) → ConstRead HasItems c → ConstRead HasItems (specialised_const values K c)
   const_formed values c p = record { name = p.name; value = value_formed (values c.name.name) c.ty c.value p.value }
 
+  restriction_formed : (e : Expression) → RestrictionRead HasItems e → RestrictionRead HasItems (folded_restriction K e)
+  restriction_formed e p = by_always (is_always (folded K e)) refl
+    where
+      by_always : (b : Bool) → is_always (folded K e) ≡ b → RestrictionRead HasItems (if b then e else folded K e)
+      by_always true h = p
+      by_always false h = record { expression = folded_formed e p.expression; restricts = h }
+
   pub specialised_formed : (values : Valuation) (file : File) → FileRead file → FileRead (specialised_by values K file)
   specialised_formed values file p = record {
     actions = p.actions;
     constants = each_map (ConstRead HasItems) (ConstRead HasItems) (specialised_const values K) (const_formed values) file.constants p.constants;
     variables = each_map (VarRead HasItems) (VarRead HasItems) (folded_var K) var_formed file.variables p.variables;
+    restrict = any_map (RestrictionRead HasItems) (RestrictionRead HasItems) (folded_restriction K) restriction_formed file.restrict p.restrict;
     automata = each_map (AutomatonRead HasItems) (AutomatonRead HasItems) (folded_automaton K) automaton_formed file.automata p.automata;
     elements = p.elements;
     vectors = p.vectors;

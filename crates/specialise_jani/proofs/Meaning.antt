@@ -1,27 +1,28 @@
 -- A specialised JANI file means the same.
-use Rattle.std.specs.Prelude.{◌≡◌, ℕ, ◌+◌, ◌-◌, List, [], ◌∷◌, ◌++◌, map, length, false, not, ◌&&◌, Option, Some, None, unwrap_or, if◌then◌else◌, slice_get}
-use Rattle.std.specs.List.{find, filter}
+use Rattle.std.specs.Prelude.{◌≡◌, ℕ, ◌+◌, ◌-◌, List, [], ◌∷◌, ◌++◌, map, length, Bool, true, false, not, ◌&&◌, ◌||◌, Option, Some, None, is_none, unwrap_or, if◌then◌else◌, slice_get}
+use Rattle.std.specs.List.{find, filter, list_any}
 use Rattle.std.specs.Option.{option_map, option_or}
 use Rattle.std.proofs.Common.{refl, sym, subst, ap, ap₂, ◌∙◌}
 use Rattle.std.proofs.Math.Path.{fun_ext}
 use Rattle.std.proofs.lemmas.List.{length-map, map-append}
 use Rattle.basics.specs.Lists.{map_agree}
-use Rattle.basics.specs.Mapped.{mapped, walked, found_mapped, kept_mapped, position_mapped}
-use Rattle.basics.specs.Options.{if_some}
+use Rattle.basics.specs.Mapped.{any_mapped, mapped, walked, found_mapped, kept_mapped, position_mapped}
+use Rattle.basics.specs.Options.{if_some, is_some-map}
 use Rattle.bridge_io.specs.declared.reason.Named.{Named}
 use Rattle.op_trees.specs.Meaning.{Environment, is_wide_value}
 use Rattle.op_trees.specs.declared.tree.Ty.{Ty}
 use Rattle.op_trees.specs.declared.tree.Value.{Value}
 use Rattle.op_trees.specs.Names.{is_called}
 use Rattle.op_trees.specs.Seen.{Seen, known, known_names}
+use Rattle.op_trees.specs.declared.tree.Value.TheVariants as V
 use Rattle.process_core.specs.Product.{map-map}
 use Rattle.process_core.specs.Ready.{Values, Name, Write, Update}
-use Rattle.process_core.specs.Instance.{Valuation, Between, Scene, instance_faults, is_wide_instance, is_state, is_initial, no_condition, numbered}
-use Rattle.jani_tree.specs.Syntax.{Expression, Const, VarKind, boolean, integer, number, real_bounded, one_sided, bounded, Var, Location, Destination, Edge, Automaton, File}
+use Rattle.process_core.specs.Instance.{Valuation, Between, Column, Scene, instance_faults, is_wide_instance, is_state, is_initial, numbered}
+use Rattle.jani_tree.specs.Syntax.{Expression, is_always, Const, VarKind, boolean, integer, number, real_bounded, one_sided, bounded, Var, Location, Destination, Edge, Automaton, File}
 use Rattle.jani_tree.specs.Syntax as syntax
-use Rattle.jani_meaning.specs.Elements.{nothing_called, automaton_called, elements, location_number, first_number, Owned, owned_by, variables, is_boolean, is_lasting, is_label, is_structure, lasting, labels, structures, is_own, is_global, place_of, column_number, structure_number}
-use Rattle.jani_meaning.specs.Scene.{see, constant_seen, constant, constant_names, counted, location_column, domain_of, start_of, column, columns_of, scene}
-use Rattle.jani_meaning.specs.Moment.{Moment, value_in, names_in, is_number, is_current, current_location, guard_seen, weight_seen, location_write, column_write, reward_of, write_at, reward_at, update_at, edge_at, element_at, given_in, given_at, may_give, given_to, first_or, transient_at, vector_of, moment}
+use Rattle.jani_meaning.specs.Elements.{nothing_called, automaton_called, elements, has_several_starts, location_number, first_number, Owned, owned_by, variables, is_boolean, is_lasting, is_label, is_structure, lasting, labels, structures, is_own, is_global, place_of, column_number, structure_number}
+use Rattle.jani_meaning.specs.Scene.{see, constant_seen, constant, constant_names, begins_anywhere, counted, first_location, first_of, has_condition, location_column, domain_of, start_of, column, columns_of, scene}
+use Rattle.jani_meaning.specs.Moment.{Moment, begin_here, condition_at, is_among, restriction_seen, value_in, names_in, is_number, is_current, current_location, guard_seen, weight_seen, location_write, column_write, reward_of, write_at, reward_at, update_at, edge_at, element_at, given_in, given_at, may_give, given_to, first_or, transient_at, vector_of, moment}
 use Rattle.jani_meaning.specs.Process.{choices, marks, has_wide_mark, excess}
 use Rattle.constant_folding.specs.Constants.{AreRanked, specialised_value}
 use Rattle.jani_table.specs.Operators.{jani_meaning}
@@ -29,7 +30,7 @@ use Rattle.specialise_jani.specs.Literal.{jani_literal}
 use Rattle.constant_folding.specs.Unfit.{Extends, IsSmall}
 use Rattle.constant_folding.specs.Known.{Known}
 use Rattle.constant_folding.specs.Kept.{Gives}
-use Rattle.specialise_jani.specs.Specialised.{any_constants, known_constants, folded, folded_kind, folded_var, folded_write, folded_location, folded_destination, folded_edge, folded_automaton, specialised_const, specialised}
+use Rattle.specialise_jani.specs.Specialised.{any_constants, known_constants, folded, folded_kind, folded_restriction, folded_var, folded_write, folded_location, folded_destination, folded_edge, folded_automaton, specialised_const, specialised}
 use Rattle.specialise_jani.specs.SameMeaning.{SameMeaningAt, AreApart, GivenHaveValues, SpecialisedMeansTheSame}
 use Rattle.specialise_jani.proofs.ConstantLaws.{literal_see, known_is_constant, known_gives, folded_see, value_same, constants_same}
 
@@ -141,12 +142,21 @@ module _ (file : File) (given v : Valuation) (extends : Extends given v) (small 
   start_same None = refl
   start_same (Some e) = fixed_same e
 
+  first_same : (o : Option Expression) → first_of names (option_map (folded K) o) ≡ first_of names o
+  first_same None = refl
+  first_same (Some e) = ap Some (fixed_same e)
+
   column_same : (o : Owned) → column names (folded_var K o.var) ≡ column names o.var
-  column_same o = ap₂ (λ d f. record { name = o.var.name.name; domain = d; first = Some f }) (domain_same o.var.kind) (start_same o.var.start)
+  column_same o = ap₂ (λ d f. record { name = o.var.name.name; domain = d; first = f }) (domain_same o.var.kind) (first_same o.var.start)
+
+  first_location_same : (a : Automaton) (b : Bool) → first_location (fa a) b ≡ first_location a b
+  first_location_same a true = refl
+  first_location_same a false = ap (λ n. Some (counted n)) (initial_same a a.initial)
 
   location_column_same : (a : Automaton) → location_column (fa a) ≡ location_column a
   location_column_same a =
-      ap₂ (λ n f. record { name = a.name.name; domain = Between (counted 0) (counted (n - 1)); first = Some (counted f) }) (length-map a.locations (folded_location K)) (initial_same a a.initial)
+      ap₂ (λ n f. record { name = a.name.name; domain = Between (counted 0) (counted (n - 1)); first = f }) (length-map a.locations (folded_location K))
+      (first_location_same a (has_several_starts a))
 
   columns_alike : columns_of new v ≡ columns_of file v
   columns_alike =
@@ -154,10 +164,21 @@ module _ (file : File) (given v : Valuation) (extends : Extends given v) (small 
       (ap₂ (λ (r : Name → Seen) vars. map (λ o. column r o.var) vars) new_are lasting_same
       ∙ mapped fo (λ o. column names o.var) (λ o. column names o.var) column_same (lasting file))
 
+  anywhere_same : (o : Option Expression) → is_none (option_map (folded K) o) ≡ is_none o
+  anywhere_same None = refl
+  anywhere_same (Some e) = refl
+
+  condition_alike : has_condition new ≡ has_condition file
+  condition_alike =
+      ap₂ (λ a b. a || b) (is_some-map (folded_restriction K) file.restrict)
+      (ap₂ (λ a b. a || b) (ap (list_any has_several_starts) elements_same ∙ any_mapped fa has_several_starts has_several_starts (λ a. refl) (elements file))
+      (ap (list_any begins_anywhere) lasting_same ∙ any_mapped fo begins_anywhere begins_anywhere (λ o. anywhere_same o.var.start) (lasting file)))
+
   scene_alike : scene new v ≡ scene file v
   scene_alike =
-      ap₂ {C = Scene} (λ a b. record { constants = a; columns = b; has_condition = false })
-      (ap (λ (r : Name → Seen). map (λ c. constant_seen (v c.name.name) r c.value) (map (specialised_const given K) file.constants)) new_are ∙ consts_alike) columns_alike
+      ap₂ {A = List Column → Scene} (λ f c. f c)
+      (ap₂ {C = List Column → Scene} (λ h a. λ b. record { constants = a; columns = b; has_condition = h }) condition_alike
+      (ap (λ (r : Name → Seen). map (λ c. constant_seen (v c.name.name) r c.value) (map (specialised_const given K) file.constants)) new_are ∙ consts_alike)) columns_alike
 
   -- ---- the file at a state
   module _ (s : Values) where
@@ -254,11 +275,32 @@ module _ (file : File) (given v : Valuation) (extends : Extends given v) (small 
         ∙ ap₂ (first_or file v s) (ap (λ (r : Name → Seen). start_of r (option_map (folded K) o.var.start)) new_are ∙ start_same o.var.start)
         (ap (numbered (given_to new v s (fo o)) 0) elements_same ∙ numbered_mapped (given_to new v s (fo o)) (given_to file v s o) fa (given_to_same o) 0 (elements file))
 
+    -- ---- the condition on initial states
+    among_same : (i : ℕ) (a : Automaton) (ns : List Named) → is_among s i (fa a) ns ≡ is_among s i a ns
+    among_same i a [] = refl
+    among_same i a (n ∷ ns) = ap₂ (λ b c. b || c) (current_same i a n.name) (among_same i a ns)
+
+    begin_same : (i : ℕ) (as_ : List Automaton) → begin_here s i (map fa as_) ≡ begin_here s i as_
+    begin_same i [] = refl
+    begin_same i (a ∷ as_) = ap₂ (λ b c. b && c) (ap (λ b. not (has_several_starts a) || b) (among_same i a a.initial)) (begin_same (i + 1) as_)
+
+    restriction_same : (i : ℕ) (o : Option Expression) → restriction_seen (names_in new v s i) (option_map (folded_restriction K) o) ≡ restriction_seen (names_in file v s i) o
+    restriction_same i None = refl
+    restriction_same i (Some e) = by_always (is_always (folded K e))
+      where
+        by_always : (b : Bool) → see (if b then e else folded K e) (names_in new v s i) ≡ see e (names_in file v s i)
+        by_always true = ap (see e) (new_names i)
+        by_always false = state_same i e
+
+    condition_same : condition_at new v s ≡ condition_at file v s
+    condition_same =
+        ap₂ (λ b (c : Seen). if b then c else known (Some (V.Truth false))) (ap (begin_here s 0) elements_same ∙ begin_same 0 (elements file)) (restriction_same (length file.elements) file.restrict)
+
     moment_alike : moment new v s ≡ moment file v s
     moment_alike =
-        ap₂ {B = List Seen → Moment} (λ rs g. g rs)
-        (ap (map (transient_at new v s)) structures_same ∙ mapped fo (transient_at new v s) (transient_at file v s) transient_same (structures file))
-        (ap₂ (λ es ls rs. record { condition = no_condition; elements = es; vectors = map vector_of file.vectors; labels = ls; rewards = rs })
+        ap₂ {A = (List Seen) × Seen} {B = (List Seen) × Seen → Moment} (λ rs g. g rs)
+        (ap₂ (λ rs c. (rs, c)) (ap (map (transient_at new v s)) structures_same ∙ mapped fo (transient_at new v s) (transient_at file v s) transient_same (structures file)) condition_same)
+        (ap₂ (λ es ls r. record { condition = r.1; elements = es; vectors = map vector_of file.vectors; labels = ls; rewards = r.0 })
         (ap (numbered (λ i a. element_at new v s i a ∷ []) 0) elements_same
         ∙ numbered_mapped (λ i a. element_at new v s i a ∷ []) (λ i a. element_at file v s i a ∷ []) fa (λ i a. ap (λ l. l ∷ []) (element_same i a)) 0 (elements file))
         (ap (map (transient_at new v s)) labels_same ∙ mapped fo (transient_at new v s) (transient_at file v s) transient_same (labels file)))

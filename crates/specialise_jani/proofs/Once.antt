@@ -146,7 +146,7 @@ module _ (file : File) (checked : IsChecked file) where
     automata_apart =
         each_then (λ a. doubled_in (global_names file) a ≡ []) OwnApart
         (λ a h. apart_from TwiceNamed (global_names file) (var_names a.variables)
-        (append_left (doubled_after TwiceNamed (global_names file) (var_names a.variables)) (doubled TwiceNamed (location_names a)) h) x among_globals)
+        (append_left (doubled_after TwiceNamed (global_names file) (var_names a.variables)) (doubled TwiceNamed (location_names a) ++ doubled TwiceNamed a.initial) h) x among_globals)
         file.automata automata_once
 
     of_found : (n : Named) (o : Option Automaton) → IfAny OwnApart o → OwnApart (unwrap_or o (nothing_called n))

@@ -130,7 +130,7 @@ module _ (K : Known) where
 
   doubled_in_same : (global : List Named) (a : Automaton) → doubled_in global (folded_automaton K a) ≡ doubled_in global a
   doubled_in_same global a =
-      ap₂ (λ xs ys. doubled_after TwiceNamed global xs ++ doubled TwiceNamed ys) (var_names_same a.variables) (locations_same a)
+      ap₂ (λ xs ys. doubled_after TwiceNamed global xs ++ (doubled TwiceNamed ys ++ doubled TwiceNamed a.initial)) (var_names_same a.variables) (locations_same a)
 
   -- ---- the file
   module _ (given : Valuation) (file : File) where

@@ -26,12 +26,12 @@ pub copied_all : {A : Type 0} (xs whole ys : List A) → xs ≡ whole → AllZip
 copied_all xs whole ys e h = sym (plain_map ys) ∙ zipped_same (λ x. x) xs whole ys e h ∙ plain_map whole
 
 -- two files whose parts are the same
-pub same_file : {actions actions_ elements elements_ : List Named} {constants constants_ : List Const} {variables variables_ : List Var} {automata automata_ : List Automaton}
-    {at at_ : ℕ} {vectors vectors_ : List Vector} {properties properties_ : Node} → actions ≡ actions_ → constants ≡ constants_ → variables ≡ variables_ → automata ≡ automata_ →
+pub same_file : {actions actions_ elements elements_ : List Named} {constants constants_ : List Const} {variables variables_ : List Var} {restrict restrict_ : Option Expression} {automata automata_ : List Automaton}
+    {at at_ : ℕ} {vectors vectors_ : List Vector} {properties properties_ : Node} → actions ≡ actions_ → constants ≡ constants_ → variables ≡ variables_ → restrict ≡ restrict_ → automata ≡ automata_ →
     elements ≡ elements_ → at ≡ at_ → vectors ≡ vectors_ → properties ≡ properties_ →
-    ◌≡◌ {A = File} (record { actions = actions; constants = constants; variables = variables; automata = automata; elements = elements; elements_at = at; vectors = vectors; properties = properties })
-    (record { actions = actions_; constants = constants_; variables = variables_; automata = automata_; elements = elements_; elements_at = at_; vectors = vectors_; properties = properties_ })
-same_file a b c d e f g h = cc
+    ◌≡◌ {A = File} (record { actions = actions; constants = constants; variables = variables; restrict = restrict; automata = automata; elements = elements; elements_at = at; vectors = vectors; properties = properties })
+    (record { actions = actions_; constants = constants_; variables = variables_; restrict = restrict_; automata = automata_; elements = elements_; elements_at = at_; vectors = vectors_; properties = properties_ })
+same_file a b c r d e f g h = cc
 
 pub same_automaton : {name name_ : Named} {variables variables_ : List Var} {locations locations_ : List Location} {initial initial_ : List Named} {edges edges_ : List Edge} →
     name ≡ name_ → variables ≡ variables_ → locations ≡ locations_ → initial ≡ initial_ → edges ≡ edges_ →

@@ -1,11 +1,11 @@
 -- A JANI file specialised to values that are given for some of its constants. (jani-model specification, version 1: "Models", "Automata", "Edges". Which
 -- constants count as known, and what is folded, is this project's own rule.)
-use Rattle.std.specs.Prelude.{List, map}
+use Rattle.std.specs.Prelude.{List, map, if◌then◌else◌}
 use Rattle.std.specs.Option.{option_map}
 use Rattle.process_core.specs.Instance.{Valuation}
 use Rattle.jani_table.specs.declared.operator.JaniOp.{JaniOp}
 use Rattle.jani_table.specs.Operators.{jani_meaning}
-use Rattle.jani_tree.specs.Syntax.{Expression, Const, VarKind, boolean, integer, number, real_bounded, one_sided, bounded, Var, Write, Location, Destination, Edge, Automaton, File}
+use Rattle.jani_tree.specs.Syntax.{Expression, is_always, Const, VarKind, boolean, integer, number, real_bounded, one_sided, bounded, Var, Write, Location, Destination, Edge, Automaton, File}
 use Rattle.constant_folding.specs.Known.{Known}
 use Rattle.constant_folding.specs.Folded.{fold}
 use Rattle.constant_folding.specs.Constants as folding
@@ -66,6 +66,10 @@ module _ (known : Known) where
     edges = map folded_edge a.edges;
   }
 
+  -- a restriction that is folded to the literal true stays as it is, since a written true restricts nothing
+  abbrev pub folded_restriction : Expression → Expression
+  folded_restriction e = if is_always (folded e) then e else folded e
+
 -- a constant without an expression gets the literal of the value that is given for it
 abbrev pub specialised_const : Valuation → Known → Const → Const
 specialised_const given known c = record { name = c.name; ty = c.ty; value = specialised_value jani_meaning jani_literal (given c.name.name) known c.ty c.value; note = c.note }
@@ -76,6 +80,7 @@ specialised_by given known file = record {
   actions = file.actions;
   constants = map (specialised_const given known) file.constants;
   variables = map (folded_var known) file.variables;
+  restrict = option_map (folded_restriction known) file.restrict;
   automata = map (folded_automaton known) file.automata;
   elements = file.elements;
   elements_at = file.elements_at;

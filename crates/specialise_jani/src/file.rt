@@ -7,7 +7,7 @@ ghost use Rattle.constant_folding.specs.Tables.{given_in, known_in};
 ghost use Rattle.specialise_jani.specs.Specialised.{specialised_by};
 
 use crate::numerals::JaniNumerals;
-use crate::parts::all_folded;
+use crate::parts::{all_folded, restriction};
 use bridge_io::{List, together};
 use constant_folding::KnownTable;
 use jani_tree::{JaniFile, copy_json};
@@ -25,6 +25,7 @@ pub(crate) fn folded_file(
         actions: List::new(alloc),
         constants: List::new(alloc),
         variables: List::new(alloc),
+        restrict: None,
         automata: List::new(alloc),
         elements: List::new(alloc),
         elements_at: file.elements_at,
@@ -60,6 +61,7 @@ fn write_parts(
     )?;
     written.constants = constants;
     written.variables = variables;
+    written.restrict = restriction(alloc, &file.restrict, table)?;
     let automata = all_folded(alloc, file.automata.as_slice(), table);
     let (automata, vectors) = together(
         automata,

@@ -5,10 +5,10 @@ ghost use Rattle.std.specs.List.{AllZip};
 ghost use Rattle.std.specs.Option.{option_map};
 ghost use Rattle.op_trees.specs.Tree.{tree};
 ghost use Rattle.process_core.specs.Instance.{Valuation};
-ghost use Rattle.jani_tree.specs.Syntax.{bounded, kind_of};
+ghost use Rattle.jani_tree.specs.Syntax.{bounded, is_always, kind_of};
 ghost use Rattle.constant_folding.specs.Known.{Known};
 ghost use Rattle.constant_folding.specs.Tables.{given_in, known_in};
-ghost use Rattle.specialise_jani.specs.Specialised.{folded, folded_kind};
+ghost use Rattle.specialise_jani.specs.Specialised.{folded, folded_kind, folded_restriction};
 
 use crate::copy::{copy_action, copy_note};
 use crate::numerals::JaniNumerals;
@@ -18,6 +18,7 @@ use jani_tree::{
     JaniAutomaton, JaniConst, JaniDestination, JaniEdge, JaniExpr, JaniKind, JaniLocation, JaniVar,
     JaniVector, JaniWrite, copy_name,
 };
+use op_trees::{Expr, copy_expr};
 use std::alloc::{AllocError, Global};
 
 /// An expression folded, where there is one. `Err` is want of memory.
@@ -31,6 +32,46 @@ fn optional(
     match e {
         Some(e) => Ok(Some(fold(alloc, e, table)?)),
         None => Ok(None),
+    }
+}
+
+/// The restriction of the initial states folded, where there is one; one that is folded to true stays as it is, since a written true
+/// restricts nothing. `Err` is want of memory.
+pub(crate) fn restriction(
+    alloc: Global,
+    e: &Option<JaniExpr>,
+    table: &KnownTable<JaniNumerals>,
+) -> Result<Option<JaniExpr>, AllocError>
+    ensures { IfOk result (λ r. option_map tree r ≡ option_map (folded_restriction (known_in table.now)) (option_map tree e.now)) }
+{
+    match e {
+        Some(e) => Ok(Some(restricting(alloc, e, table)?)),
+        None => Ok(None),
+    }
+}
+
+fn restricting(
+    alloc: Global,
+    e: &JaniExpr,
+    table: &KnownTable<JaniNumerals>,
+) -> Result<JaniExpr, AllocError>
+    ensures { IfOk result (λ r. tree r ≡ folded_restriction (known_in table.now) (tree e.now)) }
+{
+    let new = fold(alloc, e, table)?;
+    if is_always(&new) {
+        copy_expr(alloc, e)
+    } else {
+        Ok(new)
+    }
+}
+
+/// Whether it is the literal true.
+fn is_always(e: &JaniExpr) -> bool
+    ensures { result ≡ is_always (tree e.now) }
+{
+    match e {
+        Expr::Truth(_, b) => *b,
+        _ => false,
     }
 }
 

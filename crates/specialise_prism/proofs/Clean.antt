@@ -5,12 +5,12 @@ use Rattle.std.specs.Option.{option_map, option_or as or_else}
 use Rattle.std.proofs.Common.{refl, sym, subst, ap, ap₂, ◌∙◌, append-nil}
 use Rattle.std.proofs.Math.Path.{fun_ext}
 use Rattle.std.proofs.lemmas.List.{length-map}
-use Rattle.basics.specs.Options.{IfAny, has_some}
+use Rattle.basics.specs.Options.{IfAny, has_some, is_some-map}
 use Rattle.basics.specs.Lists.{append_parts, append_both, empty_map}
 use Rattle.basics.specs.Mapped.{mapped, walked}
 use Rattle.basics.specs.Each.{each_then, each_with, each_join, each_parts, each_of, each_found, empty_each, each_empty, map_each}
 use Rattle.bridge_io.specs.declared.reason.Named.{Named}
-use Rattle.bridge_io.specs.declared.reason.Reason.TheVariants.{Unknown, Nothing, WrongType, NotConstant, WrittenTwice, TwiceNamed}
+use Rattle.bridge_io.specs.declared.reason.Reason.TheVariants.{Unknown, Nothing, WrongType, NotConstant, WrittenTwice, TwiceNamed, TwoInits}
 use Rattle.op_trees.specs.declared.tree.Ty.{Ty}
 use Rattle.op_trees.specs.declared.tree.Ty.TheVariants as T
 use Rattle.op_trees.specs.declared.tree.Value.{Value}
@@ -43,10 +43,11 @@ use Rattle.prism_flat.specs.Kept.{is_plain}
 use Rattle.prism_print.specs.Printable.{IsPrintableExpression, IsPrintableModule}
 use Rattle.prism_rewriter.specs.Rewritten.{rewritten_range, rewritten_var, rewritten_write, rewritten_branch, rewritten_command, rewritten_label, rewritten_rewards}
 use Rattle.prism_check.specs.Demands.{Demand, fixed, varying, written, const_demands, type_by, var_type, var_demands, command_demands, formula_demands, part_demands, outer_demands}
-use Rattle.prism_check.specs.NameFaults.{declared_const, declared_formula, circles, copy_faults, doubled_names, doubled_pairs, given_labels, module_vars, name_faults, unknown, unknown_in, unknown_names, values}
+use Rattle.prism_check.specs.NameFaults.{declared_const, declared_formula, circles, copy_faults, doubled_names, doubled_pairs, given_labels, module_vars, name_faults, no_module, own_start, own_starts, two_inits, unknown, unknown_in, unknown_names, values}
 use Rattle.prism_check.specs.TypeFaults.{Variable, numbered_variables, variables, variable_called, declared_types, types, misfits, type_faults_of, is_variable, has_variable, target_of, target, write_faults, wanted_at, demand_faults, repeated_writes, module_faults, numbered_faults, type_faults}
 use Rattle.prism_check.specs.Flattened.{IsFlat}
 use Rattle.prism_check.proofs.CleanTypes.{AllUsed}
+use Rattle.prism_check.proofs.OwnStarts.{still_none}
 use Rattle.prism_check.proofs.NamesIn.{names_listed}
 use Rattle.prism_check.proofs.NoFaults.{NoNameFaults, IsKnown, known_one, all_known}
 use Rattle.prism_check.proofs.Typed.{has_wanted_type, known_typed, no_name_fault, no_type_fault, same_misfits, types_declared}
@@ -403,6 +404,20 @@ module _ (file : File) (flat : IsFlat file) where
     no_copies (plain m ∷ ms) h = no_copies ms h
     no_copies (copied m ∷ ms) h = absurd cc
 
+    own_same : (x : Var) → own_start (rewritten_var (folding_by K) x) ≡ own_start x
+    own_same x = ap (λ b. fault_if b x.name.at TwoInits) (is_some-map (folded K) x.start)
+
+    owns_same : (m : Module) → own_starts (specialised_module K m) ≡ own_starts m
+    owns_same (plain m) = walked (rewritten_var (folding_by K)) own_start own_start own_same m.vars
+    owns_same (copied m) = refl
+
+    starts_clean : two_inits new ≡ []
+    starts_clean =
+        still_none (is_some file.init) (is_some new.init) (flat_map own_start file.globals) (flat_map own_starts file.modules) _ _
+        (is_some-map (folded K) file.init)
+        (λ h. walked (rewritten_var (folding_by K)) own_start own_start own_same file.globals ∙ h)
+        (λ h. walked (specialised_module K) own_starts own_starts owns_same file.modules ∙ h) no_names.starts
+
     names_clean : name_faults new ≡ []
     names_clean =
         append_both (doubled_names new) _ (doubled_same ∙ no_names.doubled)
@@ -412,7 +427,8 @@ module _ (file : File) (flat : IsFlat file) where
         (append_both (flat_map (unknown new) bodies) _ (no_bodies (unknown new)) all_modules.0))
         (append_both (circles new) _ uncircled
         (append_both (flat_map (copy_faults new) (map (specialised_module K) file.modules)) _ (no_copies file.modules flat.form.modules)
-        (ap (λ n. fault_if (nat_eq n 0) file.end Nothing) (length-map file.modules (specialised_module K)) ∙ no_names.modules))))
+        (append_both (no_module new) _
+        (ap (λ n. fault_if (nat_eq n 0) file.end Nothing) (length-map file.modules (specialised_module K)) ∙ no_names.modules) starts_clean))))
       where
         no_bodies : {B : Type 0} (f : Demand → List B) → flat_map f bodies ≡ []
         no_bodies f = ap (λ fs. flat_map f (flat_map formula_demands fs)) flat.form.formulas

@@ -16,7 +16,7 @@ use Rattle.process_core.specs.Instance.{Valuation}
 use Rattle.prism_tree.specs.Syntax.{Expression, Const, Range, Var, Label, Write, Branch, Command, Item, Rewards, File}
 use Rattle.prism_print.specs.Printable.{IsPrintableExpression, IsPrintableConst, IsPrintableVar, IsPrintableRange, IsPrintableLabel, IsPrintableWrite, IsPrintableBranch, IsPrintableCommand, IsPrintableItem, IsPrintableRewards, IsPrintable}
 use Rattle.prism_rewriter.specs.Rewritten.{rewritten_name, rewritten_range, rewritten_var, rewritten_write, rewritten_branch, rewritten_command, rewritten_label, rewritten_item, rewritten_rewards}
-use Rattle.prism_check.specs.Demands.{Demand, fixed, varying, written, expression_of, const_demands, range_demands, type_by, var_type, var_demands, branch_demands, command_demands, label_demands, item_demands, rewards_demands, outer_demands}
+use Rattle.prism_check.specs.Demands.{Demand, fixed, varying, written, expression_of, const_demands, range_demands, type_by, var_type, var_demands, branch_demands, command_demands, label_demands, item_demands, rewards_demands, init_demands, outer_demands}
 use Rattle.constant_folding.specs.Known.{Known}
 use Rattle.specialise_prism.specs.Literal.{prism_literal}
 use Rattle.constant_folding.specs.Constants.{specialised_value}
@@ -61,9 +61,11 @@ outer_form file h =
     each_join HasForm (flat_map const_demands file.constants) _
     (each_flat_list HasForm IsPrintableConst const_demands (λ c p. optional_form (fixed (wanted_by c.ty)) (λ e. refl) c.value p.1) file.constants h.constants)
     (each_join HasForm (flat_map var_demands file.globals) _ (vars_form file.globals h.globals)
-    (each_join HasForm (flat_map label_demands file.labels) (flat_map rewards_demands file.rewards)
+    (each_join HasForm (flat_map label_demands file.labels) _
     (each_flat_list HasForm IsPrintableLabel label_demands (λ l p. (p.1, tt)) file.labels h.labels)
-    (each_flat_list HasForm IsPrintableRewards rewards_demands (λ r p. each_flat_list HasForm IsPrintableItem item_demands (λ i q. (q.1, (q.2, tt))) r.items p.1) file.rewards h.rewards)))
+    (each_join HasForm (flat_map rewards_demands file.rewards) (init_demands file.init)
+    (each_flat_list HasForm IsPrintableRewards rewards_demands (λ r p. each_flat_list HasForm IsPrintableItem item_demands (λ i q. (q.1, (q.2, tt))) r.items p.1) file.rewards h.rewards)
+    (optional_form (varying W.Bool) (λ e. refl) file.init h.init))))
 
 -- ---- a demand with its expression folded
 module _ (K : Known) where
@@ -156,11 +158,14 @@ module _ (K : Known) where
       pub outer_carried : (file : File) → Each (λ c. (y : Value) → given c.name.name ≡ Some y → IsTrue (has_type c.ty y)) file.constants →
           Each G (outer_demands file) → Each H (outer_demands (specialised_by given K file))
       outer_carried file f p =
-          let a = each_parts G (flat_map const_demands file.constants) (flat_map var_demands file.globals ++ (flat_map label_demands file.labels ++ flat_map rewards_demands file.rewards)) p in
-          let b = each_parts G (flat_map var_demands file.globals) (flat_map label_demands file.labels ++ flat_map rewards_demands file.rewards) a.1 in
-          let c = each_parts G (flat_map label_demands file.labels) (flat_map rewards_demands file.rewards) b.1 in
+          let a = each_parts G (flat_map const_demands file.constants) (flat_map var_demands file.globals ++ (flat_map label_demands file.labels ++ (flat_map rewards_demands file.rewards ++ init_demands file.init))) p in
+          let b = each_parts G (flat_map var_demands file.globals) (flat_map label_demands file.labels ++ (flat_map rewards_demands file.rewards ++ init_demands file.init)) a.1 in
+          let c = each_parts G (flat_map label_demands file.labels) (flat_map rewards_demands file.rewards ++ init_demands file.init) b.1 in
+          let d = each_parts G (flat_map rewards_demands file.rewards) (init_demands file.init) c.1 in
           each_join H (flat_map const_demands (map (specialised_const given K) file.constants)) _ (consts_carried file.constants f a.0)
           (each_join H (flat_map var_demands (map (rewritten_var (folding_by K)) file.globals)) _ (vars_carried file.globals b.0)
-          (each_join H (flat_map label_demands (map (rewritten_label (folding_by K)) file.labels)) (flat_map rewards_demands (map (rewritten_rewards (folding_by K)) file.rewards))
+          (each_join H (flat_map label_demands (map (rewritten_label (folding_by K)) file.labels)) _
           (lists label_demands (rewritten_label (folding_by K)) label_carried file.labels c.0)
-          (lists rewards_demands (rewritten_rewards (folding_by K)) rewards_carried file.rewards c.1)))
+          (each_join H (flat_map rewards_demands (map (rewritten_rewards (folding_by K)) file.rewards)) _
+          (lists rewards_demands (rewritten_rewards (folding_by K)) rewards_carried file.rewards d.0)
+          (varying_option W.Bool file.init d.1))))

@@ -5,6 +5,7 @@ use Rattle.std.specs.Option.{option_map}
 use Rattle.std.proofs.Common.{refl, sym, subst, ap, ap₂, ◌∙◌}
 use Rattle.basics.specs.Booleans.{first_false, second_false}
 use Rattle.basics.specs.Lists.{map_agree}
+use Rattle.basics.specs.Options.{is_some-map}
 use Rattle.bridge_io.specs.declared.reason.Named.{Named}
 use Rattle.op_trees.specs.Meaning.{Environment, is_wide_value}
 use Rattle.op_trees.specs.declared.tree.Ty.{Ty}
@@ -12,12 +13,12 @@ use Rattle.op_trees.specs.Seen.{Seen, known, known_names}
 use Rattle.op_trees.specs.declared.tree.Value.{Value}
 use Rattle.process_core.specs.Product.{map-map}
 use Rattle.process_core.specs.Ready.{Values, Name, Ready}
-use Rattle.process_core.specs.Instance.{Valuation, Between, Column, Scene, instance_faults, is_wide_instance, is_state, is_initial, no_condition, write_to}
+use Rattle.process_core.specs.Instance.{Valuation, Between, Column, Scene, instance_faults, is_wide_instance, is_state, is_initial, write_to}
 use Rattle.prism_tree.specs.Syntax.{Expression, Const, Range, Var, Branch, Command, Module, plain, copied, File}
 use Rattle.prism_tree.specs.Syntax as syntax
 use Rattle.prism_names.specs.Names.{unchanged, part_of, written_name, see}
-use Rattle.prism_flat.specs.Scene.{constant_seen, constant, constant_names, domain_of, first_of, column, columns_of, scene}
-use Rattle.prism_flat.specs.Moment.{Moment, value_in, names_in, place_of, weight_seen, write_at, update_at, command_at, part_at, adds_of, item_at, moment}
+use Rattle.prism_flat.specs.Scene.{constant_seen, constant, constant_names, domain_of, first_of, first_under, column, columns_of, columns_under, has_condition, scene}
+use Rattle.prism_flat.specs.Moment.{Moment, condition_seen, value_in, names_in, place_of, weight_seen, write_at, update_at, command_at, part_at, adds_of, item_at, moment}
 use Rattle.prism_flat.specs.Process.{choices, marks, has_wide_mark, excess}
 use Rattle.prism_flat.specs.Kept.{IsWrittenOut, is_plain}
 use Rattle.prism_rewriter.specs.Rewritten.{rewritten_name, rewritten_range, rewritten_var, rewritten_write, rewritten_branch, rewritten_command, rewritten_label, rewritten_item, rewritten_rewards}
@@ -43,11 +44,15 @@ module _ (file new : File) (same_formulas : new.formulas ≡ file.formulas) (K :
   first_same None (Some r) = same r.low
   first_same None None = refl
 
-  column_same : (x : Var) → column unchanged new_names (rewritten_var (folding_by K) x) ≡ column unchanged names x
-  column_same x = ap₂ (λ d f. record { name = x.name.name; domain = d; first = Some f }) (domain_same x.range) (first_same x.start x.range)
+  column_same : (b : Bool) (x : Var) → column b unchanged new_names (rewritten_var (folding_by K) x) ≡ column b unchanged names x
+  column_same b x = ap₂ (λ d f. record { name = x.name.name; domain = d; first = first_under b f }) (domain_same x.range) (first_same x.start x.range)
 
-  pub vars_same : (xs : List Var) → map (column unchanged new_names) (map (rewritten_var (folding_by K)) xs) ≡ map (column unchanged names) xs
-  vars_same xs = map-map (column unchanged new_names) (rewritten_var (folding_by K)) xs ∙ map_agree _ _ column_same xs
+  pub vars_same : (b : Bool) (xs : List Var) → map (column b unchanged new_names) (map (rewritten_var (folding_by K)) xs) ≡ map (column b unchanged names) xs
+  vars_same b xs = map-map (column b unchanged new_names) (rewritten_var (folding_by K)) xs ∙ map_agree _ _ (column_same b) xs
+
+  pub condition_same : (o : Option Expression) → condition_seen new_names (option_map (folded K) o) ≡ condition_seen names o
+  condition_same None = refl
+  condition_same (Some e) = same e
 
   weight_same : (e : Option Expression) → weight_seen new_names (option_map (folded K) e) ≡ weight_seen names e
   weight_same None = refl
@@ -130,36 +135,38 @@ module _ (file : File) (given v : Valuation) (form : IsWrittenOut file) (extends
       ∙ map_agree _ _ (λ c.
       value_same file given v form extends small c.name.name c.ty c.value names fixed_same) file.constants
 
-  -- the columns of modules whose names are read by these
-  columns_by : (Name → Seen) → List Module → List Column
-  columns_by read ms = flat_map (λ p. map (column p.rename (λ x. read (p.rename x))) p.vars) (map (part_of file) ms)
-
-  module_columns : (ms : List Module) → list_all is_plain ms ≡ true →
-      flat_map (λ p. map (column p.rename (constant_names new v p.rename)) p.vars) (map (part_of new) (map (specialised_module K) ms))
-      ≡ flat_map (λ p. map (column p.rename (constant_names file v p.rename)) p.vars) (map (part_of file) ms)
-  module_columns [] h = refl
-  module_columns (copied m ∷ ms) h = absurd cc
-  module_columns (plain m ∷ ms) h =
+  module_columns : (b : Bool) (ms : List Module) → list_all is_plain ms ≡ true →
+      flat_map (λ p. map (column b p.rename (constant_names new v p.rename)) p.vars) (map (part_of new) (map (specialised_module K) ms))
+      ≡ flat_map (λ p. map (column b p.rename (constant_names file v p.rename)) p.vars) (map (part_of file) ms)
+  module_columns b [] h = refl
+  module_columns b (copied m ∷ ms) h = absurd cc
+  module_columns b (plain m ∷ ms) h =
       ap₂ (λ a b. a ++ b)
-      (ap (λ (r : Name → Seen). map (column unchanged r) (map (rewritten_var (folding_by K)) m.vars)) new_are
-      ∙ vars_same file new refl K names names fixed_same m.vars
-      ∙ ap (λ (r : Name → Seen). map (column unchanged r) m.vars) (sym old_are))
-      (module_columns ms h)
+      (ap (λ (r : Name → Seen). map (column b unchanged r) (map (rewritten_var (folding_by K)) m.vars)) new_are
+      ∙ vars_same file new refl K names names fixed_same b m.vars
+      ∙ ap (λ (r : Name → Seen). map (column b unchanged r) m.vars) (sym old_are))
+      (module_columns b ms h)
+
+  columns_under_alike : (b : Bool) → columns_under new b v ≡ columns_under file b v
+  columns_under_alike b =
+      ap₂ (λ a c. a ++ c)
+      (ap (λ (r : Name → Seen). map (column b unchanged r) (map (rewritten_var (folding_by K)) file.globals)) new_are
+      ∙ vars_same file new refl K names names fixed_same b file.globals
+      ∙ ap (λ (r : Name → Seen). map (column b unchanged r) file.globals) (sym old_are))
+      (module_columns b file.modules form.modules)
+
+  flag_alike : has_condition new ≡ has_condition file
+  flag_alike = is_some-map (folded K) file.init
 
   columns_alike : columns_of new v ≡ columns_of file v
-  columns_alike =
-      ap₂ (λ a b. a ++ b)
-      (ap (λ (r : Name → Seen). map (column unchanged r) (map (rewritten_var (folding_by K)) file.globals)) new_are
-      ∙ vars_same file new refl K names names fixed_same file.globals
-      ∙ ap (λ (r : Name → Seen). map (column unchanged r) file.globals) (sym old_are))
-      (module_columns file.modules form.modules)
+  columns_alike = columns_under_alike (has_condition new) ∙ ap (λ b. columns_under file b v) flag_alike
 
   scene_alike : scene new v ≡ scene file v
   scene_alike =
-      ap₂ {C = Scene} (λ a b. record { constants = a; columns = b; has_condition = false })
+      ap₂ {A = List Column → Scene} (λ f c. f c) (ap₂ {C = List Column → Scene} (λ h a. λ b. record { constants = a; columns = b; has_condition = h }) flag_alike
       (ap (λ (r : Name → Seen). map (λ c. constant_seen (v c.name.name) r c.value) (map (specialised_const given K) file.constants)) new_are
       ∙ constants_alike
-      ∙ ap (λ (r : Name → Seen). map (λ c. constant_seen (v c.name.name) r c.value) file.constants) (sym old_are))
+      ∙ ap (λ (r : Name → Seen). map (λ c. constant_seen (v c.name.name) r c.value) file.constants) (sym old_are)))
       columns_alike
 
   -- ---- the file at a state
@@ -197,10 +204,16 @@ module _ (file : File) (given v : Valuation) (form : IsWrittenOut file) (extends
         ∙ ap (λ (r : Name → Seen). map (command_at file (columns_of file v) unchanged r) m.commands) (sym old_in))
         (modules_alike ms h)
 
+    condition_alike : condition_seen (names_in new v s unchanged) new.init ≡ condition_seen (names_in file v s unchanged) file.init
+    condition_alike =
+        ap (λ (r : Name → Seen). condition_seen r (option_map (folded K) file.init)) new_in
+        ∙ condition_same file new refl K (known_names env) (known_names env) state_same file.init
+        ∙ ap (λ (r : Name → Seen). condition_seen r file.init) (sym old_in)
+
     moment_alike : moment new v s ≡ moment file v s
     moment_alike =
-        ap₂ {B = List (List Ready) → Moment} (λ m g. g m) (modules_alike file.modules form.modules)
-        (ap₂ (λ ls rs ms. record { condition = no_condition; modules = ms; labels = ls; rewards = rs })
+        ap₂ {A = (List (List Ready)) × Seen} {B = (List (List Ready)) × Seen → Moment} (λ m g. g m) (ap₂ (λ m d. (m, d)) (modules_alike file.modules form.modules) condition_alike)
+        (ap₂ (λ ls rs m. record { condition = m.1; modules = m.0; labels = ls; rewards = rs })
         (ap (λ (r : Name → Seen). map (λ l. see l.body r) (map (rewritten_label (folding_by K)) file.labels)) new_in
         ∙ labels_same file new refl K (known_names env) (known_names env) state_same file.labels
         ∙ ap (λ (r : Name → Seen). map (λ l. see l.body r) file.labels) (sym old_in))

@@ -1,5 +1,5 @@
 -- In a file without faults each constant is the first of its name, no constants lead round in a circle, and no variable has the name of a constant.
-use Rattle.std.specs.Prelude.{◌≡◌, List, [], ◌∷◌, ◌++◌, map, true, false, ◌||◌, Some, bytes_eq}
+use Rattle.std.specs.Prelude.{◌≡◌, List, [], ◌∷◌, ◌++◌, map, true, false, ◌||◌, Some, bytes_eq, Bool}
 use Rattle.std.specs.List.{flat_map, list_all, list_any, AllByRecursion as Each}
 use Rattle.std.specs.Option.{option_map}
 use Rattle.std.proofs.Common.{refl, sym, ap, ap₂, ◌∙◌, append-nil}
@@ -16,7 +16,7 @@ use Rattle.process_core.specs.Product.{map-map}
 use Rattle.process_core.specs.Instance.{Valuation}
 use Rattle.prism_tree.specs.Syntax.{Var, Module, plain, copied, File}
 use Rattle.prism_names.specs.Names.{unchanged, part_of}
-use Rattle.prism_flat.specs.Scene.{constant_names, column, part_columns, columns_of}
+use Rattle.prism_flat.specs.Scene.{constant_names, column, part_columns, columns_of, has_condition}
 use Rattle.prism_flat.specs.Kept.{is_plain}
 use Rattle.prism_check.specs.NameFaults.{declared_const, declared_formula, module_vars, values}
 use Rattle.prism_check.specs.Flattened.{IsFlat}
@@ -46,26 +46,26 @@ module _ (file : File) (flat : IsFlat file) where
       ∙ (no_name_fault file flat).circles
 
   -- ---- columns
-  none_of_vars : (x : Name) (names : Name → Seen) (xs : List Var) → Each (λ m. bytes_eq x m.name ≡ false) (map (λ y. y.name) xs) →
-      list_any (λ k. bytes_eq k.name x) (map (column unchanged names) xs) ≡ false
-  none_of_vars x names [] h = refl
-  none_of_vars x names (y ∷ ys) h = ap₂ (λ a b. a || b) (flipped x y.name.name h.0) (none_of_vars x names ys h.1)
+  none_of_vars : (b : Bool) (x : Name) (names : Name → Seen) (xs : List Var) → Each (λ m. bytes_eq x m.name ≡ false) (map (λ y. y.name) xs) →
+      list_any (λ k. bytes_eq k.name x) (map (column b unchanged names) xs) ≡ false
+  none_of_vars b x names [] h = refl
+  none_of_vars b x names (y ∷ ys) h = ap₂ (λ a b. a || b) (flipped x y.name.name h.0) (none_of_vars b x names ys h.1)
 
-  none_of_modules : (x : Name) (v : Valuation) (ms : List Module) → list_all is_plain ms ≡ true → Each (λ m. bytes_eq x m.name ≡ false) (flat_map (module_vars file) ms) →
-      list_any (λ k. bytes_eq k.name x) (flat_map (part_columns file v) (map (part_of file) ms)) ≡ false
-  none_of_modules x v [] p h = refl
-  none_of_modules x v (copied m ∷ ms) p h = absurd cc
-  none_of_modules x v (plain m ∷ ms) p h =
+  none_of_modules : (b : Bool) (x : Name) (v : Valuation) (ms : List Module) → list_all is_plain ms ≡ true → Each (λ m. bytes_eq x m.name ≡ false) (flat_map (module_vars file) ms) →
+      list_any (λ k. bytes_eq k.name x) (flat_map (part_columns file b v) (map (part_of file) ms)) ≡ false
+  none_of_modules b x v [] p h = refl
+  none_of_modules b x v (copied m ∷ ms) p h = absurd cc
+  none_of_modules b x v (plain m ∷ ms) p h =
       let r = each_parts (λ n. bytes_eq x n.name ≡ false) (map (λ y. y.name) m.vars) (flat_map (module_vars file) ms) h in
-      list_any-append (λ k. bytes_eq k.name x) (map (column unchanged (constant_names file v unchanged)) m.vars) (flat_map (part_columns file v) (map (part_of file) ms))
-      ∙ ap₂ (λ a b. a || b) (none_of_vars x (constant_names file v unchanged) m.vars r.0) (none_of_modules x v ms p r.1)
+      list_any-append (λ k. bytes_eq k.name x) (map (column b unchanged (constant_names file v unchanged)) m.vars) (flat_map (part_columns file b v) (map (part_of file) ms))
+      ∙ ap₂ (λ c d. c || d) (none_of_vars b x (constant_names file v unchanged) m.vars r.0) (none_of_modules b x v ms p r.1)
 
   none_of_columns : (v : Valuation) (x : Name) → Each (λ m. bytes_eq x m.name ≡ false) rest_names → list_any (λ k. bytes_eq k.name x) (columns_of file v) ≡ false
   none_of_columns v x h =
       let a = each_parts (λ n. bytes_eq x n.name ≡ false) (map (λ f. f.name) file.formulas) (map (λ y. y.name) file.globals ++ flat_map (module_vars file) file.modules) h in
       let b = each_parts (λ n. bytes_eq x n.name ≡ false) (map (λ y. y.name) file.globals) (flat_map (module_vars file) file.modules) a.1 in
-      list_any-append (λ k. bytes_eq k.name x) (map (column unchanged (constant_names file v unchanged)) file.globals) (flat_map (part_columns file v) (map (part_of file) file.modules))
-      ∙ ap₂ (λ a b. a || b) (none_of_vars x (constant_names file v unchanged) file.globals b.0) (none_of_modules x v file.modules flat.form.modules b.1)
+      list_any-append (λ k. bytes_eq k.name x) (map (column (has_condition file) unchanged (constant_names file v unchanged)) file.globals) (flat_map (part_columns file (has_condition file) v) (map (part_of file) file.modules))
+      ∙ ap₂ (λ c d. c || d) (none_of_vars (has_condition file) x (constant_names file v unchanged) file.globals b.0) (none_of_modules (has_condition file) x v file.modules flat.form.modules b.1)
 
   -- no variable has the name of a constant
   pub constants_apart : AreApart file

@@ -115,4 +115,5 @@ module _ (K : Known) where
     modules = each_map IsPrintableModule IsPrintableModule (specialised_module K) module_printable file.modules h.modules;
     labels = each_map IsPrintableLabel IsPrintableLabel (rewritten_label (folding_by K)) label_printable file.labels h.labels;
     rewards = each_map IsPrintableRewards IsPrintableRewards (rewritten_rewards (folding_by K)) rewards_printable file.rewards h.rewards;
+    init = optional_printable file.init h.init;
   }

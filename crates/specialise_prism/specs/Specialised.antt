@@ -1,6 +1,7 @@
 -- A PRISM file that is written out, specialised to values that are given for some of its constants. (PRISM manual, "The PRISM Language": "Constants".
 -- Which constants count as known, and what is folded, is this project's own rule.)
 use Rattle.std.specs.Prelude.{List, [], map}
+use Rattle.std.specs.Option.{option_map}
 use Rattle.process_core.specs.Instance.{Valuation}
 use Rattle.prism_tree.specs.declared.operator.PrismOp.{PrismOp}
 use Rattle.prism_tree.specs.Operators.{prism_meaning}
@@ -52,6 +53,7 @@ specialised_by given known file = record {
   modules = map (specialised_module known) file.modules;
   labels = map (rewritten_label (folding_by known)) file.labels;
   rewards = map (rewritten_rewards (folding_by known)) file.rewards;
+  init = option_map (folded known) file.init;
   end = file.end;
 }
 

@@ -7,7 +7,7 @@ ghost use Rattle.constant_folding.specs.Tables.{given_in, known_in};
 ghost use Rattle.specialise_prism.specs.Specialised.{folding_by, specialised_by, specialised_module};
 
 use crate::numerals::PrismNumerals;
-use crate::parts::all_folded;
+use crate::parts::{all_folded, optional};
 use bridge_io::{List, together};
 use constant_folding::KnownTable;
 use prism_rewriter::named;
@@ -30,6 +30,7 @@ pub(crate) fn folded_file(
         modules: List::new(alloc),
         labels: List::new(alloc),
         rewards: List::new(alloc),
+        init: None,
         end: file.end,
     };
     write_parts(alloc, file, table, &mut written)?;
@@ -60,6 +61,7 @@ fn write_parts(
     let (labels, rewards) = together(labels, all_folded(alloc, file.rewards.as_slice(), table))?;
     written.labels = labels;
     written.rewards = rewards;
+    written.init = optional(alloc, &file.init, table)?;
     Ok(())
 }
 

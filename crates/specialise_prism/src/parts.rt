@@ -22,7 +22,7 @@ use prism_tree::{
 use std::alloc::{AllocError, Global};
 
 /// An expression folded, where there is one. `Err` is want of memory.
-fn optional(
+pub(crate) fn optional(
     alloc: Global,
     e: &Option<PrismExpr>,
     table: &KnownTable<PrismNumerals>,

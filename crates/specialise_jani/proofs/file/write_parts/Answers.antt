@@ -16,6 +16,7 @@ returns c =
     (copied_all c.as_slice.result.now _ c.in_ok-actions.actions c.as_slice.ensures (rw first.0 at c.all_folded-actions.ensures))
     (zipped const_of (specialised_const given K) c.as_slice-3.result.now _ c.in_ok-constants.constants c.as_slice-3.ensures (rw second.0 at c.all_folded-constants.ensures))
     (zipped var_of (folded_var K) c.as_slice-4.result.now _ c.in_ok-constants.variables c.as_slice-4.ensures (rw second.1 at c.all_folded-2.ensures))
+    c.in_ok-written.ensures
     (zipped automaton_of (folded_automaton K) c.as_slice-5.result.now _ c.in_ok-automata.automata c.as_slice-5.ensures (rw third.0 at c.all_folded-automata.ensures))
     (copied_all c.as_slice-2.result.now _ c.in_ok-actions.elements c.as_slice-2.ensures (rw first.1 at c.all_folded.ensures))
     c.requires.elements

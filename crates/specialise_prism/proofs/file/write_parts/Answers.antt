@@ -14,11 +14,12 @@ returns c =
     let given = given_in c.args.table.now in
     let first = c.in_ok-constants.ensures.ok in
     let last = c.in_ok-labels.ensures.ok in
-    same_file _ _ _ _ _ _ _ _ _ _ _ _ _ _
+    same_file _ _ _ _ _ _ _ _ _ _ _ _ _ _ _ _
     (zipped const_of (specialised_const given (known_in c.args.table.now)) c.as_slice.result.now _ c.in_ok-constants.constants c.as_slice.ensures (rw first.0 at c.all_folded-constants.ensures))
     (zipped var_of (rewritten_var w) c.as_slice-2.result.now _ c.in_ok-constants.globals c.as_slice-2.ensures (rw first.1 at c.all_folded.ensures))
     (ap (map formula_of) (c.requires.formulas ∙ sym c.requires.none))
     (c.in_ok-written.ensures ∙ ap (λ ms. map (specialised_module (known_in c.args.table.now)) (map module_of ms)) c.as_slice-3.ensures)
     (zipped label_of (rewritten_label w) c.as_slice-4.result.now _ c.in_ok-labels.labels c.as_slice-4.ensures (rw last.0 at c.all_folded-labels.ensures))
     (zipped rewards_of (rewritten_rewards w) c.as_slice-5.result.now _ c.in_ok-labels.rewards c.as_slice-5.ensures (rw last.1 at c.all_folded-2.ensures))
+    c.in_ok-written-2.ensures
     c.requires.end
