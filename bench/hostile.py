@@ -81,6 +81,13 @@ def doubled(count):
     return "formula f0 = x;\n" + "".join("formula f%d = f%d+f%d;\n" % (k + 1, k, k) for k in range(count))
 
 
+@kind("simulate prism f from (0) seed 1 1", most=102400)
+def initial_condition_of_formulas(n):
+    """An initial condition that joins formulas of 200 comparisons each."""
+    count = max(1, n // 200)
+    return prism(each(count, "formula f@ = %s;\n" % "|".join(["x=0"] * 200)), MODULE + "init %s endinit\n" % "&".join("f%d" % k for k in range(count)))
+
+
 @kind("to-jani f")
 def formulas_that_double_unused(n):
     """Formulas of which each names the one before it twice; nothing uses them."""
@@ -344,6 +351,12 @@ def chain_of_jani_constants(n):
 @kind("show jani f (0)", most=60000)
 def jani_constants_given_from_the_last(n):
     return jani(constants=listed(n, '{"name":"c@","type":"int"}')), ["c%d=1" % k for k in reversed(range(n))]
+
+
+@kind("simulate jani f from (0) seed 1 1")
+def initial_locations(n):
+    """An automaton that may begin in each of its locations."""
+    return jani(automata=automaton("A", locations=listed(n, '{"name":"l@"}'), first='","'.join("l%d" % k for k in range(n))))
 
 
 @kind("simulate jani f seed 1 1")
