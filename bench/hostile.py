@@ -81,7 +81,7 @@ def doubled(count):
     return "formula f0 = x;\n" + "".join("formula f%d = f%d+f%d;\n" % (k + 1, k, k) for k in range(count))
 
 
-@kind("simulate prism f from (0) seed 1 1", most=102400)
+@kind("simulate prism f from (0) seed 1 1", most=102400, excepted="dense")
 def initial_condition_of_formulas(n):
     """An initial condition that joins formulas of 200 comparisons each."""
     count = max(1, n // 200)
