@@ -1,6 +1,9 @@
 pub mod Gathered
 pub mod Answering
 pub mod Opened
+pub mod LeftOpen
+pub mod Columns
+pub mod Leading
 pub mod Counting
 pub mod Capped
 pub mod Partial
@@ -17,4 +20,5 @@ pub mod ComputedLaws
 pub mod ComputedParts
 pub mod MemberLaws
 pub mod Whole
+pub mod AtGroups
 pub mod Longer

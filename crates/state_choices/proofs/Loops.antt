@@ -6,11 +6,11 @@ use Rattle.std.proofs.lemmas.List.Folds.{list_any-append, flat_map-map}
 use Rattle.std.proofs.lemmas.List.Concat.{flat_map_single}
 use Rattle.basics.specs.Members.{any-map}
 use Rattle.frac_core.specs.Fraction.{Fraction, unit, is_wide}
-use Rattle.process_core.specs.Process.{Branch, Choice}
+use Rattle.process_core.specs.Process.{Choice}
 use Rattle.process_core.specs.Product.{map-map, flat_map-flat_map, one_of_each}
-use Rattle.process_core.specs.Ready.{Values, Name, Sum}
+use Rattle.process_core.specs.Ready.{Values, Name}
 use Rattle.process_core.specs.Ready as core
-use Rattle.process_core.specs.Choices.{weight_of, branch_of, choice_of, choices}
+use Rattle.process_core.specs.Choices.{weight_of, choice_of, choices}
 use Rattle.process_core.specs.Bounds.{partial_products, is_wide_rest, is_enabled, has_wide_guard}
 use Rattle.state_choices.specs.declared.data.Update.{Update}
 use Rattle.state_choices.specs.declared.data.Command.{Command}
@@ -18,6 +18,7 @@ use Rattle.state_choices.specs.declared.data.Group.{Group}
 use Rattle.state_choices.specs.Views.{update_of, updates_of, alone_in, command_of, combination_of, participants_of, group_of}
 use Rattle.state_choices.specs.Groups.{of_group, of_groups}
 use Rattle.state_choices.specs.Counted.{is_wide_way, may_hold}
+use Rattle.state_choices.specs.Open.{weighed}
 use Rattle.state_choices.proofs.Opened.{enabled_group, wide_enabled, choices_enabled}
 
 abbrev pub wide_updates : List (Bor Update) → Bool
@@ -26,15 +27,15 @@ wide_updates us = list_any is_wide (partial_products unit (map weight_of (update
 abbrev pub way_wide : Vec (Bor Update) Global → Bool
 way_wide w = list_any is_wide (partial_products unit (map weight_of (updates_of w.items)))
 
-abbrev pub way_branch : Values → List Sum → Vec (Bor Update) Global → List (Branch Fraction Values)
-way_branch s rewards w = branch_of s rewards (updates_of w.items) ∷ []
+abbrev pub way_ways : Vec (Bor Update) Global → List (Fraction × List core.Update)
+way_ways w = weighed (updates_of w.items) ∷ []
 
 -- where there is one participant
 abbrev pub update_wide : Update → Bool
 update_wide u = is_wide_way (update_of u ∷ [])
 
-abbrev pub update_branch : Values → List Sum → Update → List (Branch Fraction Values)
-update_branch s rewards u = branch_of s rewards (update_of u ∷ []) ∷ []
+abbrev pub update_ways : Update → List (Fraction × List core.Update)
+update_ways u = weighed (update_of u ∷ []) ∷ []
 
 abbrev pub alone_wide : Group → Command → Bool
 alone_wide g r = is_wide_rest (alone_in g r)
@@ -65,11 +66,11 @@ wide_ways ws all e =
     sym (any-map (λ (us : List core.Update). list_any is_wide (partial_products unit (map weight_of us))) (λ (w : Vec (Bor Update) Global). updates_of w.items) ws)
     ∙ ap (list_any (λ us. list_any is_wide (partial_products unit (map weight_of us)))) e
 
-pub branches_of_ways : (s : Values) (rewards : List Sum) (ws : List (Vec (Bor Update) Global)) (all : List (List core.Update)) → map (λ w. updates_of w.items) ws ≡ all →
-    map (λ w. branch_of s rewards (updates_of w.items)) ws ≡ map (branch_of s rewards) all
-branches_of_ways s rewards ws all e =
-    sym (map-map (branch_of s rewards) (λ (w : Vec (Bor Update) Global). updates_of w.items) ws)
-    ∙ ap (map (branch_of s rewards)) e
+pub branches_of_ways : (ws : List (Vec (Bor Update) Global)) (all : List (List core.Update)) → map (λ w. updates_of w.items) ws ≡ all →
+    map (λ w. weighed (updates_of w.items)) ws ≡ map weighed all
+branches_of_ways ws all e =
+    sym (map-map weighed (λ (w : Vec (Bor Update) Global). updates_of w.items) ws)
+    ∙ ap (map weighed) e
 
 -- the combinations by themselves
 module _ (g : Group) (ws : List (Vec (Bor Command) Global)) (e : map (λ w. participants_of w.items) ws ≡ one_of_each (map (filter may_hold) (group_of g).lists)) where
@@ -103,8 +104,8 @@ module _ (us : List Update) where
   pub wide_alone : list_any update_wide us ≡ list_any is_wide_way (one_of_each (map update_of us ∷ []))
   wide_alone = sym (any-map is_wide_way (λ (u : Update). update_of u ∷ []) us) ∙ ap (list_any is_wide_way) (sym alone_ways)
 
-  pub branches_alone : (s : Values) (rewards : List Sum) → map (λ u. branch_of s rewards (update_of u ∷ [])) us ≡ map (branch_of s rewards) (one_of_each (map update_of us ∷ []))
-  branches_alone s rewards = sym (map-map (branch_of s rewards) (λ (u : Update). update_of u ∷ []) us) ∙ ap (map (branch_of s rewards)) (sym alone_ways)
+  pub branches_alone : map (λ u. weighed (update_of u ∷ [])) us ≡ map weighed (one_of_each (map update_of us ∷ []))
+  branches_alone = sym (map-map weighed (λ (u : Update). update_of u ∷ []) us) ∙ ap (map weighed) (sym alone_ways)
 
 -- the commands of a group of one list by themselves
 module _ (g : Group) (rs : List Command) (e : (group_of g).lists ≡ map command_of rs ∷ []) where

@@ -215,6 +215,14 @@ group_trimmed g =
 groups_trimmed : (gs : List Group) → of_groups (map trimmed_group gs) ≡ map trimmed_combination (of_groups gs)
 groups_trimmed gs = flat_map-map of_group trimmed_group gs ∙ flat_map_agree _ _ group_trimmed gs ∙ sym (map-flat_map trimmed_combination of_group gs)
 
+pub trimmed_excess : (gs : List Group) → excess (of_groups (map trimmed_group gs)) ≡ excess (of_groups gs)
+trimmed_excess gs = ap excess (groups_trimmed gs) ∙ excess_trimmed (of_groups gs)
+
+pub trimmed_choices : (s : Values) (gs : List Group) → excess (of_groups gs) ≡ None → choices s (of_groups (map trimmed_group gs)) ≡ choices s (of_groups gs)
+trimmed_choices s gs e =
+    let n = nothing_wide (list_any has_wide_guard (of_groups gs)) _ _ e in
+    ap (choices s) (groups_trimmed gs) ∙ choices_trimmed s (of_groups gs) n.0 n.1
+
 pub trimming_law : TrimmingLaw
 trimming_law s gs r a = by_answer r (subst (λ cs. Answers (excess cs) (λ x. map seen_choice x ≡ choices s cs) r) (groups_trimmed gs) a)
   where

@@ -6,3 +6,6 @@ pub mod Trimmed
 pub mod Items
 pub mod Members
 pub mod Codes
+pub mod Open
+pub mod Grouped
+pub mod Apart

@@ -3,101 +3,102 @@ ghost use Rattle.std.specs.Prelude.{◌≡◌, ◌++◌, ◌∷◌, [], map, IfO
 ghost use Rattle.std.specs.List.{flat_map, list_any};
 ghost use Rattle.frac_core.specs.Fraction.{is_wide, unit};
 ghost use Rattle.frac_core.specs.Sums.{product};
-ghost use Rattle.process_core.specs.Choices.{weight_of, written, assigned, own_rewards, branch_of, ways};
+ghost use Rattle.process_core.specs.Choices.{weight_of, written, assigned, own_rewards, ways};
 ghost use Rattle.process_core.specs.Bounds.{partial_products};
 ghost use Rattle.process_core.specs.Answers.{Answers, only_wide};
-ghost use Rattle.process_core.specs.Seen.{seen_branch};
 ghost use Rattle.state_choices.specs.Counted.{is_wide_way};
+ghost use Rattle.state_choices.specs.Open.{way_of, weighed};
 ghost use Rattle.state_choices.specs.Views.{participants_of, update_of, updates_of, write_of, reward_of, sum_of};
 
 use crate::data::{Command, Reward, Update, Write};
 use crate::faults::weight_of;
 use crate::numbers::times;
-use crate::product::one_of_each;
+use crate::open::OpenBranch;
+use crate::product::{copied, one_of_each};
 use crate::values::number_of;
 use bridge_io::List;
 use frac_core::Frac;
 use op_trees::{EvalFail, Value};
-use process_core::{Branch, State, StepFail};
+use process_core::StepFail;
 use std::alloc::{AllocError, Global};
 
 /// The branch of each way to take one update from each participant. `Wide` exactly where a partial product is.
-pub(crate) fn branches(
+pub(crate) fn branches<'a>(
     alloc: Global,
-    s: &[Value],
-    rewards: &[Result<Frac, EvalFail>],
-    participants: &[&Command],
-) -> Result<List<Branch>, StepFail>
+    participants: &[&'a Command],
+) -> Result<List<OpenBranch<'a>>, StepFail>
     ensures { Answers (only_wide (list_any is_wide_way (ways (participants_of participants.now))))
-        (λ bs. map seen_branch bs ≡ map (branch_of s.now (map sum_of rewards.now)) (ways (participants_of participants.now))) result }
+        (λ bs. map way_of bs ≡ map weighed (ways (participants_of participants.now))) result }
 {
     if participants.len() == 1 {
-        return branches_alone(alloc, s, rewards, participants[0].updates.as_slice());
+        return branches_alone(alloc, participants[0].updates.as_slice());
     }
-    branches_together(alloc, s, rewards, participants)
+    branches_together(alloc, participants)
 }
 
 /// The branch of each update, where there is one participant. No list of ways is made.
-fn branches_alone(
+fn branches_alone<'a>(
     alloc: Global,
-    s: &[Value],
-    rewards: &[Result<Frac, EvalFail>],
-    updates: &[Update],
-) -> Result<List<Branch>, StepFail>
+    updates: &'a [Update],
+) -> Result<List<OpenBranch<'a>>, StepFail>
     ensures { Answers (only_wide (list_any (λ u. is_wide_way (update_of u ∷ [])) updates.now))
-        (λ bs. map seen_branch bs ≡ map (λ u. branch_of s.now (map sum_of rewards.now) (update_of u ∷ [])) updates.now) result }
+        (λ bs. map way_of bs ≡ map (λ u. weighed (update_of u ∷ [])) updates.now) result }
 {
     let mut all = List::with_capacity(alloc, updates.len())?;
     for update in updates {
-        add_branch(alloc, s, rewards, &[update], &mut all)?;
+        add_branch(alloc, &[update], &mut all)?;
     }
     Ok(all)
 }
 
 /// The branch of each way to take one update from each of several participants.
-fn branches_together(
+fn branches_together<'a>(
     alloc: Global,
-    s: &[Value],
-    rewards: &[Result<Frac, EvalFail>],
-    participants: &[&Command],
-) -> Result<List<Branch>, StepFail>
+    participants: &[&'a Command],
+) -> Result<List<OpenBranch<'a>>, StepFail>
     ensures { Answers (only_wide (list_any is_wide_way (ways (participants_of participants.now))))
-        (λ bs. map seen_branch bs ≡ map (branch_of s.now (map sum_of rewards.now)) (ways (participants_of participants.now))) result }
+        (λ bs. map way_of bs ≡ map weighed (ways (participants_of participants.now))) result }
 {
     let ways = ways(alloc, participants)?;
-    branches_of(alloc, s, rewards, ways.as_slice())
+    branches_of(alloc, ways.as_slice())
 }
 
 /// The branch of each of these ways.
-fn branches_of(
+fn branches_of<'a>(
     alloc: Global,
-    s: &[Value],
-    rewards: &[Result<Frac, EvalFail>],
-    ways: &[Vec<&Update>],
-) -> Result<List<Branch>, StepFail>
+    ways: &[Vec<&'a Update>],
+) -> Result<List<OpenBranch<'a>>, StepFail>
     ensures { Answers (only_wide (list_any (λ w. is_wide_way (updates_of w.items)) ways.now))
-        (λ bs. map seen_branch bs ≡ map (λ w. branch_of s.now (map sum_of rewards.now) (updates_of w.items)) ways.now) result }
+        (λ bs. map way_of bs ≡ map (λ w. weighed (updates_of w.items)) ways.now) result }
 {
     let mut all = List::with_capacity(alloc, ways.len())?;
     for way in ways {
-        add_branch(alloc, s, rewards, way.as_slice(), &mut all)?;
+        add_branch(alloc, way.as_slice(), &mut all)?;
     }
     Ok(all)
 }
 
 /// Adds the branch of one update from each participant.
-fn add_branch(
+fn add_branch<'a>(
     alloc: Global,
-    s: &[Value],
-    rewards: &[Result<Frac, EvalFail>],
-    updates: &[&Update],
-    all: &mut List<Branch>,
+    updates: &[&'a Update],
+    all: &mut List<OpenBranch<'a>>,
 ) -> Result<(), StepFail>
     ensures { Answers (only_wide (is_wide_way (updates_of updates.now)))
-        (λ u. map seen_branch all.new ≡ map seen_branch all.old ++ branch_of s.now (map sum_of rewards.now) (updates_of updates.now) ∷ []) result }
+        (λ u. map way_of all.new ≡ map way_of all.old ++ weighed (updates_of updates.now) ∷ []) result }
 {
-    let branch = branch_of(alloc, s, rewards, updates)?;
+    let branch = open_branch(alloc, updates)?;
     Ok(all.push(branch)?)
+}
+
+/// The branch of one update from each participant: the product of their probabilities, and the updates.
+fn open_branch<'a>(alloc: Global, updates: &[&'a Update]) -> Result<OpenBranch<'a>, StepFail>
+    ensures { Answers (only_wide (is_wide_way (updates_of updates.now)))
+        (λ b. way_of b ≡ weighed (updates_of updates.now)) result }
+{
+    let weight = product(updates)?;
+    let updates = copied(alloc, updates)?;
+    Ok(OpenBranch { weight, updates })
 }
 
 /// The ways to take one update from each participant.
@@ -122,27 +123,6 @@ fn references<'a>(alloc: Global, updates: &'a [Update]) -> Result<Vec<&'a Update
     Ok(all)
 }
 
-/// The branch of one update from each participant: the product of the probabilities, the state after all assignments,
-/// and the rewards.
-fn branch_of(
-    alloc: Global,
-    s: &[Value],
-    rewards: &[Result<Frac, EvalFail>],
-    updates: &[&Update],
-) -> Result<Branch, StepFail>
-    ensures { Answers (only_wide (is_wide_way (updates_of updates.now)))
-        (λ b. seen_branch b ≡ branch_of s.now (map sum_of rewards.now) (updates_of updates.now)) result }
-{
-    let weight = product(updates)?;
-    Ok(Branch {
-        weight,
-        target: State {
-            values: List::from_vec(written(alloc, s, updates)?),
-        },
-        rewards: List::from_vec(earned(alloc, rewards, updates)?),
-    })
-}
-
 /// The product of the probabilities.
 fn product(updates: &[&Update]) -> Result<Frac, StepFail>
     ensures { Answers (only_wide (list_any is_wide (partial_products unit (map (λ u. weight_of (update_of u.now)) updates.now))))
@@ -161,7 +141,11 @@ fn product(updates: &[&Update]) -> Result<Frac, StepFail>
 // ---- assignments
 
 /// The state after all assignments of the updates.
-fn written(alloc: Global, s: &[Value], updates: &[&Update]) -> Result<Vec<Value>, AllocError>
+pub(crate) fn written(
+    alloc: Global,
+    s: &[Value],
+    updates: &[&Update],
+) -> Result<Vec<Value>, AllocError>
     ensures { IfOk result (λ t. t.items ≡ written s.now (flat_map (λ u. u.writes) (updates_of updates.now))) }
 {
     let mut values = s.to_vec(alloc)?;
@@ -184,7 +168,7 @@ fn write(mut values: Vec<Value>, writes: &[Write]) -> Vec<Value>
 }
 
 /// The rewards of a combination, and in their places those that updates assign.
-fn earned(
+pub(crate) fn earned(
     alloc: Global,
     rewards: &[Result<Frac, EvalFail>],
     updates: &[&Update],

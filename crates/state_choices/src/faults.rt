@@ -6,25 +6,29 @@ ghost use Rattle.process_core.specs.Choices.{number_of, weight_of, is_negative, 
 ghost use Rattle.process_core.specs.Bounds.{has_wide_sum, if_all, is_wide_participant};
 ghost use Rattle.process_core.specs.Answers.{Answers, only_wide};
 ghost use Rattle.process_core.specs.Seen.{seen_kinds};
+ghost use Rattle.state_choices.specs.Flaws.{flaws_in, sum_flaws};
 ghost use Rattle.state_choices.specs.Views.{seen_of, command_of, update_of, sum_of, participants_of};
 
 use crate::data::{Command, Update};
-use crate::flaws::flaws_in;
+use crate::flaws::{Flaws, flaws_in};
 use crate::numbers::plus;
 use crate::values::number_of;
 use frac_core::Frac;
 use op_trees::EvalFail;
 use process_core::{Bad, StepFail};
 
-/// The kinds of faults of a combination. `Wide` exactly where a participant or a reward is wide.
+/// The kinds of faults of a combination; `earned` are the flaws of its rewards. `Wide` exactly where a participant or a
+/// reward is wide.
 pub(crate) fn kinds_of(
     rewards: &[Result<Frac, EvalFail>],
+    earned: Flaws,
     participants: &[&Command],
 ) -> Result<Bad, StepFail>
+    requires { earned ≡ flaws_in sum_flaws rewards.now }
     ensures { Answers (only_wide (list_any is_wide_participant (participants_of participants.now) || list_any (λ m. m.wide) (map sum_of rewards.now)))
         (λ k. seen_kinds k ≡ kinds_of (map sum_of rewards.now) (participants_of participants.now)) result }
 {
-    let flaws = flaws_in(participants).or(flaws_in(rewards));
+    let flaws = flaws_in(participants).or(earned);
     if flaws.wide {
         return Err(StepFail::Wide);
     }

@@ -78,3 +78,12 @@ fn longer<T: Copy>(alloc: Global, front: &[T], member: T) -> Result<Vec<T>, Allo
     longer.push(member)?;
     Ok(longer)
 }
+
+/// The same items once more.
+pub(crate) fn copied<T: Copy>(alloc: Global, items: &[T]) -> Result<Vec<T>, AllocError>
+    ensures { IfOk result (λ v. v.items ≡ items.now) }
+{
+    let mut copied = Vec::with_capacity(alloc, items.len())?;
+    copied.extend_from_slice(items)?;
+    Ok(copied)
+}

@@ -14,7 +14,7 @@ use Rattle.state_choices.proofs.faults.kinds_of.Goals as goal
 
 pub returns-then-flaws : goal.returns-then-flaws
 returns-then-flaws c =
-    let e : c.or-flaws.result ≡ both (flaws_in participant_flaws c.args.participants.now) (flaws_in sum_flaws c.args.rewards.now) = c.or-flaws.ensures ∙ ap₂ both c.flaws_in.ensures c.flaws_in-2.ensures in
+    let e : c.or-flaws.result ≡ both (flaws_in participant_flaws c.args.participants.now) (flaws_in sum_flaws c.args.rewards.now) = c.or-flaws.ensures ∙ ap₂ both c.flaws_in.ensures c.requires in
     ap only_wide (kinds_wide c.args.rewards.now c.args.participants.now ∙ ap (λ b. b || wide_weights c.args.rewards.now c.args.participants.now) (sym (ap (λ (f : Flaws). f.wide) e) ∙ c.if-flaws.true))
 
 pub returns-in_err-weight : goal.returns-in_err-weight
@@ -27,7 +27,7 @@ pub returns : goal.returns
 returns c =
     let rewards = c.args.rewards.now in
     let rs = c.args.participants.now in
-    let e : c.or-flaws.result ≡ both (flaws_in participant_flaws rs) (flaws_in sum_flaws rewards) = c.or-flaws.ensures ∙ ap₂ both c.flaws_in.ensures c.flaws_in-2.ensures in (
+    let e : c.or-flaws.result ≡ both (flaws_in participant_flaws rs) (flaws_in sum_flaws rewards) = c.or-flaws.ensures ∙ ap₂ both c.flaws_in.ensures c.requires in (
       ap only_wide (kinds_wide rewards rs ∙ ap₂ (λ a b. a || b) (sym (ap (λ (f : Flaws). f.wide) e) ∙ c.if-flaws.false) (narrow_then _ c.in_ok-weight.ensures.0)),
       same_kinds _ _ _ _ _ _
           (ap (λ (f : Flaws). f.undef) e ∙ kinds_undef rewards rs)
