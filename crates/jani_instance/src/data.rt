@@ -2,6 +2,7 @@
 
 use bridge_io::{List, Text};
 use expr_store::ExprId;
+use frac_core::Frac;
 use gathering::NumberLists;
 use instance_start::Place;
 use jani_tree::JaniExpr;
@@ -105,4 +106,11 @@ pub struct Evaluated {
     pub silent: List<Command>,
     pub acting: NumberLists<Command>,
     pub actions: usize,
+}
+
+/// What the edges of all elements come out as in a state, and what a choice earns by itself in each reward structure.
+#[derive(Drop)]
+pub struct EvaluatedElements {
+    pub members: Vec<Evaluated>,
+    pub rewards: List<Result<Frac, EvalFail>>,
 }

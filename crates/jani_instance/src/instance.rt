@@ -4,6 +4,7 @@ ghost use Rattle.std.specs.Fmt.{decimal};
 ghost use Rattle.process_core.specs.Answers.{Answers, only_wide};
 ghost use Rattle.process_core.specs.Instance.{is_state};
 ghost use Rattle.process_core.specs.Seen.{seen_choice};
+ghost use Rattle.state_choices.specs.Grouped.{AreGroupsAt};
 ghost use Rattle.state_choices.specs.Views as choices_views;
 ghost use Rattle.jani_tree.specs.Syntax.{file_of};
 ghost use Rattle.jani_meaning.specs.Scene.{columns_of};
@@ -12,9 +13,10 @@ ghost use Rattle.jani_meaning.specs.Process.{choices, excess, has_wide_mark, mar
 ghost use Rattle.instance_start.specs.Given.{given_by};
 ghost use Rattle.jani_instance.specs.Sound.{IsRight, IsSound, IsSound-prop, no_rewards};
 ghost use Rattle.state_choices.specs.Trimmed.{computed};
-ghost use Rattle.jani_instance.specs.Views.{IsIn, member_of, members_seen, setting_of};
+ghost use Rattle.jani_instance.specs.Described.{described};
+ghost use Rattle.jani_instance.specs.Views.{IsIn, groups_of, member_of, setting_of};
 
-use crate::data::{Element, Evaluated, InitialLocations, Transient, Vector};
+use crate::data::{Element, EvaluatedElements, InitialLocations, Transient, Vector};
 use crate::groups::{groups, members};
 use crate::initial::{condition, holds};
 use crate::marks::{add_labels, add_rewards};
@@ -29,7 +31,7 @@ use jani_table::JaniOp;
 use name_rules::NameMap;
 use op_trees::{EvalFail, Value};
 use process_core::{Choice, Given, InitialWide, Mark, State, StepFail, Steps};
-use state_choices::{choices_of, group_laws, trimming_law};
+use state_choices::{Group, GroupedSteps, choices_of};
 use std::alloc::{AllocError, Global};
 
 /// A judged file under given constants. What its names stand for, the values of its constants, its columns, which of its edges
@@ -116,6 +118,26 @@ impl<'a> Steps for JaniInstance<'a> {
     }
 }
 
+impl<'a> GroupedSteps for JaniInstance<'a> {
+    ghost use Rattle.jani_instance.specs.Instance.{groups_at};
+
+    type Evaluated = EvaluatedElements;
+
+    ghost groups_of = { groups_at };
+
+    fn evaluated(&self, alloc: Global, s: &State) -> Result<EvaluatedElements, AllocError> {
+        evaluated_at(alloc, self, s)
+    }
+
+    fn groups<'s>(
+        &'s self,
+        alloc: Global,
+        evaluated: &'s EvaluatedElements,
+    ) -> Result<Vec<Group<'s>>, AllocError> {
+        groups_in(alloc, self, evaluated)
+    }
+}
+
 /// A mark and a number.
 fn numbered_text(alloc: Global, mark: &str, n: usize) -> Result<Text, AllocError>
     ensures { IfOk result (λ t. t ≡ mark.now ++ decimal n) }
@@ -177,41 +199,46 @@ fn structures<'s, 'a>(instance: &'s JaniInstance<'a>) -> &'s [Transient<'a, Expr
     &instance.transients.as_slice()[instance.labels..]
 }
 
+/// What the edges of all elements come out as in a state.
+fn evaluated_at(
+    alloc: Global,
+    instance: &JaniInstance,
+    s: &State,
+) -> Result<EvaluatedElements, AllocError>
+    requires { IsTrue (is_state (columns_of (file_of instance.now.checked.now) (given_by instance.now.given.now)) s.now.values) }
+    ensures { IfOk result (λ e. AreGroupsAt (described (file_of instance.now.checked.now) (given_by instance.now.given.now)) s.now.values (groups_of (map choices_views.sum_of e.rewards) (map member_of e.members.items) instance.now.vectors.items)) }
+{
+    let here = here(instance, s);
+    let mut evaluation = evaluation(alloc, &here);
+    let members = members(alloc, &here, &mut evaluation)?;
+    let rewards = no_rewards(alloc, structures(instance))?;
+    Ok(EvaluatedElements { members, rewards })
+}
+
+/// The groups of combinations of these.
+fn groups_in<'s>(
+    alloc: Global,
+    instance: &'s JaniInstance,
+    evaluated: &'s EvaluatedElements,
+) -> Result<Vec<Group<'s>>, AllocError>
+    ensures { IfOk result (λ gs. map choices_views.group_of gs.items ≡ groups_of (map choices_views.sum_of evaluated.now.rewards) (map member_of evaluated.now.members.items) instance.now.vectors.items) }
+{
+    groups(
+        alloc,
+        evaluated.rewards.as_slice(),
+        evaluated.members.as_slice(),
+        instance.vectors.as_slice(),
+    )
+}
+
 /// The choices of a state, in order.
 fn choices_at(alloc: Global, instance: &JaniInstance, s: &State) -> Result<List<Choice>, StepFail>
     requires { IsTrue (is_state (columns_of (file_of instance.now.checked.now) (given_by instance.now.given.now)) s.now.values) }
     ensures { Answers (excess (moment (file_of instance.now.checked.now) (given_by instance.now.given.now) s.now.values))
         (λ cs. map seen_choice cs ≡ choices (moment (file_of instance.now.checked.now) (given_by instance.now.given.now) s.now.values) s.now.values) result }
 {
-    let here = here(instance, s);
-    let mut evaluation = evaluation(alloc, &here);
-    let members = members(alloc, &here, &mut evaluation)?;
-    choices_of_members(alloc, instance, s, &here, members.as_slice())
-}
-
-/// The same from what the edges of each element come out as.
-fn choices_of_members(
-    alloc: Global,
-    instance: &JaniInstance,
-    s: &State,
-    here: &Here,
-    members: &[Evaluated],
-) -> Result<List<Choice>, StepFail>
-    requires members { map member_of members.now ≡ members_seen (setting_of here.now) }
-    requires values { here.now.values.now ≡ s.now.values }
-    requires right { IsRight (file_of instance.now.checked.now) (given_by instance.now.given.now) (setting_of here.now) instance.now.vectors.items instance.now.labels instance.now.transients.items }
-    ensures { Answers (excess (moment (file_of instance.now.checked.now) (given_by instance.now.given.now) s.now.values))
-        (λ cs. map seen_choice cs ≡ choices (moment (file_of instance.now.checked.now) (given_by instance.now.given.now) s.now.values) s.now.values) result }
-{
-    let rewards = no_rewards(alloc, structures(instance))?;
-    let groups = groups(
-        alloc,
-        rewards.as_slice(),
-        members,
-        instance.vectors.as_slice(),
-    )?;
-    trimming_law();
-    group_laws();
+    let evaluated = evaluated_at(alloc, instance, s)?;
+    let groups = groups_in(alloc, instance, &evaluated)?;
     choices_of(alloc, s, groups.as_slice())
 }
 

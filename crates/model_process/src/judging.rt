@@ -23,6 +23,7 @@ use prism_check::FlatPrism;
 use prism_meaning::{described_law, start_prism};
 use process_core::Steps;
 use row_check::{RowsRefused, check_path, check_rows};
+use state_choices::GroupedSteps;
 use std::alloc::{AllocError, Global};
 use value_bound::{BoundRefused, check_bound, label_named};
 
@@ -144,7 +145,7 @@ fn on_jani(
 }
 
 /// How it ends with a model that is started, or isn't.
-fn ended<S: Steps + Drop>(
+fn ended<S: GroupedSteps + Drop>(
     alloc: Global,
     checking: &Checking,
     files: &[List<u8>],
@@ -163,7 +164,7 @@ fn ended<S: Steps + Drop>(
 }
 
 /// How it ends with a process: the verdict.
-fn judged<S: Steps>(
+fn judged<S: GroupedSteps>(
     alloc: Global,
     claim: Claim,
     files: &[List<u8>],
@@ -182,7 +183,7 @@ fn judged<S: Steps>(
 }
 
 /// The verdict on what the other files hold of the process.
-fn verdict_on<S: Steps>(
+fn verdict_on<S: GroupedSteps>(
     alloc: Global,
     claim: Claim,
     files: &[List<u8>],

@@ -19,7 +19,7 @@ use jani_instance::start_jani;
 use model_files::read_jani;
 use prism_check::FlatPrism;
 use prism_meaning::{described_law, start_prism};
-use process_core::Steps;
+use state_choices::GroupedSteps;
 use std::alloc::{AllocError, Global};
 use walk_texts::{Report, show, simulate_given, simulate_seed};
 
@@ -102,7 +102,7 @@ fn on_jani(
 }
 
 /// How it ends with a model that is started, or isn't.
-fn ended<S: Steps + Drop>(
+fn ended<S: GroupedSteps + Drop>(
     alloc: Global,
     walking: &Walking,
     begun: Result<S, Unstarted>,
@@ -117,14 +117,18 @@ fn ended<S: Steps + Drop>(
 }
 
 /// How it ends with a process: what is shown of it.
-fn shown<S: Steps>(alloc: Global, walking: &Walking, process: &S) -> Result<Ending, AllocError>
+fn shown<S: GroupedSteps>(
+    alloc: Global,
+    walking: &Walking,
+    process: &S,
+) -> Result<Ending, AllocError>
     ensures { IfOk result (λ o. (r : Report) × IsReport (S.process process.now) (walking_of walking.now).job r × (o ≡ ending_of (walking_of walking.now).job r)) }
 {
     let report = report_of(alloc, &walking.job, process)?;
     Ok(ending_of(&walking.job, report))
 }
 
-fn report_of<S: Steps>(alloc: Global, job: &Job, process: &S) -> Result<Report, AllocError>
+fn report_of<S: GroupedSteps>(alloc: Global, job: &Job, process: &S) -> Result<Report, AllocError>
     ensures { IfOk result (IsReport (S.process process.now) (job_of job.now)) }
 {
     match job {

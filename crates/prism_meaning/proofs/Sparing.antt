@@ -1,5 +1,5 @@
 -- What groups of which no combination can be taken earn counts nothing.
-use Rattle.std.proofs.Common.{◌≡◌, ◌⊎◌, inl, inr, ℕ, List, [], ◌∷◌, ◌++◌, map, length, Bool, true, false, cond, not, ◌&&◌, ◌||◌, Option, Some, None, is_none, Result, refl, sym, ap, ap₂, subst, ◌∙◌}
+use Rattle.std.proofs.Common.{◌≡◌, ◌⊎◌, inl, inr, ℕ, List, [], ◌∷◌, ◌++◌, map, length, Bool, true, false, cond, not, ◌&&◌, ◌||◌, Option, Some, None, is_none, refl, sym, ap, ap₂, ◌∙◌}
 use Rattle.std.specs.Prelude.{sum, nat_lt, if◌then◌else◌}
 use Rattle.std.specs.List.{All, filter, flat_map, list_any}
 use Rattle.std.proofs.Math.Bool.{or-true}
@@ -8,15 +8,13 @@ use Rattle.std.proofs.lemmas.List.Elements.{All-append, All-cons, All-head, All-
 use Rattle.std.proofs.lemmas.List.Folds.{flat_map-map}
 use Rattle.basics.specs.Members.{any-map, filter-map}
 use Rattle.frac_core.specs.Fraction.{Fraction}
-use Rattle.process_core.specs.Answers.{Answers}
 use Rattle.process_core.specs.Bounds.{Excess, excess, fails, first_excess, has_wide_product, holds, is_wide_participant, is_wide_rest}
 use Rattle.process_core.specs.Choices.{choice_from, choice_of, choices, branch_of, guard_of, has_kind, is_false, kinds_of, outcome_of, ways}
 use Rattle.process_core.specs.Process.{Choice}
 use Rattle.process_core.specs.Product.{map-map, multiplied, one_of_each}
 use Rattle.process_core.specs.Ready.{Combination, Name, Ready, Sum, Values, together}
-use Rattle.process_core.specs.Seen.{seen_choice}
-use Rattle.process_core.specs.declared.data.Choice as code
-use Rattle.process_core.specs.declared.data.StepFail.{StepFail}
+use Rattle.process_core.specs.Steps.{Process}
+use Rattle.state_choices.specs.Grouped.{AreGroupsAt}
 use Rattle.state_choices.specs.Groups.{Group, of_group, of_groups}
 use Rattle.prism_meaning.specs.Spared.{is_closed, spared}
 
@@ -138,12 +136,9 @@ module _ (s : Values) where
   choices_told : (cs : List Combination) → choices s cs ≡ flat_map (λ t. t.chosen) (map told cs)
   choices_told cs = sym (flat_map-map (λ (t : Told). t.chosen) told cs)
 
-pub spared_law : (s : Values) (gs : List Group) (r : Result (List code.Choice) StepFail) →
-    Answers (excess (of_groups (map spared gs))) (λ cs. map seen_choice cs ≡ choices s (of_groups (map spared gs))) r →
-    Answers (excess (of_groups gs)) (λ cs. map seen_choice cs ≡ choices s (of_groups gs)) r
-spared_law s gs r h =
-    let same = groups_alike s gs in
-    subst (λ l. Answers (excess (of_groups gs)) (λ cs. map seen_choice cs ≡ l) r)
-    (choices_told s (of_groups (map spared gs)) ∙ ap (flat_map (λ t. t.chosen)) same ∙ sym (choices_told s (of_groups gs)))
-    (subst (λ e. Answers e (λ cs. map seen_choice cs ≡ choices s (of_groups (map spared gs))) r)
-    (excess_told s (of_groups (map spared gs)) ∙ ap (excess_of s) same ∙ sym (excess_told s (of_groups gs))) h)
+pub spared_at : (p : Process) (s : Values) (gs : List Group) → AreGroupsAt p s gs → AreGroupsAt p s (map spared gs)
+spared_at p s gs h =
+    let same = groups_alike s gs in record {
+      excess = excess_told s (of_groups (map spared gs)) ∙ ap (excess_of s) same ∙ sym (excess_told s (of_groups gs)) ∙ h.excess;
+      choices = λ n. choices_told s (of_groups (map spared gs)) ∙ ap (flat_map (λ t. t.chosen)) same ∙ sym (choices_told s (of_groups gs)) ∙ h.choices n;
+    }

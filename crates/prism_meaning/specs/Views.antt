@@ -62,7 +62,7 @@ abbrev pub evaluated_of : Evaluated → Group
 evaluated_of g = record {
   label = option_copied g.label;
   rewards = map choices.sum_of g.rewards;
-  lists = cut (map (λ l. length l.items) g.lists.now) (map choices.command_of g.commands);
+  lists = cut g.lengths.items (map choices.command_of g.commands);
 }
 
 -- ---- names, in a state or where there are constants alone

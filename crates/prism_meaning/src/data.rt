@@ -78,12 +78,12 @@ pub struct Prepared<'a> {
     pub labels: Vec<ExprId>,
 }
 
-/// Combinations at a state: what the commands of all their lists come out as, one list behind the other; and what the label earns in
-/// each reward structure, but nothing where no combination can be taken.
+/// Combinations at a state: what the commands of all their lists come out as, one list behind the other, and how many each list has;
+/// and what the label earns in each reward structure, but nothing where no combination can be taken.
 #[derive(Drop)]
 pub struct Evaluated<'a> {
     pub label: Option<&'a Text>,
     pub rewards: List<Result<Frac, EvalFail>>,
-    pub lists: &'a [Vec<PreparedCommand>],
+    pub lengths: Vec<usize>,
     pub commands: List<Command>,
 }

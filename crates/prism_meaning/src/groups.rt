@@ -29,7 +29,7 @@ use std::alloc::{AllocError, Global};
 /// What the groups come out as.
 pub(crate) fn evaluated<'a>(
     alloc: Global,
-    shapes: &'a [PreparedShape<'a>],
+    shapes: &[PreparedShape<'a>],
     columns: &[Column],
     state: &mut Evaluation<PrismOp>,
 ) -> Result<Vec<Evaluated<'a>>, AllocError>
@@ -46,7 +46,7 @@ pub(crate) fn evaluated<'a>(
 /// What a group comes out as. What it earns is asked for only where it has a choice.
 fn evaluated_under<'a>(
     alloc: Global,
-    shape: &'a PreparedShape<'a>,
+    shape: &PreparedShape<'a>,
     columns: &[Column],
     state: &mut Evaluation<PrismOp>,
 ) -> Result<Evaluated<'a>, AllocError>
@@ -59,9 +59,20 @@ fn evaluated_under<'a>(
     Ok(Evaluated {
         label: shape.label,
         rewards,
-        lists,
+        lengths: lengths(alloc, lists)?,
         commands,
     })
+}
+
+/// How many commands each list has.
+fn lengths(alloc: Global, lists: &[Vec<PreparedCommand>]) -> Result<Vec<usize>, AllocError>
+    ensures { IfOk result (λ ns. ns.items ≡ map (λ l. length l.items) lists.now) }
+{
+    let mut lengths = Vec::with_capacity(alloc, lists.len())?;
+    for list in lists {
+        lengths.push(list.len())?;
+    }
+    Ok(lengths)
 }
 
 /// What the commands of all lists come out as, one list behind the other.
@@ -234,7 +245,7 @@ pub(crate) fn groups<'a>(
     let mut groups = Vec::with_capacity(alloc, all.len())?;
     for one in all {
         let rewards = one.rewards.as_slice();
-        let lists = slices(alloc, one.lists, one.commands.as_slice())?;
+        let lists = slices(alloc, one.lengths.as_slice(), one.commands.as_slice())?;
         groups.push(Group {
             label: one.label,
             rewards,
@@ -244,18 +255,18 @@ pub(crate) fn groups<'a>(
     Ok(groups)
 }
 
-/// The commands of each list, from those of all lists.
+/// The commands of each list, from those of all lists and how many each has.
 fn slices<'a>(
     alloc: Global,
-    lists: &[Vec<PreparedCommand>],
+    lengths: &[usize],
     commands: &'a [Command],
 ) -> Result<Vec<&'a [Command]>, AllocError>
-    ensures { IfOk result (λ ls. map (λ l. map choices.command_of l.now) ls.items ≡ cut (map (λ l. length l.items) lists.now) (map choices.command_of commands.now)) }
+    ensures { IfOk result (λ ls. map (λ l. map choices.command_of l.now) ls.items ≡ cut lengths.now (map choices.command_of commands.now)) }
 {
-    let mut all = Vec::with_capacity(alloc, lists.len())?;
+    let mut all = Vec::with_capacity(alloc, lengths.len())?;
     let mut rest = commands;
-    for list in lists {
-        let (these, later) = parted(rest, list.len());
+    for length in lengths {
+        let (these, later) = parted(rest, *length);
         all.push(these)?;
         rest = later;
     }

@@ -1,5 +1,5 @@
 //! A file under given constants, as a process that can be stepped.
-ghost use Rattle.std.specs.Prelude.{◌≡◌, ◌++◌, IsTrue, Option, Some, map};
+ghost use Rattle.std.specs.Prelude.{◌≡◌, ◌++◌, IfOk, IsTrue, Option, Some, map};
 ghost use Rattle.process_core.specs.Answers.{Answers, only_wide};
 ghost use Rattle.process_core.specs.Bounds as core;
 ghost use Rattle.process_core.specs.Choices as core_choices;
@@ -12,7 +12,9 @@ ghost use Rattle.prism_check.specs.Scene.{columns_of};
 ghost use Rattle.instance_start.specs.Given.{given_by};
 ghost use Rattle.prism_meaning.specs.Sound.{at_state, IsSound, IsSound-prop};
 ghost use Rattle.expr_store.specs.Views.{nodes, seen_by};
+ghost use Rattle.prism_meaning.specs.Described.{described};
 ghost use Rattle.prism_meaning.specs.Views.{evaluated_of};
+ghost use Rattle.state_choices.specs.Grouped.{AreGroupsAt};
 ghost use Rattle.state_choices.specs.Groups.{of_groups};
 
 use crate::data::{Evaluated, Prepared};
@@ -27,7 +29,7 @@ use op_trees::Value;
 use prism_check::FlatPrism;
 use prism_tree::PrismOp;
 use process_core::{Choice, Given, InitialWide, Mark, State, StepFail, Steps};
-use state_choices::choices_of;
+use state_choices::{Group, GroupedSteps, choices_of};
 use std::alloc::{AllocError, Global};
 
 /// A judged file under given constants. What its names stand for, the values of its constants, its variables, and which of
@@ -99,6 +101,26 @@ impl<'a> Steps for PrismInstance<'a> {
     }
 }
 
+impl<'a> GroupedSteps for PrismInstance<'a> {
+    ghost use Rattle.prism_meaning.specs.Instance.{groups_at};
+
+    type Evaluated = Vec<Evaluated<'a>>;
+
+    ghost groups_of = { groups_at };
+
+    fn evaluated(&self, alloc: Global, s: &State) -> Result<Vec<Evaluated<'a>>, AllocError> {
+        evaluated_at(alloc, self, s)
+    }
+
+    fn groups<'s>(
+        &'s self,
+        alloc: Global,
+        evaluated: &'s Vec<Evaluated<'a>>,
+    ) -> Result<Vec<Group<'s>>, AllocError> {
+        groups(alloc, evaluated.as_slice())
+    }
+}
+
 /// The expressions of the instance in a state.
 fn state_of<'a, 'b>(
     alloc: Global,
@@ -117,15 +139,27 @@ fn state_of<'a, 'b>(
     )
 }
 
+/// What the groups of the instance come out as in a state.
+fn evaluated_at<'a>(
+    alloc: Global,
+    instance: &PrismInstance<'a>,
+    s: &State,
+) -> Result<Vec<Evaluated<'a>>, AllocError>
+    requires { IsTrue (is_state (columns_of instance.now.flat.now (given_by instance.now.given.now)) s.now.values) }
+    ensures { IfOk result (λ e. AreGroupsAt (described instance.now.flat.now (given_by instance.now.given.now)) s.now.values (map evaluated_of e.items)) }
+{
+    let mut state = state_of(alloc, instance, s);
+    let groups = instance.prepared.groups.as_slice();
+    evaluated(alloc, groups, instance.columns.as_slice(), &mut state)
+}
+
 /// The choices of a state, in order.
 fn choices_at(alloc: Global, instance: &PrismInstance, s: &State) -> Result<List<Choice>, StepFail>
     requires { IsTrue (is_state (columns_of instance.now.flat.now (given_by instance.now.given.now)) s.now.values) }
     ensures { Answers (excess (moment instance.now.flat.now (given_by instance.now.given.now) s.now.values))
         (λ cs. map seen_choice cs ≡ choices (moment instance.now.flat.now (given_by instance.now.given.now) s.now.values) s.now.values) result }
 {
-    let mut state = state_of(alloc, instance, s);
-    let groups = instance.prepared.groups.as_slice();
-    let all = evaluated(alloc, groups, instance.columns.as_slice(), &mut state)?;
+    let all = evaluated_at(alloc, instance, s)?;
     combined(alloc, s, all.as_slice())
 }
 

@@ -1,14 +1,8 @@
 -- The numbers of listed states.
 use Rattle.std.proofs.Common.{◌≡◌, ◌⊎◌, ℕ, suc, ◌+◌, ◌<◌, ◌≤◌, ℤ, List, [], ◌∷◌, ◌++◌, ◌||◌, Bool, true, false, cond, Option, Some, None, is_some, not, if◌then◌else◌, Vec, Global, length, length-append, refl, sym, ap, ◌∙◌, inl, inr, arith}
-use Rattle.std.specs.Ordering.{int_cmp, is_eq, ordering_then}
-use Rattle.std.specs.declared.cmp.Ordering.{Ordering}
-use Rattle.std.specs.declared.cmp.Ordering.TheVariants.{Less, Equal, Greater}
-use Rattle.std.specs.Cmp.{int_cmp_total, tied_itself}
-use Rattle.std.proofs.lemmas.Cmp.{lists_total}
-use Rattle.basics.specs.Booleans.{same_test}
+use Rattle.std.specs.Ordering.{int_cmp, is_eq}
 use Rattle.std.specs.Cmp.Lexicographic.{slice_cmp}
 use Rattle.std.specs.BTreeMap.{BTreeMap, get, Updates}
-use Rattle.std.proofs.lemmas.Map.Lookups.{CmpEqualImpliesEq, exact_signed}
 use Rattle.process_core.specs.Ready.{Values}
 use Rattle.process_core.specs.Equal.{equal_states, equal_states_is}
 use Rattle.process_core.specs.Merging.{key_of, by_items}

@@ -10,11 +10,12 @@ use crate::row_files::read_rows;
 use crate::rows::judge_rows;
 use bridge_io::Refused;
 use process_core::Steps;
+use state_choices::GroupedSteps;
 use std::alloc::Global;
 
 /// The first failure of the path that a file holds, or `Yes`. `At` exactly where a line breaks the form of path files, at the
 /// first such line.
-pub fn check_path<S: Steps>(alloc: Global, s: &S, path: &[u8]) -> Result<Verdict, Refused>
+pub fn check_path<S: GroupedSteps>(alloc: Global, s: &S, path: &[u8]) -> Result<Verdict, Refused>
     ensures { ChecksPath (S.process s.now) path.now result }
 {
     form_laws();

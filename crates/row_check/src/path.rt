@@ -2,18 +2,23 @@
 
 ghost use Rattle.std.specs.Prelude.{◌≡◌, ◌<◌, ◌^◌, ◌&&◌, suc, IfOk, IsTrue, length, map};
 ghost use Rattle.process_core.specs.Equal.{equal_states};
-ghost use Rattle.process_core.specs.Paths.{any_leads_to, is_positive, is_step, leads_to};
-ghost use Rattle.process_core.specs.Seen.{seen_branch, seen_choice, seen_outcome};
+ghost use Rattle.process_core.specs.Paths.{any_leads_to, is_positive, leads_to};
+ghost use Rattle.process_core.specs.Seen.{seen_branch, seen_outcome};
 ghost use Rattle.row_check.specs.Judging.{Judges};
 ghost use Rattle.row_check.specs.Paths.{JudgesPath, JudgesStep};
 
 use crate::data::{ReadPath, Verdict, Why};
 use bridge_io::{List, Text};
-use process_core::{Branch, Choice, Outcome, State, StepFail, Steps, same_label, same_state};
+use process_core::{Branch, Outcome, State, StepFail, same_state};
+use state_choices::{GroupedSteps, has_step};
 use std::alloc::{AllocError, Global};
 
 /// The first failure of a path, or `Yes`.
-pub fn judge_path<S: Steps>(alloc: Global, s: &S, path: &ReadPath) -> Result<Verdict, AllocError>
+pub fn judge_path<S: GroupedSteps>(
+    alloc: Global,
+    s: &S,
+    path: &ReadPath,
+) -> Result<Verdict, AllocError>
     requires { length path.now.states ≡ suc (length path.now.labels) }
     ensures { IfOk result (Judges (JudgesPath (S.process s.now) path.now)) }
 {
@@ -33,7 +38,7 @@ pub fn judge_path<S: Steps>(alloc: Global, s: &S, path: &ReadPath) -> Result<Ver
 }
 
 /// What fails of the step from the state after `k` steps.
-fn judge_step<S: Steps>(
+fn judge_step<S: GroupedSteps>(
     alloc: Global,
     s: &S,
     k: usize,
@@ -45,30 +50,13 @@ fn judge_step<S: Steps>(
     requires small { k < 2 ^ 63 }
     ensures { IfOk result (JudgesStep (S.process s.now) k from.now.values label.now to.now.values) }
 {
-    match s.choices(alloc, from) {
-        Ok(choices) => {
-            if has_step(&choices, label, to) {
-                Ok(None)
-            } else {
-                Ok(Some(Verdict::No(Why::Step(k + 1))))
-            }
-        }
+    match has_step(alloc, s, from, label, to) {
+        Ok(true) => Ok(None),
+        Ok(false) => Ok(Some(Verdict::No(Why::Step(k + 1)))),
         Err(StepFail::Wide) => Ok(Some(Verdict::Wide(k))),
         Err(StepFail::TooMany) => Ok(Some(Verdict::TooMany(k))),
         Err(StepFail::Memory(e)) => Err(e),
     }
-}
-
-/// Whether a good choice with this label has a branch of positive probability to this state.
-fn has_step(choices: &List<Choice>, label: &Option<Text>, to: &State) -> bool
-    ensures { result ≡ is_step (map seen_choice choices.now) label.now to.now.values }
-{
-    for choice in choices.as_slice() {
-        if same_label(label, &choice.label) && leads_to(&choice.outcome, to) {
-            return true;
-        }
-    }
-    false
 }
 
 /// Whether an outcome is a good one that has a branch of positive probability to this state.

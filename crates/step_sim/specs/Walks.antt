@@ -1,13 +1,16 @@
 -- Walks through a process: which steps a walk takes, and why it stops. (The rule of the words is this project's own.)
 use Rattle.std.specs.Prelude.{◌≡◌, ℕ, zero, suc, ◌%◌, ◌^◌, ◌<◌, false, slice_index_or, ◌*ℤ◌, pos, int_lt, List, [], ◌∷◌, map, length, take, Bool, Option, Some, None, Result, Ok, Err, slice_get, if◌then◌else◌}
-use Rattle.std.specs.List.{list_any, position_or_len}
-use Rattle.frac_core.specs.Fraction.{Fraction, nought, same_number, is_wide}
+use Rattle.std.specs.List.{All, list_any, position_or_len}
+use Rattle.frac_core.specs.Fraction.{Fraction, nought, unit, same_number, is_wide}
+use Rattle.frac_core.specs.Sums.{total}
 use Rattle.process_core.specs.Process.{Branch, Choice, Outcome, Good, Bad, Kinds}
 use Rattle.process_core.specs.Ready.{Values, Name}
 use Rattle.process_core.specs.Bounds.{Excess, IsWide, IsTooMany, partial_sums}
+use Rattle.process_core.specs.Bounds as core
+use Rattle.process_core.specs.Choices as core_choices
 use Rattle.process_core.specs.Steps.{Process}
-use Rattle.process_core.specs.Seen.{seen_branch}
-use Rattle.process_core.specs.declared.data.Branch as branch
+use Rattle.state_choices.specs.Groups.{Group, of_groups}
+use Rattle.state_choices.specs.declared.open.OpenBranch.{OpenBranch}
 use Rattle.step_sim.specs.declared.walk.Step.{Step}
 use Rattle.step_sim.specs.declared.walk.Stop.{Stop}
 use Rattle.step_sim.specs.declared.walk.Stop.TheVariants.{Done, Deadlock, NoChoice, NoBranch, Faulty, Wide, TooMany}
@@ -74,11 +77,24 @@ abbrev pub is_drawing_wide : ℕ → List (Branch Fraction Values) → Bool
 is_drawing_wide w bs = list_any is_wide (take (suc (drawn w bs)) (running bs))
 
 -- what is known of the number of the branch that a word draws from a distribution
-pub record IsDrawn (w : ℕ) (bs : List branch.Branch) (i : ℕ) : Type 0 where
+pub record IsDrawn (w : ℕ) (bs : List (Branch Fraction Values)) (i : ℕ) : Type 0 where
   pub within : i < length bs
-  pub drawn : i ≡ drawn w (map seen_branch bs)
-  pub narrow : is_drawing_wide w (map seen_branch bs) ≡ false
-  pub possible : (d : branch.Branch) → same_number (slice_index_or bs i d).weight nought ≡ false
+  pub drawn : i ≡ drawn w bs
+  pub narrow : is_drawing_wide w bs ≡ false
+  pub possible : (d : Branch Fraction Values) → same_number (slice_index_or bs i d).probability nought ≡ false
+
+-- the probabilities of branches of which no state is built
+abbrev pub weights : List OpenBranch → List Fraction
+weights bs = map (λ b. b.weight) bs
+
+-- the probabilities of a good choice add up to 1
+abbrev pub IsWhole : Outcome Fraction Values → Type 0
+IsWhole (Bad k) = Unit {0}
+IsWhole (Good bs) = total (probabilities bs) ≡ unit
+
+-- where nothing passes a bound, the choices of these groups at a state are such
+abbrev pub HaveWholeChoices : Values → List Group → Type 0
+HaveWholeChoices s gs = core.excess (of_groups gs) ≡ None → All (λ c. IsWhole c.outcome) (core_choices.choices s (of_groups gs))
 
 abbrev pub drawn_outcome : Option Name → ℕ → Outcome Fraction Values → Result Step Stop
 drawn_outcome label w (Bad k) = Err (faulty k)
@@ -88,7 +104,11 @@ abbrev pub drawn_choice : ℕ → ℕ → Option (Choice Name Fraction Values) �
 drawn_choice i w None = Err (NoChoice i)
 drawn_choice i w (Some c) = drawn_outcome c.label w c.outcome
 
--- the step that two words lead to: the first modulo the number of choices is the choice, and the second draws its branch
+-- the step that two words lead to: the first modulo the number of choices is the choice, and the second draws its branch;
+-- among these choices, and at a state
+abbrev pub drawn_among : List (Choice Name Fraction Values) → ℕ × ℕ → Result Step Stop
+drawn_among cs d = drawn_choice (d.0 % length cs) d.1 (slice_get cs (d.0 % length cs))
+
 abbrev pub step_drawn : Process → Values → ℕ × ℕ → Result Step Stop
 step_drawn p s d = drawn_choice (d.0 % length (p.choices s)) d.1 (slice_get (p.choices s) (d.0 % length (p.choices s)))
 

@@ -5,9 +5,11 @@ use Rattle.rand_core.specs.Stream.{Stream, next_u64}
 use Rattle.rand_core.specs.Steps.{stream_of, steps_u64_low}
 use Rattle.rand_core.specs.Pcg32Seed.{pcg32_seed}
 use Rattle.rand_pcg.specs.Pcg.{pcg64, pcg64_of_seed}
-use Rattle.process_core.specs.Ready.{Values}
+use Rattle.frac_core.specs.Fraction.{Fraction}
+use Rattle.process_core.specs.Process.{Choice}
+use Rattle.process_core.specs.Ready.{Values, Name}
 use Rattle.process_core.specs.Steps.{Process}
-use Rattle.step_sim.specs.Walks.{IsDrawnWalk, bar, step_drawn}
+use Rattle.step_sim.specs.Walks.{IsDrawnWalk, bar, drawn_among, if_none, step_drawn}
 use Rattle.step_sim.specs.declared.walk.Step.{Step}
 use Rattle.step_sim.specs.declared.walk.Stop.{Stop}
 use Rattle.step_sim.specs.declared.walk.Walk.{Walk}
@@ -34,6 +36,10 @@ left (suc k) w = left k (rest w)
 abbrev pub StopsOrGoes : Option Stop → Result Step Stop → Stream → Stream → Result Step Stop → Type 0
 StopsOrGoes (Some stop) drawn before after r = (r ≡ Err stop) × (after ≡ before)
 StopsOrGoes None drawn before after r = (r ≡ drawn) × (after ≡ rest before)
+
+-- along words, where nothing passes a bound and these are the choices
+abbrev pub IsStepAmong : List (Choice Name Fraction Values) → Stream → Stream → Result Step Stop → Type 0
+IsStepAmong cs before after r = StopsOrGoes (if_none cs) (drawn_among cs (pair before)) before after r
 
 abbrev pub IsDrawnStep : Process → Values → Stream → Stream → Result Step Stop → Type 0
 IsDrawnStep p s before after r = StopsOrGoes (bar p s) (step_drawn p s (pair before)) before after r

@@ -1,10 +1,12 @@
 // What a walk is made of.
 
-ghost use Rattle.std.specs.Prelude.{◌≡◌, IfOk};
+ghost use Rattle.std.specs.Prelude.{◌≡◌, IfOk, option_copied};
+ghost use Rattle.state_choices.specs.Open.{open_target};
 ghost use Rattle.step_sim.specs.Walks.{state_after};
 
 use bridge_io::{List, Text};
-use process_core::{Bad, Branch, Choice, State, copy_state};
+use process_core::{Bad, State, copy_label};
+use state_choices::{OpenBranch, OpenChoice};
 use std::alloc::{AllocError, Global};
 
 /// Why a walk goes no further.
@@ -51,18 +53,16 @@ pub(crate) fn last_state<'a>(first: &'a State, steps: &'a [Step]) -> &'a State
     }
 }
 
-/// The step along a branch of a choice.
+/// The step from a state along a branch of a choice.
 pub(crate) fn step_along(
     alloc: Global,
-    choice: &Choice,
-    branch: &Branch,
+    state: &State,
+    choice: &OpenChoice,
+    branch: &OpenBranch,
 ) -> Result<Step, AllocError>
-    ensures { IfOk result (λ t. t ≡ record { label = choice.now.label; target = branch.now.target }) }
+    ensures { IfOk result (λ t. t ≡ record { label = option_copied choice.now.label; target = record { values = open_target state.now.values branch.now } }) }
 {
-    let label = match &choice.label {
-        Some(label) => Some(Text::copy_of(alloc, label.as_str())?),
-        None => None,
-    };
-    let target = copy_state(alloc, &branch.target)?;
+    let label = copy_label(alloc, choice.label)?;
+    let target = branch.target(alloc, state)?;
     Ok(Step { label, target })
 }

@@ -10,6 +10,7 @@ use crate::start::{Start, start_of, state_of};
 use crate::state::show_text;
 use bridge_io::List;
 use process_core::{StepFail, Steps};
+use state_choices::GroupedSteps;
 use std::alloc::{AllocError, Global};
 use step_sim::{Stop, run_given, run_seed};
 
@@ -37,7 +38,7 @@ fn at_once(alloc: Global, stop: Stop) -> Result<Report, AllocError>
 }
 
 /// Walks from the named state, or from the first one, along pairs of numbers.
-pub fn simulate_given<S: Steps>(
+pub fn simulate_given<S: GroupedSteps>(
     alloc: Global,
     s: &S,
     from: Option<&str>,
@@ -56,7 +57,7 @@ pub fn simulate_given<S: Steps>(
 }
 
 /// Walks from the named state, or from the first one, along the words of a seed.
-pub fn simulate_seed<S: Steps>(
+pub fn simulate_seed<S: GroupedSteps>(
     alloc: Global,
     s: &S,
     from: Option<&str>,

@@ -1,48 +1,17 @@
-use Rattle.std.proofs.Common.{◌≡◌, ◌∙◌, refl, sym, ap, ap₂, map, subst}
+use Rattle.std.proofs.Common.{◌≡◌, map, subst}
 use Rattle.process_core.specs.Answers.{Answers}
 use Rattle.process_core.specs.Bounds.{excess}
 use Rattle.process_core.specs.Choices.{choices}
-use Rattle.process_core.specs.Product.{map-map}
-use Rattle.process_core.specs.Ready.{of_modules}
 use Rattle.process_core.specs.Seen.{seen_choice}
-use Rattle.prism_check.specs.Moment.{moment, names_in}
-use Rattle.prism_check.specs.Process.{choice_rewards}
-use Rattle.prism_names.specs.Names.{unchanged}
 use Rattle.state_choices.specs.Groups.{of_groups}
-use Rattle.state_choices.specs.Trimmed.{trimmed_group}
-use Rattle.state_choices.proofs.Whole.{of_trimmed}
-use Rattle.instance_start.specs.Columns.{column_of}
+use Rattle.state_choices.proofs.AtGroups.{answers_at}
 use Rattle.instance_start.specs.Given.{given_by}
-use Rattle.expr_store.specs.Views.{seen_by}
-use Rattle.prism_meaning.specs.Prepared.{group_by}
-use Rattle.prism_meaning.specs.Shapes.{bodies, group_under, shapes}
-use Rattle.prism_meaning.specs.Spared.{spared}
+use Rattle.prism_meaning.specs.Described.{described}
 use Rattle.prism_meaning.specs.Views.{evaluated_of}
-use Rattle.prism_meaning.proofs.Grouped.{joined_groups, joined_law}
-use Rattle.prism_meaning.proofs.Sparing.{spared_law}
-use Rattle.prism_meaning.proofs.Whole.{as_long, whole_groups}
 use Rattle.prism_meaning.proofs.instance.choices_at.Goals as goal
 
 pub returns : goal.returns
 returns c =
     let i = c.args.instance.now in
-    let file = i.flat.now in
-    let v = given_by i.given.now in
-    let s = c.args.s.now.values in
-    let r = c.combined.result in
-    let cs = map column_of i.columns.items in
-    let names = names_in file v s unchanged in
-    let k = moment file v s in
-    let gs = joined_groups (choice_rewards k.rewards) k.modules in
-    let shown =
-    ap (map evaluated_of) c.as_slice-2.ensures.value ∙ c.in_ok-all.ensures.0
-    ∙ ap (λ gs. map (λ g. spared (trimmed_group (group_by (map column_of c.as_slice.result.now) (seen_by c.state_of-state.result) g))) gs) c.as_slice-groups.ensures.value
-    ∙ ap₂ (λ cols at. map (λ g. spared (trimmed_group (group_by (map column_of cols) at g))) i.prepared.groups.items) c.as_slice.ensures.value c.state_of-state.ensures.sees
-    ∙ sym (map-map spared _ i.prepared.groups.items)
-    ∙ ap (map spared)
-    (i.sound.groups s (as_long i.columns.items _ s i.sound.columns c.requires)
-    ∙ sym (map-map trimmed_group (group_under cs names) (shapes file.rewards (bodies file.modules)))
-    ∙ ap (map trimmed_group) (whole_groups file v s c.state_of-state.ensures.form cs names i.sound.columns refl)) in
-    of_trimmed s r gs (map trimmed_group gs) (of_modules (choice_rewards k.rewards) k.modules) refl (joined_law (choice_rewards k.rewards) k.modules)
-    (spared_law s (map trimmed_group gs) r
-    (subst (λ l. Answers (excess (of_groups l)) (λ x. map seen_choice x ≡ choices s (of_groups l)) r) shown c.combined.ensures))
+    answers_at (described i.flat.now (given_by i.given.now)) c.args.s.now.values _ c.in_ok-all.ensures (λ l cs. map seen_choice cs ≡ l) c.combined.result
+    (subst (λ all. Answers (excess (of_groups (map evaluated_of all))) (λ cs. map seen_choice cs ≡ choices c.args.s.now.values (of_groups (map evaluated_of all))) c.combined.result) c.as_slice.ensures.value c.combined.ensures)

@@ -1,4 +1,4 @@
-use Rattle.std.proofs.Common.{◌≡◌, ℕ, ◌<◌, ◌^◌, ℤ, pos, ◌*ℤ◌, Bool, true, false, ◌&&◌, not, nat_lt, ltb-true, refl, sym, ap, ap₂, subst, ◌∙◌, arith}
+use Rattle.std.proofs.Common.{◌≡◌, ℕ, ◌<◌, ◌^◌, ℤ, pos, ◌*ℤ◌, false, nat_lt, ltb-true, sym, ap, ap₂, subst, ◌∙◌, arith}
 use Rattle.std.specs.Prelude.{FitsSigned, int_lt, nat_abs}
 use Rattle.std.proofs.lemmas.Int.{fits_signed_mul, to_z-of_z}
 use mir.Syntax.{w64, w128}
