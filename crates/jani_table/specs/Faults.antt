@@ -3,7 +3,7 @@
 use Rattle.std.specs.Prelude.{ℕ, List, [], ◌∷◌, ◌++◌, Bool, true, false, Option, Some, None, codes, bytes_eq, if◌then◌else◌, ◌||◌, ◌&&◌, not, is_some}
 use Rattle.std.specs.List.{list_any}
 use Rattle.bridge_io.specs.declared.reason.Reason.{Reason}
-use Rattle.bridge_io.specs.declared.reason.Reason.TheVariants.{LeftOut, MissingMember, UnknownMember, WrongShape, InputEnable, NoDestination}
+use Rattle.bridge_io.specs.declared.reason.Reason.TheVariants.{LeftOut, MissingMember, UnknownMember, WrongShape, NoDestination}
 use Rattle.bridge_io.specs.declared.reason.Fault.{Fault}
 use Rattle.jani_table.specs.declared.key.Key.{Key}
 use Rattle.jani_table.specs.declared.key.Key.TheVariants as K
@@ -112,16 +112,10 @@ abbrev pub none_faults : ℕ → Reason → Option Node → List Fault
 none_faults at reason None = fault at reason
 none_faults at reason (Some v) = []
 
--- where there is such an item
-abbrev pub some_faults : ℕ → Reason → Option Node → List Fault
-some_faults at reason None = []
-some_faults at reason (Some v) = fault at reason
-
--- an edge has a destination, an automaton an initial location, and no actions are accepted everywhere
+-- an edge has a destination, and an automaton an initial location
 abbrev pub list_faults : Form → ℕ → Nodes → List Fault
 list_faults F.Destinations at vs = none_faults at NoDestination (first_of vs)
 list_faults F.InitialLocations at vs = none_faults at WrongShape (first_of vs)
-list_faults F.InputEnable at vs = some_faults at InputEnable (first_of vs)
 list_faults f at vs = []
 
 -- a required member that is missing, at the closing brace

@@ -158,7 +158,7 @@ composition =
 abbrev pub element : Members
 element =
     (K.Automaton, Required, F.Name)
-    ∷ (K.InputEnable, Optional, F.InputEnable)  -- no actions; the profile leaves out all other lists
+    ∷ (K.InputEnable, Optional, F.InputEnable)  -- the actions that the element accepts everywhere
     ∷ (K.Comment, Optional, F.Text)  -- nothing
     ∷ []
 

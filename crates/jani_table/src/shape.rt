@@ -262,15 +262,6 @@ fn judge_destinations(at: usize, items: &List<Json>, best: Option<Fault>) -> Opt
     }
 }
 
-fn judge_enabled(at: usize, items: &List<Json>, best: Option<Fault>) -> Option<Fault>
-    ensures { result ≡ soonest best (list_faults F.InputEnable at (nodes items.now)) }
-{
-    match first(items) {
-        Some(_) => sooner(best, at, Reason::InputEnable),
-        None => best,
-    }
-}
-
 fn judge_initial(at: usize, items: &List<Json>, best: Option<Fault>) -> Option<Fault>
     ensures { result ≡ soonest best (list_faults F.InitialLocations at (nodes items.now)) }
 {
@@ -286,7 +277,6 @@ fn judge_list(form: Form, at: usize, items: &List<Json>, best: Option<Fault>) ->
     match form {
         Form::Destinations => judge_destinations(at, items, best),
         Form::InitialLocations => judge_initial(at, items, best),
-        Form::InputEnable => judge_enabled(at, items, best),
         _ => best,
     }
 }

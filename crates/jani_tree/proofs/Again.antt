@@ -15,11 +15,11 @@ use Rattle.jani_table.specs.Node.{Node, nodes_of}
 use Rattle.jani_table.specs.Words.{ty_of, ty_text}
 use Rattle.jani_table.specs.Operators.{op_of, op_text, arity}
 use Rattle.jani_table.specs.Faults.{op_kind, is_true}
-use Rattle.jani_tree.specs.Syntax.{Expression, is_always, Const, VarKind, boolean, integer, number as real, real_bounded, one_sided, bounded, Var, Write, Location, Destination, Edge, Automaton, Vector, File}
-use Rattle.jani_tree.specs.Jani.{Optional, Each, IsItems, IsNamed, IsKeyed, IsExpr, IsBoxed, IsKindAt, IsConst, IsVar, IsWrite, IsLocation, IsDestination, IsEdge, IsAutomaton, IsPart, IsVector, IsSystem, unless_always, IsFile}
+use Rattle.jani_tree.specs.Syntax.{Expression, is_always, Const, VarKind, boolean, integer, number as real, real_bounded, one_sided, bounded, Var, Write, Location, Destination, Edge, Automaton, Element, Vector, File}
+use Rattle.jani_tree.specs.Jani.{Optional, Each, IsItems, IsNamed, IsKeyed, IsExpr, IsBoxed, IsKindAt, IsConst, IsVar, IsWrite, IsLocation, IsDestination, IsEdge, IsAutomaton, IsPart, IsElement, IsVector, IsSystem, unless_always, IsFile}
 use Rattle.std.specs.List.{AllByRecursion as OfAll}
 use Rattle.basics.specs.Options.{IfAny as OfSome}
-use Rattle.jani_tree.specs.Canonical.{expr_node, boxed_node, kind_node, const_node, var_node, write_node, location_node, destination_node, edge_node, automaton_node, part_node, vector_node, system_node, file_node, keyed_node, name_node, list_node, HasOperands, HasBounds, ConstForm, VarForm, WriteForm, LocationForm, DestinationForm, EdgeForm, AutomatonForm, RestrictionForm, FileForm}
+use Rattle.jani_tree.specs.Canonical.{expr_node, boxed_node, kind_node, const_node, var_node, write_node, location_node, destination_node, edge_node, automaton_node, part_node, element_node, vector_node, system_node, file_node, keyed_node, name_node, list_node, HasOperands, HasBounds, ConstForm, VarForm, WriteForm, LocationForm, DestinationForm, EdgeForm, AutomatonForm, RestrictionForm, FileForm}
 
 -- ---- operators and types
 
@@ -200,9 +200,16 @@ vector_again x = vector_parts x.parts x.result x.at
 keyed_again : (ns : List Named) (at : ℕ) (k : Key) → ((n : Named) → IsKeyed k (keyed_node k n) n) → IsItems (IsKeyed k) (list_node (keyed_node k) at ns) ns
 keyed_again ns at k h = plain_again (IsKeyed k) (keyed_node k) h at ns
 
-system_again : (elements : List Named) (at : ℕ) (vectors : List Vector) → IsSystem (system_node elements at vectors) elements at vectors
+element_parts : (n : Named) (enable : List Named) → let e : Element = record { name = n; enable = enable } in IsElement (element_node e) e
+element_parts n [] = record { name = refl; enable = refl }
+element_parts n (x ∷ xs) = record { name = refl; enable = plain_again IsNamed name_node (λ n. refl) 0 (x ∷ xs) }
+
+element_again : (e : Element) → IsElement (element_node e) e
+element_again e = element_parts e.name e.enable
+
+system_again : (elements : List Element) (at : ℕ) (vectors : List Vector) → IsSystem (system_node elements at vectors) elements at vectors
 system_again elements at vectors = record {
-  elements_are = record { offset = refl; items = keyed_again elements at K.Automaton (λ n. refl) };
+  elements_are = record { offset = refl; items = plain_again IsElement element_node element_again at elements };
   vectors_are = plain_again IsVector vector_node vector_again 0 vectors;
 }
 
@@ -217,7 +224,7 @@ not_always (Three at o a b c) h = refl
 restriction_again : (e : Expression) → RestrictionForm e → Optional IsBoxed (unless_always (Some (boxed_node e))) (Some e)
 restriction_again e h = subst (λ b. Optional IsBoxed (if b then None else Some (boxed_node e)) (Some e)) (sym (not_always e h.restricts)) (boxed_again e h.operands)
 
-file_parts : (actions : List Named) (constants : List Const) (variables : List Var) (restrict : Option Expression) (automata : List Automaton) (elements : List Named) (at : ℕ) (vectors : List Vector) (properties : Node) →
+file_parts : (actions : List Named) (constants : List Const) (variables : List Var) (restrict : Option Expression) (automata : List Automaton) (elements : List Element) (at : ℕ) (vectors : List Vector) (properties : Node) →
     let f : File = record { actions = actions; constants = constants; variables = variables; restrict = restrict; automata = automata; elements = elements; elements_at = at; vectors = vectors; properties = properties } in
     FileForm f → IsFile (file_node f) f
 file_parts actions constants variables None automata elements at vectors properties h = record {

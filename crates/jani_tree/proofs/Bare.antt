@@ -14,10 +14,10 @@ use Rattle.jani_table.specs.Node.{Node, null, truth, number, text, array, object
 use Rattle.jani_table.specs.Table.{spelled}
 use Rattle.jani_table.specs.Words.{ty_of}
 use Rattle.jani_table.specs.Faults.{part, member_text, op_in, is_true}
-use Rattle.jani_tree.specs.Syntax.{Expression, Const, VarKind, Var, Write, Location, Destination, Edge, Automaton, Vector, File}
-use Rattle.jani_tree.specs.Jani.{Optional, Each, IsItems, IsList, IsListAt, IsText, IsNamed, IsKeyed, IsOperation, IsExpr, IsBoxed, ty_in, Range, real_range, half_range, whole_range, range_of, range_in, IsWord, IsRange, IsKind, IsKindAt, IsConst, IsVar, IsWrite, IsLocation, IsDestination, IsEdge, IsAutomaton, IsPart, IsVector, IsSystem, unless_always, IsKept, IsFile}
+use Rattle.jani_tree.specs.Syntax.{Expression, Const, VarKind, Var, Write, Location, Destination, Edge, Automaton, Element, Vector, File}
+use Rattle.jani_tree.specs.Jani.{Optional, Each, IsItems, IsList, IsListAt, IsText, IsNamed, IsKeyed, IsOperation, IsExpr, IsBoxed, ty_in, Range, real_range, half_range, whole_range, range_of, range_in, IsWord, IsRange, IsKind, IsKindAt, IsConst, IsVar, IsWrite, IsLocation, IsDestination, IsEdge, IsAutomaton, IsElement, IsPart, IsVector, IsSystem, unless_always, IsKept, IsFile}
 use Rattle.op_trees.specs.Names.{bare_name}
-use Rattle.jani_tree.specs.Places.{bare_node, bare_nodes, bare_fields, bare_const, bare_kind, bare_var, bare_write, bare_location, bare_destination, bare_edge, bare_automaton, bare_part, bare_vector, bare_file, PlacesApart, OneTree}
+use Rattle.jani_tree.specs.Places.{bare_node, bare_nodes, bare_fields, bare_const, bare_kind, bare_var, bare_write, bare_location, bare_destination, bare_edge, bare_automaton, bare_element, bare_part, bare_vector, bare_file, PlacesApart, OneTree}
 use Rattle.jani_tree.proofs.Unique.{same_file}
 
 -- ---- members
@@ -287,9 +287,15 @@ kept_bare : (o : Option Node) (p : Node) → IsKept o p → IsKept (option_map b
 kept_bare None p e = ap bare_node e
 kept_bare (Some v) p e = ap bare_node e
 
-system_bare : (v : Node) (f : File) → IsSystem v f.elements f.elements_at f.vectors → IsSystem (bare_node v) (map bare_name f.elements) 0 (map bare_vector f.vectors)
+element_bare : (v : Node) (e : Element) → IsElement v e → IsElement (bare_node v) (bare_element e)
+element_bare v e p = record {
+  name = keyed_bare K.Automaton v e.name p.name;
+  enable = list_bare IsNamed IsNamed bare_name name_bare K.InputEnable v e.enable p.enable;
+}
+
+system_bare : (v : Node) (f : File) → IsSystem v f.elements f.elements_at f.vectors → IsSystem (bare_node v) (map bare_element f.elements) 0 (map bare_vector f.vectors)
 system_bare v f p = record {
-  elements_are = list_at_bare (IsKeyed K.Automaton) (IsKeyed K.Automaton) bare_name (keyed_bare K.Automaton) K.Elements v f.elements f.elements_at p.elements_are;
+  elements_are = list_at_bare IsElement IsElement bare_element element_bare K.Elements v f.elements f.elements_at p.elements_are;
   vectors_are = list_bare IsVector IsVector bare_vector vector_bare K.Syncs v f.vectors p.vectors_are;
 }
 
@@ -300,7 +306,7 @@ file_bare v f p = record {
   variables = list_bare IsVar IsVar bare_var var_bare K.Variables v f.variables p.variables;
   restrict = restrict_bare v f.restrict p.restrict;
   automata = list_bare IsAutomaton IsAutomaton bare_automaton automaton_bare K.Automata v f.automata p.automata;
-  system = one_bare K.System v (λ s. IsSystem s f.elements f.elements_at f.vectors) (λ s. IsSystem s (map bare_name f.elements) 0 (map bare_vector f.vectors)) (λ s q. system_bare s f q) p.system;
+  system = one_bare K.System v (λ s. IsSystem s f.elements f.elements_at f.vectors) (λ s. IsSystem s (map bare_element f.elements) 0 (map bare_vector f.vectors)) (λ s q. system_bare s f q) p.system;
   properties = subst (λ o. IsKept o (bare_node f.properties)) (sym (part_bare K.Properties v)) (kept_bare (part K.Properties v) f.properties p.properties);
 }
 

@@ -6,14 +6,14 @@ use Rattle.bridge_io.specs.declared.reason.Named.{Named}
 use Rattle.op_trees.specs.Tree.{Truth, Number, Name, One, Two, Three, bare}
 use Rattle.jani_table.specs.Node.{Node, null, truth, number, text, array, object, Nodes, no_nodes, more_nodes, Fields, no_fields, field}
 use Rattle.jani_table.specs.Faults.{member_text}
-use Rattle.jani_tree.specs.Syntax.{Expression, is_always, Const, VarKind, boolean, integer, number as real, real_bounded, one_sided, bounded, Var, Write, Location, Destination, Edge, Automaton, Vector, File}
+use Rattle.jani_tree.specs.Syntax.{Expression, is_always, Const, VarKind, boolean, integer, number as real, real_bounded, one_sided, bounded, Var, Write, Location, Destination, Edge, Automaton, Element, Vector, File}
 use Rattle.std.specs.List.{AllByRecursion as OfAll}
 use Rattle.basics.specs.Options.{IfAny as OfSome}
 use Rattle.op_trees.specs.Names.{bare_name}
-use Rattle.jani_tree.specs.Places.{bare_node, bare_nodes, bare_fields, bare_const, bare_kind, bare_var, bare_write, bare_location, bare_destination, bare_edge, bare_automaton, bare_part, bare_vector, bare_file}
+use Rattle.jani_tree.specs.Places.{bare_node, bare_nodes, bare_fields, bare_const, bare_kind, bare_var, bare_write, bare_location, bare_destination, bare_edge, bare_automaton, bare_element, bare_part, bare_vector, bare_file}
 use Rattle.jani_tree.proofs.Bare.{member_bare}
 use Rattle.basics.specs.Lists.{IsNotEmpty as HasItems}
-use Rattle.jani_tree.specs.Form.{IsGiven, NormalNode, NormalNodes, NormalFields, KeysOnce, KeysOnceInside, KeysApart, NameForm, ExprForm, KindForm, ConstRead, VarRead, WriteRead, LocationRead, DestinationRead, EdgeRead, AutomatonRead, PartForm, VectorRead, RestrictionRead, FileWith}
+use Rattle.jani_tree.specs.Form.{IsGiven, NormalNode, NormalNodes, NormalFields, KeysOnce, KeysOnceInside, KeysApart, NameForm, ExprForm, KindForm, ConstRead, VarRead, WriteRead, LocationRead, DestinationRead, EdgeRead, AutomatonRead, ElementRead, PartForm, VectorRead, RestrictionRead, FileWith}
 
 -- the one holds exactly where the other does
 abbrev Alike : Type 0 → Type 0 → Type 0
@@ -176,6 +176,12 @@ module _ (P : List ℕ → Type 0) where
     },
   )
 
+  element : (e : Element) → Alike (ElementRead P e) (ElementRead P (bare_element e))
+  element e = (
+    λ p. record { name = p.name; enable = (all_names e.enable).0 p.enable },
+    λ p. record { name = p.name; enable = (all_names e.enable).1 p.enable },
+  )
+
   vector : (x : Vector) → Alike (VectorRead P x) (VectorRead P (bare_vector x))
   vector x = (
     λ p. record { parts = (all_alike (PartForm P) bare_part names x.parts).0 p.parts; result = (names x.result).0 p.result },
@@ -204,7 +210,7 @@ module _ (P : List ℕ → Type 0) where
       variables = (all_alike (VarRead P) bare_var var f.variables).0 p.variables;
       restrict = (some_alike (RestrictionRead P) bare restriction f.restrict).0 p.restrict;
       automata = (all_alike (AutomatonRead P) bare_automaton automaton f.automata).0 p.automata;
-      elements = (all_names f.elements).0 p.elements;
+      elements = (all_alike (ElementRead P) bare_element element f.elements).0 p.elements;
       vectors = (all_alike (VectorRead P) bare_vector vector f.vectors).0 p.vectors;
       properties = (normal_alike f.properties).0 p.properties;
     },
@@ -214,7 +220,7 @@ module _ (P : List ℕ → Type 0) where
       variables = (all_alike (VarRead P) bare_var var f.variables).1 p.variables;
       restrict = (some_alike (RestrictionRead P) bare restriction f.restrict).1 p.restrict;
       automata = (all_alike (AutomatonRead P) bare_automaton automaton f.automata).1 p.automata;
-      elements = (all_names f.elements).1 p.elements;
+      elements = (all_alike (ElementRead P) bare_element element f.elements).1 p.elements;
       vectors = (all_alike (VectorRead P) bare_vector vector f.vectors).1 p.vectors;
       properties = (normal_alike f.properties).1 p.properties;
     },

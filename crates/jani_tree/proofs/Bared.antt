@@ -14,7 +14,7 @@ use Rattle.jani_table.specs.declared.table.Kind.TheVariants as O
 use Rattle.jani_table.specs.Node.{Node, null, truth, number, text, array, object, Nodes, no_nodes, more_nodes, Fields, no_fields, field}
 use Rattle.jani_table.specs.Table.{Row, spelled, rows_of, is_required, known_form, item_form}
 use Rattle.jani_table.specs.Words.{kind_fault, null_fault, truth_fault, number_fault, word_fault}
-use Rattle.jani_table.specs.Faults.{fault, fault_if, fault_unless, faults, items_faults, members_faults, own_faults, other_faults, missing_faults, row_faults, list_faults, bound_faults, first_of, none_faults, some_faults, member, has, by_form, by_kind, object_kind, op_in, or_unclear, is_true, is_word}
+use Rattle.jani_table.specs.Faults.{fault, fault_if, fault_unless, faults, items_faults, members_faults, own_faults, other_faults, missing_faults, row_faults, list_faults, bound_faults, first_of, none_faults, member, has, by_form, by_kind, object_kind, op_in, or_unclear, is_true, is_word}
 use Rattle.jani_tree.specs.Places.{bare_node, bare_nodes, bare_fields}
 use Rattle.jani_tree.proofs.Bare.{member_bare, op_bare, true_bare}
 
@@ -110,14 +110,9 @@ no_item_bare : (at : ℕ) (r : Reason) (o : Option Node) → none_faults 0 r (op
 no_item_bare at r None = refl
 no_item_bare at r (Some v) = refl
 
-an_item_bare : (at : ℕ) (r : Reason) (o : Option Node) → some_faults 0 r (option_map bare_node o) ≡ bare_faults (some_faults at r o)
-an_item_bare at r None = refl
-an_item_bare at r (Some v) = refl
-
 list_bare : (form : Form) (at : ℕ) (vs : Nodes) → list_faults form 0 (bare_nodes vs) ≡ bare_faults (list_faults form at vs)
 list_bare F.Destinations at vs = ap (none_faults 0 _) (first_bare vs) ∙ no_item_bare at _ (first_of vs)
 list_bare F.InitialLocations at vs = ap (none_faults 0 _) (first_bare vs) ∙ no_item_bare at _ (first_of vs)
-list_bare F.InputEnable at vs = ap (some_faults 0 _) (first_bare vs) ∙ an_item_bare at _ (first_of vs)
 list_bare form at vs = refl
 
 -- ---- values

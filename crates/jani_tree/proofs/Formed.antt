@@ -24,11 +24,11 @@ use Rattle.jani_table.specs.Faults.{faults, own_faults, missing_faults, other_fa
 use Rattle.jani_table.specs.Parts.{is_plain, kind_of}
 use Rattle.jani_table.specs.Laws as laws
 use Rattle.jani_table.specs.Laws.{plain_part_there, part_clean, object_clean, list_clean, items_in_clean, unless_clean}
-use Rattle.jani_tree.specs.Syntax.{Expression, is_always, Const, VarKind, Var, Write, Location, Destination, Edge, Automaton, Vector, File}
-use Rattle.jani_tree.specs.Jani.{Optional, Each, IsItems, IsList, IsListAt, IsNamed, IsKeyed, IsOperation, IsExpr, IsBoxed, range_of, ty_in, IsWord, IsRange, IsKind, IsKindAt, IsConst, IsVar, IsWrite, IsLocation, IsDestination, IsEdge, IsAutomaton, IsPart, IsVector, IsSystem, unless_always, IsKept, IsFile}
+use Rattle.jani_tree.specs.Syntax.{Expression, is_always, Const, VarKind, Var, Write, Location, Destination, Edge, Automaton, Element, Vector, File}
+use Rattle.jani_tree.specs.Jani.{Optional, Each, IsItems, IsList, IsListAt, IsNamed, IsKeyed, IsOperation, IsExpr, IsBoxed, range_of, ty_in, IsWord, IsRange, IsKind, IsKindAt, IsConst, IsVar, IsWrite, IsLocation, IsDestination, IsEdge, IsAutomaton, IsElement, IsPart, IsVector, IsSystem, unless_always, IsKept, IsFile}
 use Rattle.std.specs.List.{AllByRecursion as OfAll}
 use Rattle.basics.specs.Options.{IfAny as OfSome}
-use Rattle.jani_tree.specs.Form.{IsGiven, IsShortName, NormalNode, NormalNodes, NormalFields, NameForm, ExprForm, KindForm, ConstRead, VarRead, WriteRead, LocationRead, DestinationRead, EdgeRead, AutomatonRead, PartForm, VectorRead, RestrictionRead, FileShort, KeysOnce, KeysApart}
+use Rattle.jani_tree.specs.Form.{IsGiven, IsShortName, NormalNode, NormalNodes, NormalFields, NameForm, ExprForm, KindForm, ConstRead, VarRead, WriteRead, LocationRead, DestinationRead, EdgeRead, AutomatonRead, ElementRead, PartForm, VectorRead, RestrictionRead, FileShort, KeysOnce, KeysApart}
 
 -- ---- parts
 
@@ -343,13 +343,16 @@ vector_read v x c n p = record {
 keyed_action : (v : Node) (x : Named) → faults F.Action v ≡ [] → NormalNode v → IsKeyed K.Name v x → (NameForm IsShortName) x
 keyed_action v x c n p = one_read F.Action K.Name v refl refl c n (λ w. IsNamed w x) ((NameForm IsShortName) x) p (λ w c n q. name_read w x c n q)
 
-keyed_element : (v : Node) (x : Named) → faults F.Element v ≡ [] → NormalNode v → IsKeyed K.Automaton v x → (NameForm IsShortName) x
-keyed_element v x c n p = one_read F.Element K.Automaton v refl refl c n (λ w. IsNamed w x) ((NameForm IsShortName) x) p (λ w c n q. name_read w x c n q)
+element_read : (v : Node) (x : Element) → faults F.Element v ≡ [] → NormalNode v → IsElement v x → (ElementRead IsShortName) x
+element_read v x c n p = record {
+  name = one_read F.Element K.Automaton v refl refl c n (λ w. IsNamed w x.name) ((NameForm IsShortName) x.name) p.name (λ w c n q. name_read w x.name c n q);
+  enable = maybe_read F.Name IsNamed (NameForm IsShortName) name_read (part K.InputEnable v) x.enable (λ w e. list_clean F.InputEnable w refl (part_read F.Element K.InputEnable v refl refl c n w e)) (λ w e. part_normal K.InputEnable v w n e) p.enable;
+}
 
-elements_read : (v : Node) (xs : List Named) (at : ℕ) (ys : List Vector) → faults F.System v ≡ [] → NormalNode v → IsSystem v xs at ys → OfAll (NameForm IsShortName) xs
-elements_read v xs at ys c n p = one_read F.System K.Elements v refl refl c n (λ w. IsListAt (IsKeyed K.Automaton) w xs at) (OfAll (NameForm IsShortName) xs) p.elements_are (λ w c n q. items_read F.Element (IsKeyed K.Automaton) (NameForm IsShortName) keyed_element w xs (list_clean F.Elements w refl c) n q.items)
+elements_read : (v : Node) (xs : List Element) (at : ℕ) (ys : List Vector) → faults F.System v ≡ [] → NormalNode v → IsSystem v xs at ys → OfAll (ElementRead IsShortName) xs
+elements_read v xs at ys c n p = one_read F.System K.Elements v refl refl c n (λ w. IsListAt IsElement w xs at) (OfAll (ElementRead IsShortName) xs) p.elements_are (λ w c n q. items_read F.Element IsElement (ElementRead IsShortName) element_read w xs (list_clean F.Elements w refl c) n q.items)
 
-vectors_read : (v : Node) (xs : List Named) (at : ℕ) (ys : List Vector) → faults F.System v ≡ [] → NormalNode v → IsSystem v xs at ys → OfAll (VectorRead IsShortName) ys
+vectors_read : (v : Node) (xs : List Element) (at : ℕ) (ys : List Vector) → faults F.System v ≡ [] → NormalNode v → IsSystem v xs at ys → OfAll (VectorRead IsShortName) ys
 vectors_read v xs at ys c n p = maybe_read F.Vector IsVector (VectorRead IsShortName) vector_read (part K.Syncs v) ys (λ w e. list_clean F.Vectors w refl (part_read F.System K.Syncs v refl refl c n w e)) (λ w e. part_normal K.Syncs v w n e) p.vectors_are
 
 kept_normal : (o : Option Node) (p : Node) → ((w : Node) → o ≡ Some w → NormalNode w) → IsKept o p → NormalNode p
@@ -385,7 +388,7 @@ file_read v x c n p = record {
   variables = maybe_read F.Variable IsVar (VarRead IsShortName) var_read (part K.Variables v) x.variables (λ w e. list_clean F.Variables w refl (part_read F.Model K.Variables v refl refl c n w e)) (λ w e. part_normal K.Variables v w n e) p.variables;
   restrict = restriction_read (part K.RestrictInitial v) x.restrict (λ w e. (part_read F.Model K.RestrictInitial v refl refl c n w e, part_normal K.RestrictInitial v w n e)) p.restrict;
   automata = maybe_read F.Automaton IsAutomaton (AutomatonRead IsShortName) automaton_read (part K.Automata v) x.automata (λ w e. list_clean F.Automata w refl (part_read F.Model K.Automata v refl refl c n w e)) (λ w e. part_normal K.Automata v w n e) p.automata;
-  elements = one_read F.Model K.System v refl refl c n (λ w. IsSystem w x.elements x.elements_at x.vectors) (OfAll (NameForm IsShortName) x.elements) p.system (λ w c n q. elements_read w x.elements x.elements_at x.vectors c n q);
+  elements = one_read F.Model K.System v refl refl c n (λ w. IsSystem w x.elements x.elements_at x.vectors) (OfAll (ElementRead IsShortName) x.elements) p.system (λ w c n q. elements_read w x.elements x.elements_at x.vectors c n q);
   vectors = one_read F.Model K.System v refl refl c n (λ w. IsSystem w x.elements x.elements_at x.vectors) (OfAll (VectorRead IsShortName) x.vectors) p.system (λ w c n q. vectors_read w x.elements x.elements_at x.vectors c n q);
   properties = kept_normal (part K.Properties v) x.properties (λ w e. part_normal K.Properties v w n e) p.properties;
 }

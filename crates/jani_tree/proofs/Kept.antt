@@ -28,14 +28,14 @@ use Rattle.jani_table.specs.NodeLaws.{drop_all}
 use Rattle.jani_table.specs.Operators.{op_text}
 use Rattle.jani_table.specs.Table.{spelled}
 use Rattle.op_trees.specs.Tree.{One, Two, Three}
-use Rattle.jani_tree.specs.Syntax.{Expression, Const, Var, Write, Location, Destination, Edge, Automaton, Vector, File, VarKind, boolean, integer, number as real, real_bounded, one_sided, bounded}
+use Rattle.jani_tree.specs.Syntax.{Expression, Const, Var, Write, Location, Destination, Edge, Automaton, Element, Vector, File, VarKind, boolean, integer, number as real, real_bounded, one_sided, bounded}
 use Rattle.op_trees.specs.declared.tree.Ty.{Ty}
 use Rattle.op_trees.specs.declared.tree.Ty.TheVariants as T
 use Rattle.jani_table.specs.Words.{ty_text, feature_text}
 use Rattle.jani_table.specs.declared.words.Feature.TheVariants.{DerivedOperators, StateExitRewards}
 use Rattle.std.specs.List.{AllByRecursion as OfAll}
 use Rattle.basics.specs.Options.{IfAny as OfSome}
-use Rattle.jani_tree.specs.Canonical.{with_entry, with_maybe, with_members, object_of, list_node, some_list, word, name_node, keyed_node, expr_node, boxed_node, bounded_word, kind_node, flag_node, head_members, part_node, const_node, var_node, write_node, location_node, destination_node, edge_node, automaton_node, vector_node, system_node, file_members, file_node}
+use Rattle.jani_tree.specs.Canonical.{with_entry, with_maybe, with_members, object_of, list_node, some_list, word, name_node, keyed_node, expr_node, boxed_node, bounded_word, kind_node, flag_node, head_members, part_node, const_node, var_node, write_node, location_node, destination_node, edge_node, automaton_node, element_node, vector_node, system_node, file_members, file_node}
 use Rattle.jani_tree.specs.Form.{NormalNodes, NormalFields}
 use Rattle.jani_tree.specs.Text.{ProperNode, ProperNodes, ProperFields, KeptNode}
 use Rattle.jani_tree.proofs.Normal.{normal_again}
@@ -332,11 +332,16 @@ kept_automaton a n v l i e =
 pub kept_vector : (x : Vector) → KeptNode (list_node part_node 0 (map (λ n. n) x.parts)) → OfSome KeptNode (option_map name_node x.result) → KeptNode (vector_node x)
 kept_vector x p r = kept_object 0 ((K.Synchronise, Some (list_node part_node x.at x.parts)) ∷ (K.Result, option_map name_node x.result) ∷ []) (kept_at part_node x.at x.parts (subst (λ ns. KeptNode (list_node part_node 0 ns)) (map-id x.parts) p), (r, tt))
 
-pub kept_system : (elements : List Named) (vectors : List Vector) → OfAll (λ n. KeptNode (name_node n)) elements → KeptNode (list_node vector_node 0 vectors) → KeptNode (system_node elements 0 vectors)
-kept_system elements vectors e v =
-    kept_object 0 ((K.Elements, Some (list_node (keyed_node K.Automaton) 0 elements)) ∷ (K.Syncs, Some (list_node vector_node 0 vectors)) ∷ []) (kept_keyed_list K.Automaton 0 elements e, (v, tt))
+pub kept_element : (e : Element) → is_utf8 e.name.name ≡ true → OfSome KeptNode (some_list name_node (map (λ n. n) e.enable)) → KeptNode (element_node e)
+kept_element e n v =
+    kept_object 0 ((K.Automaton, Some (name_node e.name)) ∷ (K.InputEnable, some_list name_node e.enable) ∷ [])
+    (kept_text e.name.at e.name.name n, (subst (λ ns. OfSome KeptNode (some_list name_node ns)) (map-id e.enable) v, tt))
 
-kept_system_at : (elements : List Named) (at : ℕ) (vectors : List Vector) → KeptNode (system_node elements 0 vectors) → KeptNode (system_node elements at vectors)
+pub kept_system : (elements : List Element) (vectors : List Vector) → KeptNode (list_node element_node 0 elements) → KeptNode (list_node vector_node 0 vectors) → KeptNode (system_node elements 0 vectors)
+kept_system elements vectors e v =
+    kept_object 0 ((K.Elements, Some (list_node element_node 0 elements)) ∷ (K.Syncs, Some (list_node vector_node 0 vectors)) ∷ []) (e, (v, tt))
+
+kept_system_at : (elements : List Element) (at : ℕ) (vectors : List Vector) → KeptNode (system_node elements 0 vectors) → KeptNode (system_node elements at vectors)
 kept_system_at elements at vectors h = record { proper = h.proper }
 
 pub kept_whole : (f : File) → OfAll (λ n. KeptNode (name_node n)) f.actions → KeptNode (list_node const_node 0 f.constants) → KeptNode (list_node var_node 0 f.variables) → OfSome KeptNode (option_map boxed_node f.restrict) → KeptNode f.properties →

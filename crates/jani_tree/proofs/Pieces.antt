@@ -18,8 +18,8 @@ use Rattle.jani_table.specs.declared.operator.JaniOp.{JaniOp}
 use Rattle.op_trees.specs.declared.tree.Ty.TheVariants as T
 use Rattle.op_trees.specs.Tree.{Two, One, Three}
 use Rattle.jani_tree.specs.Syntax as V
-use Rattle.jani_tree.specs.Syntax.{Expression, Const, VarKind, Var, bounded, Location, Destination, Edge, Automaton, Vector, File}
-use Rattle.jani_tree.specs.Canonical.{bounded_word, version_node, features_node, file_members, with_entry, with_members, object_of, list_node, some_list, word, name_node, keyed_node, expr_node, boxed_node, kind_node, const_node, flag_node, var_node, write_node, location_node, destination_node, edge_node, automaton_node, part_node, vector_node, system_node}
+use Rattle.jani_tree.specs.Syntax.{Expression, Const, VarKind, Var, bounded, Location, Destination, Edge, Automaton, Element, Vector, File}
+use Rattle.jani_tree.specs.Canonical.{bounded_word, version_node, features_node, file_members, with_entry, with_members, object_of, list_node, some_list, word, name_node, keyed_node, expr_node, boxed_node, kind_node, const_node, flag_node, var_node, write_node, location_node, destination_node, edge_node, automaton_node, part_node, element_node, vector_node, system_node}
 use Rattle.jani_tree.specs.Text.{node_text, item_texts, member_texts, jani_text}
 use Rattle.jani_tree.specs.Pieces.{if_some, keyed_text, list_text}
 
@@ -230,14 +230,21 @@ vector_text x =
     ap (λ ps. node_text (object_of 0 ((K.Synchronise, Some (list_node part_node x.at ps)) ∷ (K.Result, option_map name_node x.result) ∷ []))) (sym (map-id x.parts))
     ∙ object_text 0 K.Synchronise (list_node part_node x.at (map (λ y. y) x.parts)) ((K.Result, option_map name_node x.result) ∷ [])
 
-abbrev pub system_pieces : List Named → List Vector → List (List ℕ)
-system_pieces elements vectors =
-    codes "{\"elements\":" ∷ list_text (keyed_text (codes "{\"automaton\":")) elements ∷ (codes ",\"syncs\":" ++ node_text (list_node vector_node 0 vectors)) ∷ codes "}" ∷ []
+abbrev pub element_pieces : Element → List (List ℕ)
+element_pieces e = (codes "{\"automaton\":" ++ quoted e.name.name) ∷ if_some (codes ",\"input-enable\":") (some_list name_node (map (λ x. x) e.enable)) ∷ codes "}" ∷ []
 
-pub system_text : (elements : List Named) (at : ℕ) (vectors : List Vector) → node_text (system_node elements at vectors) ≡ joined (system_pieces elements vectors)
+pub element_text : (e : Element) → node_text (element_node e) ≡ joined (element_pieces e)
+element_text e =
+    ap (λ ns. node_text (object_of 0 ((K.Automaton, Some (name_node e.name)) ∷ (K.InputEnable, some_list name_node ns) ∷ []))) (sym (map-id e.enable))
+    ∙ object_text 0 K.Automaton (name_node e.name) ((K.InputEnable, some_list name_node (map (λ x. x) e.enable)) ∷ [])
+
+abbrev pub system_pieces : List Element → List Vector → List (List ℕ)
+system_pieces elements vectors =
+    (codes "{\"elements\":" ++ node_text (list_node element_node 0 elements)) ∷ (codes ",\"syncs\":" ++ node_text (list_node vector_node 0 vectors)) ∷ codes "}" ∷ []
+
+pub system_text : (elements : List Element) (at : ℕ) (vectors : List Vector) → node_text (system_node elements at vectors) ≡ joined (system_pieces elements vectors)
 system_text elements at vectors =
-    object_text 0 K.Elements (list_node (keyed_node K.Automaton) at elements) ((K.Syncs, Some (list_node vector_node 0 vectors)) ∷ [])
-    ∙ ap (λ u. codes "{\"elements\":" ++ (u ++ joined ((codes ",\"syncs\":" ++ node_text (list_node vector_node 0 vectors)) ∷ codes "}" ∷ []))) (keyed_as K.Automaton at elements)
+    object_text 0 K.Elements (list_node element_node at elements) ((K.Syncs, Some (list_node vector_node 0 vectors)) ∷ [])
 
 -- the members before the declarations, and the key of the actions
 abbrev pub head_text : List ℕ

@@ -23,11 +23,11 @@ use Rattle.jani_table.specs.Node.{Node, null, truth, number, text, array, object
 use Rattle.jani_table.specs.Words.{name_fault, unless, ty_text, ty_of, feature_of, refused_of}
 use Rattle.jani_table.specs.Operators.{op_of, op_text}
 use Rattle.jani_table.specs.Faults.{faults, fault_if, or_unclear, op_kind, has, fault_unless, is_true, member, other_faults}
-use Rattle.jani_tree.specs.Syntax.{Expression, Const, VarKind, boolean, integer, number as real, real_bounded, one_sided, bounded, Var, Write, Location, Destination, Edge, Automaton, Vector, File}
+use Rattle.jani_tree.specs.Syntax.{Expression, Const, VarKind, boolean, integer, number as real, real_bounded, one_sided, bounded, Var, Write, Location, Destination, Edge, Automaton, Element, Vector, File}
 use Rattle.std.specs.List.{AllByRecursion as OfAll}
 use Rattle.basics.specs.Options.{IfAny as OfSome}
-use Rattle.jani_tree.specs.Canonical.{with_members, object_of, list_node, some_list, word, name_node, keyed_node, expr_node, boxed_node, bounded_word, kind_node, const_node, flag_node, var_node, write_node, location_node, destination_node, edge_node, automaton_node, part_node, vector_node, system_node, version_node, features_node, head_members, file_members, file_node, HasBounds, VarForm, AutomatonForm, FileForm}
-use Rattle.jani_tree.specs.Form.{IsGiven, IsShortName, NormalNode, KeysOnce, FileWith, NameForm, ExprForm, KindForm, ConstRead, VarRead, WriteRead, LocationRead, DestinationRead, EdgeRead, AutomatonRead, PartForm, VectorRead, RestrictionRead}
+use Rattle.jani_tree.specs.Canonical.{with_members, object_of, list_node, some_list, word, name_node, keyed_node, expr_node, boxed_node, bounded_word, kind_node, const_node, flag_node, var_node, write_node, location_node, destination_node, edge_node, automaton_node, element_node, part_node, vector_node, system_node, version_node, features_node, head_members, file_members, file_node, HasBounds, VarForm, AutomatonForm, FileForm}
+use Rattle.jani_tree.specs.Form.{IsGiven, IsShortName, NormalNode, KeysOnce, FileWith, NameForm, ExprForm, KindForm, ConstRead, VarRead, WriteRead, LocationRead, DestinationRead, EdgeRead, AutomatonRead, ElementRead, PartForm, VectorRead, RestrictionRead}
 use Rattle.jani_tree.proofs.Again.{op_again, kind_one, kind_two, kind_three, ty_again}
 use Rattle.jani_tree.proofs.Filled.{IsByParts, Good, has_members, object_good, list_good, some_list_good, option_good}
 
@@ -250,13 +250,15 @@ module _ (C : List Fault → Type 0) (by : IsByParts C) (IsName : List ℕ → T
   action_good : (n : Named) → (NameForm IsName) n → Good C F.Action (keyed_node K.Name n)
   action_good n h = object_good C by F.Action O.Action 0 ((K.Name, Some (name_node n)) ∷ []) refl (name_good n h, tt) refl refl refl
 
-  element_good : (n : Named) → (NameForm IsName) n → Good C F.Element (keyed_node K.Automaton n)
-  element_good n h = object_good C by F.Element O.Element 0 ((K.Automaton, Some (name_node n)) ∷ []) refl (name_good n h, tt) refl refl refl
+  element_good : (e : Element) → (ElementRead IsName) e → Good C F.Element (element_node e)
+  element_good e h =
+      object_good C by F.Element O.Element 0 ((K.Automaton, Some (name_node e.name)) ∷ (K.InputEnable, some_list name_node e.enable) ∷ [])
+      refl (name_good e.name h.name, (some_list_good C by F.InputEnable F.Name name_node (NameForm IsName) refl name_good (λ vs. refl) e.enable h.enable, tt)) refl refl refl
 
-  system_good : (elements : List Named) (at : ℕ) (vectors : List Vector) → OfAll (NameForm IsName) elements → OfAll (VectorRead IsName) vectors → Good C F.System (system_node elements at vectors)
+  system_good : (elements : List Element) (at : ℕ) (vectors : List Vector) → OfAll (ElementRead IsName) elements → OfAll (VectorRead IsName) vectors → Good C F.System (system_node elements at vectors)
   system_good elements at vectors h g =
-      object_good C by F.System O.System 0 ((K.Elements, Some (list_node (keyed_node K.Automaton) at elements)) ∷ (K.Syncs, Some (list_node vector_node 0 vectors)) ∷ [])
-      refl (list_good C by F.Elements F.Element (keyed_node K.Automaton) (NameForm IsName) refl element_good at elements h refl, (list_good C by F.Vectors F.Vector vector_node (VectorRead IsName) refl vector_good 0 vectors g refl, tt)) refl refl refl
+      object_good C by F.System O.System 0 ((K.Elements, Some (list_node element_node at elements)) ∷ (K.Syncs, Some (list_node vector_node 0 vectors)) ∷ [])
+      refl (list_good C by F.Elements F.Element element_node (ElementRead IsName) refl element_good at elements h refl, (list_good C by F.Vectors F.Vector vector_node (VectorRead IsName) refl vector_good 0 vectors g refl, tt)) refl refl refl
 
   version_value : decimal_value (record { real = false; negative = false; digits = 1; exponent = pos 0 }) ≡ unit
   unfolding decimal_value

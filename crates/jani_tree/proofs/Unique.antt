@@ -12,8 +12,8 @@ use Rattle.jani_table.specs.declared.operator.JaniOp.{JaniOp}
 use Rattle.jani_table.specs.Node.{Node, null, truth, number, text, array, object, Nodes, no_nodes, more_nodes}
 use Rattle.jani_table.specs.Words.{ty_of}
 use Rattle.jani_table.specs.Faults.{part, items_in}
-use Rattle.jani_tree.specs.Syntax.{Expression, Const, VarKind, bounded, Var, Write, Location, Destination, Edge, Automaton, Vector, File}
-use Rattle.jani_tree.specs.Jani.{Optional, Each, IsItems, IsList, IsListAt, IsText, IsNamed, IsKeyed, IsOperation, IsExpr, IsBoxed, IsWord, IsRange, Range, real_range, half_range, whole_range, range_in, IsKind, IsKindAt, IsConst, IsVar, IsWrite, IsLocation, IsDestination, IsEdge, IsAutomaton, IsPart, IsVector, IsSystem, unless_always, IsKept, IsFile}
+use Rattle.jani_tree.specs.Syntax.{Expression, Const, VarKind, bounded, Var, Write, Location, Destination, Edge, Automaton, Element, Vector, File}
+use Rattle.jani_tree.specs.Jani.{Optional, Each, IsItems, IsList, IsListAt, IsText, IsNamed, IsKeyed, IsOperation, IsExpr, IsBoxed, IsWord, IsRange, Range, real_range, half_range, whole_range, range_in, IsKind, IsKindAt, IsConst, IsVar, IsWrite, IsLocation, IsDestination, IsEdge, IsAutomaton, IsElement, IsPart, IsVector, IsSystem, unless_always, IsKept, IsFile}
 
 both : (o : Option Node) (P Q : Node → Type 0) → IsSomeAnd o P → IsSomeAnd o Q → (w : Node) × P w × Q w
 both None P Q p q = absurd p
@@ -244,6 +244,11 @@ same_automaton v c d p q =
     ∙ (ap {B = Automaton} (λ x. record { name = d.name; variables = d.variables; locations = d.locations; initial = x; edges = c.edges }) (same_list IsNamed (part K.InitialLocations v) c.initial d.initial same_named p.initial q.initial)
     ∙ ap {B = Automaton} (λ x. record { name = d.name; variables = d.variables; locations = d.locations; initial = d.initial; edges = x }) (same_list IsEdge (part K.Edges v) c.edges d.edges same_edge p.edges q.edges))))
 
+same_element : (v : Node) (c d : Element) → IsElement v c → IsElement v d → c ≡ d
+same_element v c d p q =
+    ap {B = Element} (λ x. record { name = x; enable = c.enable }) (same_keyed K.Automaton v c.name d.name p.name q.name)
+    ∙ ap {B = Element} (λ x. record { name = d.name; enable = x }) (same_list IsNamed (part K.InputEnable v) c.enable d.enable same_named p.enable q.enable)
+
 same_vector : (v : Node) (c d : Vector) → IsVector v c → IsVector v d → c ≡ d
 same_vector v c d p q =
     let lists = same_list_at IsPart (part K.Synchronise v) c.parts d.parts c.at d.at same_part p.parts q.parts in
@@ -258,7 +263,7 @@ same_kept (Some v) x y p q = p ∙ sym q
 pub same_file : (v : Node) (c d : File) → IsFile v c → IsFile v d → c ≡ d
 same_file v c d p q =
     let system = both (part K.System v) (λ s. IsSystem s c.elements c.elements_at c.vectors) (λ s. IsSystem s d.elements d.elements_at d.vectors) p.system q.system in
-    let elements = same_list_at (IsKeyed K.Automaton) (part K.Elements system.0) c.elements d.elements c.elements_at d.elements_at (same_keyed K.Automaton) system.1.elements_are system.2.elements_are in
+    let elements = same_list_at IsElement (part K.Elements system.0) c.elements d.elements c.elements_at d.elements_at same_element system.1.elements_are system.2.elements_are in
     ap {B = File} (λ x. record { actions = x; constants = c.constants; variables = c.variables; restrict = c.restrict; automata = c.automata; elements = c.elements; elements_at = c.elements_at; vectors = c.vectors; properties = c.properties }) (same_list (IsKeyed K.Name) (part K.Actions v) c.actions d.actions (same_keyed K.Name) p.actions q.actions)
     ∙ (ap {B = File} (λ x. record { actions = d.actions; constants = x; variables = c.variables; restrict = c.restrict; automata = c.automata; elements = c.elements; elements_at = c.elements_at; vectors = c.vectors; properties = c.properties }) (same_list IsConst (part K.Constants v) c.constants d.constants same_const p.constants q.constants)
     ∙ (ap {B = File} (λ x. record { actions = d.actions; constants = d.constants; variables = x; restrict = c.restrict; automata = c.automata; elements = c.elements; elements_at = c.elements_at; vectors = c.vectors; properties = c.properties }) (same_list IsVar (part K.Variables v) c.variables d.variables same_var p.variables q.variables)

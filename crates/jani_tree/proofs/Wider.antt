@@ -3,10 +3,10 @@ use Rattle.std.proofs.Common.{ℕ, List, Option, Some, None}
 use Rattle.basics.specs.Each.{each_then}
 use Rattle.bridge_io.specs.declared.reason.Named.{Named}
 use Rattle.op_trees.specs.Tree.{Truth, Number, Name, One, Two, Three}
-use Rattle.jani_tree.specs.Syntax.{Expression, Const, VarKind, boolean, integer, number as real, real_bounded, one_sided, bounded, Var, Write, Location, Destination, Edge, Automaton, Vector, File}
+use Rattle.jani_tree.specs.Syntax.{Expression, Const, VarKind, boolean, integer, number as real, real_bounded, one_sided, bounded, Var, Write, Location, Destination, Edge, Automaton, Element, Vector, File}
 use Rattle.basics.specs.Options.{IfAny as OfSome}
 use Rattle.basics.specs.Lists.{IsNotEmpty as HasItems}
-use Rattle.jani_tree.specs.Form.{IsShortName, NameForm, ExprForm, KindForm, ConstRead, VarRead, WriteRead, LocationRead, DestinationRead, EdgeRead, AutomatonRead, PartForm, VectorRead, RestrictionRead, FileWith, FileRead, FileShort}
+use Rattle.jani_tree.specs.Form.{IsShortName, NameForm, ExprForm, KindForm, ConstRead, VarRead, WriteRead, LocationRead, DestinationRead, EdgeRead, AutomatonRead, ElementRead, PartForm, VectorRead, RestrictionRead, FileWith, FileRead, FileShort}
 
 pub some_wider : {A : Type 0} (F G : A → Type 0) → ((x : A) → F x → G x) → (o : Option A) → OfSome F o → OfSome G o
 some_wider F G h None p = tt
@@ -76,6 +76,9 @@ module _ (P Q : List ℕ → Type 0) (wider : (s : List ℕ) → P s → Q s) wh
     edges = each_then (EdgeRead P) (EdgeRead Q) edge a.edges p.edges;
   }
 
+  element : (e : Element) → ElementRead P e → ElementRead Q e
+  element e p = record { name = name e.name p.name; enable = each_then (NameForm P) (NameForm Q) name e.enable p.enable }
+
   vector : (x : Vector) → VectorRead P x → VectorRead Q x
   vector x p = record { parts = each_then (PartForm P) (PartForm Q) names x.parts p.parts; result = names x.result p.result }
 
@@ -89,7 +92,7 @@ module _ (P Q : List ℕ → Type 0) (wider : (s : List ℕ) → P s → Q s) wh
     variables = each_then (VarRead P) (VarRead Q) var f.variables p.variables;
     restrict = some_wider (RestrictionRead P) (RestrictionRead Q) restriction f.restrict p.restrict;
     automata = each_then (AutomatonRead P) (AutomatonRead Q) automaton f.automata p.automata;
-    elements = each_then (NameForm P) (NameForm Q) name f.elements p.elements;
+    elements = each_then (ElementRead P) (ElementRead Q) element f.elements p.elements;
     vectors = each_then (VectorRead P) (VectorRead Q) vector f.vectors p.vectors;
     properties = p.properties;
   }

@@ -15,7 +15,7 @@ use Rattle.jani_table.specs.Node.{Node, null, truth, number, text, array, object
 use Rattle.jani_table.specs.Table.{spelled}
 use Rattle.jani_table.specs.Words.{ty_text, feature_text}
 use Rattle.jani_table.specs.Operators.{op_text, arity}
-use Rattle.jani_tree.specs.Syntax.{Expression, is_always, Const, VarKind, boolean, integer, number as real, real_bounded, one_sided, bounded, Var, Write, Location, Destination, Edge, Automaton, Vector, File}
+use Rattle.jani_tree.specs.Syntax.{Expression, is_always, Const, VarKind, boolean, integer, number as real, real_bounded, one_sided, bounded, Var, Write, Location, Destination, Edge, Automaton, Element, Vector, File}
 
 -- ---- objects and lists
 
@@ -127,9 +127,12 @@ part_node (Some n) = name_node n
 abbrev pub vector_node : Vector → Node
 vector_node x = object_of 0 ((K.Synchronise, Some (list_node part_node x.at x.parts)) ∷ (K.Result, option_map name_node x.result) ∷ [])
 
-abbrev pub system_node : List Named → ℕ → List Vector → Node
+abbrev pub element_node : Element → Node
+element_node e = object_of 0 ((K.Automaton, Some (name_node e.name)) ∷ (K.InputEnable, some_list name_node e.enable) ∷ [])
+
+abbrev pub system_node : List Element → ℕ → List Vector → Node
 system_node elements at vectors = object_of 0
-    ((K.Elements, Some (list_node (keyed_node K.Automaton) at elements)) ∷ (K.Syncs, Some (list_node vector_node 0 vectors)) ∷ [])
+    ((K.Elements, Some (list_node element_node at elements)) ∷ (K.Syncs, Some (list_node vector_node 0 vectors)) ∷ [])
 
 abbrev pub version_node : Node
 version_node = number 0 (record { real = false; negative = false; digits = 1; exponent = pos 0 })

@@ -10,7 +10,7 @@ use Rattle.op_trees.specs.Tree.{Truth, Number, Name, One, Two, Three}
 use Rattle.jani_table.specs.Operators.{arity}
 use Rattle.jani_table.specs.Faults.{member_text}
 use Rattle.jani_table.specs.Node.{Node, null, truth, number, text, array, object, Nodes, no_nodes, more_nodes, Fields, no_fields, field}
-use Rattle.jani_tree.specs.Syntax.{Expression, is_always, Const, VarKind, boolean, integer, number as real, real_bounded, one_sided, bounded, Var, Write, Location, Destination, Edge, Automaton, Vector, File}
+use Rattle.jani_tree.specs.Syntax.{Expression, is_always, Const, VarKind, boolean, integer, number as real, real_bounded, one_sided, bounded, Var, Write, Location, Destination, Edge, Automaton, Element, Vector, File}
 use Rattle.std.specs.List.{AllByRecursion as OfAll}
 use Rattle.basics.specs.Options.{IfAny as OfSome}
 use Rattle.basics.specs.Lists.{IsNotEmpty as HasItems}
@@ -132,6 +132,10 @@ module _ (IsName : List ℕ → Type 0) where
     pub begins : HasItems a.initial
     pub edges : OfAll EdgeRead a.edges
 
+  pub record ElementRead (e : Element) : Type 0 where
+    pub name : NameForm e.name
+    pub enable : OfAll NameForm e.enable
+
   abbrev pub PartForm : Option Named → Type 0
   PartForm p = OfSome NameForm p
 
@@ -149,7 +153,7 @@ module _ (IsName : List ℕ → Type 0) where
     pub variables : OfAll VarRead f.variables
     pub restrict : OfSome RestrictionRead f.restrict
     pub automata : OfAll AutomatonRead f.automata
-    pub elements : OfAll NameForm f.elements
+    pub elements : OfAll ElementRead f.elements
     pub vectors : OfAll VectorRead f.vectors
     pub properties : NormalNode f.properties
 

@@ -13,7 +13,7 @@ use Rattle.jani_table.specs.declared.operator.JaniOp.{JaniOp}
 use Rattle.jani_table.specs.Node.{Node, null, truth, number, text, array, Nodes, no_nodes, more_nodes, at_of}
 use Rattle.jani_table.specs.Words.{ty_of}
 use Rattle.jani_table.specs.Faults.{part, op_in, op_kind, is_array, is_true, items_in}
-use Rattle.jani_tree.specs.Syntax.{Expression, Const, VarKind, boolean, integer, number as real, real_bounded, one_sided, bounded, Var, Write, Location, Destination, Edge, Automaton, Vector, File}
+use Rattle.jani_tree.specs.Syntax.{Expression, Const, VarKind, boolean, integer, number as real, real_bounded, one_sided, bounded, Var, Write, Location, Destination, Edge, Automaton, Element, Vector, File}
 
 -- ---- members and lists
 
@@ -182,8 +182,12 @@ pub record IsVector (v : Node) (x : Vector) : Type 0 where
   pub parts : IsSomeAnd (part K.Synchronise v) (λ w. IsListAt IsPart w x.parts x.at)
   pub result : Optional IsNamed (part K.Result v) x.result
 
-pub record IsSystem (v : Node) (elements : List Named) (at : ℕ) (vectors : List Vector) : Type 0 where
-  pub elements_are : IsSomeAnd (part K.Elements v) (λ w. IsListAt (IsKeyed K.Automaton) w elements at)
+pub record IsElement (v : Node) (e : Element) : Type 0 where
+  pub name : IsKeyed K.Automaton v e.name
+  pub enable : IsList IsNamed (part K.InputEnable v) e.enable
+
+pub record IsSystem (v : Node) (elements : List Element) (at : ℕ) (vectors : List Vector) : Type 0 where
+  pub elements_are : IsSomeAnd (part K.Elements v) (λ w. IsListAt IsElement w elements at)
   pub vectors_are : IsList IsVector (part K.Syncs v) vectors
 
 -- any value; a missing one is an empty array at offset 0

@@ -10,3 +10,4 @@ pub mod Pieces
 pub use Rattle.jani_table.specs.Node
 pub use Rattle.jani_table.specs.Operators
 pub use Rattle.jani_table.specs.declared.operator.JaniOp
+pub mod Laws

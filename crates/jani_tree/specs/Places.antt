@@ -7,7 +7,7 @@ use Rattle.decimal_json.specs.Proper.{SameValue}
 use Rattle.op_trees.specs.Tree.{bare}
 use Rattle.op_trees.specs.Names.{bare_name}
 use Rattle.jani_table.specs.Node.{Node, node, null, truth, number, text, array, object, Nodes, no_nodes, more_nodes, Fields, no_fields, field}
-use Rattle.jani_tree.specs.Syntax.{Const, VarKind, bounded, Var, Write, Location, Destination, Edge, Automaton, Vector, File}
+use Rattle.jani_tree.specs.Syntax.{Const, VarKind, bounded, Var, Write, Location, Destination, Edge, Automaton, Element, Vector, File}
 use Rattle.jani_tree.specs.Jani.{IsFile}
 
 -- a value with every offset 0
@@ -67,6 +67,9 @@ bare_automaton a = record {
   edges = map bare_edge a.edges;
 }
 
+abbrev pub bare_element : Element → Element
+bare_element e = record { name = bare_name e.name; enable = map bare_name e.enable }
+
 abbrev pub bare_part : Option Named → Option Named
 bare_part p = option_map bare_name p
 
@@ -80,7 +83,7 @@ bare_file f = record {
   variables = map bare_var f.variables;
   restrict = option_map bare f.restrict;
   automata = map bare_automaton f.automata;
-  elements = map bare_name f.elements;
+  elements = map bare_element f.elements;
   elements_at = 0;
   vectors = map bare_vector f.vectors;
   properties = bare_node f.properties;

@@ -1,6 +1,6 @@
 -- The trees of JANI files without the addresses of their boxes (jani-model specification, version 1), and the tree that the
 -- code holds.
-use Rattle.std.specs.Prelude.{ℕ, List, map, Bool, false, Option}
+use Rattle.std.specs.Prelude.{ℕ, List, [], map, Bool, false, Option}
 use Rattle.std.specs.Option.{option_map}
 use Rattle.bridge_io.specs.declared.reason.Named.{Named}
 use Rattle.op_trees.specs.declared.tree.Ty.{Ty}
@@ -17,6 +17,7 @@ use Rattle.jani_tree.specs.declared.syntax.JaniLocation.{JaniLocation}
 use Rattle.jani_tree.specs.declared.syntax.JaniWrite.{JaniWrite}
 use Rattle.jani_tree.specs.declared.syntax.JaniEdge.{JaniEdge}
 use Rattle.jani_tree.specs.declared.syntax.JaniDestination.{JaniDestination}
+use Rattle.jani_tree.specs.declared.syntax.JaniElement.{JaniElement}
 use Rattle.jani_tree.specs.declared.syntax.JaniVector.{JaniVector}
 
 abbrev pub Expression : Type 0
@@ -77,6 +78,15 @@ pub record Automaton : Type 0 where
   pub initial : List Named
   pub edges : List Edge
 
+-- a part of the composition: the name of an automaton, and the actions that it accepts in each of its locations
+pub record Element : Type 0 where
+  pub name : Named
+  pub enable : List Named
+
+-- a part of the composition that accepts no action besides
+abbrev pub plain_element : Named → Element
+plain_element n = record { name = n; enable = [] }
+
 pub record Vector : Type 0 where
   pub parts : List (Option Named)
   pub result : Option Named
@@ -88,10 +98,14 @@ pub record File : Type 0 where
   pub variables : List Var
   pub restrict : Option Expression
   pub automata : List Automaton
-  pub elements : List Named
+  pub elements : List Element
   pub elements_at : ℕ
   pub vectors : List Vector
   pub properties : Node
+
+-- the automata that take part, in the order of the composition
+abbrev pub element_names : File → List Named
+element_names file = map (λ e. e.name) file.elements
 
 -- ---- what the code holds
 
@@ -130,6 +144,9 @@ automaton_of a = record {
   edges = map edge_of a.edges;
 }
 
+abbrev pub element_of : JaniElement → Element
+element_of e = record { name = e.name; enable = e.enable }
+
 abbrev pub vector_of : JaniVector → Vector
 vector_of v = record { parts = v.parts; result = v.result; at = v.at }
 
@@ -140,7 +157,7 @@ file_of f = record {
   variables = map var_of f.variables;
   restrict = option_map tree f.restrict;
   automata = map automaton_of f.automata;
-  elements = f.elements;
+  elements = map element_of f.elements;
   elements_at = f.elements_at;
   vectors = map vector_of f.vectors;
   properties = node f.properties;

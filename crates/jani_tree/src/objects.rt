@@ -11,8 +11,8 @@ ghost use Rattle.jani_table.specs.Table.{item_form};
 ghost use Rattle.jani_table.specs.Faults.{faults, is_known, is_needed, is_true, object_faults, part, part_form};
 ghost use Rattle.jani_table.specs.Parts.{is_plain};
 ghost use Rattle.jani_table.specs.Parts as Parts;
-ghost use Rattle.jani_tree.specs.Syntax.{Automaton, Const, Destination, Edge, Location, Var, Vector, automaton_of, const_of, destination_of, edge_of, file_of, kind_of, location_of, var_of, vector_of, write_of};
-ghost use Rattle.jani_tree.specs.Jani.{IsAutomaton, IsConst, IsDestination, IsEdge, IsExpr, IsFile, IsItems, IsKept, IsKeyed, IsKind, IsKindAt, IsList, IsListAt, IsLocation, IsNamed, IsPart, IsRange, IsSystem, IsText, IsVar, IsVector, IsWrite, IsBoxed, Optional, range_in, range_of, ty_in, unless_always};
+ghost use Rattle.jani_tree.specs.Syntax.{Automaton, Const, Destination, Edge, Element, Location, Var, Vector, automaton_of, const_of, destination_of, edge_of, element_of, file_of, kind_of, location_of, var_of, vector_of, write_of};
+ghost use Rattle.jani_tree.specs.Jani.{IsAutomaton, IsConst, IsDestination, IsEdge, IsElement, IsExpr, IsFile, IsItems, IsKept, IsKeyed, IsKind, IsKindAt, IsList, IsListAt, IsLocation, IsNamed, IsPart, IsRange, IsSystem, IsText, IsVar, IsVector, IsWrite, IsBoxed, Optional, range_in, range_of, ty_in, unless_always};
 
 use crate::build::{
     Build, expression, expression_of, items, list, name_of, names_of, note_of, optional_boxed,
@@ -20,7 +20,7 @@ use crate::build::{
 };
 use crate::copy::copy_json;
 use crate::syntax::{
-    JaniAutomaton, JaniConst, JaniDestination, JaniEdge, JaniExpr, JaniFile, JaniKind,
+    JaniAutomaton, JaniConst, JaniDestination, JaniEdge, JaniElement, JaniExpr, JaniFile, JaniKind,
     JaniLocation, JaniVar, JaniVector, JaniWrite,
 };
 use bridge_io::{List, Named, Text, together};
@@ -468,20 +468,51 @@ impl Build for JaniVector {
     }
 }
 
+/// The actions that an element accepts in each of its locations.
+#[tactic(auto, using(crate::proofs::Lists::list_same))]
+fn enabled(alloc: Global, value: &Json) -> Result<List<Named>, AllocError>
+    requires { faults F.Element (node value.now) ≡ [] }
+    ensures { IfOk result (λ xs. IsList IsNamed (part K.InputEnable (node value.now)) xs) }
+{
+    list(
+        alloc,
+        Form::Element,
+        Form::InputEnable,
+        Key::InputEnable,
+        value,
+    )
+}
+
+impl Build for JaniElement {
+    ghost Tree = { Element };
+
+    ghost seen = { element_of };
+
+    ghost form = { F.Element };
+
+    ghost is = { IsElement };
+
+    fn build(alloc: Global, value: &Json) -> Result<JaniElement, AllocError> {
+        let name = name_of(alloc, Form::Element, Key::Automaton, value);
+        let (name, enable) = together(name, enabled(alloc, value))?;
+        Ok(JaniElement { name, enable })
+    }
+}
+
 /// The elements of the composition, and the offset of their list.
 #[derive(Drop)]
 struct ElementList {
-    list: List<Named>,
+    list: List<JaniElement>,
     at: usize,
 }
 
 #[tactic(auto, using(crate::proofs::Lists::list_at))]
 fn elements(alloc: Global, value: &Json) -> Result<ElementList, AllocError>
     requires { faults F.System (node value.now) ≡ [] }
-    ensures { IfOk result (λ d. IsSomeAnd (part K.Elements (node value.now)) (λ w. IsListAt (IsKeyed K.Automaton) w d.list d.at)) }
+    ensures { IfOk result (λ d. IsSomeAnd (part K.Elements (node value.now)) (λ w. IsListAt IsElement w (map element_of d.list) d.at)) }
 {
     let w = required_part(Form::System, Key::Elements, value);
-    let list = names_of(alloc, Form::Elements, Form::Element, Key::Automaton, w)?;
+    let list = items(alloc, Form::Elements, w)?;
     Ok(ElementList {
         list,
         at: offset(w),
@@ -497,7 +528,7 @@ struct Composition {
 
 fn system(alloc: Global, value: &Json) -> Result<Composition, AllocError>
     requires { faults F.System (node value.now) ≡ [] }
-    ensures { IfOk result (λ s. IsSystem (node value.now) s.elements.list s.elements.at (map vector_of s.vectors)) }
+    ensures { IfOk result (λ s. IsSystem (node value.now) (map element_of s.elements.list) s.elements.at (map vector_of s.vectors)) }
 {
     let vectors = list(alloc, Form::System, Form::Vectors, Key::Syncs, value);
     let (elements, vectors) = together(elements(alloc, value), vectors)?;
@@ -506,7 +537,7 @@ fn system(alloc: Global, value: &Json) -> Result<Composition, AllocError>
 
 fn system_of(alloc: Global, value: &Json) -> Result<Composition, AllocError>
     requires { faults F.Model (node value.now) ≡ [] }
-    ensures { IfOk result (λ s. IsSomeAnd (part K.System (node value.now)) (λ w. IsSystem w s.elements.list s.elements.at (map vector_of s.vectors))) }
+    ensures { IfOk result (λ s. IsSomeAnd (part K.System (node value.now)) (λ w. IsSystem w (map element_of s.elements.list) s.elements.at (map vector_of s.vectors))) }
 {
     system(alloc, required_part(Form::Model, Key::System, value))
 }

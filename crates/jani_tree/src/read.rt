@@ -32,7 +32,7 @@ fn tree(alloc: Global, value: &Json) -> Result<JaniFile, AllocError>
 /// `TooLong` at a name of more than 255 bytes; `OtherKind` at a "type" other than "mdp"; `LeftOut` at a form that is left
 /// out; `MissingMember` at the closing brace of an object that lacks a member; `UnknownMember` at the key of a member that is
 /// not known; `WrongShape` at a value of another kind than may stand there; `OtherFeature` at a feature that is not
-/// supported; `InputEnable` and `NoDestination` where a list is not of the profile. The only other error is want of memory.
+/// supported; `NoDestination` at an empty list of destinations. The only other error is want of memory.
 /// Where each number of the value is in normal form, as in each value that is read from a text, the tree has the form of
 /// trees: no name is empty, each literal is in normal form, each node has its operator's number of operands, each transient
 /// variable has a first value, each automaton an initial location, each edge a destination, and a condition on the initial

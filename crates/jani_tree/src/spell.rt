@@ -8,16 +8,16 @@ ghost use Rattle.op_trees.specs.Tree.{tree};
 ghost use Rattle.jani_table.specs.Node.{Node};
 ghost use Rattle.jani_table.specs.Operators.{op_text};
 ghost use Rattle.jani_table.specs.Words.{ty_text};
-ghost use Rattle.jani_tree.specs.Syntax.{bounded, Automaton, Const, Destination, Edge, Location, Var, Vector, Write, automaton_of, const_of, destination_of, edge_of, file_of, kind_of, location_of, var_of, vector_of, write_of};
+ghost use Rattle.jani_tree.specs.Syntax.{bounded, Automaton, Const, Destination, Edge, Element, Location, Var, Vector, Write, automaton_of, const_of, destination_of, edge_of, element_of, file_of, kind_of, location_of, var_of, vector_of, write_of};
 ghost use Rattle.std.specs.List.{AllByRecursion as OfAll};
 ghost use Rattle.basics.specs.Options.{IfAny as OfSome};
-ghost use Rattle.jani_tree.specs.Canonical.{automaton_node, boxed_node, const_node, destination_node, edge_node, expr_node, file_node, flag_node, kind_node, list_node, location_node, name_node, part_node, some_list, system_node, var_node, vector_node, word, write_node};
+ghost use Rattle.jani_tree.specs.Canonical.{automaton_node, boxed_node, const_node, destination_node, edge_node, element_node, expr_node, file_node, flag_node, kind_node, list_node, location_node, name_node, part_node, some_list, system_node, var_node, vector_node, word, write_node};
 ghost use Rattle.jani_tree.specs.Back.{IsWritable};
 ghost use Rattle.jani_tree.specs.Text.{KeptNode, SpellsNode, jani_text, node_text};
 ghost use Rattle.jani_tree.specs.Pieces.{if_some, keyed_text, list_text};
 
 use crate::syntax::{
-    JaniAutomaton, JaniConst, JaniDestination, JaniEdge, JaniExpr, JaniFile, JaniKind,
+    JaniAutomaton, JaniConst, JaniDestination, JaniEdge, JaniElement, JaniExpr, JaniFile, JaniKind,
     JaniLocation, JaniVar, JaniVector, JaniWrite,
 };
 use bridge_io::{List, Named, Text};
@@ -427,12 +427,25 @@ impl Shown for JaniVector {
     }
 }
 
+impl Shown for JaniElement {
+    ghost Tree = { Element };
+
+    ghost seen = { element_of };
+
+    ghost shown = { element_node };
+
+    fn push(&self, out: &mut Vec<u8>) -> Result<(), AllocError> {
+        push_named(out, b"{\"automaton\":", &self.name)?;
+        push_some_list(out, b",\"input-enable\":", &self.enable)?;
+        out.extend_from_slice(b"}")
+    }
+}
+
 fn push_system(out: &mut Vec<u8>, file: &JaniFile) -> Result<(), AllocError>
-    ensures text { OnOk result (out.new.items ≡ out.old.items ++ node_text (system_node file.now.elements 0 (map vector_of file.now.vectors))) }
-    ensures kept { OnOk result (KeptNode (system_node file.now.elements 0 (map vector_of file.now.vectors))) }
+    ensures text { OnOk result (out.new.items ≡ out.old.items ++ node_text (system_node (map element_of file.now.elements) 0 (map vector_of file.now.vectors))) }
+    ensures kept { OnOk result (KeptNode (system_node (map element_of file.now.elements) 0 (map vector_of file.now.vectors))) }
 {
-    out.extend_from_slice(b"{\"elements\":")?;
-    push_keyed_list(out, b"{\"automaton\":", &file.elements)?;
+    push_list(out, b"{\"elements\":", &file.elements)?;
     push_list(out, b",\"syncs\":", &file.vectors)?;
     out.extend_from_slice(b"}")
 }

@@ -20,7 +20,7 @@ pub struct JaniFile {
     pub restrict: Option<JaniExpr>,
     pub automata: List<JaniAutomaton>,
     /// The automata that take part, in the order of the composition.
-    pub elements: List<Named>,
+    pub elements: List<JaniElement>,
     /// The offset of the list of elements.
     pub elements_at: usize,
     pub vectors: List<JaniVector>,
@@ -224,6 +224,20 @@ impl Drop for JaniDestination {
         drop(location);
         drop(weight);
         drop(writes);
+    }
+}
+
+/// An automaton as a part of the composition, and the actions that it accepts in each of its locations ("input-enable").
+pub struct JaniElement {
+    pub name: Named,
+    pub enable: List<Named>,
+}
+
+impl Drop for JaniElement {
+    fn drop(self) {
+        let JaniElement { name, enable } = self;
+        drop(name);
+        drop(enable);
     }
 }
 

@@ -7,14 +7,14 @@ ghost use Rattle.jani_table.specs.declared.key.Key.TheVariants as K;
 ghost use Rattle.jani_table.specs.Node.{Node, fields, no_fields, node, object, text};
 ghost use Rattle.jani_table.specs.Operators.{op_text};
 ghost use Rattle.jani_table.specs.Words.{ty_text};
-ghost use Rattle.jani_tree.specs.Syntax.{bounded, Automaton, Const, Destination, Edge, Location, Var, Vector, Write, automaton_of, const_of, destination_of, edge_of, file_of, kind_of, location_of, var_of, vector_of, write_of};
+ghost use Rattle.jani_tree.specs.Syntax.{bounded, Automaton, Const, Destination, Edge, Element, Location, Var, Vector, Write, automaton_of, const_of, destination_of, edge_of, element_of, file_of, kind_of, location_of, var_of, vector_of, write_of};
 ghost use Rattle.jani_tree.specs.Jani.{IsFile};
 ghost use Rattle.jani_tree.specs.Back.{IsCleanValue, IsWritable};
-ghost use Rattle.jani_tree.specs.Canonical.{FileForm, automaton_node, bounded_word, boxed_node, const_node, destination_node, edge_node, expr_node, features_node, file_members, file_node, flag_node, head_members, keyed_node, kind_node, list_node, location_node, name_node, part_node, some_list, system_node, var_node, vector_node, version_node, with_entry, with_maybe, with_members, word, write_node};
+ghost use Rattle.jani_tree.specs.Canonical.{FileForm, automaton_node, bounded_word, boxed_node, const_node, destination_node, edge_node, element_node, expr_node, features_node, file_members, file_node, flag_node, head_members, keyed_node, kind_node, list_node, location_node, name_node, part_node, some_list, system_node, var_node, vector_node, version_node, with_entry, with_maybe, with_members, word, write_node};
 
 use crate::copy::copy_json;
 use crate::syntax::{
-    JaniAutomaton, JaniConst, JaniDestination, JaniEdge, JaniExpr, JaniFile, JaniKind,
+    JaniAutomaton, JaniConst, JaniDestination, JaniEdge, JaniElement, JaniExpr, JaniFile, JaniKind,
     JaniLocation, JaniVar, JaniVector, JaniWrite,
 };
 use bridge_io::{List, Named, Text};
@@ -574,16 +574,30 @@ impl Written for JaniVector {
     }
 }
 
+impl Written for JaniElement {
+    ghost Tree = { Element };
+
+    ghost seen = { element_of };
+
+    ghost shown = { element_node };
+
+    fn json(&self, alloc: Global) -> Result<Json, AllocError> {
+        let mut members = List::new(alloc);
+        add_name(alloc, &mut members, Key::Automaton, &self.name)?;
+        add_some_list(alloc, &mut members, Key::InputEnable, &self.enable)?;
+        Ok(Json::Object(0, members, 0))
+    }
+}
+
 fn system_json(alloc: Global, file: &JaniFile) -> Result<Json, AllocError>
-    ensures { IfOk result (λ v. node v ≡ system_node file.now.elements file.now.elements_at (map vector_of file.now.vectors)) }
+    ensures { IfOk result (λ v. node v ≡ system_node (map element_of file.now.elements) file.now.elements_at (map vector_of file.now.vectors)) }
 {
     let mut members = List::new(alloc);
-    add_keyed(
+    add_list(
         alloc,
         &mut members,
         Key::Elements,
         file.elements_at,
-        Key::Automaton,
         &file.elements,
     )?;
     add_list(alloc, &mut members, Key::Syncs, 0, &file.vectors)?;
