@@ -18,8 +18,9 @@ use Rattle.op_trees.specs.TypeLaws.{type-bare, noughts, misfit-bare}
 use Rattle.op_trees.specs.Names.{names_of, offset_of, bare_name, is_called}
 use Rattle.op_trees.specs.NameLaws.{offset-bare, some_name-bare, names-bare}
 use Rattle.jani_table.specs.Operators.{jani_meaning, op_text}
-use Rattle.jani_tree.specs.Syntax.{Expression, Const, VarKind, boolean, integer, number, real_bounded, one_sided, bounded, Var, Write, Location, Destination, Edge, Automaton, Vector, File}
-use Rattle.jani_tree.specs.Places.{bare_const, bare_kind, bare_var, bare_write, bare_location, bare_destination, bare_edge, bare_automaton, bare_part, bare_vector, bare_file}
+use Rattle.jani_tree.specs.Syntax.{Expression, Const, VarKind, boolean, integer, number, real_bounded, one_sided, bounded, Var, Write, Location, Destination, Edge, Automaton, Element, Vector, File, element_names}
+use Rattle.jani_tree.specs.Laws.{element_names-bare}
+use Rattle.jani_tree.specs.Places.{bare_const, bare_kind, bare_var, bare_write, bare_location, bare_destination, bare_edge, bare_automaton, bare_element, bare_part, bare_vector, bare_file}
 use Rattle.basics.specs.Mapped.{mapped, walked, found_mapped, kept_mapped, any_mapped, joined, turned, gathered}
 use Rattle.jani_check.specs.declared.things.Thing.{Thing}
 use Rattle.jani_check.specs.declared.things.Thing.TheVariants.{Variable, Transient}
@@ -30,7 +31,7 @@ use Rattle.jani_check.specs.Things.{kind_type, const_thing, var_thing, var_calle
 use Rattle.name_rules.specs.Names.{Name, is_among}
 use Rattle.basics.specs.Options.{if_some, if_some-map}
 use Rattle.jani_check.specs.Demands.{Demand, fixed, varying, assigned, given, const_demands, bound_demands, var_demands, location_demands, destination_demands, edge_demands, automaton_demands, outer_demands}
-use Rattle.jani_check.specs.NameFaults.{var_names, global_names, location_names, automaton_names, doubled_in, doubled_names, names_used, unless_known, unknown_by, edge_locations, locations_used, actions_used, unknown_in, vector_actions, unknown_names, uses, uses_of, leads_to, is_circular, circular, circles, bad_vector, composition_faults, name_faults}
+use Rattle.jani_check.specs.NameFaults.{var_names, global_names, location_names, automaton_names, doubled_in, repeated_enabled, doubled_names, names_used, unless_known, unknown_by, edge_locations, locations_used, actions_used, unknown_in, vector_actions, unknown_enabled, unknown_names, uses, uses_of, leads_to, is_circular, circular, circles, bad_vector, composition_faults, name_faults}
 use Rattle.name_rules.specs.Doubled.{doubled_after, doubled}
 use Rattle.name_rules.proofs.Placeless.{placeless, at_nought, tested, first-bare, after-bare, doubled-bare, among-bare, unknown-bare}
 use Rattle.op_trees.specs.Wanted.{is_unwanted, wanted_by}
@@ -62,6 +63,9 @@ module _ (file : File) where
       (doubled-bare TwiceNamed (location_names (bare_automaton a)) (location_names a) (locations-bare a))
       (doubled-bare TwiceNamed (map bare_name a.initial) a.initial refl))
 
+  enabled-bare : (e : Element) → repeated_enabled (bare_element e) ≡ map placeless (repeated_enabled e)
+  enabled-bare e = doubled-bare TwiceNamed (map bare_name e.enable) e.enable refl
+
   doubled_names-bare : doubled_names (bare_file file) ≡ map placeless (doubled_names file)
   doubled_names-bare =
       joined placeless (doubled TwiceNamed (global_names (bare_file file))) _ (doubled TwiceNamed (global_names file)) _
@@ -70,7 +74,9 @@ module _ (file : File) where
       (doubled-bare TwiceNamed (map bare_name file.actions) file.actions refl)
       (joined placeless (doubled TwiceNamed (automaton_names (bare_file file))) _ (doubled TwiceNamed (automaton_names file)) _
       (doubled-bare TwiceNamed (automaton_names (bare_file file)) (automaton_names file) automata-bare)
-      (gathered placeless bare_automaton (doubled_in (global_names (bare_file file))) (doubled_in (global_names file)) doubled_in-bare file.automata)))
+      (joined placeless (flat_map (doubled_in (global_names (bare_file file))) (map bare_automaton file.automata)) _ (flat_map (doubled_in (global_names file)) file.automata) _
+      (gathered placeless bare_automaton (doubled_in (global_names (bare_file file))) (doubled_in (global_names file)) doubled_in-bare file.automata)
+      (gathered placeless bare_element repeated_enabled repeated_enabled enabled-bare file.elements))))
 
 -- ---- demands
 abbrev bare_demand : Demand → Demand
@@ -194,12 +200,15 @@ module _ (file : File) where
       (ap₂ (λ g k. flat_map (unknown_in g k) (map bare_automaton file.automata)) known-bare actions-bare
       ∙ gathered placeless bare_automaton (unknown_in (is_among (global_names file)) (is_among file.actions)) (unknown_in (is_among (global_names file)) (is_among file.actions))
       (unknown_in-bare (is_among (global_names file)) (is_among file.actions)) file.automata)
-      (joined placeless (flat_map (unless_known (is_among (automaton_names (bare_file file)))) (map bare_name file.elements)) _ (flat_map (unless_known (is_among (automaton_names file))) file.elements) _
-      (ap (λ k. flat_map (unless_known k) (map bare_name file.elements)) (among-bare (automaton_names (bare_file file)) (automaton_names file) (automata-bare file))
-      ∙ unknown-bare (is_among (automaton_names file)) (map bare_name file.elements) file.elements refl)
+      (joined placeless (flat_map (unless_known (is_among (automaton_names (bare_file file)))) (element_names (bare_file file))) _ (flat_map (unless_known (is_among (automaton_names file))) (element_names file)) _
+      (ap (λ k. flat_map (unless_known k) (element_names (bare_file file))) (among-bare (automaton_names (bare_file file)) (automaton_names file) (automata-bare file))
+      ∙ unknown-bare (is_among (automaton_names file)) (element_names (bare_file file)) (element_names file) (element_names-bare file))
+      (joined placeless (flat_map (unless_known (is_among (map bare_name file.actions))) (flat_map vector_actions (map bare_vector file.vectors))) _ (flat_map (unless_known (is_among file.actions)) (flat_map vector_actions file.vectors)) _
       (ap (λ k. flat_map (unless_known k) (flat_map vector_actions (map bare_vector file.vectors))) actions-bare
       ∙ unknown-bare (is_among file.actions) (flat_map vector_actions (map bare_vector file.vectors)) (flat_map vector_actions file.vectors)
-      (gathered bare_name bare_vector vector_actions vector_actions vector_actions-bare file.vectors))))
+      (gathered bare_name bare_vector vector_actions vector_actions vector_actions-bare file.vectors))
+      (ap (λ k. flat_map (unknown_enabled k) (map bare_element file.elements)) actions-bare
+      ∙ gathered placeless bare_element (unknown_enabled (is_among file.actions)) (unknown_enabled (is_among file.actions)) (λ e. unknown-bare (is_among file.actions) (map bare_name e.enable) e.enable refl) file.elements))))
 
 -- ---- constants that depend on themselves
 some_names : (o : Option Expression) → map (λ n. n.name) (flat_map names_of (if_some (option_map bare o))) ≡ map (λ n. n.name) (flat_map names_of (if_some o))
@@ -244,12 +253,13 @@ bad_vector-bare n v =
 
 composition-bare : (file : File) → composition_faults (bare_file file) ≡ map placeless (composition_faults file)
 composition-bare file =
-    joined placeless (doubled RepeatedAutomaton (map bare_name file.elements)) _ (doubled RepeatedAutomaton file.elements) _
-    (doubled-bare RepeatedAutomaton (map bare_name file.elements) file.elements refl)
-    (joined placeless (fault_if (nat_eq (length (map bare_name file.elements)) 0) 0 Nothing) _ (fault_if (nat_eq (length file.elements) 0) file.elements_at Nothing) _
-    (tested (nat_eq (length (map bare_name file.elements)) 0) (nat_eq (length file.elements) 0) file.elements_at Nothing (ap (λ n. nat_eq n 0) (length-map file.elements bare_name)))
-    (ap (λ n. flat_map (bad_vector n) (map bare_vector file.vectors)) (length-map file.elements bare_name)
-    ∙ gathered placeless bare_vector (bad_vector (length file.elements)) (bad_vector (length file.elements)) (bad_vector-bare (length file.elements)) file.vectors))
+    let count = ap length (element_names-bare file) ∙ length-map (element_names file) bare_name in
+    joined placeless (doubled RepeatedAutomaton (element_names (bare_file file))) _ (doubled RepeatedAutomaton (element_names file)) _
+    (doubled-bare RepeatedAutomaton (element_names (bare_file file)) (element_names file) (element_names-bare file))
+    (joined placeless (fault_if (nat_eq (length (element_names (bare_file file))) 0) 0 Nothing) _ (fault_if (nat_eq (length (element_names file)) 0) file.elements_at Nothing) _
+    (tested (nat_eq (length (element_names (bare_file file))) 0) (nat_eq (length (element_names file)) 0) file.elements_at Nothing (ap (λ n. nat_eq n 0) count))
+    (ap (λ n. flat_map (bad_vector n) (map bare_vector file.vectors)) count
+    ∙ gathered placeless bare_vector (bad_vector (length (element_names file))) (bad_vector (length (element_names file))) (bad_vector-bare (length (element_names file))) file.vectors))
 
 name_faults-bare : (file : File) → name_faults (bare_file file) ≡ map placeless (name_faults file)
 name_faults-bare file =
@@ -413,8 +423,8 @@ clashing-bare : (file : File) (v : Vector) → clashing_writes (bare_file file) 
 clashing-bare file v =
     tested _ _ v.at WrittenTwice
     (ap meet
-    (ap (λ t. participants (shared_by t) [] (bare_file file) (map bare_name file.elements) (map bare_part v.parts)) (things-bare file)
-    ∙ participants-bare (shared_by (global_thing file)) [] file (shared_by-bare (global_thing file)) file.elements v.parts))
+    (ap₂ (λ t es. participants (shared_by t) [] (bare_file file) es (map bare_part v.parts)) (things-bare file) (element_names-bare file)
+    ∙ participants-bare (shared_by (global_thing file)) [] file (shared_by-bare (global_thing file)) (element_names file) v.parts))
 
 type_faults-bare : (file : File) → type_faults (bare_file file) ≡ map placeless (type_faults file)
 type_faults-bare file =
@@ -593,8 +603,8 @@ two_writers-bare : (file : File) (v : Vector) → two_writers (bare_file file) (
 two_writers-bare file v =
     tested _ _ v.at TwoRewardWriters
     (ap two_hold
-    (ap (λ t. participants (rewards_with t) false (bare_file file) (map bare_name file.elements) (map bare_part v.parts)) (things-bare file)
-    ∙ participants-bare (rewards_with (global_thing file)) false file (rewards_with-bare (global_thing file)) file.elements v.parts))
+    (ap₂ (λ t es. participants (rewards_with t) false (bare_file file) es (map bare_part v.parts)) (things-bare file) (element_names-bare file)
+    ∙ participants-bare (rewards_with (global_thing file)) false file (rewards_with-bare (global_thing file)) (element_names file) v.parts))
 
 profile_faults-bare : (file : File) → profile_faults (bare_file file) ≡ map placeless (profile_faults file)
 profile_faults-bare file =

@@ -1,5 +1,5 @@
 -- The least fault of small files, computed from the definitions. Offsets are chosen to tell the places apart.
-use Rattle.std.specs.Prelude.{ℕ, ◌+◌, pos, negsuc, List, [], ◌∷◌, Bool, true, false, Option, Some, None, codes}
+use Rattle.std.specs.Prelude.{ℕ, ◌+◌, pos, negsuc, List, [], ◌∷◌, map, Bool, true, false, Option, Some, None, codes}
 use Rattle.std.proofs.Common.{◌≡◌, refl}
 use Rattle.bridge_io.specs.declared.reason.Named.{Named}
 use Rattle.bridge_io.specs.declared.reason.Reason.TheVariants.{LeftOut, TwiceNamed, Unknown, Cycle, WrongType, NotConstant, ForeignWrite, WrittenTwice, Nothing, UnboundedVariable, RealVariable, TransientRead, TransientInitial, TransientTwoAutomata, LabelOnEdge, BranchReward, TwoRewardWriters, BadVector, RepeatedAutomaton}
@@ -9,7 +9,7 @@ use Rattle.op_trees.specs.Tree.{Truth, Number, Name as At, Two}
 use Rattle.jani_table.specs.declared.operator.JaniOp.TheVariants as O
 use Rattle.name_rules.specs.Least.{soonest, fault}
 use Rattle.jani_table.specs.Node.{array, no_nodes}
-use Rattle.jani_tree.specs.Syntax.{Expression, Const, VarKind, boolean, integer, number as real, real_bounded, one_sided, bounded, Var, Write, Location, Destination, Edge, Automaton, Vector, File}
+use Rattle.jani_tree.specs.Syntax.{Expression, Const, VarKind, boolean, integer, number as real, real_bounded, one_sided, bounded, Var, Write, Location, Destination, Edge, Automaton, Element, Vector, File}
 use Rattle.name_rules.specs.Names.{Name}
 use Rattle.jani_check.specs.Faults.{faults}
 
@@ -61,6 +61,9 @@ edge o x a g ds = record { location = at o x; action = a; guard = g; destination
 abbrev automaton : ℕ → Name → List Var → List Location → Named → List Edge → Automaton
 automaton o x vs ls i es = record { name = at o x; variables = vs; locations = ls; initial = i ∷ []; edges = es }
 
+abbrev alone : Named → Element
+alone n = record { name = n; enable = [] }
+
 abbrev file : List Named → List Const → List Var → List Automaton → List Named → List Vector → File
 file acts cs vs automata es xs = record {
   actions = acts;
@@ -68,7 +71,7 @@ file acts cs vs automata es xs = record {
   variables = vs;
   restrict = None;
   automata = automata;
-  elements = es;
+  elements = map alone es;
   elements_at = 900;
   vectors = xs;
   properties = array 0 no_nodes;
@@ -106,6 +109,19 @@ listed_twice = refl
 
 unknown_element : least (file [] [] [] (plain 500 (codes "M") [] ∷ []) (at 901 (codes "N") ∷ []) []) ≡ Some (fault 901 Unknown)
 unknown_element = refl
+
+-- the element M accepts these actions everywhere
+abbrev accepting : List Named → File
+accepting ns = record (one acts [] [] [] []) { elements = record { name = at 901 (codes "M"); enable = ns } ∷ [] }
+
+accepted : least (accepting (at 910 (codes "b") ∷ at 914 (codes "a") ∷ [])) ≡ None
+accepted = refl
+
+accepted_twice : least (accepting (at 910 (codes "b") ∷ at 914 (codes "b") ∷ [])) ≡ Some (fault 914 TwiceNamed)
+accepted_twice = refl
+
+accepted_unknown : least (accepting (at 910 (codes "b") ∷ at 914 (codes "c") ∷ [])) ≡ Some (fault 914 Unknown)
+accepted_unknown = refl
 
 constant_of_itself : least (one [] (int_const (at 20 (codes "c")) (Some (ref 21 (codes "c"))) ∷ []) [] [] []) ≡ Some (fault 20 Cycle)
 constant_of_itself = refl

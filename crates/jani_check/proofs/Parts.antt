@@ -1,7 +1,7 @@
 -- Lists that are made part by part.
 use Rattle.std.specs.Prelude.{ℕ, ◌<◌, ◌+◌, List, [], ◌∷◌, ◌++◌, map, length, drop, Bool}
 use Rattle.std.specs.List.{filter, flat_map, sum_by}
-use Rattle.std.proofs.Common.{◌≡◌, refl, sym, ap, ◌∙◌, append_assoc, get_or, arith}
+use Rattle.std.proofs.Common.{◌≡◌, refl, sym, ap, ap₂, ◌∙◌, append_assoc, get_or, arith}
 use Rattle.std.proofs.lemmas.List.{at_drop_more, map-append}
 use Rattle.std.proofs.lemmas.List.Concat.{flat_map_single}
 use Rattle.std.proofs.lemmas.List.Sums.{sum_by-cons}
@@ -32,6 +32,12 @@ singles (x ∷ xs) = ap (λ r. x ∷ r) (singles xs)
 -- names that are parts themselves
 pub each_itself : {A : Type 0} (xs ys : List A) → xs ≡ ys → flat_map (λ x. x ∷ []) xs ≡ ys
 each_itself xs ys e = singles xs ∙ e
+
+-- what is made of the names of what is seen is made of the names
+pub by_names : {A B N C : Type 0} (view : A → B) (f : N → C) (seen_name : B → N) (name : A → N) → ((x : A) → seen_name (view x) ≡ name x) → (xs : List A) →
+    map (λ x. f (name x)) xs ≡ map f (map seen_name (map view xs))
+by_names view f seen_name name h [] = refl
+by_names view f seen_name name h (x ∷ xs) = ap₂ (λ y ys. f y ∷ ys) (sym (h x)) (by_names view f seen_name name h xs)
 
 pub from_none : {A : Type 0} (l rest : List A) → l ≡ [] → l ++ rest ≡ rest
 from_none l rest e = ap (λ k. k ++ rest) e

@@ -5,7 +5,7 @@ use Rattle.std.proofs.Math.Path.{fun_ext}
 use Rattle.std.proofs.lemmas.List.{at_drop_more}
 use Rattle.bridge_io.specs.declared.reason.Named.{Named}
 use Rattle.bridge_io.specs.declared.reason.Reason.TheVariants.{WrittenTwice, TwoRewardWriters}
-use Rattle.jani_tree.specs.Syntax.{Automaton, File}
+use Rattle.jani_tree.specs.Syntax.{Automaton, File, element_names}
 use Rattle.name_rules.specs.Least.{fault_if}
 use Rattle.std.specs.Option.{option_or as or_else}
 use Rattle.jani_check.specs.Things.{global_thing, automaton_called}
@@ -25,14 +25,14 @@ participants_are f none file (e ∷ es) [] = refl
 participants_are f none file (e ∷ es) (None ∷ ps) = ap (λ r. none ∷ r) (participants_are f none file es ps)
 participants_are f none file (e ∷ es) (Some n ∷ ps) = ap (λ r. with_automaton (λ a. f a n.name) none (automaton_called file e.name) ∷ r) (participants_are f none file es ps)
 
-pub clashes_are : (file : File) → clash_by (map (element_shared file) file.elements) ≡ clashing_writes file
-clashes_are file = fun_ext (λ v. ap (λ l. fault_if (meet l) v.at WrittenTwice) (participants_are (shared_by (global_thing file)) [] file file.elements v.parts))
+pub clashes_are : (file : File) → clash_by (map (element_shared file) (element_names file)) ≡ clashing_writes file
+clashes_are file = fun_ext (λ v. ap (λ l. fault_if (meet l) v.at WrittenTwice) (participants_are (shared_by (global_thing file)) [] file (element_names file) v.parts))
 
-pub writers_are : (file : File) → writers_by (map (element_rewards file) file.elements) ≡ two_writers file
-writers_are file = fun_ext (λ v. ap (λ l. fault_if (two_hold l) v.at TwoRewardWriters) (participants_are (rewards_with (global_thing file)) false file file.elements v.parts))
+pub writers_are : (file : File) → writers_by (map (element_rewards file) (element_names file)) ≡ two_writers file
+writers_are file = fun_ext (λ v. ap (λ l. fault_if (two_hold l) v.at TwoRewardWriters) (participants_are (rewards_with (global_thing file)) false file (element_names file) v.parts))
 
 -- one element more
-pub one_element : {A B : Type 0} (view : A → Name → B) (own : Named → Name → B) (list next : List A) (x : A) (es : List Named) (i : ℕ) (e : Named) (whole : List (Name → B)) →
+pub one_element : {A B E : Type 0} (view : A → Name → B) (own : E → Name → B) (list next : List A) (x : A) (es : List E) (i : ℕ) (e : E) (whole : List (Name → B)) →
     i < length es → e ≡ get_or es i e → next ≡ list ++ x ∷ [] → ((y : Name) → view x y ≡ own e y) →
     map view list ++ map own (drop i es) ≡ whole → map view next ++ map own (drop (i + 1) es) ≡ whole
 one_element view own list next x es i e whole h is added same so_far =

@@ -5,7 +5,7 @@ use Rattle.std.specs.List.{sum_by}
 use Rattle.bridge_io.specs.declared.reason.Named.{Named}
 use Rattle.bridge_io.specs.declared.reason.Fault.{Fault}
 use Rattle.name_rules.specs.Least.{or_else}
-use Rattle.jani_tree.specs.Syntax.{Edge, File}
+use Rattle.jani_tree.specs.Syntax.{Edge, File, element_names}
 use Rattle.jani_tree.specs.Form.{FileRead, KeysOnce}
 use Rattle.jani_check.specs.Things.{automaton_called}
 use Rattle.jani_check.specs.NameFaults.{name_faults}
@@ -26,7 +26,7 @@ abbrev pub element_edges : File → Named → List Edge
 element_edges file e = with_automaton (λ a. a.edges) [] (automaton_called file e.name)
 
 abbrev pub edge_count : File → ℕ
-edge_count file = sum_by (λ e. length (element_edges file e)) file.elements
+edge_count file = sum_by (λ e. length (element_edges file e)) (element_names file)
 
 -- a file of the profile, and how many edges take part
 pub record IsReady (file : File) (edges : ℕ) : Type 0 where

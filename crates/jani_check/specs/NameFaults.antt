@@ -5,7 +5,7 @@ use Rattle.std.specs.List.{flat_map, filter, list_any}
 use Rattle.bridge_io.specs.declared.reason.Named.{Named}
 use Rattle.bridge_io.specs.declared.reason.Reason.TheVariants.{TwiceNamed, Cycle, Nothing, BadVector, RepeatedAutomaton}
 use Rattle.bridge_io.specs.declared.reason.Fault.{Fault}
-use Rattle.jani_tree.specs.Syntax.{Const, Var, Edge, Automaton, Vector, File}
+use Rattle.jani_tree.specs.Syntax.{Const, Var, Edge, Automaton, Element, Vector, File, element_names}
 use Rattle.name_rules.specs.Least.{fault_if}
 use Rattle.name_rules.specs.Names.{Name}
 pub use Rattle.name_rules.specs.Names.{is_among}
@@ -36,12 +36,17 @@ abbrev pub doubled_in : List Named → Automaton → List Fault
 doubled_in global a =
     doubled_after TwiceNamed global (var_names a.variables) ++ (doubled TwiceNamed (location_names a) ++ doubled TwiceNamed a.initial)
 
+-- the names in each list of actions that an element accepts everywhere, among themselves
+abbrev pub repeated_enabled : Element → List Fault
+repeated_enabled e = doubled TwiceNamed e.enable
+
 abbrev pub doubled_names : File → List Fault
 doubled_names file =
     doubled TwiceNamed (global_names file)
     ++ (doubled TwiceNamed file.actions
     ++ (doubled TwiceNamed (automaton_names file)
-    ++ flat_map (doubled_in (global_names file)) file.automata))
+    ++ (flat_map (doubled_in (global_names file)) file.automata
+    ++ flat_map repeated_enabled file.elements)))
 
 -- ---- names that are not declared
 
@@ -80,12 +85,17 @@ unknown_in global actions a =
 abbrev pub vector_actions : Vector → List Named
 vector_actions v = flat_map if_some v.parts ++ if_some v.result
 
+-- the actions that an element accepts everywhere
+abbrev pub unknown_enabled : (Name → Bool) → Element → List Fault
+unknown_enabled actions e = flat_map (unless_known actions) e.enable
+
 abbrev pub unknown_names : File → List Fault
 unknown_names file =
     flat_map (unknown_by (is_among (global_names file))) (outer_demands file)
     ++ (flat_map (unknown_in (is_among (global_names file)) (is_among file.actions)) file.automata
-    ++ (flat_map (unless_known (is_among (automaton_names file))) file.elements
-    ++ flat_map (unless_known (is_among file.actions)) (flat_map vector_actions file.vectors)))
+    ++ (flat_map (unless_known (is_among (automaton_names file))) (element_names file)
+    ++ (flat_map (unless_known (is_among file.actions)) (flat_map vector_actions file.vectors)
+    ++ flat_map (unknown_enabled (is_among file.actions)) file.elements)))
 
 -- ---- constants that depend on themselves
 
@@ -115,17 +125,17 @@ circles file = flat_map (circular file.constants) file.constants
 
 -- an automaton takes part once
 abbrev pub repeated_elements : File → List Fault
-repeated_elements file = doubled RepeatedAutomaton file.elements
+repeated_elements file = doubled RepeatedAutomaton (element_names file)
 
 abbrev pub no_element : File → List Fault
-no_element file = fault_if (nat_eq (length file.elements) 0) file.elements_at Nothing
+no_element file = fault_if (nat_eq (length (element_names file)) 0) file.elements_at Nothing
 
 -- a vector has a part for each of so many elements, and some element takes part
 abbrev pub bad_vector : ℕ → Vector → List Fault
 bad_vector elements v = fault_if (not (nat_eq (length v.parts) elements) || not (list_any is_some v.parts)) v.at BadVector
 
 abbrev pub composition_faults : File → List Fault
-composition_faults file = repeated_elements file ++ (no_element file ++ flat_map (bad_vector (length file.elements)) file.vectors)
+composition_faults file = repeated_elements file ++ (no_element file ++ flat_map (bad_vector (length (element_names file))) file.vectors)
 
 abbrev pub name_faults : File → List Fault
 name_faults file = doubled_names file ++ (unknown_names file ++ (circles file ++ composition_faults file))

@@ -14,7 +14,7 @@ use Rattle.op_trees.specs.Tree.{Truth, Number, Name as At, One, Two, Three}
 use Rattle.op_trees.specs.Standard.{same_truth}
 use Rattle.op_trees.specs.Names.{names_of, offset_of, is_called}
 use Rattle.jani_table.specs.Operators.{op_text}
-use Rattle.jani_tree.specs.Syntax.{Expression, Var, Write, Destination, Edge, Automaton, Vector, File}
+use Rattle.jani_tree.specs.Syntax.{Expression, Var, Write, Destination, Edge, Automaton, Vector, File, element_names}
 use Rattle.name_rules.specs.Least.{fault_if}
 use Rattle.jani_check.specs.Things.{kind_type, global_thing, beside, is_label, is_reward, is_transient}
 use Rattle.name_rules.specs.Names.{Name, is_among}
@@ -131,7 +131,7 @@ two_hold [] = false
 two_hold (b ∷ bs) = (b && list_any (λ c. c) bs) || two_hold bs
 
 abbrev pub two_writers : File → Vector → List Fault
-two_writers file v = fault_if (two_hold (participants (rewards_with (global_thing file)) false file file.elements v.parts)) v.at TwoRewardWriters
+two_writers file v = fault_if (two_hold (participants (rewards_with (global_thing file)) false file (element_names file) v.parts)) v.at TwoRewardWriters
 
 abbrev pub profile_faults : File → List Fault
 profile_faults file =

@@ -9,7 +9,7 @@ use Rattle.bridge_io.specs.declared.reason.Fault.{Fault}
 use Rattle.op_trees.specs.Types.{Types, type_in, misfits}
 use Rattle.op_trees.specs.Names.{some_name, offset_of, is_called}
 use Rattle.jani_table.specs.Operators.{jani_meaning}
-use Rattle.jani_tree.specs.Syntax.{Expression, VarKind, integer, number, real_bounded, one_sided, bounded, Var, Write, Edge, Automaton, Vector, File}
+use Rattle.jani_tree.specs.Syntax.{Expression, VarKind, integer, number, real_bounded, one_sided, bounded, Var, Write, Edge, Automaton, Vector, File, element_names}
 use Rattle.name_rules.specs.Least.{fault, fault_if}
 use Rattle.jani_check.specs.Things.{automaton_called, global_thing, beside, thing_type, types_by, is_constant, is_lasting, is_transient}
 use Rattle.name_rules.specs.Names.{Name}
@@ -136,7 +136,7 @@ meet (xs ∷ rest) = list_any (λ x. list_any (list_any (bytes_eq x)) rest) xs |
 
 -- two participants have edges of the named actions that assign one variable
 abbrev pub clashing_writes : File → Vector → List Fault
-clashing_writes file v = fault_if (meet (participants (shared_by (global_thing file)) [] file file.elements v.parts)) v.at WrittenTwice
+clashing_writes file v = fault_if (meet (participants (shared_by (global_thing file)) [] file (element_names file) v.parts)) v.at WrittenTwice
 
 abbrev pub type_faults : File → List Fault
 type_faults file =

@@ -12,8 +12,8 @@ ghost use Rattle.name_rules.specs.Names.{named_by};
 
 use crate::naming::{Naming, names_of};
 use bridge_io::{Fault, Reason};
-use jani_tree::{JaniAutomaton, JaniFile};
-use name_rules::{Entry, Judged, Lowest, judge_doubled, judge_doubled_after};
+use jani_tree::{JaniAutomaton, JaniElement, JaniFile};
+use name_rules::{Entry, Judged, Lowest, Rule, judge_doubled, judge_doubled_after, judge_each};
 use std::alloc::Global;
 
 /// The least of a fault that was found before and those of names that are declared twice, where these are the constants
@@ -33,7 +33,27 @@ pub(crate) fn judge_twice(
     let automata = file.automata.as_slice();
     let among_automata = judge_names_of(alloc, Reason::TwiceNamed, automata, among_actions)?;
     let lowest = Lowest::of(alloc, global)?;
-    judge_automata(alloc, &lowest, automata, among_automata)
+    let inside = judge_automata(alloc, &lowest, automata, among_automata)?;
+    judge_each(alloc, &AcceptedOnce, file.elements.as_slice(), inside)
+}
+
+// An action stands once in the list of those that an element accepts everywhere.
+#[derive(Drop)]
+struct AcceptedOnce;
+
+impl Rule<JaniElement> for AcceptedOnce {
+    ghost use Rattle.jani_tree.specs.Syntax.{Element, element_of};
+    ghost use Rattle.jani_check.specs.NameFaults.{repeated_enabled};
+
+    ghost Seen = { Element };
+
+    ghost view = { element_of };
+
+    ghost faults = { λ r. repeated_enabled };
+
+    fn judge(&self, alloc: Global, e: &JaniElement, best: Option<Fault>) -> Judged {
+        judge_names_of(alloc, Reason::TwiceNamed, e.enable.as_slice(), best)
+    }
 }
 
 /// The least of a fault that was found before and those of the names of these parts that are the same.

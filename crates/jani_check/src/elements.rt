@@ -1,7 +1,7 @@
 // The automata that take part, by their names.
 
 ghost use Rattle.std.specs.Prelude.{◌≡◌, List, ℕ, [], false, IfOk, map, length};
-ghost use Rattle.jani_tree.specs.Syntax.{automaton_of, file_of};
+ghost use Rattle.jani_tree.specs.Syntax.{automaton_of, element_names, file_of};
 ghost use Rattle.jani_check.specs.Participants.{automaton_in, automaton_under, element_shared};
 ghost use Rattle.jani_check.specs.Faults.{edge_count};
 ghost use Rattle.jani_check.specs.NameLists.{names_under};
@@ -41,7 +41,7 @@ pub(crate) fn shared_of<'a>(
     global: &Things,
 ) -> Result<Vec<NameLists<'a, &'a str>>, AllocError>
     requires { (x : List ℕ) → thing_under global.now x ≡ global_thing (file_of file.now) x }
-    ensures { IfOk result (λ list. map names_under list.items ≡ map (element_shared (file_of file.now)) file.now.elements) }
+    ensures { IfOk result (λ list. map names_under list.items ≡ map (element_shared (file_of file.now)) (element_names (file_of file.now))) }
 {
     let automata = automata_by_name(alloc, file.automata.as_slice())?;
     each_shared(alloc, file, &automata, global)
@@ -56,11 +56,11 @@ fn each_shared<'a>(
 ) -> Result<Vec<NameLists<'a, &'a str>>, AllocError>
     requires things { (x : List ℕ) → thing_under global.now x ≡ global_thing (file_of file.now) x }
     requires automata { (x : List ℕ) → automaton_under automata.now x ≡ automaton_called (file_of file.now) x }
-    ensures { IfOk result (λ list. map names_under list.items ≡ map (element_shared (file_of file.now)) file.now.elements) }
+    ensures { IfOk result (λ list. map names_under list.items ≡ map (element_shared (file_of file.now)) (element_names (file_of file.now))) }
 {
     let mut list = Vec::new(alloc);
     for e in file.elements.as_slice() {
-        let shared = element_shared(alloc, automata, global, e)?;
+        let shared = element_shared(alloc, automata, global, &e.name)?;
         list.push(shared)?;
     }
     Ok(list)
@@ -89,7 +89,7 @@ pub(crate) fn rewarding_of<'a>(
     global: &Things,
 ) -> Result<Vec<Rewarding<'a>>, AllocError>
     requires { (x : List ℕ) → thing_under global.now x ≡ global_thing (file_of file.now) x }
-    ensures { IfOk result (λ list. map rewarded_in list.items ≡ map (element_rewards (file_of file.now)) file.now.elements) }
+    ensures { IfOk result (λ list. map rewarded_in list.items ≡ map (element_rewards (file_of file.now)) (element_names (file_of file.now))) }
 {
     let automata = automata_by_name(alloc, file.automata.as_slice())?;
     each_rewarding(alloc, file, &automata, global)
@@ -104,11 +104,11 @@ fn each_rewarding<'a>(
 ) -> Result<Vec<Rewarding<'a>>, AllocError>
     requires things { (x : List ℕ) → thing_under global.now x ≡ global_thing (file_of file.now) x }
     requires automata { (x : List ℕ) → automaton_under automata.now x ≡ automaton_called (file_of file.now) x }
-    ensures { IfOk result (λ list. map rewarded_in list.items ≡ map (element_rewards (file_of file.now)) file.now.elements) }
+    ensures { IfOk result (λ list. map rewarded_in list.items ≡ map (element_rewards (file_of file.now)) (element_names (file_of file.now))) }
 {
     let mut list = Vec::new(alloc);
     for e in file.elements.as_slice() {
-        let rewarding = element_rewarding(alloc, automata, global, e)?;
+        let rewarding = element_rewarding(alloc, automata, global, &e.name)?;
         list.push(rewarding)?;
     }
     Ok(list)
@@ -137,7 +137,7 @@ pub(crate) fn count_edges(alloc: Global, file: &JaniFile) -> Result<u128, AllocE
     let automata = automata_by_name(alloc, file.automata.as_slice())?;
     let mut sum = 0;
     for e in file.elements.as_slice() {
-        sum += edges_of(&automata, e) as u128;
+        sum += edges_of(&automata, &e.name) as u128;
     }
     Ok(sum)
 }

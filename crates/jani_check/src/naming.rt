@@ -10,8 +10,8 @@ ghost use Rattle.name_rules.specs.Names.{named_by};
 
 use bridge_io::Named;
 use jani_tree::{
-    JaniAutomaton, JaniConst, JaniDestination, JaniEdge, JaniFile, JaniLocation, JaniVar,
-    JaniVector, JaniWrite,
+    JaniAutomaton, JaniConst, JaniDestination, JaniEdge, JaniElement, JaniFile, JaniLocation,
+    JaniVar, JaniVector, JaniWrite,
 };
 use name_rules::{Entry, add_name};
 use std::alloc::{AllocError, Global};
@@ -122,6 +122,16 @@ impl Naming for JaniLocation {
     ghost use Rattle.std.specs.Prelude.{[], ◌∷◌};
 
     ghost names = { λ l. l.name ∷ [] };
+
+    fn add_names<'a>(&'a self, list: &mut Vec<Entry<'a>>) -> Result<(), AllocError> {
+        add_name(&self.name, list)
+    }
+}
+
+impl Naming for JaniElement {
+    ghost use Rattle.std.specs.Prelude.{[], ◌∷◌};
+
+    ghost names = { λ e. e.name ∷ [] };
 
     fn add_names<'a>(&'a self, list: &mut Vec<Entry<'a>>) -> Result<(), AllocError> {
         add_name(&self.name, list)

@@ -4,7 +4,7 @@ ghost use Rattle.std.specs.Prelude.{◌≡◌, List, [], ℕ, ◌++◌, IfOk, ma
 ghost use Rattle.std.specs.List.{flat_map};
 ghost use Rattle.op_trees.specs.Tree.{tree};
 ghost use Rattle.name_rules.specs.Least.{soonest};
-ghost use Rattle.jani_tree.specs.Syntax.{automaton_of, edge_of, file_of};
+ghost use Rattle.jani_tree.specs.Syntax.{automaton_of, edge_of, element_names, file_of};
 ghost use Rattle.basics.specs.Options.{if_some};
 ghost use Rattle.jani_check.specs.NameFaults.{automaton_names, unknown_by, unknown_names, unknown_within, unless_known};
 ghost use Rattle.name_rules.specs.Names.{is_among};
@@ -19,8 +19,8 @@ use crate::naming::{Naming, add_actions, names_of};
 use crate::phase::{Phase, judge_phase};
 use crate::things::{Scope, Things};
 use bridge_io::Fault;
-use jani_tree::{JaniAutomaton, JaniEdge, JaniFile, JaniVar, JaniWrite};
-use name_rules::{Judged, NameSet, judge_expression, judge_name, judge_uses};
+use jani_tree::{JaniAutomaton, JaniEdge, JaniElement, JaniFile, JaniVar, JaniWrite};
+use name_rules::{Judged, NameSet, Rule, judge_each, judge_expression, judge_name, judge_uses};
 use std::alloc::{AllocError, Global};
 
 /// The least of a fault that was found before and those of names that are not declared.
@@ -43,7 +43,35 @@ fn judge_by_actions(
 {
     let inside = judge_inside(alloc, actions, file, before)?;
     let elements = judge_elements(alloc, file, inside)?;
-    judge_uses_of(alloc, actions, file.vectors.as_slice(), elements)
+    let vectors = judge_uses_of(alloc, actions, file.vectors.as_slice(), elements)?;
+    judge_each(
+        alloc,
+        &Accepted { actions },
+        file.elements.as_slice(),
+        vectors,
+    )
+}
+
+// The actions that elements accept everywhere.
+#[derive(Drop)]
+struct Accepted<'s, 'a> {
+    actions: &'s NameSet<'a>,
+}
+
+impl<'s, 'a> Rule<JaniElement> for Accepted<'s, 'a> {
+    ghost use Rattle.jani_tree.specs.Syntax.{Element, element_of};
+    ghost use Rattle.jani_check.specs.NameFaults.{unknown_enabled};
+    ghost use Rattle.name_rules.specs.Names.{has_name};
+
+    ghost Seen = { Element };
+
+    ghost view = { element_of };
+
+    ghost faults = { λ r. unknown_enabled (has_name r.actions.now) };
+
+    fn judge(&self, alloc: Global, e: &JaniElement, best: Option<Fault>) -> Judged {
+        judge_uses_of(alloc, self.actions, e.enable.as_slice(), best)
+    }
 }
 
 // The names in demands, and those that automata name.
@@ -58,7 +86,7 @@ fn judge_inside(alloc: Global, actions: &NameSet, file: &JaniFile, before: Optio
 // The automata that the elements name.
 fn judge_elements(alloc: Global, file: &JaniFile, before: Option<Fault>) -> Judged
     ensures { IfOk result
-        (λ best. best ≡ soonest before (flat_map (unless_known (is_among (automaton_names (file_of file.now)))) file.now.elements)) }
+        (λ best. best ≡ soonest before (flat_map (unless_known (is_among (automaton_names (file_of file.now)))) (element_names (file_of file.now)))) }
 {
     let automata = set_of(alloc, file.automata.as_slice())?;
     judge_uses_of(alloc, &automata, file.elements.as_slice(), before)

@@ -6,5 +6,5 @@ use Rattle.jani_check.proofs.elements.count_edges.Given as goal
 
 abbrev pub invariant-loop-e : goal.invariant-loop-e
 invariant-loop-e l =
-    (l.sum + sum_by (λ e. length (element_edges (file_of l.file) e)) (drop l.e-index l.e-items) ≡ sum_by (λ e. length (element_edges (file_of l.file) e)) l.e-items)
+    (l.sum + sum_by (λ e. length (element_edges (file_of l.file) e.name)) (drop l.e-index l.e-items) ≡ sum_by (λ e. length (element_edges (file_of l.file) e.name)) l.e-items)
     × (l.sum ≤ l.e-index * 18446744073709551616)

@@ -5,4 +5,4 @@ use Rattle.jani_check.proofs.elements.each_rewarding.Given as goal
 
 abbrev pub invariant-loop-e : goal.invariant-loop-e
 invariant-loop-e l =
-    map rewarded_in l.list.items ++ map (element_rewards (file_of l.file)) (drop l.e-index l.e-items) ≡ map (element_rewards (file_of l.file)) l.e-items
+    map rewarded_in l.list.items ++ map (λ e. element_rewards (file_of l.file) e.name) (drop l.e-index l.e-items) ≡ map (λ e. element_rewards (file_of l.file) e.name) l.e-items

@@ -6,4 +6,4 @@ use Rattle.jani_check.proofs.elements.each_shared.Given as goal
 
 abbrev pub invariant-loop-e : goal.invariant-loop-e
 invariant-loop-e l =
-    map names_under l.list.items ++ map (element_shared (file_of l.file)) (drop l.e-index l.e-items) ≡ map (element_shared (file_of l.file)) l.e-items
+    map names_under l.list.items ++ map (λ e. element_shared (file_of l.file) e.name) (drop l.e-index l.e-items) ≡ map (λ e. element_shared (file_of l.file) e.name) l.e-items
