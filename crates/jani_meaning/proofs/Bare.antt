@@ -10,20 +10,23 @@ use Rattle.basics.specs.Lists.{map_agree}
 use Rattle.bridge_io.specs.declared.reason.Named.{Named}
 use Rattle.op_trees.specs.Seen.{Seen, known}
 use Rattle.op_trees.specs.SeenLaws.{seen-bare}
-use Rattle.op_trees.specs.Tree.{bare}
+use Rattle.op_trees.specs.Tree.{One, Two, bare}
+use Rattle.jani_tree.specs.JaniOp.TheVariants.{Not, Or}
+use Rattle.jani_tree.specs.Laws.{element_names-bare}
 use Rattle.op_trees.specs.declared.tree.Value.{Value}
 use Rattle.op_trees.specs.declared.tree.Value.TheVariants as V
 use Rattle.process_core.specs.Product.{map-map, flat_map_agree}
 use Rattle.basics.specs.Options.{if_some, is_some-map}
 use Rattle.process_core.specs.Ready.{Values, Name, Write, Reward, Update, Ready, Vector}
 use Rattle.jani_tree.specs.Operators.{jani_meaning}
-use Rattle.jani_tree.specs.Syntax.{Expression, Const, VarKind, boolean, integer, number, real_bounded, one_sided, bounded, Var, Location, Destination, Edge, Automaton, File}
+use Rattle.jani_tree.specs.Syntax.{Expression, Const, VarKind, boolean, integer, number, real_bounded, one_sided, bounded, Var, Location, Destination, Edge, Automaton, File, element_names}
 use Rattle.jani_tree.specs.Syntax as syntax
 use Rattle.op_trees.specs.Names.{bare_name, is_called}
-use Rattle.jani_tree.specs.Places.{bare_const, bare_kind, bare_var, bare_write, bare_location, bare_destination, bare_edge, bare_automaton, bare_vector, bare_part, bare_file}
+use Rattle.jani_tree.specs.Places.{bare_const, bare_kind, bare_var, bare_write, bare_location, bare_destination, bare_edge, bare_automaton, bare_vector, bare_part, bare_element, bare_file}
 use Rattle.process_core.specs.Instance.{Valuation, Between, numbered, models_alike}
 use Rattle.basics.specs.Mapped.{any_mapped, found_mapped, kept_mapped, position_mapped}
-use Rattle.jani_meaning.specs.Elements.{nothing_called, automaton_called, elements, location_number, first_number, initial_number, Owned, owned_by, variables, is_boolean, is_lasting, lasting, is_label, labels, is_structure, structures, is_own, is_global, place_of, column_number, structure_number, is_several, has_several_starts}
+use Rattle.jani_meaning.specs.Loops.{either, has_name, is_with, loop_at, loops, none_of, or_true, with_loops}
+use Rattle.jani_meaning.specs.Elements.{nothing_called, automaton_called, element_automaton, elements, location_number, first_number, initial_number, Owned, owned_by, variables, is_boolean, is_lasting, lasting, is_label, labels, is_structure, structures, is_own, is_global, place_of, column_number, structure_number, is_several, has_several_starts}
 use Rattle.jani_meaning.specs.Scene.{see, counted, constant_called, constant_seen, constant_value, constant_within, constant, constant_names, location_column, domain_of, start_of, column, columns_of, scene, first_location, first_of, begins_anywhere, has_condition}
 use Rattle.jani_meaning.specs.Moment.{Moment, value_in, names_in, is_number, is_current, current_location, guard_seen, weight_seen, location_write, column_write, reward_of, write_at, reward_at, update_at, edge_at, element_at, given_in, given_at, may_give, given_to, first_or, transient_at, vector_of, moment, is_among, begin_here, restriction_seen, condition_at}
 use Rattle.jani_meaning.specs.Process.{choices, marks, model}
@@ -91,6 +94,50 @@ place_of-bare : (vars : List Owned) (i : ℕ) (x : Name) → place_of (map bare_
 place_of-bare vars i x =
     ap₂ option_or (position_mapped bare_owned (is_own i x) (is_own i x) (λ o. refl) vars) (position_mapped bare_owned (is_global x) (is_global x) (λ o. refl) vars)
 
+-- ---- loops
+either-bare : (g : Expression) (gs : List Expression) → either (bare g) (map bare gs) ≡ bare (either g gs)
+either-bare g [] = refl
+either-bare g (h ∷ hs) = either-bare (Two 0 Or g h) hs
+
+none_of-bare : (gs : List Expression) → none_of (map bare gs) ≡ option_map bare (none_of gs)
+none_of-bare [] = refl
+none_of-bare (g ∷ gs) = ap (λ e. Some (One 0 Not e)) (either-bare g gs)
+
+or_true-bare : (o : Option Expression) → or_true (option_map bare o) ≡ bare (or_true o)
+or_true-bare None = refl
+or_true-bare (Some g) = refl
+
+has_name-bare : (x : Name) (o : Option Named) → has_name x (option_map bare_name o) ≡ has_name x o
+has_name-bare x None = refl
+has_name-bare x (Some n) = refl
+
+loop_guard-bare : (a : Automaton) (x : Named) (l : Location) → (loop_at (bare_automaton a) (bare_name x) (bare_location l)).guard ≡ option_map bare (loop_at a x l).guard
+loop_guard-bare a x l =
+    let these = filter (is_with x.name l.name.name) a.edges in
+    ap (λ es. none_of (map (λ e. or_true e.guard) es))
+    (kept_mapped bare_edge (is_with x.name l.name.name) (is_with x.name l.name.name) (λ e. ap (λ b. b && is_called l.name.name e.location) (has_name-bare x.name e.action)) a.edges)
+    ∙ ap none_of (map-map (λ e. or_true e.guard) bare_edge these ∙ map_agree _ _ (λ e. or_true-bare e.guard) these ∙ sym (map-map bare (λ e. or_true e.guard) these))
+    ∙ none_of-bare (map (λ e. or_true e.guard) these)
+
+loop-bare : (a : Automaton) (x : Named) (l : Location) → loop_at (bare_automaton a) (bare_name x) (bare_location l) ≡ bare_edge (loop_at a x l)
+loop-bare a x l =
+    ap (λ g. record { location = bare_name l.name; action = Some (bare_name x); guard = g; destinations = record { location = bare_name l.name; weight = None; writes = [] } ∷ []; at = 0 })
+    (loop_guard-bare a x l)
+
+loops-bare : (xs : List Named) (a : Automaton) → loops (map bare_name xs) (bare_automaton a) ≡ map bare_edge (loops xs a)
+loops-bare [] a = refl
+loops-bare (x ∷ xs) a =
+    ap₂ (λ p q. p ++ q)
+    (map-map (loop_at (bare_automaton a) (bare_name x)) bare_location a.locations ∙ map_agree _ _ (loop-bare a x) a.locations ∙ sym (map-map bare_edge (loop_at a x) a.locations))
+    (loops-bare xs a)
+    ∙ sym (map-append bare_edge (map (loop_at a x) a.locations) (loops xs a))
+
+with_loops-bare : (xs : List Named) (a : Automaton) → with_loops (map bare_name xs) (bare_automaton a) ≡ bare_automaton (with_loops xs a)
+with_loops-bare [] a = refl
+with_loops-bare (x ∷ xs) a =
+    ap (λ es. record { name = bare_name a.name; variables = map bare_var a.variables; locations = map bare_location a.locations; initial = map bare_name a.initial; edges = es })
+    (ap (λ r. map bare_edge a.edges ++ r) (loops-bare (x ∷ xs) a) ∙ sym (map-append bare_edge a.edges (loops (x ∷ xs) a)))
+
 module _ (file : File) where
   called-bare : (n : Named) → automaton_called (bare_file file) (bare_name n) ≡ bare_automaton (automaton_called file n)
   called-bare n =
@@ -104,9 +151,12 @@ module _ (file : File) where
 
   elements-bare : elements (bare_file file) ≡ map bare_automaton (elements file)
   elements-bare =
-      map-map (automaton_called (bare_file file)) bare_name file.elements
-      ∙ map_agree _ _ called-bare file.elements
-      ∙ sym (map-map bare_automaton (automaton_called file) file.elements)
+      map-map (element_automaton (bare_file file)) bare_element file.elements
+      ∙ map_agree _ _ (λ e. ap (with_loops (map bare_name e.enable)) (called-bare e.name) ∙ with_loops-bare e.enable (automaton_called file e.name)) file.elements
+      ∙ sym (map-map bare_automaton (element_automaton file) file.elements)
+
+  names_count-bare : length (element_names (bare_file file)) ≡ length (element_names file)
+  names_count-bare = ap length (element_names-bare file) ∙ length-map (element_names file) bare_name
 
   -- what is gathered from the elements
   gathered-bare : {C : Type 0} (g k : ℕ → Automaton → List C) → ((i : ℕ) (a : Automaton) → g i (bare_automaton a) ≡ k i a) →
@@ -134,7 +184,7 @@ module _ (file : File) where
 
   column_number-bare : (i : ℕ) (x : Name) → column_number (bare_file file) i x ≡ column_number file i x
   column_number-bare i x =
-      ap₂ (λ n o. option_map (λ k. n + k) o) (length-map file.elements bare_name)
+      ap₂ (λ n o. option_map (λ k. n + k) o) names_count-bare
       (ap (λ vars. place_of vars i x) lasting-bare ∙ place_of-bare (lasting file) i x)
 
   structure_number-bare : (i : ℕ) (x : Name) → structure_number (bare_file file) i x ≡ structure_number file i x
@@ -327,8 +377,8 @@ module _ (file : File) (v : Valuation) where
     condition-bare : condition_at (bare_file file) v s ≡ condition_at file v s
     condition-bare =
         ap₂ (λ b c. if b then c else known (Some (V.Truth false))) (ap (begin_here s 0) (elements-bare file) ∙ begin-bare 0 (elements file))
-        (ap (λ n. restriction_seen (names_in (bare_file file) v s n) (option_map bare file.restrict)) (length-map file.elements bare_name)
-        ∙ restriction_seen-bare (length file.elements) file.restrict)
+        (ap (λ n. restriction_seen (names_in (bare_file file) v s n) (option_map bare file.restrict)) (names_count-bare file)
+        ∙ restriction_seen-bare (length (element_names file)) file.restrict)
 
     pub moment-bare : moment (bare_file file) v s ≡ moment file v s
     moment-bare =

@@ -19,10 +19,11 @@ use Rattle.op_trees.specs.declared.tree.Value.TheVariants as V
 use Rattle.process_core.specs.Ready.{Values, Name}
 use Rattle.process_core.specs.Distribution.{KeepsStates}
 use Rattle.basics.specs.Lists.{append_both, append_left}
-use Rattle.jani_tree.specs.Syntax.{Expression, Automaton, File}
+use Rattle.jani_tree.specs.Syntax.{Expression, Automaton, File, element_names}
 use Rattle.process_core.specs.Instance.{Between, Column, is_in, is_state, is_above, is_greater, numbered, column_faults, constant_faults, only_if, domain_at, fits_in, domain_faults, value_faults, first_faults, no_condition}
 use Rattle.op_trees.specs.Names.{is_called}
-use Rattle.jani_meaning.specs.Elements.{automaton_called, elements, location_number, first_number, initial_number, lasting, has_several_starts}
+use Rattle.jani_meaning.specs.LoopLaws.{element_count}
+use Rattle.jani_meaning.specs.Elements.{elements, location_number, first_number, initial_number, lasting, has_several_starts}
 use Rattle.jani_meaning.specs.Scene.{counted, location_column, column, constant_names, columns_of, scene, first_location, begins_anywhere, has_condition}
 use Rattle.jani_meaning.specs.Moment.{location_write, names_in, is_among, begins_here, begin_here, restriction_seen}
 use Rattle.jani_meaning.specs.Laws.{StatesHaveColumns, LocationsHaveNoFault, NoConditionIsTrue}
@@ -38,7 +39,7 @@ pub states_have_columns : (file : File) → StatesHaveColumns file
 states_have_columns file v s h =
     state_length (columns_of file v) s h
     ∙ length-append (map location_column (elements file)) (map (λ o. column (constant_names file v) o.var) (lasting file))
-    ∙ ap₂ (λ a b. a + b) (length-map (elements file) location_column ∙ length-map file.elements (automaton_called file)) (length-map (lasting file) (λ o. column (constant_names file v) o.var))
+    ∙ ap₂ (λ a b. a + b) (length-map (elements file) location_column ∙ element_count file) (length-map (lasting file) (λ o. column (constant_names file v) o.var))
 
 -- ---- locations are within their range
 pub not_above : (x y : Fraction) → AtMost x y → is_above x y ≡ false
@@ -130,7 +131,7 @@ locations_have_no_fault file v =
     ap (λ l. numbered constant_faults 0 (scene file v).constants ++ l)
     (numbered-append (column_faults r) 0 places vars
     ∙ ap₂ (λ p n. p ++ numbered (column_faults r) n vars) (all_locations r 0 (elements file))
-    (let e = length-map (elements file) location_column in let f = length-map file.elements (automaton_called file) in omega arith))
+    (let e = length-map (elements file) location_column in let f = element_count file in omega arith))
 
 -- ---- the only value of the location of an automaton with one location
 not_greater : (o : Ordering) → not (is_greater o) ≡ true → C.Greater ≡ o → ⊥
@@ -165,6 +166,6 @@ pub no_condition_is_true : (file : File) → NoConditionIsTrue file
 no_condition_is_true file v s h =
     let several = list_any has_several_starts (elements file) in
     let rest = several || list_any begins_anywhere (lasting file) in
-    ap (λ b. if b then restriction_seen (names_in file v s (length file.elements)) file.restrict else known (Some (V.Truth false)))
+    ap (λ b. if b then restriction_seen (names_in file v s (length (element_names file))) file.restrict else known (Some (V.Truth false)))
     (anywhere s 0 (elements file) (first_false several (list_any begins_anywhere (lasting file)) (second_false (is_some file.restrict) rest h)))
-    ∙ none_seen (names_in file v s (length file.elements)) file.restrict (first_false (is_some file.restrict) rest h)
+    ∙ none_seen (names_in file v s (length (element_names file))) file.restrict (first_false (is_some file.restrict) rest h)

@@ -9,7 +9,8 @@ use Rattle.op_trees.specs.Names.{is_called}
 use Rattle.process_core.specs.Instance.{numbered}
 use Rattle.jani_tree.specs.Syntax.{Automaton, Expression, File, Var}
 use Rattle.jani_tree.specs.Form.{BeginsOnce, HasOne, HasOneStart, IsGiven, StartsOnce}
-use Rattle.jani_meaning.specs.Elements.{automaton_called, elements, has_several_starts, is_lasting, is_several, nothing_called, Owned, owned_by, variables}
+use Rattle.jani_meaning.specs.Loops.{with_loops}
+use Rattle.jani_meaning.specs.Elements.{automaton_called, element_automaton, elements, has_several_starts, is_lasting, is_several, nothing_called, Owned, owned_by, variables}
 use Rattle.jani_meaning.specs.Scene.{begins_anywhere, has_condition}
 
 one_only : (ns : List Named) → HasOne ns → is_several ns ≡ false
@@ -33,6 +34,10 @@ once_called file h n =
     by_found : (o : Option Automaton) → OfSome Once o → Once (unwrap_or o (nothing_called n))
     by_found None k = (refl, tt)
     by_found (Some a) k = k
+
+with_any : (xs : List Named) (a : Automaton) → Once a → Once (with_loops xs a)
+with_any [] a h = h
+with_any (x ∷ xs) a h = h
 
 none_several : (as_ : List Automaton) → Each Once as_ → list_any has_several_starts as_ ≡ false
 none_several [] h = refl
@@ -62,7 +67,7 @@ none_anywhere (o ∷ os) h = by_kind o.var.transient refl (none_anywhere os h.1)
 
 pub one_start : (file : File) → HasOneStart file → has_condition file ≡ false
 one_start file h =
-    let once : Each Once (elements file) = each_any Once (automaton_called file) (once_called file h) file.elements in
+    let once : Each Once (elements file) = each_any Once (element_automaton file) (λ e. with_any e.enable (automaton_called file e.name) (once_called file h e.name)) file.elements in
     ap₂ (λ a b. a || b) (ap is_some h.restrict)
     (ap₂ (λ a b. a || b) (none_several (elements file) once)
     (none_anywhere (variables file)

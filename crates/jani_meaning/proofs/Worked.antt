@@ -17,7 +17,7 @@ use Rattle.process_core.proofs.Shown.{Ratio, ratio, count, shown_truth, to, Show
 use Rattle.jani_tree.specs.Node.{null}
 use Rattle.jani_tree.specs.JaniOp.{JaniOp}
 use Rattle.jani_tree.specs.JaniOp.TheVariants as O
-use Rattle.jani_tree.specs.Syntax.{Expression, Const, VarKind, boolean, number, bounded, Var, Write, Location, Destination, Edge, Automaton, Vector, File}
+use Rattle.jani_tree.specs.Syntax.{Expression, Const, VarKind, boolean, number, bounded, Var, Write, Location, Destination, Edge, Automaton, Element, Vector, File}
 use Rattle.jani_meaning.specs.Scene.{see, scene}
 use Rattle.jani_meaning.specs.Moment.{moment}
 use Rattle.jani_meaning.specs.Process.{model, excess, has_wide_mark}
@@ -81,9 +81,12 @@ automaton x vs ls first es = record { name = at x; variables = vs; locations = l
 abbrev vector : List (Option Named) → Option Named → Vector
 vector parts result = record { parts = parts; result = result; at = 0 }
 
+abbrev plain : Named → Element
+plain n = record { name = n; enable = [] }
+
 abbrev file : List Const → List Var → List Automaton → List Named → List Vector → File
 file cs vs as_ es ss =
-    record { actions = []; constants = cs; variables = vs; restrict = None; automata = as_; elements = es; elements_at = 0; vectors = ss; properties = null 0 }
+    record { actions = []; constants = cs; variables = vs; restrict = None; automata = as_; elements = map plain es; elements_at = 0; vectors = ss; properties = null 0 }
 
 -- ---- what is seen
 abbrev marks_in : File → Valuation → Values → List (Option Ratio)
@@ -174,6 +177,37 @@ coupled_choices : choices_in coupled none (state (0 ∷ 0 ∷ 0 ∷ []))
     ∷ []
 unfolding see decimal_value ten_to fraction gcd gcd_within plus times over difference negated
 coupled_choices = refl
+
+-- The element B accepts an action in its one location: with the action that no edge has, the last vector gives two choices more.
+-- With the action of its edge, whose guard is true, it has a loop that is disabled. Where a guard of such edges has no value, the
+-- loop has none either, and the choice is bad.
+abbrev accepting : Option Expression → List ℕ → File
+accepting g a = record coupled {
+  automata =
+      automaton D [] (location idle [] ∷ location busy [] ∷ []) idle
+      (edge idle go (Some (two O.Less (ref x) (int 2))) (sure busy (write x (two O.Add (ref x) (int 1)) ∷ write r (int 1) ∷ []))
+      ∷ edge idle go None (sure busy (write r (int 2) ∷ []))
+      ∷ edge busy None None (sure idle []) ∷ [])
+      ∷ automaton B [] (location l [] ∷ []) l (edge l ok g (sure l []) ∷ [])
+      ∷ [];
+  elements = plain (at D) ∷ record { name = at B; enable = at a ∷ [] } ∷ [];
+}
+
+accepted_choices : (choices_in (accepting None (codes "never")) none (state (0 ∷ 0 ∷ 0 ∷ []))
+    ≡ good (Some step) (to (count 1) (1 ∷ 0 ∷ 1 ∷ []) (count 1 ∷ []) ∷ [])
+    ∷ good (Some step) (to (count 1) (1 ∷ 0 ∷ 0 ∷ []) (count 2 ∷ []) ∷ [])
+    ∷ good (Some step) (to (count 1) (1 ∷ 0 ∷ 1 ∷ []) (count 1 ∷ []) ∷ [])
+    ∷ good (Some step) (to (count 1) (1 ∷ 0 ∷ 0 ∷ []) (count 2 ∷ []) ∷ [])
+    ∷ good None (to (count 1) (1 ∷ 0 ∷ 1 ∷ []) (count 1 ∷ []) ∷ [])
+    ∷ good None (to (count 1) (1 ∷ 0 ∷ 0 ∷ []) (count 2 ∷ []) ∷ [])
+    ∷ [])
+    × (choices_in (accepting None (codes "ok")) none (state (0 ∷ 0 ∷ 2 ∷ [])) ≡ choices_in coupled none (state (0 ∷ 0 ∷ 2 ∷ [])))
+    × (choices_in (accepting (Some (two O.Equal (ref x) (int 1))) (codes "ok")) none (state (0 ∷ 0 ∷ 2 ∷ []))
+    ≡ good (Some step) (to (count 1) (1 ∷ 0 ∷ 2 ∷ []) (count 2 ∷ []) ∷ []) ∷ good (Some step) (to (count 1) (1 ∷ 0 ∷ 2 ∷ []) (count 2 ∷ []) ∷ []) ∷ [])
+    × (choices_in (accepting (Some (two O.Equal over_zero (int 1))) (codes "ok")) none (state (0 ∷ 0 ∷ 2 ∷ []))
+    ≡ bad (Some step) true false false ∷ bad (Some step) true false false ∷ good (Some step) (to (count 1) (1 ∷ 0 ∷ 2 ∷ []) (count 2 ∷ []) ∷ []) ∷ [])
+unfolding see decimal_value ten_to fraction gcd gcd_within plus times over difference negated
+accepted_choices = (refl, refl, refl, refl)
 
 -- with x = 2 the guard is false; at busy there is the silent edge alone, and it earns nothing
 coupled_elsewhere : (choices_in coupled none (state (0 ∷ 0 ∷ 2 ∷ []))

@@ -8,7 +8,8 @@ use Rattle.std.specs.Option.{option_map, option_or}
 use Rattle.bridge_io.specs.declared.reason.Named.{Named}
 use Rattle.op_trees.specs.Names.{is_called}
 use Rattle.process_core.specs.Ready.{Name}
-use Rattle.jani_tree.specs.Syntax.{VarKind, boolean, integer, number, real_bounded, one_sided, bounded, Var, Automaton, File}
+use Rattle.jani_tree.specs.Syntax.{VarKind, boolean, integer, number, real_bounded, one_sided, bounded, Var, Automaton, Element, File, element_names}
+use Rattle.jani_meaning.specs.Loops.{with_loops}
 use Rattle.process_core.specs.Instance.{numbered}
 
 -- ---- elements
@@ -20,9 +21,13 @@ nothing_called n = record { name = n; variables = []; locations = []; initial = 
 abbrev pub automaton_called : File → Named → Automaton
 automaton_called file n = unwrap_or (find (λ a. is_called n.name a.name) file.automata) (nothing_called n)
 
--- the elements in order, each as its automaton; an automaton that is no element takes no part
+-- an element as its automaton, whose edges are followed by the loops of the actions that the element accepts everywhere
+abbrev pub element_automaton : File → Element → Automaton
+element_automaton file e = with_loops e.enable (automaton_called file e.name)
+
+-- the elements in order, each as an automaton; an automaton that is no element takes no part
 abbrev pub elements : File → List Automaton
-elements file = map (automaton_called file) file.elements
+elements file = map (element_automaton file) file.elements
 
 -- ---- locations
 -- the number of a location in the list of its automaton: the first of this name, and 0 where there is none
@@ -104,7 +109,7 @@ place_of vars i x = option_or (position (is_own i x) vars) (position (is_global 
 
 -- columns are the locations of the elements, and then the variables
 abbrev pub column_number : File → ℕ → Name → Option ℕ
-column_number file i x = option_map (λ k. length file.elements + k) (place_of (lasting file) i x)
+column_number file i x = option_map (λ k. length (element_names file) + k) (place_of (lasting file) i x)
 
 abbrev pub structure_number : File → ℕ → Name → Option ℕ
 structure_number file i x = place_of (structures file) i x

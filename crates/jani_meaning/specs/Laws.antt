@@ -5,7 +5,7 @@ use Rattle.std.specs.List.{All}
 use Rattle.op_trees.specs.Tree.{AllNames}
 use Rattle.process_core.specs.Ready.{Values, Name}
 use Rattle.process_core.specs.Distribution.{IsProper}
-use Rattle.jani_tree.specs.Syntax.{Expression, Const, File}
+use Rattle.jani_tree.specs.Syntax.{Expression, Const, File, element_names}
 use Rattle.jani_tree.specs.Places.{bare_file}
 use Rattle.process_core.specs.Instance.{Valuation, numbered, constant_faults, column_faults, no_condition}
 use Rattle.jani_meaning.specs.Elements.{lasting, labels, structures}
@@ -16,7 +16,7 @@ use Rattle.jani_meaning.specs.Process.{model}
 -- a state has a value for the location of each element and for each variable that is not transient
 abbrev pub StatesHaveColumns : File → Type 0
 StatesHaveColumns file =
-    (v : Valuation) (s : Values) → IsTrue ((model file).is_state v s) → length s ≡ length file.elements + length (lasting file)
+    (v : Valuation) (s : Values) → IsTrue ((model file).is_state v s) → length s ≡ length (element_names file) + length (lasting file)
 
 -- there is a mark for each transient variable
 abbrev pub MarksOfTransients : File → Type 0
@@ -36,7 +36,7 @@ NoConditionIsTrue file = (v : Valuation) (s : Values) → (scene file v).has_con
 abbrev pub LocationsHaveNoFault : File → Type 0
 LocationsHaveNoFault file =
     (v : Valuation) → (model file).faults v
-    ≡ numbered constant_faults 0 (scene file v).constants ++ numbered (column_faults (scene file v).has_condition) (length file.elements) (map (λ o. column (constant_names file v) o.var) (lasting file))
+    ≡ numbered constant_faults 0 (scene file v).constants ++ numbered (column_faults (scene file v).has_condition) (length (element_names file)) (map (λ o. column (constant_names file v) o.var) (lasting file))
 
 -- ---- constants that lead round in no circle
 -- a name that, if it is a constant's, is ranked below n

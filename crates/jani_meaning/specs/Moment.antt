@@ -12,7 +12,7 @@ use Rattle.op_trees.specs.declared.tree.Value.TheVariants as V
 use Rattle.process_core.specs.Equal.{equal_values}
 use Rattle.basics.specs.Options.{if_some}
 use Rattle.process_core.specs.Ready.{Values, Name, Write, Reward, Update, Ready, Vector}
-use Rattle.jani_tree.specs.Syntax.{Expression, Location, Destination, Edge, Automaton, File}
+use Rattle.jani_tree.specs.Syntax.{Expression, Location, Destination, Edge, Automaton, File, element_names}
 use Rattle.jani_tree.specs.Syntax as syntax
 use Rattle.process_core.specs.Instance.{Valuation, Column, numbered, write_to, no_condition}
 use Rattle.op_trees.specs.Names.{is_called}
@@ -72,7 +72,7 @@ restriction_seen names (Some e) = see e names
 -- global variables alone have a value
 abbrev pub condition_at : File → Valuation → Values → Seen
 condition_at file v s =
-    if begin_here s 0 (elements file) then restriction_seen (names_in file v s (length file.elements)) file.restrict
+    if begin_here s 0 (elements file) then restriction_seen (names_in file v s (length (element_names file))) file.restrict
     else known (Some (V.Truth false))
 
 -- ---- edges
