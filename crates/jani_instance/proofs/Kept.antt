@@ -26,7 +26,7 @@ use Rattle.state_choices.specs.Views.{seen_of}
 use Rattle.state_choices.proofs.ComputedLaws.{computed_laws}
 use Rattle.state_choices.proofs.ComputedParts.{same_update}
 use Rattle.jani_tree.specs.Syntax as syntax
-use Rattle.jani_tree.specs.Syntax.{Automaton, Expression, File}
+use Rattle.jani_tree.specs.Syntax.{Automaton, Expression, File, element_names}
 use Rattle.basics.specs.Mapped.{mapped, turned}
 use Rattle.op_trees.specs.Names.{is_called}
 use Rattle.jani_meaning.specs.Elements.{column_number, elements, is_global, is_own, lasting, location_number, structure_number, structures}
@@ -78,7 +78,7 @@ location_is i n = same_write i _ _ _ _ (computed_laws.values (counted n)) (by_wi
 
 -- a site of the element with this number
 pub record IsSite (file : File) (i : ℕ) (s : Site) : Type 0 where
-  pub own : (x : Name) → under s.own.now x ≡ option_map (λ k. Variable (length file.elements + k)) (position (is_own i x) (lasting file))
+  pub own : (x : Name) → under s.own.now x ≡ option_map (λ k. Variable (length (element_names file) + k)) (position (is_own i x) (lasting file))
   pub global : (x : Name) → under s.places.now x ≡ global_place file x
   pub locations : (x : Name) → under s.locations.now x ≡ position (λ l. is_called x l.name) (automaton_at s.part).locations
   pub own_structures : (x : Name) → under s.own_structures.now x ≡ own_structure file i x
@@ -164,7 +164,7 @@ module _ (cs : List Column) (names : Name → Seen) (i : ℕ) where
     column_is : (x : Name) → column_in s x ≡ column_number file i x
     column_is x =
         ap₂ (λ p q. variable_at (option_or p q)) (h.own x) (h.global x)
-        ∙ by_columns (length file.elements) (position (is_own i x) (lasting file)) (position (is_global x) (lasting file)) (position (λ c. is_called x c.name) file.constants)
+        ∙ by_columns (length (element_names file)) (position (is_own i x) (lasting file)) (position (is_global x) (lasting file)) (position (λ c. is_called x c.name) file.constants)
 
     structure_is : (x : Name) → structure_in s x ≡ structure_number file i x
     structure_is x =

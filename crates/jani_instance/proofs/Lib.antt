@@ -18,3 +18,4 @@ pub mod Acted
 pub mod Kept
 pub mod Prepared
 pub mod Resolved
+pub mod Looped

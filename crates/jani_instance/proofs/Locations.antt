@@ -12,15 +12,16 @@ use Rattle.bridge_io.specs.declared.reason.Reason.{Reason}
 use Rattle.bridge_io.specs.declared.reason.Reason.TheVariants.{TwiceNamed}
 use Rattle.name_rules.specs.Doubled.{clash, doubled, doubled_after}
 use Rattle.instance_start.specs.Firsts.{none_if}
-use Rattle.jani_tree.specs.Syntax.{Automaton, File, Location}
+use Rattle.jani_tree.specs.Syntax.{Automaton, File, Location, Element}
 use Rattle.name_rules.specs.Least.{or_else}
 use Rattle.jani_check.specs.Faults.{IsChecked}
-use Rattle.jani_check.specs.NameFaults.{automaton_names, circles, composition_faults, doubled_in, doubled_names, global_names, location_names, name_faults, unknown_names, var_names}
+use Rattle.jani_check.specs.NameFaults.{automaton_names, circles, composition_faults, doubled_in, doubled_names, global_names, location_names, name_faults, repeated_enabled, unknown_names, var_names}
 use Rattle.jani_check.specs.TypeFaults.{type_faults}
 use Rattle.jani_check.specs.ProfileFaults.{profile_faults}
 use Rattle.bridge_io.specs.declared.reason.Fault.{Fault}
 use Rattle.op_trees.specs.Names.{is_called}
-use Rattle.jani_meaning.specs.Elements.{automaton_called, elements, location_number, nothing_called}
+use Rattle.jani_meaning.specs.LoopLaws.{same_locations}
+use Rattle.jani_meaning.specs.Elements.{automaton_called, element_automaton, elements, location_number, nothing_called}
 use Rattle.jani_instance.specs.Built.{location_from}
 
 -- ---- names of which none stands twice
@@ -97,17 +98,20 @@ first_none : (a b : List Fault) → or_else a b ≡ [] → a ≡ []
 first_none [] b h = refl
 first_none (f ∷ fs) b h = absurd cc
 
-each : (file : File) (ns : List Named) → flat_map (doubled_in (global_names file)) file.automata ≡ [] → (i : ℕ) (a : Automaton) → slice_get (map (automaton_called file) ns) i ≡ Some a → doubled TwiceNamed (location_names a) ≡ []
+each : (file : File) (es : List Element) → flat_map (doubled_in (global_names file)) file.automata ≡ [] → (i : ℕ) (a : Automaton) → slice_get (map (element_automaton file) es) i ≡ Some a → doubled TwiceNamed (location_names a) ≡ []
 each file [] h i a e = absurd cc
-each file (n ∷ ns) h zero a e = let q : automaton_called file n ≡ a = cc in
-    subst (λ z. doubled TwiceNamed (location_names z) ≡ []) q (single (global_names file) (λ b. is_called n.name b.name) file.automata n h)
-each file (n ∷ ns) h (suc i) a e = each file ns h i a e
+each file (x ∷ es) h zero a e = let q : element_automaton file x ≡ a = cc in
+    subst (λ z. doubled TwiceNamed (location_names z) ≡ []) q
+    (ap (λ ls. doubled TwiceNamed (map (λ l. l.name) ls)) (same_locations x.enable (automaton_called file x.name)) ∙ single (global_names file) (λ b. is_called x.name.name b.name) file.automata x.name h)
+each file (x ∷ es) h (suc i) a e = each file es h i a e
 
 pub distinct : (file : File) → IsChecked file → (i : ℕ) (a : Automaton) → slice_get (elements file) i ≡ Some a → doubled TwiceNamed (location_names a) ≡ []
 distinct file checked =
     let names = first_none (name_faults file) (or_else (type_faults file) (profile_faults file)) checked.clean in
     let twice = (append_parts (doubled_names file) (unknown_names file ++ (circles file ++ composition_faults file)) names).0 in
-    let one = append_parts (doubled TwiceNamed (global_names file)) (doubled TwiceNamed file.actions ++ (doubled TwiceNamed (automaton_names file) ++ flat_map (doubled_in (global_names file)) file.automata)) twice in
-    let two = append_parts (doubled TwiceNamed file.actions) (doubled TwiceNamed (automaton_names file) ++ flat_map (doubled_in (global_names file)) file.automata) one.1 in
-    let three = append_parts (doubled TwiceNamed (automaton_names file)) (flat_map (doubled_in (global_names file)) file.automata) two.1 in
-    each file file.elements three.1
+    let inside = flat_map (doubled_in (global_names file)) file.automata in
+    let rest = inside ++ flat_map repeated_enabled file.elements in
+    let one = append_parts (doubled TwiceNamed (global_names file)) (doubled TwiceNamed file.actions ++ (doubled TwiceNamed (automaton_names file) ++ rest)) twice in
+    let two = append_parts (doubled TwiceNamed file.actions) (doubled TwiceNamed (automaton_names file) ++ rest) one.1 in
+    let three = append_parts (doubled TwiceNamed (automaton_names file)) rest two.1 in
+    each file file.elements (append_parts inside (flat_map repeated_enabled file.elements) three.1).0

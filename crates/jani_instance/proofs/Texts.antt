@@ -5,20 +5,21 @@ use Rattle.std.proofs.Common.{sym, ap, ap₂, ◌∙◌, arith, length-append}
 use Rattle.std.proofs.lemmas.List.{length-map}
 use Rattle.basics.specs.Lists.{slice_get-front}
 use Rattle.process_core.specs.Instance.{Valuation}
-use Rattle.jani_tree.specs.Syntax.{File}
+use Rattle.jani_tree.specs.Syntax.{File, element_names}
 use Rattle.jani_meaning.specs.Elements.{automaton_called, elements, lasting}
 use Rattle.jani_meaning.specs.Scene.{column, columns_of, constant_names, location_column}
 use Rattle.instance_start.specs.Columns.{column_of}
 use Rattle.instance_start.specs.declared.data.Column.{Column}
 use Rattle.jani_instance.specs.Described.{column_texts, texts_from}
 use Rattle.jani_instance.specs.Lawful.{column_count, texts_length}
+use Rattle.jani_meaning.specs.LoopLaws.{element_count}
 
 pub column_number : (cs : List Column) (file : File) (v : Valuation) → map column_of cs ≡ columns_of file v → length cs ≡ length (column_texts file)
 column_number cs file v e =
     sym (length-map cs column_of)
     ∙ ap length e
     ∙ length-append (map location_column (elements file)) (map (λ o. column (constant_names file v) o.var) (lasting file))
-    ∙ ap₂ (λ a b. a + b) (length-map (elements file) location_column ∙ length-map file.elements (automaton_called file)) (length-map (lasting file) (λ o. column (constant_names file v) o.var))
+    ∙ ap₂ (λ a b. a + b) (length-map (elements file) location_column ∙ element_count file) (length-map (lasting file) (λ o. column (constant_names file v) o.var))
     ∙ sym (column_count file)
 
 text_at : (mark : List ℕ) (j n i : ℕ) → i < n → slice_get (texts_from mark j n) i ≡ Some (mark ++ decimal (j + i))
@@ -31,18 +32,18 @@ in_second : {X : Type 0} (xs ys : List X) (i : ℕ) → slice_get (xs ++ ys) (le
 in_second [] ys i = ap (slice_get ys) (let d : 0 + i ≡ i = omega arith in d)
 in_second (x ∷ xs) ys i = ap (slice_get (x ∷ (xs ++ ys))) (let d : suc (length xs) + i ≡ suc (length xs + i) = omega arith in d) ∙ in_second xs ys i
 
-pub location_text : (file : File) (i : ℕ) → i < length file.elements → slice_get (column_texts file) i ≡ Some (codes "@" ++ decimal i)
+pub location_text : (file : File) (i : ℕ) → i < length (element_names file) → slice_get (column_texts file) i ≡ Some (codes "@" ++ decimal i)
 location_text file i h =
-    let n = length file.elements in
+    let n = length (element_names file) in
     let m = length (lasting file) in
     let e = texts_length (codes "@") 0 n in
     slice_get-front (texts_from (codes "@") 0 n) (texts_from (codes "#") 0 m) i (let d : i < length (texts_from (codes "@") 0 n) = omega (arith, h, e) in d)
     ∙ text_at (codes "@") 0 n i h
     ∙ ap (λ k. Some (codes "@" ++ decimal k)) (let d : 0 + i ≡ i = omega arith in d)
 
-pub variable_text : (file : File) (i : ℕ) → length file.elements ≤ i → i < length (column_texts file) → slice_get (column_texts file) i ≡ Some (codes "#" ++ decimal (i - length file.elements))
+pub variable_text : (file : File) (i : ℕ) → length (element_names file) ≤ i → i < length (column_texts file) → slice_get (column_texts file) i ≡ Some (codes "#" ++ decimal (i - length (element_names file)))
 variable_text file i l h =
-    let n = length file.elements in
+    let n = length (element_names file) in
     let m = length (lasting file) in
     let e : length (texts_from (codes "@") 0 n) ≡ n = texts_length (codes "@") 0 n in
     let f : length (column_texts file) ≡ n + m = column_count file in

@@ -32,7 +32,8 @@ use Rattle.instance_start.proofs.Givens.{none_misfits, given_typed, bool_right}
 use Rattle.instance_start.specs.Given.{given_by, misfit}
 use Rattle.jani_table.specs.Operators.{jani_meaning}
 use Rattle.jani_table.specs.OperatorLaws.{jani_lawful}
-use Rattle.jani_tree.specs.Syntax.{Expression, Const, VarKind, boolean, integer, number, real_bounded, one_sided, bounded, Var, Automaton, File}
+use Rattle.bridge_io.specs.declared.reason.Named.{Named}
+use Rattle.jani_tree.specs.Syntax.{Expression, Const, VarKind, boolean, integer, number, real_bounded, one_sided, bounded, Var, Automaton, File, element_names}
 use Rattle.jani_tree.specs.Form.{ExprForm, ConstRead, VarRead, AutomatonRead}
 use Rattle.basics.specs.Mapped.{found_mapped}
 use Rattle.op_trees.specs.declared.wanted.Wanted.TheVariants as W
@@ -44,7 +45,8 @@ use Rattle.jani_check.specs.TypeFaults.{var_faults, kind_fault, type_faults_of, 
 use Rattle.jani_check.specs.ProfileFaults.{profile_faults}
 use Rattle.jani_check.specs.Faults.{IsChecked}
 use Rattle.jani_check.proofs.Profiled.{first_none, rest_none}
-use Rattle.jani_meaning.specs.Elements.{nothing_called, automaton_called, elements, owned_by, variables, is_lasting, lasting}
+use Rattle.jani_meaning.specs.LoopLaws.{same_variables}
+use Rattle.jani_meaning.specs.Elements.{nothing_called, automaton_called, element_automaton, elements, owned_by, variables, is_lasting, lasting}
 use Rattle.jani_meaning.specs.Scene.{see, constant_called, constant_seen, constant_value, constant_within, constant, constant_names, location_column, domain_of, first_of, column, columns_of}
 use Rattle.jani_instance.specs.Described.{jani_description}
 
@@ -262,13 +264,17 @@ module _ (file : File) where
           vars_typed (types_beside a.variables) judged (beside_constants a.variables) (beside_judges a.variables) a.variables f.variables r.0
           (each_parts (HasNone judged) (flat_map var_demands a.variables) _ d).0
 
-      elements_typed : Each (λ a. Each (BeginsTyped values) a.variables) (elements file)
-      elements_typed =
-          each_any (λ a. Each (BeginsTyped values) a.variables) (automaton_called file)
-          (λ n. some_else (λ a. Each (BeginsTyped values) a.variables) (find (λ a. is_called n.name a.name) file.automata) (nothing_called n)
+      called_typed : (n : Named) → Each (BeginsTyped values) (automaton_called file n).variables
+      called_typed n =
+          some_else (λ a. Each (BeginsTyped values) a.variables) (find (λ a. is_called n.name a.name) file.automata) (nothing_called n)
           (each_found (λ a. Each (BeginsTyped values) a.variables) (λ a. is_called n.name a.name) file.automata
           (each_with (AutomatonRead HasItems) (λ a. automaton_faults (global_thing file) a ≡ []) (λ a. Each (BeginsTyped values) a.variables) own_typed file.automata
-          (checked.form.automata) automata_none)) tt)
+          (checked.form.automata) automata_none)) tt
+
+      elements_typed : Each (λ a. Each (BeginsTyped values) a.variables) (elements file)
+      elements_typed =
+          each_any (λ a. Each (BeginsTyped values) a.variables) (element_automaton file)
+          (λ e. subst (Each (BeginsTyped values)) (sym (same_variables e.enable (automaton_called file e.name))) (called_typed e.name))
           file.elements
 
       owned_typed : (owner : Option ℕ) (xs : List Var) → Each (BeginsTyped values) xs → Each (λ o. BeginsTyped values o.var) (owned_by owner xs)

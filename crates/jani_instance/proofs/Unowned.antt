@@ -9,9 +9,10 @@ use Rattle.basics.specs.Members.{is_some-position}
 use Rattle.basics.specs.Options.{none_of}
 use Rattle.process_core.specs.Instance.{numbered}
 use Rattle.process_core.specs.Ready.{Name}
-use Rattle.jani_tree.specs.Syntax.{Automaton, File, Var}
+use Rattle.jani_tree.specs.Syntax.{Automaton, File, Var, element_names}
 use Rattle.op_trees.specs.Names.{is_called}
 use Rattle.jani_meaning.specs.Elements.{automaton_called, elements, is_lasting, is_own, is_owner, lasting, owned_by, variables}
+use Rattle.jani_meaning.specs.LoopLaws.{element_count}
 
 pub none_left : {A : Type 0} (p q : A → Bool) (l : List A) → list_any p l ≡ false → list_any p (filter q l) ≡ false
 none_left p q [] h = refl
@@ -31,12 +32,12 @@ none_numbered n x i (a ∷ as_) h =
     list_any-append (is_own n x) (owned_by (Some i) a.variables) (numbered (λ i a. owned_by (Some i) a.variables) (i + 1) as_)
     ∙ ap₂ (λ a b. a || b) (none_own n x (Some i) (ne_eqb n i (λ e. omega (arith, h, e))) a.variables) (none_numbered n x (i + 1) as_ (omega (arith, h)))
 
-pub unowned : (file : File) (x : Name) → position (is_own (length file.elements) x) (lasting file) ≡ None
+pub unowned : (file : File) (x : Name) → position (is_own (length (element_names file)) x) (lasting file) ≡ None
 unowned file x =
-    let n = length file.elements in
+    let n = length (element_names file) in
     none_of (position (is_own n x) (lasting file))
     (is_some-position (is_own n x) (lasting file)
     ∙ none_left (is_own n x) is_lasting (variables file)
     (list_any-append (is_own n x) (owned_by None file.variables) (numbered (λ i a. owned_by (Some i) a.variables) 0 (elements file))
     ∙ ap₂ (λ a b. a || b) (none_own n x None refl file.variables)
-    (none_numbered n x 0 (elements file) (let e = length-map file.elements (automaton_called file) in omega (arith, e)))))
+    (none_numbered n x 0 (elements file) (let e = element_count file in omega (arith, e)))))

@@ -26,7 +26,7 @@ use Rattle.state_choices.specs.Groups as core
 use Rattle.state_choices.specs.Trimmed.{computed, trimmed, trimmed_group, trimmed_sum}
 use Rattle.state_choices.proofs.ComputedParts.{same_group}
 use Rattle.jani_tree.specs.Syntax as syntax
-use Rattle.jani_tree.specs.Syntax.{Automaton, Edge, File, Location}
+use Rattle.jani_tree.specs.Syntax.{Automaton, Edge, File, Location, element_names}
 use Rattle.op_trees.specs.Names.{is_called}
 use Rattle.jani_meaning.specs.Elements.{Owned, column_number, elements, is_global, is_own, is_several, lasting, labels, location_number, structures}
 use Rattle.jani_meaning.specs.Scene.{column, columns_of, constant, constant_names, see, start_of}
@@ -151,7 +151,7 @@ module _ (file : File) (v : Valuation) (acts : Automaton → List Name) (store :
   names_are : (i : ℕ) → placed_names (place_in file i) here ≡ names_in file v s i
   names_are i =
       fun_ext (λ x. ap known
-      (by_places (length file.elements) table s (position (is_own i x) (lasting file)) (position (is_global x) (lasting file)) (position (λ c. is_called x c.name) file.constants)
+      (by_places (length (element_names file)) table s (position (is_own i x) (lasting file)) (position (is_global x) (lasting file)) (position (λ c. is_called x c.name) file.constants)
       ∙ ap (value_in s (column_number file i x)) (values x)))
 
   abbrev member_at : ℕ → Automaton → Member
@@ -268,9 +268,9 @@ module _ (file : File) (v : Valuation) (acts : Automaton → List Name) (store :
   transients_are (o ∷ os) (t ∷ ts) h = ap₂ (λ x l. x ∷ l) (transient_is o t h.0) (transients_are os ts h.1)
 
   -- ---- the initial condition
-  globals_are : (places : NameMap Place) → ((x : Name) → under places x ≡ global_place file x) → known_names (values_at s places table) ≡ names_in file v s (length file.elements)
+  globals_are : (places : NameMap Place) → ((x : Name) → under places x ≡ global_place file x) → known_names (values_at s places table) ≡ names_in file v s (length (element_names file))
   globals_are places h =
-      let n = length file.elements in
+      let n = length (element_names file) in
       fun_ext (λ (x : Name). ap known
       (ap here (h x)
       ∙ by_places n table s None (position (is_global x) (lasting file)) (position (λ c. is_called x c.name) file.constants)

@@ -13,7 +13,7 @@ use Rattle.process_core.specs.Ready.{Name, Write, Reward, Update, Ready, has_act
 use Rattle.process_core.specs.Instance.{Column, Valuation, numbered}
 use Rattle.state_choices.specs.Trimmed.{computed, trimmed}
 use Rattle.jani_tree.specs.Syntax as syntax
-use Rattle.jani_tree.specs.Syntax.{Automaton, Destination, Edge, File, Location}
+use Rattle.jani_tree.specs.Syntax.{Automaton, Destination, Edge, File, Location, element_names}
 use Rattle.op_trees.specs.Names.{is_called}
 use Rattle.jani_meaning.specs.Elements.{Owned, column_number, elements, is_global, is_own, lasting, location_number, structure_number, structures}
 use Rattle.jani_meaning.specs.Scene.{constant_names, see, start_of}
@@ -70,11 +70,11 @@ acts_with x e = same_label (Some x) (option_map (λ n. n.name) e.action)
 
 -- ---- where names stand
 abbrev pub own_place : File → ℕ → Name → Option Place
-own_place file i x = option_map (λ k. Variable (length file.elements + k)) (position (is_own i x) (lasting file))
+own_place file i x = option_map (λ k. Variable (length (element_names file) + k)) (position (is_own i x) (lasting file))
 
 abbrev pub global_place : File → Name → Option Place
 global_place file x =
-    option_or (option_map (λ k. Variable (length file.elements + k)) (position (is_global x) (lasting file)))
+    option_or (option_map (λ k. Variable (length (element_names file) + k)) (position (is_global x) (lasting file)))
     (option_map Constant (position (λ c. is_called x c.name) file.constants))
 
 -- and which of them are reward structures

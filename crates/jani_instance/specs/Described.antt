@@ -6,7 +6,7 @@ use Rattle.std.specs.Fmt.{decimal}
 use Rattle.process_core.specs.Ready.{Name}
 use Rattle.process_core.specs.Instance.{Valuation, is_state, is_initial, first_values, is_wide_initial}
 use Rattle.process_core.specs.Steps.{Process}
-use Rattle.jani_tree.specs.Syntax.{File}
+use Rattle.jani_tree.specs.Syntax.{File, element_names}
 use Rattle.jani_meaning.specs.Elements.{labels, structures, lasting}
 use Rattle.jani_meaning.specs.Scene.{scene}
 use Rattle.jani_meaning.specs.Moment.{moment}
@@ -19,7 +19,7 @@ texts_from mark i zero = []
 texts_from mark i (suc n) = (mark ++ decimal i) ∷ texts_from mark (i + 1) n
 
 abbrev pub column_texts : File → List Name
-column_texts file = texts_from (codes "@") 0 (length file.elements) ++ texts_from (codes "#") 0 (length (lasting file))
+column_texts file = texts_from (codes "@") 0 (length (element_names file)) ++ texts_from (codes "#") 0 (length (lasting file))
 
 -- the labels, then the reward structures
 abbrev pub mark_names : File → List Name

@@ -10,7 +10,7 @@ use Rattle.op_trees.specs.Seen.{Seen}
 use Rattle.process_core.specs.Ready.{Name}
 use Rattle.process_core.specs.Instance.{Valuation, instance_faults}
 use Rattle.process_core.specs.Steps.{IsProcess}
-use Rattle.jani_tree.specs.Syntax.{Expression, File, file_of}
+use Rattle.jani_tree.specs.Syntax.{Expression, File, file_of, element_names}
 use Rattle.jani_meaning.specs.Elements.{elements, has_several_starts, labels, structures, lasting}
 use Rattle.jani_meaning.specs.Moment.{moment}
 use Rattle.jani_meaning.specs.Scene.{scene, begins_anywhere, column, columns_of, constant_names, first_location, first_of, location_column}
@@ -27,10 +27,10 @@ pub texts_length : (mark : List ℕ) (i n : ℕ) → length (texts_from mark i n
 texts_length mark i zero = refl
 texts_length mark i (suc n) = ap suc (texts_length mark (i + 1) n)
 
-pub column_count : (file : File) → length (column_texts file) ≡ length file.elements + length (lasting file)
+pub column_count : (file : File) → length (column_texts file) ≡ length (element_names file) + length (lasting file)
 column_count file =
-    length-append (texts_from (codes "@") 0 (length file.elements)) (texts_from (codes "#") 0 (length (lasting file)))
-    ∙ ap₂ (λ a b. a + b) (texts_length (codes "@") 0 (length file.elements)) (texts_length (codes "#") 0 (length (lasting file)))
+    length-append (texts_from (codes "@") 0 (length (element_names file))) (texts_from (codes "#") 0 (length (lasting file)))
+    ∙ ap₂ (λ a b. a + b) (texts_length (codes "@") 0 (length (element_names file))) (texts_length (codes "#") 0 (length (lasting file)))
 
 -- ---- first values
 start_known : (names : Name → Seen) (e : Option Expression) → is_none e ≡ false → is_some (first_of names e) ≡ true

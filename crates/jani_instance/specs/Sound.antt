@@ -12,7 +12,7 @@ use Rattle.process_core.specs.Instance.{Valuation, instance_faults, is_state}
 use Rattle.process_core.specs.declared.data.Given.{Given}
 use Rattle.state_choices.specs.Groups.{Group, element_groups}
 use Rattle.state_choices.specs.Trimmed.{computed, trimmed_group}
-use Rattle.jani_tree.specs.Syntax.{File}
+use Rattle.jani_tree.specs.Syntax.{File, element_names}
 use Rattle.jani_meaning.specs.Elements.{labels}
 use Rattle.jani_meaning.specs.Scene.{scene, columns_of, has_condition}
 use Rattle.jani_meaning.specs.Moment.{moment, Moment}
@@ -60,7 +60,7 @@ module _ (file : File) (given : List Given) (store : ExprStore JaniOp) (constant
     pub faultless : instance_faults (scene file (given_by given)) ≡ []
     pub begin : BeginRight (columns_of file (given_by given))
     pub columns_are : map column_of columns ≡ columns_of file (given_by given)
-    pub elements_are : length elements ≡ length file.elements
+    pub elements_are : length elements ≡ length (element_names file)
     pub labels_are : n ≡ length (labels file)
     pub names_are : map (λ t. t.name.now) transients ≡ mark_names file
     pub condition_is : conditional ≡ has_condition file

@@ -32,7 +32,7 @@ pub(crate) struct Numbers<'a> {
 #[derive(Clone, Copy)]
 pub(crate) struct Basis<'s, 'a> {
     pub(crate) file: &'a JaniFile,
-    pub(crate) parts: &'s [Part<'a>],
+    pub(crate) parts: &'s [Part<'a, 'a>],
     pub(crate) actions: &'s [Numbers<'a>],
     pub(crate) lasting: &'s [Owned<'a>],
     pub(crate) structures: &'s [Owned<'a>],
@@ -40,7 +40,10 @@ pub(crate) struct Basis<'s, 'a> {
 }
 
 /// The numbers of the actions and locations of each element.
-pub(crate) fn actions<'a>(alloc: Global, parts: &[Part<'a>]) -> Result<Vec<Numbers<'a>>, AllocError>
+pub(crate) fn actions<'a>(
+    alloc: Global,
+    parts: &[Part<'a, 'a>],
+) -> Result<Vec<Numbers<'a>>, AllocError>
     ensures { IfOk result (λ ts. AllZip IsNumbered (map automaton_at parts.now) ts.items) }
 {
     let mut all = Vec::with_capacity(alloc, parts.len())?;
@@ -51,7 +54,7 @@ pub(crate) fn actions<'a>(alloc: Global, parts: &[Part<'a>]) -> Result<Vec<Numbe
 }
 
 /// The numbers of the actions and locations of an element.
-fn numbers_of<'a>(alloc: Global, part: Part<'a>) -> Result<Numbers<'a>, AllocError>
+fn numbers_of<'a>(alloc: Global, part: Part<'a, 'a>) -> Result<Numbers<'a>, AllocError>
     ensures { IfOk result (λ t. IsNumbered (automaton_at part.entry) t) }
 {
     let actions = actions_among(alloc, edges(part))?;

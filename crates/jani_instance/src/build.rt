@@ -18,7 +18,7 @@ use std::alloc::{AllocError, Global};
 /// global names stand, and which of them are reward structures.
 #[derive(Clone, Copy)]
 pub(crate) struct Site<'o, 's, 'a> {
-    pub(crate) part: Part<'a>,
+    pub(crate) part: Part<'a, 'a>,
     pub(crate) own: &'o NameMap<'a, Place>,
     pub(crate) own_structures: &'o NameMap<'a, Place>,
     pub(crate) locations: &'s NameMap<'a, usize>,

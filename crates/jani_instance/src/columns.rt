@@ -90,7 +90,7 @@ pub(crate) fn last_number(part: Part) -> usize
 }
 
 /// The name of the element's automaton.
-fn name_of<'a>(part: Part<'a>) -> &'a Text
+fn name_of<'a, 'e>(part: Part<'a, 'e>) -> &'a Text
     ensures { result.now ≡ (automaton_at part.entry).name.name }
 {
     match part.automaton {
@@ -100,7 +100,7 @@ fn name_of<'a>(part: Part<'a>) -> &'a Text
 }
 
 /// The location of an element.
-fn location_variable<'a>(part: Part<'a>) -> Variable<'a>
+fn location_variable<'a, 'e>(part: Part<'a, 'e>) -> Variable<'a>
     ensures { variable_of result ≡ trimmed_column (location_column (automaton_at part.entry)) }
 {
     let low = counted(0);
@@ -157,9 +157,9 @@ pub(crate) fn start_of(e: &Option<JaniExpr>, run: &Run) -> Result<Value, EvalFai
 }
 
 /// The columns: the locations of the elements, then the variables.
-pub(crate) fn variables_of<'a>(
+pub(crate) fn variables_of<'a, 'e>(
     alloc: Global,
-    parts: &[Part<'a>],
+    parts: &[Part<'a, 'e>],
     lasting: &[Owned<'a>],
     run: &Run,
 ) -> Result<List<Variable<'a>>, AllocError>
@@ -173,9 +173,9 @@ pub(crate) fn variables_of<'a>(
     Ok(all)
 }
 
-fn location_variables<'a>(
+fn location_variables<'a, 'e>(
     alloc: Global,
-    parts: &[Part<'a>],
+    parts: &[Part<'a, 'e>],
 ) -> Result<List<Variable<'a>>, AllocError>
     ensures { IfOk result (λ vs. map variable_of vs ≡ map trimmed_column (map location_column (map automaton_at parts.now))) }
 {

@@ -77,7 +77,7 @@ fn element<'s, 'a>(
     alloc: Global,
     basis: &Basis<'s, 'a>,
     i: usize,
-    part: Part<'a>,
+    part: Part<'a, 'a>,
     numbers: &'s Numbers<'a>,
     owning: &Owning<'a>,
 ) -> Result<NamedElement<'a>, AllocError>
@@ -96,7 +96,7 @@ fn element<'s, 'a>(
 /// Where the edges of an element stand.
 fn site_of<'o, 's, 'a>(
     basis: &Basis<'s, 'a>,
-    part: Part<'a>,
+    part: Part<'a, 'a>,
     own: &'o NameMap<'a, Place>,
     own_structures: &'o NameMap<'a, Place>,
     structures: &'o NameMap<'a, Place>,

@@ -9,21 +9,26 @@ ghost use Rattle.jani_tree.specs.Syntax.{automaton_of, const_of, edge_of, file_o
 ghost use Rattle.jani_meaning.specs.Elements.{elements, is_global, is_label, is_lasting, is_own, is_structure, owned_by};
 ghost use Rattle.instance_start.specs.declared.data.Place.TheVariants.{Variable};
 ghost use Rattle.jani_instance.specs.Constants.{constant_place};
-ghost use Rattle.jani_instance.specs.Parts.{automaton_among, automaton_at, owned_at, place_under};
+ghost use Rattle.jani_loops.specs.Looped.{IsLooped};
+ghost use Rattle.jani_instance.specs.Parts.{automaton_at, automaton_by, looped_by, named_automaton, owned_at, place_under};
 
-use bridge_io::Named;
+use bridge_io::{List, Named};
 use gathering::NumberLists;
 use instance_start::Place;
 use jani_check::automata_by_name;
-use jani_tree::{JaniAutomaton, JaniConst, JaniEdge, JaniFile, JaniKind, JaniLocation, JaniVar};
+use jani_tree::{
+    JaniAutomaton, JaniConst, JaniEdge, JaniElement, JaniFile, JaniKind, JaniLocation, JaniVar,
+};
 use name_rules::NameMap;
 use std::alloc::{AllocError, Global};
 
-/// An element, and the automaton that it names.
+/// An element, the automaton that it names, and its edges: those of the automaton, and the loops of actions that the element
+/// accepts everywhere.
 #[derive(Clone, Copy)]
-pub(crate) struct Part<'a> {
+pub(crate) struct Part<'a, 'e> {
     pub(crate) name: &'a Named,
     pub(crate) automaton: Option<&'a JaniAutomaton>,
+    pub(crate) edges: &'e [JaniEdge],
 }
 
 /// A variable, and the number of the element that it belongs to.
@@ -33,31 +38,80 @@ pub(crate) struct Owned<'a> {
     pub(crate) var: &'a JaniVar,
 }
 
-/// The elements.
-pub(crate) fn parts<'a>(alloc: Global, file: &'a JaniFile) -> Result<Vec<Part<'a>>, AllocError>
+/// The elements, where these are their automata with loops, if there are loops.
+pub(crate) fn parts<'a: 'e, 'e>(
+    alloc: Global,
+    file: &'a JaniFile,
+    looped: &'e Option<List<JaniAutomaton>>,
+) -> Result<Vec<Part<'a, 'e>>, AllocError>
+    requires { IsLooped (file_of file.now) looped.now }
     ensures { IfOk result (λ ps. map automaton_at ps.items ≡ elements (file_of file.entry.now)) }
 {
-    parts_among(alloc, file.elements.as_slice(), file.automata.as_slice())
+    let automata = automata_by_name(alloc, file.automata.as_slice())?;
+    match looped {
+        Some(all) => looped_parts(alloc, file.elements.as_slice(), &automata, all.as_slice()),
+        None => plain_parts(alloc, file.elements.as_slice(), &automata),
+    }
 }
 
-fn parts_among<'a>(
-    alloc: Global,
-    names: &'a [Named],
-    automata: &'a [JaniAutomaton],
-) -> Result<Vec<Part<'a>>, AllocError>
-    ensures { IfOk result (λ ps. map automaton_at ps.items ≡ map (automaton_among (map automaton_of automata.entry.now)) names.entry.now) }
+/// An element without loops.
+fn plain<'a>(name: &'a Named, automaton: Option<&'a JaniAutomaton>) -> Part<'a, 'a>
+    ensures { automaton_at result ≡ named_automaton automaton.entry name.entry.now }
 {
-    let by_name = automata_by_name(alloc, automata)?;
-    let mut all = Vec::with_capacity(alloc, names.len())?;
-    for name in names {
-        let automaton = by_name.get(name.name.as_str());
-        all.push(Part { name, automaton })?;
+    match automaton {
+        Some(a) => Part {
+            name,
+            automaton,
+            edges: a.edges.as_slice(),
+        },
+        None => Part {
+            name,
+            automaton,
+            edges: &[],
+        },
+    }
+}
+
+/// The elements, none of which has loops.
+fn plain_parts<'a>(
+    alloc: Global,
+    elements: &'a [JaniElement],
+    automata: &NameMap<'a, &'a JaniAutomaton>,
+) -> Result<Vec<Part<'a, 'a>>, AllocError>
+    ensures { IfOk result (λ ps. map automaton_at ps.items ≡ map (λ e. automaton_by automata.now e.name) elements.entry.now) }
+{
+    let mut all = Vec::with_capacity(alloc, elements.len())?;
+    for e in elements {
+        all.push(plain(&e.name, automata.get(e.name.name.as_str())))?;
+    }
+    Ok(all)
+}
+
+/// The elements, where these are their automata with loops.
+fn looped_parts<'a, 'e>(
+    alloc: Global,
+    elements: &'a [JaniElement],
+    automata: &NameMap<'a, &'a JaniAutomaton>,
+    looped: &'e [JaniAutomaton],
+) -> Result<Vec<Part<'a, 'e>>, AllocError>
+    requires { map automaton_of looped.now ≡ map (λ e. looped_by automata.now e) elements.now }
+    ensures { IfOk result (λ ps. map automaton_at ps.items ≡ map (λ e. looped_by automata.now e) elements.entry.now) }
+{
+    let mut all = Vec::with_capacity(alloc, elements.len())?;
+    for i in 0..elements.len() {
+        let e = &elements[i];
+        let automaton = automata.get(e.name.name.as_str());
+        all.push(Part {
+            name: &e.name,
+            automaton,
+            edges: looped[i].edges.as_slice(),
+        })?;
     }
     Ok(all)
 }
 
 /// The element's own variables.
-pub(crate) fn own_variables<'a>(part: Part<'a>) -> &'a [JaniVar]
+pub(crate) fn own_variables<'a, 'e>(part: Part<'a, 'e>) -> &'a [JaniVar]
     ensures { map var_of result.now ≡ (automaton_at part.entry).variables }
 {
     match part.automaton {
@@ -67,7 +121,7 @@ pub(crate) fn own_variables<'a>(part: Part<'a>) -> &'a [JaniVar]
 }
 
 /// The element's locations.
-pub(crate) fn locations<'a>(part: Part<'a>) -> &'a [JaniLocation]
+pub(crate) fn locations<'a, 'e>(part: Part<'a, 'e>) -> &'a [JaniLocation]
     ensures { map location_of result.now ≡ (automaton_at part.entry).locations }
 {
     match part.automaton {
@@ -77,7 +131,7 @@ pub(crate) fn locations<'a>(part: Part<'a>) -> &'a [JaniLocation]
 }
 
 /// The element's initial locations.
-pub(crate) fn initial<'a>(part: Part<'a>) -> &'a [Named]
+pub(crate) fn initial<'a, 'e>(part: Part<'a, 'e>) -> &'a [Named]
     ensures { result.now ≡ (automaton_at part.entry).initial }
 {
     match part.automaton {
@@ -87,20 +141,17 @@ pub(crate) fn initial<'a>(part: Part<'a>) -> &'a [Named]
 }
 
 /// The element's edges.
-pub(crate) fn edges<'a>(part: Part<'a>) -> &'a [JaniEdge]
+pub(crate) fn edges<'a, 'e>(part: Part<'a, 'e>) -> &'e [JaniEdge]
     ensures { map edge_of result.now ≡ (automaton_at part.entry).edges }
 {
-    match part.automaton {
-        Some(automaton) => automaton.edges.as_slice(),
-        None => &[],
-    }
+    part.edges
 }
 
 /// The global variables, then the own ones of each element.
-pub(crate) fn variables<'a>(
+pub(crate) fn variables<'a, 'e>(
     alloc: Global,
     global: &'a [JaniVar],
-    parts: &[Part<'a>],
+    parts: &[Part<'a, 'e>],
 ) -> Result<Vec<Owned<'a>>, AllocError>
     ensures { IfOk result (λ os. map owned_at os.items
         ≡ owned_by None (map var_of global.entry.now) ++ numbered (λ i a. owned_by (Some i) a.variables) 0 (map automaton_at parts.now)) }

@@ -266,11 +266,11 @@ fn givers<'a>(
     Ok(all)
 }
 
-fn transient<'a>(
+fn transient<'a, 'e>(
     alloc: Global,
     one: &Transient<'a, &JaniExpr>,
-    elements: &[NamedElement<'a>],
-    places: &NameMap<'a, Place>,
+    elements: &[NamedElement<'e>],
+    places: &NameMap<'e, Place>,
     store: &mut ExprStore<JaniOp>,
 ) -> Result<Transient<'a, ExprId>, AllocError>
     ensures { IfOk result (λ p. IsPrepared (nodes store.old) (nodes store.new) (λ look. transient_as (λ i. look) p) (λ at. transient_as (λ i. see_from (places_at elements.now places.now i) at) one.now)) }
@@ -284,11 +284,11 @@ fn transient<'a>(
 }
 
 /// The transient variables.
-pub(crate) fn transients<'a>(
+pub(crate) fn transients<'a, 'e>(
     alloc: Global,
     these: &[Transient<'a, &JaniExpr>],
-    elements: &[NamedElement<'a>],
-    places: &NameMap<'a, Place>,
+    elements: &[NamedElement<'e>],
+    places: &NameMap<'e, Place>,
     store: &mut ExprStore<JaniOp>,
 ) -> Result<Vec<Transient<'a, ExprId>>, AllocError>
     ensures { IfOk result (λ ps. IsPrepared (nodes store.old) (nodes store.new) (λ look. map (transient_as (λ i. look)) ps.items) (λ at. map (transient_as (λ i. see_from (places_at elements.now places.now i) at)) these.now)) }

@@ -10,6 +10,7 @@ ghost use Rattle.instance_start.specs.Firsts.{BeginRight};
 ghost use Rattle.instance_start.specs.Given.{given_by, misfit};
 ghost use Rattle.instance_start.specs.Started.{FailsIn, Starts};
 ghost use Rattle.jani_meaning.specs.Elements.{elements, variables as all_variables};
+ghost use Rattle.jani_loops.specs.Looped.{IsLooped};
 ghost use Rattle.jani_instance.specs.Actions.{IsBasis};
 ghost use Rattle.jani_instance.specs.Built.{global_place};
 ghost use Rattle.jani_instance.specs.Constants.{Tabled, constant_place};
@@ -32,12 +33,13 @@ use crate::prepare;
 use crate::run::constants_alone;
 use crate::transients::transients;
 use crate::vectors::vectors;
-use bridge_io::together;
+use bridge_io::{List, together};
 use expr_store::{ExprId, ExprStore};
 use instance_start::{Column, Constant, Place, columns, given_values, misfit};
 use jani_check::CheckedJani;
+use jani_loops::{EVALUATED, looped};
 use jani_table::JaniOp;
-use jani_tree::{JaniConst, JaniExpr, JaniFile};
+use jani_tree::{JaniAutomaton, JaniConst, JaniExpr, JaniFile};
 use name_rules::NameMap;
 use op_trees::Value;
 use process_core::{Given, StartFail};
@@ -66,7 +68,7 @@ pub fn start_jani<'a>(
     }
 }
 
-/// The same where the given constants fit.
+/// The same where the given constants fit. Loops are kept while the instance is made.
 fn start_fitting<'a>(
     alloc: Global,
     checked: &'a CheckedJani,
@@ -77,19 +79,38 @@ fn start_fitting<'a>(
     requires fits { misfit (map opened (file_of checked.now).constants) given.now ≡ None }
     ensures { Starts process_of (jani_description (file_of checked.now)) given.now result }
 {
-    match what_is_listed(alloc, checked.file()) {
+    match looped(alloc, checked.file(), EVALUATED) {
+        Err(e) => Err(StartFail::Memory(e)),
+        Ok(all) => start_looped(alloc, checked, given, opens, &all),
+    }
+}
+
+/// The same from the automata of the elements with loops, if there are loops.
+fn start_looped<'a>(
+    alloc: Global,
+    checked: &'a CheckedJani,
+    given: &'a [Given],
+    opens: &[Constant<'a>],
+    looped: &Option<List<JaniAutomaton>>,
+) -> Result<JaniInstance<'a>, StartFail>
+    requires opens { map constant_of opens.now ≡ map opened (file_of checked.now).constants }
+    requires fits { misfit (map opened (file_of checked.now).constants) given.now ≡ None }
+    requires looped { IsLooped (file_of checked.now) looped.now }
+    ensures { Starts process_of (jani_description (file_of checked.now)) given.now result }
+{
+    match what_is_listed(alloc, checked.file(), looped) {
         Err(e) => Err(StartFail::Memory(e)),
         Ok(listed) => start_listed(alloc, checked, given, opens, &listed),
     }
 }
 
 /// The same from the elements and the variables.
-fn start_listed<'a>(
+fn start_listed<'a: 'e, 'e>(
     alloc: Global,
     checked: &'a CheckedJani,
     given: &'a [Given],
     opens: &[Constant<'a>],
-    listed: &Listed<'a>,
+    listed: &Listed<'a, 'e>,
 ) -> Result<JaniInstance<'a>, StartFail>
     requires opens { map constant_of opens.now ≡ map opened (file_of checked.now).constants }
     requires fits { misfit (map opened (file_of checked.now).constants) given.now ≡ None }
@@ -163,17 +184,22 @@ pub(crate) struct Kinds<'a> {
 
 /// The elements of a file, its variables, where its constants stand, and whether it has an initial condition.
 #[derive(Drop)]
-pub(crate) struct Listed<'a> {
-    pub(crate) parts: Vec<Part<'a>>,
+pub(crate) struct Listed<'a, 'e> {
+    pub(crate) parts: Vec<Part<'a, 'e>>,
     pub(crate) kinds: Kinds<'a>,
     pub(crate) constants: NameMap<'a, Place>,
     pub(crate) has_condition: bool,
 }
 
-fn what_is_listed<'a>(alloc: Global, file: &'a JaniFile) -> Result<Listed<'a>, AllocError>
+fn what_is_listed<'a: 'e, 'e>(
+    alloc: Global,
+    file: &'a JaniFile,
+    looped: &'e Option<List<JaniAutomaton>>,
+) -> Result<Listed<'a, 'e>, AllocError>
+    requires { IsLooped (file_of file.now) looped.now }
     ensures { IfOk result (IsListed (file_of file.now)) }
 {
-    let parts = parts(alloc, file)?;
+    let parts = parts(alloc, file, looped)?;
     let kinds = kinds_of(alloc, file, parts.as_slice())?;
     let constants = constant_places(alloc, file.constants.as_slice())?;
     let has_condition = has_condition(file, parts.as_slice(), kinds.lasting.as_slice());
@@ -185,10 +211,10 @@ fn what_is_listed<'a>(alloc: Global, file: &'a JaniFile) -> Result<Listed<'a>, A
     })
 }
 
-fn kinds_of<'a>(
+fn kinds_of<'a, 'e>(
     alloc: Global,
     file: &'a JaniFile,
-    parts: &[Part<'a>],
+    parts: &[Part<'a, 'e>],
 ) -> Result<Kinds<'a>, AllocError>
     requires { map automaton_at parts.now ≡ elements (file_of file.now) }
     ensures { IfOk result (AreKinds (all_variables (file_of file.now))) }
@@ -233,12 +259,12 @@ pub(crate) struct Known<'a> {
 }
 
 /// What is known of a file under given constants, or why it doesn't start.
-fn what_is_known<'a>(
+fn what_is_known<'a, 'e>(
     alloc: Global,
     file: &'a JaniFile,
     given: &[Given],
     opens: &[Constant<'a>],
-    listed: &Listed<'a>,
+    listed: &Listed<'a, 'e>,
 ) -> Result<Known<'a>, StartFail>
     requires opens { map constant_of opens.now ≡ map opened (file_of file.now).constants }
     requires listed { IsListed (file_of file.now) listed.now }
@@ -251,12 +277,12 @@ fn what_is_known<'a>(
 }
 
 /// The same under the values that are given for names.
-fn known_under<'a>(
+fn known_under<'a, 'e>(
     alloc: Global,
     file: &'a JaniFile,
     given: &NameMap<Value>,
     opens: &[Constant<'a>],
-    listed: &Listed<'a>,
+    listed: &Listed<'a, 'e>,
 ) -> Result<Known<'a>, StartFail>
     requires opens { map constant_of opens.now ≡ map opened (file_of file.now).constants }
     requires listed { IsListed (file_of file.now) listed.now }
@@ -295,12 +321,12 @@ fn known_constants(
 }
 
 /// The columns, or why there are none.
-fn known_columns<'a>(
+fn known_columns<'a, 'e>(
     alloc: Global,
     file: &'a JaniFile,
     given: &NameMap<Value>,
     opens: &[Constant<'a>],
-    listed: &Listed<'a>,
+    listed: &Listed<'a, 'e>,
     table: &[Option<Value>],
 ) -> Result<Vec<Column<'a>>, StartFail>
     requires opens { map constant_of opens.now ≡ map opened (file_of file.now).constants }
@@ -333,11 +359,11 @@ fn known_columns<'a>(
 }
 
 /// Where global names stand: behind the locations of the elements.
-fn places<'a>(
+fn places<'a: 'n, 'e, 'n>(
     alloc: Global,
-    file: &'a JaniFile,
-    listed: &Listed<'a>,
-) -> Result<NameMap<'a, Place>, AllocError>
+    file: &'n JaniFile,
+    listed: &Listed<'a, 'e>,
+) -> Result<NameMap<'n, Place>, AllocError>
     requires listed { IsListed (file_of file.now) listed.now }
     requires room { HasRoom (file_of file.now) }
     ensures { IfOk result (λ m. (x : List ℕ) → under m x ≡ global_place (file_of file.now) x) }
@@ -368,25 +394,28 @@ pub(crate) struct Built<'a> {
     pub(crate) has_condition: bool,
 }
 
-fn what_is_built<'a>(
+/// What is made with the values of the constants. Where global names stand is told once more, by names that live as long as the
+/// loops, since a map of names is not lent for a shorter time than its own.
+fn what_is_built<'a: 'e, 'e>(
     alloc: Global,
     file: &'a JaniFile,
-    listed: &Listed<'a>,
+    listed: &Listed<'a, 'e>,
     known: &Known<'a>,
 ) -> Result<Built<'a>, AllocError>
     requires checked { IsChecked (file_of file.now) }
     requires listed { IsListed (file_of file.now) listed.now }
     requires room { HasRoom (file_of file.now) }
-    requires places { (x : List ℕ) → under known.now.places x ≡ global_place (file_of file.now) x }
     ensures { (v : Valuation) → Tabled (file_of file.now) v (Some known.now.constants.items) → IfOk result (IsBuilt (file_of file.now) v) }
 {
     let transients = known_transients(alloc, file, listed, known.constants.as_slice())?;
-    let linked = what_is_linked(alloc, file, listed, &known.places)?;
+    let lent: &'e JaniFile = file;
+    let places: NameMap<'e, Place> = places(alloc, lent, listed)?;
+    let linked = what_is_linked(alloc, file, listed, &places)?;
     let prepared = what_is_prepared(
         alloc,
         linked.elements.as_slice(),
         transients.as_slice(),
-        &known.places,
+        &places,
     )?;
     Ok(Built {
         prepared,
@@ -398,11 +427,11 @@ fn what_is_built<'a>(
 }
 
 /// Names resolved to places.
-fn what_is_prepared<'a>(
+fn what_is_prepared<'a, 'e>(
     alloc: Global,
-    these: &[NamedElement<'a>],
+    these: &[NamedElement<'e>],
     variables: &[Transient<'a, &JaniExpr>],
-    places: &NameMap<'a, Place>,
+    places: &NameMap<'e, Place>,
 ) -> Result<Prepared<'a>, AllocError>
     ensures { IfOk result (IsPreparedOf places.now these.now variables.now) }
 {
@@ -417,10 +446,10 @@ fn what_is_prepared<'a>(
 }
 
 /// The labels and the reward structures, by the values of the constants.
-fn known_transients<'a>(
+fn known_transients<'a, 'e>(
     alloc: Global,
     file: &'a JaniFile,
-    listed: &Listed<'a>,
+    listed: &Listed<'a, 'e>,
     table: &[Option<Value>],
 ) -> Result<Vec<Transient<'a, &'a JaniExpr>>, AllocError>
     requires { IsListed (file_of file.now) listed.now }
@@ -438,18 +467,18 @@ fn known_transients<'a>(
 
 /// The elements, before their names are resolved, the vectors, and the initial locations.
 #[derive(Drop)]
-pub(crate) struct Linked<'a> {
-    pub(crate) elements: Vec<NamedElement<'a>>,
+pub(crate) struct Linked<'a, 'e> {
+    pub(crate) elements: Vec<NamedElement<'e>>,
     pub(crate) vectors: Vec<Vector<'a>>,
     pub(crate) initial_locations: Vec<InitialLocations>,
 }
 
-fn what_is_linked<'a>(
+fn what_is_linked<'a: 'e, 'e>(
     alloc: Global,
     file: &'a JaniFile,
-    listed: &Listed<'a>,
-    places: &NameMap<'a, Place>,
-) -> Result<Linked<'a>, AllocError>
+    listed: &Listed<'a, 'e>,
+    places: &NameMap<'e, Place>,
+) -> Result<Linked<'a, 'e>, AllocError>
     requires listed { IsListed (file_of file.now) listed.now }
     requires room { HasRoom (file_of file.now) }
     requires places { (x : List ℕ) → under places.now x ≡ global_place (file_of file.now) x }
@@ -464,16 +493,23 @@ fn what_is_linked<'a>(
         structures: listed.kinds.structures.as_slice(),
         places,
     };
-    linked_on(alloc, &basis)
+    linked_on(alloc, file, &basis)
 }
 
-fn linked_on<'a>(alloc: Global, basis: &Basis<'_, 'a>) -> Result<Linked<'a>, AllocError>
-    requires { IsBasis basis.now }
+/// The same on what elements and vectors are built of.
+fn linked_on<'a, 's, 'e>(
+    alloc: Global,
+    file: &'a JaniFile,
+    basis: &Basis<'s, 'e>,
+) -> Result<Linked<'a, 'e>, AllocError>
+    requires basis { IsBasis basis.now }
+    requires file { file_of basis.now.file.now ≡ file_of file.now }
     ensures { IfOk result (AreLinked (file_of basis.now.file.now)) }
 {
     let elements = elements(alloc, basis)?;
     let initial = initial_locations(alloc, basis.parts);
-    let (vectors, initial_locations) = together(vectors(alloc, basis), initial)?;
+    let vectors = vectors(alloc, file.vectors.as_slice(), basis);
+    let (vectors, initial_locations) = together(vectors, initial)?;
     Ok(Linked {
         elements,
         vectors,

@@ -25,9 +25,9 @@ pub(crate) struct Gifts<'a> {
 }
 
 /// The labels, then the reward structures.
-pub(crate) fn transients<'a>(
+pub(crate) fn transients<'a, 'e>(
     alloc: Global,
-    parts: &[Part<'a>],
+    parts: &[Part<'a, 'e>],
     labels: &[Owned<'a>],
     structures: &[Owned<'a>],
     run: &Run,
@@ -43,10 +43,10 @@ pub(crate) fn transients<'a>(
     Ok(all)
 }
 
-fn add_transients<'a>(
+fn add_transients<'a, 'e>(
     alloc: Global,
     all: &mut Vec<Transient<'a, &'a JaniExpr>>,
-    parts: &[Part<'a>],
+    parts: &[Part<'a, 'e>],
     gifts: &Gifts<'a>,
     vars: &[Owned<'a>],
     run: &Run,
@@ -62,10 +62,10 @@ fn add_transients<'a>(
 }
 
 /// A transient variable.
-fn transient<'a>(
+fn transient<'a, 'e>(
     alloc: Global,
     o: Owned<'a>,
-    parts: &[Part<'a>],
+    parts: &[Part<'a, 'e>],
     gifts: &Gifts<'a>,
     run: &Run,
 ) -> Result<Transient<'a, &'a JaniExpr>, AllocError>
@@ -126,7 +126,7 @@ fn copied<'a>(
 
 // ---- what locations give
 
-fn gathered<'a>(alloc: Global, parts: &[Part<'a>]) -> Result<Gifts<'a>, AllocError>
+fn gathered<'a, 'e>(alloc: Global, parts: &[Part<'a, 'e>]) -> Result<Gifts<'a>, AllocError>
     ensures { IfOk result (AreGifts (map automaton_at parts.now)) }
 {
     let own = gifts_of_each(alloc, parts)?;
@@ -135,9 +135,9 @@ fn gathered<'a>(alloc: Global, parts: &[Part<'a>]) -> Result<Gifts<'a>, AllocErr
 }
 
 /// What the locations of all elements give.
-fn gifts_of_all<'a>(
+fn gifts_of_all<'a, 'e>(
     alloc: Global,
-    parts: &[Part<'a>],
+    parts: &[Part<'a, 'e>],
 ) -> Result<NameLists<'a, Giver<&'a JaniExpr>>, AllocError>
     ensures { IfOk result (λ t. (x : ListOf ℕ) → map giver_at (list_under t x) ≡ numbered (gifts_by x) 0 (map automaton_at parts.now)) }
 {
@@ -149,9 +149,9 @@ fn gifts_of_all<'a>(
 }
 
 /// What the locations of each element give.
-fn gifts_of_each<'a>(
+fn gifts_of_each<'a, 'e>(
     alloc: Global,
-    parts: &[Part<'a>],
+    parts: &[Part<'a, 'e>],
 ) -> Result<Vec<NameLists<'a, Giver<&'a JaniExpr>>>, AllocError>
     ensures { IfOk result (λ ts. (k : ℕ) (x : ListOf ℕ) → map giver_at (own_list ts.items k x) ≡ gifts_at k x (map automaton_at parts.now)) }
 {

@@ -14,14 +14,15 @@ use jani_tree::JaniVector;
 use std::alloc::{AllocError, Global};
 
 /// The vectors of a file.
-pub(crate) fn vectors<'s, 'a>(
+pub(crate) fn vectors<'a>(
     alloc: Global,
-    basis: &Basis<'s, 'a>,
+    these: &'a [JaniVector],
+    basis: &Basis,
 ) -> Result<Vec<Vector<'a>>, AllocError>
     requires { IsBasis basis.now }
-    ensures { IfOk result (λ ws. AllZip (IsVectorOf (file_of basis.now.file.now) actions_of) (file_of basis.now.file.now).vectors ws.items) }
+    ensures { IfOk result (λ ws. AllZip (IsVectorOf (file_of basis.now.file.now) actions_of) (map syntax.vector_of these.entry.now) ws.items) }
 {
-    vectors_among(alloc, basis.file.vectors.as_slice(), basis.actions)
+    vectors_among(alloc, these, basis.actions)
 }
 
 fn vectors_among<'a>(

@@ -1,5 +1,5 @@
 -- The parts of a JANI file, gathered by loops.
-use Rattle.std.proofs.Common.{◌≡◌, ℕ, ◌+◌, ◌<◌, ◌≤◌, List, [], ◌∷◌, ◌++◌, map, length, get_or, drop, refl, sym, ap, ◌∙◌, append-nil, append_assoc, arith}
+use Rattle.std.proofs.Common.{◌≡◌, ℕ, ◌+◌, ◌<◌, ◌≤◌, List, [], ◌∷◌, ◌++◌, map, length, get_or, drop, refl, sym, ap, ap₂, subst, ◌∙◌, append-nil, append_assoc, arith}
 use Rattle.std.specs.Prelude.{zero, suc, not, ◌||◌, Bool, true, false, Some, None, is_some, if◌then◌else◌}
 use Rattle.std.specs.List.{filter, find, flat_map}
 use Rattle.std.proofs.lemmas.List.{drop_more, drop_all}
@@ -8,7 +8,10 @@ use Rattle.basics.specs.Lists.{append_parts}
 use Rattle.bridge_io.specs.declared.reason.Named.{Named}
 use Rattle.process_core.specs.Ready.{Name}
 use Rattle.process_core.specs.Instance.{numbered}
-use Rattle.jani_tree.specs.Syntax.{Automaton, File}
+use Rattle.jani_tree.specs.declared.syntax.JaniElement.{JaniElement}
+use Rattle.jani_tree.specs.declared.syntax.JaniFile.{JaniFile}
+use Rattle.jani_tree.specs.Syntax.{Automaton, File, element_names, element_of, file_of}
+use Rattle.std.proofs.lemmas.List.{length-map}
 use Rattle.bridge_io.specs.declared.reason.Reason.TheVariants.{Unknown}
 use Rattle.jani_check.specs.Demands.{outer_demands}
 use Rattle.name_rules.specs.Least.{fault_if}
@@ -48,10 +51,32 @@ some_called x (a ∷ list) h = by_test (is_called x a.name) h (some_called x lis
     by_test false e r = r e
 
 -- in a file without a fault of names each element has an automaton
-pub element_there : (file : File) → name_faults file ≡ [] → (k : ℕ) (d : Named) → k < length file.elements →
-    is_some (find (λ a. is_called (get_or file.elements k d).name a.name) file.automata) ≡ true
-element_there file none k d h =
+named_there : (file : File) → name_faults file ≡ [] → (k : ℕ) (d : Named) → k < length (element_names file) →
+    is_some (find (λ a. is_called (get_or (element_names file) k d).name a.name) file.automata) ≡ true
+named_there file none k d h =
     let unknown = (append_parts (unknown_names file) _ (append_parts (doubled_names file) _ none).1).0 in
-    let elements_known = (append_parts (flat_map (unless_known (is_among (automaton_names file))) file.elements) _ (append_parts (flat_map (unknown_in (is_among (global_names file)) (is_among file.actions)) file.automata) _
+    let elements_known = (append_parts (flat_map (unless_known (is_among (automaton_names file))) (element_names file)) _ (append_parts (flat_map (unknown_in (is_among (global_names file)) (is_among file.actions)) file.automata) _
     (append_parts (flat_map (unknown_by (is_among (global_names file))) (outer_demands file)) _ unknown).1).1).0 in
-    some_called (get_or file.elements k d).name file.automata (known_at (is_among (automaton_names file)) file.elements k d h elements_known)
+    some_called (get_or (element_names file) k d).name file.automata (known_at (is_among (automaton_names file)) (element_names file) k d h elements_known)
+
+-- the names of elements, as the code has them
+pub names_are : (es : List JaniElement) → map (λ e. e.name) es ≡ map (λ e. e.name) (map element_of es)
+names_are [] = refl
+names_are (e ∷ es) = ap (λ ns. e.name ∷ ns) (names_are es)
+
+pub each_named : {C : Type 0} (f g : Named → C) → ((n : Named) → f n ≡ g n) → (es : List JaniElement) → map (λ e. f e.name) es ≡ map g (map (λ e. e.name) (map element_of es))
+each_named f g same [] = refl
+each_named f g same (e ∷ es) = ap₂ (λ a b. a ∷ b) (same e.name) (each_named f g same es)
+
+pub element_there : (file : JaniFile) → name_faults (file_of file) ≡ [] → (k : ℕ) (d : JaniElement) → k < length file.elements →
+    is_some (find (λ a. is_called (get_or file.elements k d).name.name a.name) (file_of file).automata) ≡ true
+element_there file none k d h =
+    let ns = element_names (file_of file) in
+    let long : length ns ≡ length file.elements = sym (ap length (names_are file.elements)) ∙ length-map file.elements (λ e. e.name) in
+    let here : get_or ns k d.name ≡ (get_or file.elements k d).name = ap (λ l. get_or l k d.name) (sym (names_are file.elements)) ∙ named_at file.elements k d in
+    subst (λ (n : Named). is_some (find (λ a. is_called n.name a.name) (file_of file).automata) ≡ true) here (named_there (file_of file) none k d.name (omega (arith, long)))
+  where
+    named_at : (es : List JaniElement) (k : ℕ) (d : JaniElement) → get_or (map (λ e. e.name) es) k d.name ≡ (get_or es k d).name
+    named_at [] k d = refl
+    named_at (e ∷ es) zero d = refl
+    named_at (e ∷ es) (suc k) d = named_at es k d

@@ -7,7 +7,7 @@ use Rattle.std.specs.List.{position}
 use Rattle.std.specs.Option.{option_map, option_or}
 use Rattle.bridge_io.specs.declared.reason.Named.{Named}
 use Rattle.process_core.specs.Ready.{Name}
-use Rattle.jani_tree.specs.Syntax.{Const, File}
+use Rattle.jani_tree.specs.Syntax.{Const, File, element_names}
 use Rattle.op_trees.specs.Names.{is_called}
 use Rattle.jani_meaning.specs.Elements.{Owned, lasting, labels, structures, place_of}
 use Rattle.name_table.specs.declared.class.NameClass.{NameClass}
@@ -35,8 +35,8 @@ abbrev pub asks : File → List Ask
 asks file =
     map constant_ask file.constants
     ++ (map (ask_for Variable) (lasting file)
-    ++ (map location_ask file.elements
-    ++ (map module_ask file.elements
+    ++ (map location_ask (element_names file)
+    ++ (map module_ask (element_names file)
     ++ (map (ask_for Label) (labels file)
     ++ map (ask_for Reward) (structures file)))))
 
@@ -60,10 +60,10 @@ module _ (file : File) where
   locations_at = length file.constants + length (lasting file)
 
   abbrev pub modules_at : ℕ
-  modules_at = locations_at + length file.elements
+  modules_at = locations_at + length (element_names file)
 
   abbrev pub labels_at : ℕ
-  labels_at = modules_at + length file.elements
+  labels_at = modules_at + length (element_names file)
 
   abbrev pub rewards_at : ℕ
   rewards_at = labels_at + length (labels file)
@@ -76,8 +76,8 @@ module _ (file : File) where
   names_by es = record {
     constants = some_from 0 (length file.constants) es;
     variables = some_from (length file.constants) (length (lasting file)) es;
-    locations = some_from locations_at (length file.elements) es;
-    modules = some_from modules_at (length file.elements) es;
+    locations = some_from locations_at (length (element_names file)) es;
+    modules = some_from modules_at (length (element_names file)) es;
     labels = some_from labels_at (length (labels file)) es;
     rewards = some_from rewards_at (length (structures file)) es;
     actions = drop actions_at es;
@@ -100,4 +100,4 @@ value_name file names k x =
 
 -- the number that no element has: outside of elements only global names are known
 abbrev pub outside : File → ℕ
-outside file = length file.elements
+outside file = length (element_names file)

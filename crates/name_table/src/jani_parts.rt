@@ -1,16 +1,17 @@
 // The parts of a JANI file that names are given to: the automata that take part, and the variables of the file.
 
 ghost use Rattle.std.specs.Prelude.{◌≡◌, [], List, ℕ, true, ◌++◌, map, IfOk, OnOk, Some, None, is_some};
-ghost use Rattle.std.specs.List.{All, filter};
+ghost use Rattle.std.specs.List.{All, AllByRecursion as Each, filter};
 ghost use Rattle.jani_tree.specs.Syntax.{automaton_of, file_of, kind_of, var_of};
 ghost use Rattle.jani_check.specs.NameFaults.{name_faults};
 ghost use Rattle.name_rules.specs.Names.{under};
 ghost use Rattle.jani_meaning.specs.Elements.{elements, is_boolean, owned_by, variables, lasting, labels, structures};
+ghost use Rattle.jani_loops.specs.Looped.{IsLooped};
 ghost use Rattle.name_table.specs.JaniParts.{owned_of, element_under, is_wanted, owner_of};
 
-use bridge_io::Named;
+use bridge_io::List;
 use jani_check::automata_by_name;
-use jani_tree::{JaniAutomaton, JaniFile, JaniKind, JaniVar};
+use jani_tree::{JaniAutomaton, JaniElement, JaniFile, JaniKind, JaniVar};
 use name_rules::NameMap;
 use std::alloc::{AllocError, Global};
 
@@ -29,12 +30,43 @@ pub(crate) enum VarUse {
     Structure,
 }
 
-/// The automata of the elements, in order. `Err` is want of memory.
+/// The automata of the elements, in order, where these are they with loops, if there are loops. `Err` is want of memory.
 pub fn element_automata<'a>(
     alloc: Global,
     file: &'a JaniFile,
+    looped: &'a Option<List<JaniAutomaton>>,
 ) -> Result<Vec<&'a JaniAutomaton>, AllocError>
-    requires { name_faults (file_of file.now) ≡ [] }
+    requires names { name_faults (file_of file.now) ≡ [] }
+    requires looped { IsLooped (file_of file.now) looped.now }
+    ensures { IfOk result (λ xs. map (λ a. automaton_of a.now) xs.items ≡ elements (file_of file.now)) }
+{
+    match looped {
+        Some(all) => lent(alloc, all.as_slice()),
+        None => plain_automata(alloc, file),
+    }
+}
+
+/// References to these automata.
+fn lent<'a>(
+    alloc: Global,
+    automata: &'a [JaniAutomaton],
+) -> Result<Vec<&'a JaniAutomaton>, AllocError>
+    ensures { IfOk result (λ xs. map (λ a. automaton_of a.now) xs.items ≡ map automaton_of automata.now) }
+{
+    let mut all = Vec::with_capacity(alloc, automata.len())?;
+    for a in automata {
+        all.push(a)?;
+    }
+    Ok(all)
+}
+
+/// The automata of elements that have no loops.
+fn plain_automata<'a>(
+    alloc: Global,
+    file: &'a JaniFile,
+) -> Result<Vec<&'a JaniAutomaton>, AllocError>
+    requires names { name_faults (file_of file.now) ≡ [] }
+    requires plain { Each (λ e. e.enable ≡ []) (file_of file.now).elements }
     ensures { IfOk result (λ xs. map (λ a. automaton_of a.now) xs.items ≡ elements (file_of file.now)) }
 {
     let automata = automata_by_name(alloc, file.automata.as_slice())?;
@@ -45,14 +77,14 @@ pub fn element_automata<'a>(
 fn elements_in<'a>(
     alloc: Global,
     automata: &NameMap<'a, &'a JaniAutomaton>,
-    elements: &[Named],
+    elements: &[JaniElement],
 ) -> Result<Vec<&'a JaniAutomaton>, AllocError>
-    requires { All (λ n. is_some (under automata.now n.name) ≡ true) elements.now }
-    ensures { IfOk result (λ xs. map (λ a. automaton_of a.now) xs.items ≡ map (element_under automata.now) elements.now) }
+    requires { All (λ e. is_some (under automata.now e.name.name) ≡ true) elements.now }
+    ensures { IfOk result (λ xs. map (λ a. automaton_of a.now) xs.items ≡ map (λ e. element_under automata.now e.name) elements.now) }
 {
     let mut all = Vec::new(alloc);
     for e in elements {
-        if let Some(a) = automata.get(e.name.as_str()) {
+        if let Some(a) = automata.get(e.name.name.as_str()) {
             all.push(a)?;
         }
     }

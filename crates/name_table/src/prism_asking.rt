@@ -12,9 +12,9 @@ use crate::ask::{HasName, ask_each};
 use crate::class::{NameClass, Target};
 use crate::jani_parts::{OwnedVar, element_automata, labels, lasting, structures};
 use crate::table::NameTable;
-use bridge_io::Named;
 use jani_check::CheckedJani;
-use jani_tree::{JaniAutomaton, JaniConst, JaniFile};
+use jani_loops::{COUNTED, looped};
+use jani_tree::{JaniAutomaton, JaniConst, JaniElement, JaniFile};
 use std::alloc::{AllocError, Global};
 
 /// The table of the entries of a translation to PRISM, by this project's own rule: the names of constants, of variables that
@@ -24,7 +24,8 @@ pub fn prism_names(alloc: Global, checked: &CheckedJani) -> Result<NameTable, Al
     ensures { IfOk result (λ t. (t.target ≡ Prism) × (t.entries ≡ entries (file_of checked.now))) }
 {
     let file = checked.file();
-    let automata = element_automata(alloc, file)?;
+    let looped = looped(alloc, file, COUNTED)?;
+    let automata = element_automata(alloc, file, &looped)?;
     table_by(alloc, file, automata.as_slice())
 }
 
@@ -91,8 +92,8 @@ fn ask_parts(
 }
 
 /// Asks for a location variable for each element.
-fn ask_locations(table: &mut NameTable, elements: &[Named]) -> Result<(), AllocError>
-    ensures { OnOk result (table.new ≡ told table.old (map location_ask elements.now)) }
+fn ask_locations(table: &mut NameTable, elements: &[JaniElement]) -> Result<(), AllocError>
+    ensures { OnOk result (table.new ≡ told table.old (map location_ask (map (λ e. e.name) elements.now))) }
 {
     for _e in elements {
         table.keep_or_make(NameClass::Location, None)?;
@@ -122,12 +123,12 @@ impl<'a> HasName for OwnedVar<'a> {
     }
 }
 
-impl HasName for Named {
+impl HasName for JaniElement {
     ghost use Rattle.std.specs.Prelude.{Some};
 
-    ghost called = { λ n. Some n.name };
+    ghost called = { λ e. Some e.name.name };
 
     fn name(&self) -> Option<&str> {
-        Some(self.name.as_str())
+        Some(self.name.name.as_str())
     }
 }

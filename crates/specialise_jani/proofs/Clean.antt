@@ -33,12 +33,12 @@ use Rattle.process_core.specs.Product.{map-map}
 use Rattle.process_core.specs.Instance.{Valuation}
 use Rattle.jani_table.specs.declared.operator.JaniOp.{JaniOp}
 use Rattle.jani_table.specs.Operators.{jani_meaning, standard}
-use Rattle.jani_tree.specs.Syntax.{Expression, is_always, Const, Var, Write, Destination, Edge, Automaton, File}
+use Rattle.jani_tree.specs.Syntax.{Expression, is_always, Const, Var, Write, Destination, Edge, Automaton, File, element_names}
 use Rattle.jani_tree.specs.Form.{AutomatonRead, ExprForm}
 use Rattle.jani_check.specs.declared.things.Thing.{Thing}
 use Rattle.jani_check.specs.Things.{beside, const_called, const_thing, global_thing, is_constant, is_label, is_reward, is_transient, kind_type, thing_type, types_by, var_called, var_thing}
 use Rattle.jani_check.specs.Demands.{Demand, assigned, automaton_demands, const_demands, fixed, given, outer_demands, var_demands, varying}
-use Rattle.jani_check.specs.NameFaults.{automaton_names, circles, composition_faults, doubled_names, global_names, name_faults, unknown_by, unknown_in, unknown_names, unknown_within, var_names, vector_actions}
+use Rattle.jani_check.specs.NameFaults.{automaton_names, circles, composition_faults, doubled_names, global_names, name_faults, unknown_by, unknown_enabled, unknown_in, unknown_names, unknown_within, var_names, vector_actions}
 use Rattle.jani_check.specs.TypeFaults.{automaton_faults, clashing_writes, demand_faults, has_variable, is_variable, repeated_writes, type_faults, type_faults_of, var_faults, wanted_at}
 use Rattle.jani_check.specs.ProfileFaults.{automaton_profile, branch_rewards, demand_profile, differ, first_fault, given_after, is_first, lacks, profile_faults, reads, rewards_by, same_tree, some_differ, start_faults, two_writers, value_for}
 use Rattle.jani_check.specs.Faults.{IsChecked, faults}
@@ -377,7 +377,8 @@ module _ (file : File) (checked : IsChecked file) (values : Valuation) (fitting 
 
   unknown_parts : (flat_map (unknown_by known) (outer_demands file) ≡ [])
       × ((flat_map (unknown_in known actions) file.automata
-      ++ (flat_map (unless_known (is_among (automaton_names file))) file.elements ++ flat_map (unless_known actions) (flat_map vector_actions file.vectors))) ≡ [])
+      ++ (flat_map (unless_known (is_among (automaton_names file))) (element_names file)
+      ++ (flat_map (unless_known actions) (flat_map vector_actions file.vectors) ++ flat_map (unknown_enabled actions) file.elements))) ≡ [])
   unknown_parts = append_parts (flat_map (unknown_by known) (outer_demands file)) _ (none_unknown file checked)
 
   type_parts : (flat_map var_faults file.variables ≡ [])
@@ -496,7 +497,7 @@ module _ (file : File) (checked : IsChecked file) (values : Valuation) (fitting 
       (ap (λ ns. flat_map (unknown_in (is_among ns) actions) (map (folded_automaton K) file.automata)) (globals_same K values file)
       ∙ each_empty (unknown_in known actions) (map (folded_automaton K) file.automata)
       (each_then IsFineHere (λ a. unknown_in known actions a ≡ []) (λ a h. h.names) (map (folded_automaton K) file.automata) automata_fine))
-      (ap (λ ns. flat_map (unless_known (is_among ns)) file.elements ++ flat_map (unless_known actions) (flat_map vector_actions file.vectors)) (automata_same K values file)
+      (ap (λ ns. flat_map (unless_known (is_among ns)) (element_names file) ++ (flat_map (unless_known actions) (flat_map vector_actions file.vectors) ++ flat_map (unknown_enabled actions) file.elements)) (automata_same K values file)
       ∙ append_right (flat_map (unknown_in known actions) file.automata) _ unknown_parts.1)))
       (append_both (circles new) (composition_faults new) uncircled (composed file checked)))
 

@@ -1,6 +1,6 @@
 -- A specialised JANI file means the same.
 use Rattle.std.specs.Prelude.{◌≡◌, ℕ, ◌+◌, ◌-◌, List, [], ◌∷◌, ◌++◌, map, length, Bool, true, false, not, ◌&&◌, ◌||◌, Option, Some, None, is_none, unwrap_or, if◌then◌else◌, slice_get}
-use Rattle.std.specs.List.{find, filter, list_any}
+use Rattle.std.specs.List.{AllZip, find, filter, list_any}
 use Rattle.std.specs.Option.{option_map, option_or}
 use Rattle.std.proofs.Common.{refl, sym, subst, ap, ap₂, ◌∙◌}
 use Rattle.std.proofs.Math.Path.{fun_ext}
@@ -18,11 +18,15 @@ use Rattle.op_trees.specs.declared.tree.Value.TheVariants as V
 use Rattle.process_core.specs.Product.{map-map}
 use Rattle.process_core.specs.Ready.{Values, Name, Write, Update}
 use Rattle.process_core.specs.Instance.{Valuation, Between, Column, Scene, instance_faults, is_wide_instance, is_state, is_initial, numbered}
-use Rattle.jani_tree.specs.Syntax.{Expression, is_always, Const, VarKind, boolean, integer, number, real_bounded, one_sided, bounded, Var, Location, Destination, Edge, Automaton, File}
+use Rattle.jani_tree.specs.Syntax.{Expression, is_always, Const, VarKind, boolean, integer, number, real_bounded, one_sided, bounded, Var, Location, Destination, Edge, Automaton, Element, File, element_names}
 use Rattle.jani_tree.specs.Syntax as syntax
-use Rattle.jani_meaning.specs.Elements.{nothing_called, automaton_called, elements, has_several_starts, location_number, first_number, Owned, owned_by, variables, is_boolean, is_lasting, is_label, is_structure, lasting, labels, structures, is_own, is_global, place_of, column_number, structure_number}
+use Rattle.std.proofs.lemmas.List.Elements.{filter-append}
+use Rattle.frac_core.specs.Fraction.{unit}
+use Rattle.jani_meaning.specs.Loops.{is_with, loop_at, loops, none_of, or_true, with_loops}
+use Rattle.jani_meaning.specs.LoopLaws.{SeenAlike, element_is, none_alike, or_true_alike}
+use Rattle.jani_meaning.specs.Elements.{nothing_called, automaton_called, element_automaton, elements, has_several_starts, location_number, first_number, Owned, owned_by, variables, is_boolean, is_lasting, is_label, is_structure, lasting, labels, structures, is_own, is_global, place_of, column_number, structure_number}
 use Rattle.jani_meaning.specs.Scene.{see, constant_seen, constant, constant_names, begins_anywhere, counted, first_location, first_of, has_condition, location_column, domain_of, start_of, column, columns_of, scene}
-use Rattle.jani_meaning.specs.Moment.{Moment, begin_here, condition_at, is_among, restriction_seen, value_in, names_in, is_number, is_current, current_location, guard_seen, weight_seen, location_write, column_write, reward_of, write_at, reward_at, update_at, edge_at, element_at, given_in, given_at, may_give, given_to, first_or, transient_at, vector_of, moment}
+use Rattle.jani_meaning.specs.Moment.{Moment, begin_here, begins_here, condition_at, is_among, restriction_seen, value_in, names_in, is_number, is_current, current_location, guard_seen, weight_seen, location_write, column_write, reward_of, write_at, reward_at, update_at, edge_at, element_at, given_in, given_at, may_give, given_to, first_or, transient_at, vector_of, moment}
 use Rattle.jani_meaning.specs.Process.{choices, marks, has_wide_mark, excess}
 use Rattle.constant_folding.specs.Constants.{AreRanked, specialised_value}
 use Rattle.jani_table.specs.Operators.{jani_meaning}
@@ -62,10 +66,34 @@ module _ (file : File) (given v : Valuation) (extends : Extends given v) (small 
   called_same None n = refl
   called_same (Some a) n = refl
 
-  elements_same : elements new ≡ map fa (elements file)
-  elements_same =
-      map_agree _ _ (λ n. ap (λ o. unwrap_or o (nothing_called n)) (found_mapped fa (λ a. is_called n.name a.name) (λ a. is_called n.name a.name) (λ a. refl) file.automata) ∙ called_same (find (λ a. is_called n.name a.name) file.automata) n) file.elements
-      ∙ sym (map-map fa (automaton_called file) file.elements)
+  named_same : (n : Named) → automaton_called new n ≡ fa (automaton_called file n)
+  named_same n =
+      ap (λ o. unwrap_or o (nothing_called n)) (found_mapped fa (λ a. is_called n.name a.name) (λ a. is_called n.name a.name) (λ a. refl) file.automata)
+      ∙ called_same (find (λ a. is_called n.name a.name) file.automata) n
+
+  -- an element is its folded automaton with loops, whose guards are made of folded guards
+  elements_same : elements new ≡ map (λ e. with_loops e.enable (fa (automaton_called file e.name))) file.elements
+  elements_same = map_agree _ _ (λ e. ap (with_loops e.enable) (named_same e.name)) file.elements
+
+  -- what agrees for each list of actions and each automaton agrees for the elements
+  each_mapped : {C : Type 0} (g k : Automaton → C) → ((xs : List Named) (a : Automaton) → g (with_loops xs (fa a)) ≡ k (with_loops xs a)) → map g (elements new) ≡ map k (elements file)
+  each_mapped g k h =
+      ap (map g) elements_same
+      ∙ mapped (λ e. with_loops e.enable (fa (automaton_called file e.name))) g (λ e. k (element_automaton file e)) (λ e. h e.enable (automaton_called file e.name)) file.elements
+      ∙ sym (map-map k (element_automaton file) file.elements)
+
+  each_numbered : {C : Type 0} (g k : ℕ → Automaton → List C) → ((i : ℕ) (xs : List Named) (a : Automaton) → g i (with_loops xs (fa a)) ≡ k i (with_loops xs a)) →
+      numbered g 0 (elements new) ≡ numbered k 0 (elements file)
+  each_numbered g k h =
+      ap (numbered g 0) elements_same
+      ∙ numbered_mapped g (λ i e. k i (element_automaton file e)) (λ e. with_loops e.enable (fa (automaton_called file e.name))) (λ i e. h i e.enable (automaton_called file e.name)) 0 file.elements
+      ∙ sym (numbered_mapped k (λ i e. k i (element_automaton file e)) (element_automaton file) (λ i e. refl) 0 file.elements)
+
+  each_any : (p q : Automaton → Bool) → ((xs : List Named) (a : Automaton) → p (with_loops xs (fa a)) ≡ q (with_loops xs a)) → list_any p (elements new) ≡ list_any q (elements file)
+  each_any p q h =
+      ap (list_any p) elements_same
+      ∙ any_mapped (λ e. with_loops e.enable (fa (automaton_called file e.name))) p (λ e. q (element_automaton file e)) (λ e. h e.enable (automaton_called file e.name)) file.elements
+      ∙ sym (any_mapped (element_automaton file) q (λ e. q (element_automaton file e)) (λ e. refl) file.elements)
 
   location_same : (a : Automaton) (x : Name) → location_number (fa a) x ≡ location_number a x
   location_same a x = ap (λ o. unwrap_or o 0) (position_mapped (folded_location K) (λ l. is_called x l.name) (λ l. is_called x l.name) (λ l. refl) a.locations)
@@ -77,11 +105,14 @@ module _ (file : File) (given v : Valuation) (extends : Extends given v) (small 
   owned_same : (owner : Option ℕ) (xs : List Var) → owned_by owner (map (folded_var K) xs) ≡ map fo (owned_by owner xs)
   owned_same owner xs = map-map {C = Owned} (λ x. record { owner = owner; var = x }) (folded_var K) xs ∙ sym (map-map fo (λ x. record { owner = owner; var = x }) xs)
 
+  own_same : (i : ℕ) (xs : List Named) (a : Automaton) → owned_by (Some i) (with_loops xs (fa a)).variables ≡ map fo (owned_by (Some i) (with_loops xs a).variables)
+  own_same i [] a = owned_same (Some i) a.variables
+  own_same i (x ∷ xs) a = owned_same (Some i) a.variables
+
   variables_same : variables new ≡ map fo (variables file)
   variables_same =
       ap₂ (λ a b. a ++ b) (owned_same None file.variables)
-      (ap (numbered (λ i a. owned_by (Some i) a.variables) 0) elements_same
-      ∙ numbered_mapped (λ i a. owned_by (Some i) a.variables) (λ i a. map fo (owned_by (Some i) a.variables)) fa (λ i a. owned_same (Some i) a.variables) 0 (elements file)
+      (each_numbered (λ i a. owned_by (Some i) a.variables) (λ i a. map fo (owned_by (Some i) a.variables)) own_same
       ∙ sym (map_numbered fo (λ i a. owned_by (Some i) a.variables) 0 (elements file)))
       ∙ sym (map-append fo (owned_by None file.variables) (numbered (λ i a. owned_by (Some i) a.variables) 0 (elements file)))
 
@@ -107,7 +138,7 @@ module _ (file : File) (given v : Valuation) (extends : Extends given v) (small 
       ap₂ option_or (position_mapped fo (is_own i x) (is_own i x) (λ o. refl) vars) (position_mapped fo (is_global x) (is_global x) (λ o. refl) vars)
 
   column_number_same : (i : ℕ) (x : Name) → column_number new i x ≡ column_number file i x
-  column_number_same i x = ap (option_map (λ k. length file.elements + k)) (ap (λ vars. place_of vars i x) lasting_same ∙ place_same (lasting file) i x)
+  column_number_same i x = ap (option_map (λ k. length (element_names file) + k)) (ap (λ vars. place_of vars i x) lasting_same ∙ place_same (lasting file) i x)
 
   structure_number_same : (i : ℕ) (x : Name) → structure_number new i x ≡ structure_number file i x
   structure_number_same i x = ap (λ vars. place_of vars i x) structures_same ∙ place_same (structures file) i x
@@ -158,9 +189,17 @@ module _ (file : File) (given v : Valuation) (extends : Extends given v) (small 
       ap₂ (λ n f. record { name = a.name.name; domain = Between (counted 0) (counted (n - 1)); first = f }) (length-map a.locations (folded_location K))
       (first_location_same a (has_several_starts a))
 
+  looped_column_same : (xs : List Named) (a : Automaton) → location_column (with_loops xs (fa a)) ≡ location_column (with_loops xs a)
+  looped_column_same [] a = location_column_same a
+  looped_column_same (x ∷ xs) a = location_column_same a
+
+  several_same : (xs : List Named) (a : Automaton) → has_several_starts (with_loops xs (fa a)) ≡ has_several_starts (with_loops xs a)
+  several_same [] a = refl
+  several_same (x ∷ xs) a = refl
+
   columns_alike : columns_of new v ≡ columns_of file v
   columns_alike =
-      ap₂ (λ a b. a ++ b) (ap (map location_column) elements_same ∙ mapped fa location_column location_column location_column_same (elements file))
+      ap₂ (λ a b. a ++ b) (each_mapped location_column location_column looped_column_same)
       (ap₂ (λ (r : Name → Seen) vars. map (λ o. column r o.var) vars) new_are lasting_same
       ∙ mapped fo (λ o. column names o.var) (λ o. column names o.var) column_same (lasting file))
 
@@ -171,7 +210,7 @@ module _ (file : File) (given v : Valuation) (extends : Extends given v) (small 
   condition_alike : has_condition new ≡ has_condition file
   condition_alike =
       ap₂ (λ a b. a || b) (is_some-map (folded_restriction K) file.restrict)
-      (ap₂ (λ a b. a || b) (ap (list_any has_several_starts) elements_same ∙ any_mapped fa has_several_starts has_several_starts (λ a. refl) (elements file))
+      (ap₂ (λ a b. a || b) (each_any has_several_starts has_several_starts several_same)
       (ap (list_any begins_anywhere) lasting_same ∙ any_mapped fo begins_anywhere begins_anywhere (λ o. anywhere_same o.var.start) (lasting file)))
 
   scene_alike : scene new v ≡ scene file v
@@ -239,6 +278,56 @@ module _ (file : File) (given v : Valuation) (extends : Extends given v) (small 
         (kept_mapped (folded_edge K) (λ e. is_current s i (fa a) e.location.name) (λ e. is_current s i a e.location.name) (λ e. current_same i a e.location.name) a.edges)
         ∙ mapped (folded_edge K) (edge_at new v s i (fa a)) (edge_at file v s i a) (edge_same i a) (filter (λ e. is_current s i a e.location.name) a.edges)
 
+    -- the guard of a loop is made of folded guards, and is seen as that of the loop of the file
+    guards_alike : (i : ℕ) (es : List Edge) → AllZip (SeenAlike (names_in new v s i) (names_in file v s i)) (map (λ e. or_true e.guard) (map (folded_edge K) es)) (map (λ e. or_true e.guard) es)
+    guards_alike i [] = tt
+    guards_alike i (e ∷ es) =
+        (or_true_alike (names_in new v s i) (names_in file v s i) (option_map (folded K) e.guard) e.guard (guard_same i e.guard), guards_alike i es)
+
+    loop_guard_same : (i : ℕ) (a : Automaton) (x : Named) (l : Location) →
+        guard_seen (names_in new v s i) (loop_at (fa a) x (folded_location K l)).guard ≡ guard_seen (names_in file v s i) (loop_at a x l).guard
+    loop_guard_same i a x l =
+        let these = filter (is_with x.name l.name.name) a.edges in
+        ap (λ es. guard_seen (names_in new v s i) (none_of (map (λ e. or_true e.guard) es))) (kept_mapped (folded_edge K) (is_with x.name l.name.name) (is_with x.name l.name.name) (λ e. refl) a.edges)
+        ∙ none_alike (names_in new v s i) (names_in file v s i) (map (λ e. or_true e.guard) (map (folded_edge K) these)) (map (λ e. or_true e.guard) these) (guards_alike i these)
+
+    loop_same : (i : ℕ) (a : Automaton) (x : Named) (l : Location) → edge_at new v s i (fa a) (loop_at (fa a) x (folded_location K l)) ≡ edge_at file v s i a (loop_at a x l)
+    loop_same i a x l =
+        ap₂ (λ g n. record { action = Some x.name; guard = g; updates = record { weight = known (Some (V.Number unit)); writes = location_write i n ∷ []; rewards = [] } ∷ [] })
+        (loop_guard_same i a x l) (location_same a l.name.name)
+
+    loops_with_same : (i : ℕ) (a : Automaton) (x : Named) (ls : List Location) →
+        map (edge_at new v s i (fa a)) (filter (λ e. is_current s i (fa a) e.location.name) (map (loop_at (fa a) x) (map (folded_location K) ls)))
+        ≡ map (edge_at file v s i a) (filter (λ e. is_current s i a e.location.name) (map (loop_at a x) ls))
+    loops_with_same i a x [] = refl
+    loops_with_same i a x (l ∷ ls) = by_tests (is_current s i (fa a) l.name.name) (is_current s i a l.name.name) (current_same i a l.name.name) (loops_with_same i a x ls)
+      where
+        by_tests : (b c : Bool) → b ≡ c →
+            map (edge_at new v s i (fa a)) (filter (λ e. is_current s i (fa a) e.location.name) (map (loop_at (fa a) x) (map (folded_location K) ls)))
+            ≡ map (edge_at file v s i a) (filter (λ e. is_current s i a e.location.name) (map (loop_at a x) ls)) →
+            map (edge_at new v s i (fa a)) (if b then loop_at (fa a) x (folded_location K l) ∷ filter (λ e. is_current s i (fa a) e.location.name) (map (loop_at (fa a) x) (map (folded_location K) ls))
+            else filter (λ e. is_current s i (fa a) e.location.name) (map (loop_at (fa a) x) (map (folded_location K) ls)))
+            ≡ map (edge_at file v s i a) (if c then loop_at a x l ∷ filter (λ e. is_current s i a e.location.name) (map (loop_at a x) ls) else filter (λ e. is_current s i a e.location.name) (map (loop_at a x) ls))
+        by_tests true true e h = ap₂ (λ y ys. y ∷ ys) (loop_same i a x l) h
+        by_tests false false e h = h
+        by_tests true false e h = absurd cc
+        by_tests false true e h = absurd cc
+
+    loops_same : (i : ℕ) (xs : List Named) (a : Automaton) →
+        map (edge_at new v s i (fa a)) (filter (λ e. is_current s i (fa a) e.location.name) (loops xs (fa a))) ≡ map (edge_at file v s i a) (filter (λ e. is_current s i a e.location.name) (loops xs a))
+    loops_same i [] a = refl
+    loops_same i (x ∷ xs) a =
+        let here = λ (e : Edge). is_current s i (fa a) e.location.name in
+        let there = λ (e : Edge). is_current s i a e.location.name in
+        ap (map (edge_at new v s i (fa a))) (filter-append here (map (loop_at (fa a) x) (map (folded_location K) a.locations)) (loops xs (fa a)))
+        ∙ map-append (edge_at new v s i (fa a)) (filter here (map (loop_at (fa a) x) (map (folded_location K) a.locations))) (filter here (loops xs (fa a)))
+        ∙ ap₂ (λ p q. p ++ q) (loops_with_same i a x a.locations) (loops_same i xs a)
+        ∙ sym (ap (map (edge_at file v s i a)) (filter-append there (map (loop_at a x) a.locations) (loops xs a))
+        ∙ map-append (edge_at file v s i a) (filter there (map (loop_at a x) a.locations)) (filter there (loops xs a)))
+
+    looped_same : (i : ℕ) (xs : List Named) (a : Automaton) → element_at new v s i (with_loops xs (fa a)) ≡ element_at file v s i (with_loops xs a)
+    looped_same i xs a = element_is new v s i xs (fa a) ∙ ap₂ (λ p q. p ++ q) (element_same i a) (loops_same i xs a) ∙ sym (element_is file v s i xs a)
+
     -- ---- transient variables
     current_location_same : (i : ℕ) (a : Automaton) → current_location s i (fa a) ≡ option_map (folded_location K) (current_location s i a)
     current_location_same i a =
@@ -269,20 +358,28 @@ module _ (file : File) (given v : Valuation) (extends : Extends given v) (small 
     given_to_same : (o : Owned) (i : ℕ) (a : Automaton) → given_to new v s (fo o) i (fa a) ≡ given_to file v s o i a
     given_to_same o i a = ap₂ (λ b l. if b then l else []) (may_give_same i o.owner) (given_at_same o.var.name.name i a)
 
+    looped_given_same : (o : Owned) (i : ℕ) (xs : List Named) (a : Automaton) → given_to new v s (fo o) i (with_loops xs (fa a)) ≡ given_to file v s o i (with_loops xs a)
+    looped_given_same o i [] a = given_to_same o i a
+    looped_given_same o i (x ∷ xs) a = given_to_same o i a
+
     transient_same : (o : Owned) → transient_at new v s (fo o) ≡ transient_at file v s o
     transient_same o =
         first_or_same (start_of (constant_names new v) (option_map (folded K) o.var.start)) (numbered (given_to new v s (fo o)) 0 (elements new))
         ∙ ap₂ (first_or file v s) (ap (λ (r : Name → Seen). start_of r (option_map (folded K) o.var.start)) new_are ∙ start_same o.var.start)
-        (ap (numbered (given_to new v s (fo o)) 0) elements_same ∙ numbered_mapped (given_to new v s (fo o)) (given_to file v s o) fa (given_to_same o) 0 (elements file))
+        (each_numbered (given_to new v s (fo o)) (given_to file v s o) (looped_given_same o))
 
     -- ---- the condition on initial states
     among_same : (i : ℕ) (a : Automaton) (ns : List Named) → is_among s i (fa a) ns ≡ is_among s i a ns
     among_same i a [] = refl
     among_same i a (n ∷ ns) = ap₂ (λ b c. b || c) (current_same i a n.name) (among_same i a ns)
 
-    begin_same : (i : ℕ) (as_ : List Automaton) → begin_here s i (map fa as_) ≡ begin_here s i as_
+    looped_begins_same : (i : ℕ) (xs : List Named) (a : Automaton) → begins_here s i (with_loops xs (fa a)) ≡ begins_here s i (with_loops xs a)
+    looped_begins_same i [] a = ap (λ b. not (has_several_starts a) || b) (among_same i a a.initial)
+    looped_begins_same i (x ∷ xs) a = ap (λ b. not (has_several_starts a) || b) (among_same i a a.initial)
+
+    begin_same : (i : ℕ) (es : List Element) → begin_here s i (map (λ e. with_loops e.enable (fa (automaton_called file e.name))) es) ≡ begin_here s i (map (element_automaton file) es)
     begin_same i [] = refl
-    begin_same i (a ∷ as_) = ap₂ (λ b c. b && c) (ap (λ b. not (has_several_starts a) || b) (among_same i a a.initial)) (begin_same (i + 1) as_)
+    begin_same i (e ∷ es) = ap₂ (λ b c. b && c) (looped_begins_same i e.enable (automaton_called file e.name)) (begin_same (i + 1) es)
 
     restriction_same : (i : ℕ) (o : Option Expression) → restriction_seen (names_in new v s i) (option_map (folded_restriction K) o) ≡ restriction_seen (names_in file v s i) o
     restriction_same i None = refl
@@ -294,15 +391,14 @@ module _ (file : File) (given v : Valuation) (extends : Extends given v) (small 
 
     condition_same : condition_at new v s ≡ condition_at file v s
     condition_same =
-        ap₂ (λ b (c : Seen). if b then c else known (Some (V.Truth false))) (ap (begin_here s 0) elements_same ∙ begin_same 0 (elements file)) (restriction_same (length file.elements) file.restrict)
+        ap₂ (λ b (c : Seen). if b then c else known (Some (V.Truth false))) (ap (begin_here s 0) elements_same ∙ begin_same 0 file.elements) (restriction_same (length (element_names file)) file.restrict)
 
     moment_alike : moment new v s ≡ moment file v s
     moment_alike =
         ap₂ {A = (List Seen) × Seen} {B = (List Seen) × Seen → Moment} (λ rs g. g rs)
         (ap₂ (λ rs c. (rs, c)) (ap (map (transient_at new v s)) structures_same ∙ mapped fo (transient_at new v s) (transient_at file v s) transient_same (structures file)) condition_same)
         (ap₂ (λ es ls r. record { condition = r.1; elements = es; vectors = map vector_of file.vectors; labels = ls; rewards = r.0 })
-        (ap (numbered (λ i a. element_at new v s i a ∷ []) 0) elements_same
-        ∙ numbered_mapped (λ i a. element_at new v s i a ∷ []) (λ i a. element_at file v s i a ∷ []) fa (λ i a. ap (λ l. l ∷ []) (element_same i a)) 0 (elements file))
+        (each_numbered (λ i a. element_at new v s i a ∷ []) (λ i a. element_at file v s i a ∷ []) (λ i xs a. ap (λ l. l ∷ []) (looped_same i xs a)))
         (ap (map (transient_at new v s)) labels_same ∙ mapped fo (transient_at new v s) (transient_at file v s) transient_same (labels file)))
 
   meaning_alike : SameMeaningAt file new v

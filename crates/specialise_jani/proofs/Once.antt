@@ -19,7 +19,7 @@ use Rattle.name_rules.specs.Uses.{used}
 use Rattle.process_core.specs.Ready.{Name}
 use Rattle.process_core.specs.Product.{map-map}
 use Rattle.process_core.specs.Instance.{numbered}
-use Rattle.jani_tree.specs.Syntax.{Expression, Const, Var, Automaton, File}
+use Rattle.jani_tree.specs.Syntax.{Expression, Const, Var, Automaton, File, element_names, Element}
 use Rattle.jani_check.specs.Circles.{const_declared}
 use Rattle.jani_check.specs.Faults.{IsChecked}
 use Rattle.jani_check.specs.NameFaults.{automaton_names, circles, composition_faults, doubled_in, doubled_names, global_names, location_names, name_faults, unknown_names, var_names}
@@ -27,7 +27,8 @@ use Rattle.jani_check.specs.ProfileFaults.{profile_faults}
 use Rattle.jani_check.specs.TypeFaults.{type_faults}
 use Rattle.jani_check.proofs.Profiled.{first_none, rest_none}
 use Rattle.jani_check.proofs.SameCircles.{same_circles}
-use Rattle.jani_meaning.specs.Elements.{Owned, automaton_called, elements, is_global, is_lasting, is_own, is_owner, lasting, nothing_called, owned_by, place_of, variables}
+use Rattle.jani_meaning.specs.Loops.{with_loops}
+use Rattle.jani_meaning.specs.Elements.{Owned, automaton_called, elements, is_global, is_lasting, is_own, is_owner, lasting, nothing_called, owned_by, place_of, variables, element_automaton}
 use Rattle.constant_folding.specs.Constants.{called, declared}
 use Rattle.constant_folding.proofs.Once.{apart_from, called_there, flipped, others_apart, own_constants}
 use Rattle.specialise_jani.specs.Specialised.{any_const, any_constants}
@@ -131,7 +132,8 @@ module _ (file : File) (checked : IsChecked file) where
   automata_once : Each (λ a. doubled_in (global_names file) a ≡ []) file.automata
   automata_once =
       empty_each (doubled_in (global_names file)) file.automata
-      (append_right (doubled TwiceNamed (automaton_names file)) _ (append_right (doubled TwiceNamed file.actions) _ (append_right (doubled TwiceNamed (global_names file)) _ once_here)))
+      (append_left (flat_map (doubled_in (global_names file)) file.automata) _
+      (append_right (doubled TwiceNamed (automaton_names file)) _ (append_right (doubled TwiceNamed file.actions) _ (append_right (doubled TwiceNamed (global_names file)) _ once_here))))
 
   module _ (x : Name) (there : list_any (is_called x) (map (λ c. c.name) (any_constants file)) ≡ true) where
     among_globals : list_any (is_called x) (global_names file) ≡ true
@@ -153,10 +155,17 @@ module _ (file : File) (checked : IsChecked file) where
     of_found n None h = tt
     of_found n (Some a) h = h
 
-    elements_apart : (ns : List Named) → Each OwnApart (map (automaton_called file) ns)
+    looped_apart : (xs : List Named) (a : Automaton) → OwnApart a → OwnApart (with_loops xs a)
+    looped_apart [] a h = h
+    looped_apart (y ∷ ys) a h = h
+
+    elements_apart : (es : List Element) → Each OwnApart (map (element_automaton file) es)
     elements_apart [] = tt
-    elements_apart (n ∷ ns) =
-        (of_found n (find (λ a. is_called n.name a.name) file.automata) (each_found OwnApart (λ a. is_called n.name a.name) file.automata automata_apart), elements_apart ns)
+    elements_apart (e ∷ es) = (
+      looped_apart e.enable (automaton_called file e.name)
+          (of_found e.name (find (λ a. is_called e.name.name a.name) file.automata) (each_found OwnApart (λ a. is_called e.name.name a.name) file.automata automata_apart)),
+      elements_apart es,
+    )
 
     lasting_apart : Each (HasOther x) (lasting file)
     lasting_apart =
@@ -171,5 +180,5 @@ module _ (file : File) (checked : IsChecked file) where
     apart =
         λ i x c h.
         let there = called_there (any_constants file) x (any_const c) (any_called file x ∙ ap (option_map any_const) h) in
-        ap (option_map (λ k. length file.elements + k)) (no_place x i (lasting file) (lasting_apart x there));
+        ap (option_map (λ k. length (element_names file) + k)) (no_place x i (lasting file) (lasting_apart x there));
   }

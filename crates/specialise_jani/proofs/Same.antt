@@ -16,11 +16,11 @@ use Rattle.name_rules.specs.Names.{Name, is_among}
 use Rattle.name_rules.specs.Unknown.{unless_known}
 use Rattle.process_core.specs.Product.{map-map}
 use Rattle.process_core.specs.Instance.{Valuation}
-use Rattle.jani_tree.specs.Syntax.{VarKind, boolean, integer, number, real_bounded, one_sided, bounded, Var, Write, Edge, Automaton, Vector, File}
+use Rattle.jani_tree.specs.Syntax.{VarKind, boolean, integer, number, real_bounded, one_sided, bounded, Var, Write, Edge, Automaton, Vector, File, element_names}
 use Rattle.jani_check.specs.declared.things.Thing.{Thing}
 use Rattle.jani_check.specs.declared.things.Thing.TheVariants.{Transient, Variable}
 use Rattle.jani_check.specs.Things.{automaton_called, beside, const_called, const_thing, global_thing, is_lasting, is_reward, kind_type, var_called, var_thing}
-use Rattle.jani_check.specs.NameFaults.{actions_used, automaton_names, doubled_in, doubled_names, edge_locations, global_names, location_names, locations_used, unknown_within, var_names}
+use Rattle.jani_check.specs.NameFaults.{actions_used, automaton_names, doubled_in, doubled_names, repeated_enabled, edge_locations, global_names, location_names, locations_used, unknown_within, var_names}
 use Rattle.jani_check.specs.TypeFaults.{assigned_by, clashing_writes, edge_repeats, edge_shared, edge_writes, has_action, kind_fault, meet, participants, repeated, repeated_writes, shared_by, taken_part, targets, var_faults, with_automaton}
 use Rattle.jani_check.specs.ProfileFaults.{assigns_reward, given_after, given_again, given_by, rewards_with, two_hold, two_writers}
 use Rattle.constant_folding.specs.Known.{Known}
@@ -156,8 +156,9 @@ module _ (K : Known) where
         ap₂ (λ xs ys. xs ++ ys) (ap (doubled TwiceNamed) globals_same)
         (ap (λ ys. doubled TwiceNamed file.actions ++ ys)
         (ap₂ (λ xs ys. xs ++ ys) (ap (doubled TwiceNamed) automata_same)
+        (ap (λ xs. xs ++ flat_map repeated_enabled file.elements)
         (ap (λ ns. flat_map (doubled_in ns) (map (folded_automaton K) file.automata)) globals_same
-        ∙ walked (folded_automaton K) (doubled_in (global_names file)) (doubled_in (global_names file)) (doubled_in_same (global_names file)) file.automata)))
+        ∙ walked (folded_automaton K) (doubled_in (global_names file)) (doubled_in (global_names file)) (doubled_in_same (global_names file)) file.automata))))
 
     automaton_same : (x : Name) → automaton_called new x ≡ option_map (folded_automaton K) (automaton_called file x)
     automaton_same x = found_mapped (folded_automaton K) (λ a. is_called x a.name) (λ a. is_called x a.name) (λ a. refl) file.automata
@@ -179,11 +180,11 @@ module _ (K : Known) where
     pub clashes_same : (v : Vector) → clashing_writes new v ≡ clashing_writes file v
     clashes_same v =
         ap (λ xs. fault_if (meet xs) v.at WrittenTwice)
-        (ap (λ t. participants (shared_by t) [] new file.elements v.parts) things_same
-        ∙ participants_same (shared_by (global_thing file)) [] (shared_same (global_thing file)) file.elements v.parts)
+        (ap (λ t. participants (shared_by t) [] new (element_names file) v.parts) things_same
+        ∙ participants_same (shared_by (global_thing file)) [] (shared_same (global_thing file)) (element_names file) v.parts)
 
     pub writers_same : (v : Vector) → two_writers new v ≡ two_writers file v
     writers_same v =
         ap (λ xs. fault_if (two_hold xs) v.at TwoRewardWriters)
-        (ap (λ t. participants (rewards_with t) false new file.elements v.parts) things_same
-        ∙ participants_same (rewards_with (global_thing file)) false (rewards_same (global_thing file)) file.elements v.parts)
+        (ap (λ t. participants (rewards_with t) false new (element_names file) v.parts) things_same
+        ∙ participants_same (rewards_with (global_thing file)) false (rewards_same (global_thing file)) (element_names file) v.parts)

@@ -7,7 +7,7 @@ use Rattle.process_core.specs.Instance.{Valuation}
 use Rattle.jani_tree.specs.declared.syntax.JaniFile.{JaniFile}
 use Rattle.bridge_io.specs.declared.reason.Named.{Named}
 use Rattle.jani_table.specs.Node.{Node}
-use Rattle.jani_tree.specs.Syntax.{Expression, Const, Var, Write, Location, Destination, Edge, Automaton, Vector, File, file_of}
+use Rattle.jani_tree.specs.Syntax.{Expression, Const, Var, Write, Location, Destination, Edge, Automaton, Element, Vector, File, file_of}
 use Rattle.jani_check.specs.Faults.{IsChecked}
 use Rattle.constant_folding.specs.Known.{Known}
 use Rattle.constant_folding.specs.Unfit.{Extends}
@@ -26,7 +26,7 @@ pub copied_all : {A : Type 0} (xs whole ys : List A) → xs ≡ whole → AllZip
 copied_all xs whole ys e h = sym (plain_map ys) ∙ zipped_same (λ x. x) xs whole ys e h ∙ plain_map whole
 
 -- two files whose parts are the same
-pub same_file : {actions actions_ elements elements_ : List Named} {constants constants_ : List Const} {variables variables_ : List Var} {restrict restrict_ : Option Expression} {automata automata_ : List Automaton}
+pub same_file : {actions actions_ : List Named} {elements elements_ : List Element} {constants constants_ : List Const} {variables variables_ : List Var} {restrict restrict_ : Option Expression} {automata automata_ : List Automaton}
     {at at_ : ℕ} {vectors vectors_ : List Vector} {properties properties_ : Node} → actions ≡ actions_ → constants ≡ constants_ → variables ≡ variables_ → restrict ≡ restrict_ → automata ≡ automata_ →
     elements ≡ elements_ → at ≡ at_ → vectors ≡ vectors_ → properties ≡ properties_ →
     ◌≡◌ {A = File} (record { actions = actions; constants = constants; variables = variables; restrict = restrict; automata = automata; elements = elements; elements_at = at; vectors = vectors; properties = properties })

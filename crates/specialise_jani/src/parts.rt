@@ -15,8 +15,8 @@ use crate::numerals::JaniNumerals;
 use bridge_io::{List, Named, together};
 use constant_folding::{KnownTable, fold, specialised_value};
 use jani_tree::{
-    JaniAutomaton, JaniConst, JaniDestination, JaniEdge, JaniExpr, JaniKind, JaniLocation, JaniVar,
-    JaniVector, JaniWrite, copy_name,
+    JaniAutomaton, JaniConst, JaniDestination, JaniEdge, JaniElement, JaniExpr, JaniKind,
+    JaniLocation, JaniVar, JaniVector, JaniWrite, copy_name,
 };
 use op_trees::{Expr, copy_expr};
 use std::alloc::{AllocError, Global};
@@ -330,6 +330,23 @@ impl Folded for JaniAutomaton {
             initial,
             edges,
         })
+    }
+}
+
+impl Folded for JaniElement {
+    ghost use Rattle.std.specs.Prelude.{◌≡◌};
+    ghost use Rattle.jani_tree.specs.Syntax.{element_of};
+
+    ghost IsFolded = { λ given known old new. element_of new ≡ element_of old };
+
+    fn folded(
+        &self,
+        alloc: Global,
+        table: &KnownTable<JaniNumerals>,
+    ) -> Result<JaniElement, AllocError> {
+        let enable = all_folded(alloc, self.enable.as_slice(), table);
+        let (name, enable) = together(copy_name(alloc, &self.name), enable)?;
+        Ok(JaniElement { name, enable })
     }
 }
 

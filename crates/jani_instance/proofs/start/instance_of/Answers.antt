@@ -1,11 +1,12 @@
 use Rattle.std.proofs.Common.{◌∙◌, map}
 use Rattle.std.proofs.lemmas.List.{length-map}
 use Rattle.instance_start.specs.Given.{given_by}
-use Rattle.jani_tree.specs.Syntax.{file_of}
+use Rattle.jani_tree.specs.Syntax.{file_of, element_names}
 use Rattle.jani_meaning.specs.Elements.{automaton_called}
 use Rattle.jani_instance.specs.Actions.{actions_of}
 use Rattle.jani_instance.specs.Initial.{numbers_in}
 use Rattle.jani_instance.proofs.Whole.{condition_is, right}
+use Rattle.jani_meaning.specs.LoopLaws.{element_count}
 use Rattle.jani_instance.proofs.start.instance_of.Goals as goal
 
 pub invariant_of-result : goal.invariant_of-result
@@ -20,7 +21,7 @@ invariant_of-result c =
         faultless = known.columns_are.sound;
         begin = c.requires.begin;
         columns_are = known.columns_are.columns;
-        elements_are = built.elements_are.count ∙ length-map file.elements (automaton_called file);
+        elements_are = built.elements_are.count ∙ element_count file;
         labels_are = built.labels_are;
         names_are = built.names_are;
         condition_is = built.condition_is;

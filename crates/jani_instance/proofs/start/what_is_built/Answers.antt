@@ -11,11 +11,11 @@ use Rattle.jani_instance.proofs.start.what_is_built.Goals as goal
 pub returns : goal.returns
 returns c = λ v tabled.
     let file = file_of c.args.file.now in
-    let places = c.args.known.now.places in
+    let places = c.in_ok-places.places in
     let es = c.in_ok-linked.linked.elements.items in
     let ts = c.in_ok-transients.transients.items in
     let made = c.in_ok-prepared.prepared in
-    built_is file v c.requires.checked places c.requires.places es ts c.in_ok-linked.ensures.elements_are
+    built_is file v c.requires.checked places c.in_ok-places.ensures es ts c.in_ok-linked.ensures.elements_are
     (c.in_ok-transients.ensures v (subst (λ t. Tabled file v (Some t)) (sym c.as_slice.ensures.value) tabled))
     _
     (subst (λ l. IsPreparedOf places l ts made) c.as_slice-2.ensures.value

@@ -15,5 +15,5 @@ returns c =
     let b = c.args.basis.now in
     let file = file_of b.file.now in
     if_then _ _
-    (λ ws h. vectors_are file b.actions.now c.requires.acts file.vectors ws.items (subst (λ us. AllZip (IsLinked b.actions.now) (map vector_of us) ws.items) c.as_slice.ensures h))
+    (λ ws h. vectors_are file b.actions.now c.requires.acts (map vector_of c.args.these.now) ws.items h)
     c.vectors_among.result c.vectors_among.ensures

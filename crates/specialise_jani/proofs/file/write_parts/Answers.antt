@@ -1,4 +1,4 @@
-use Rattle.jani_tree.specs.Syntax.{automaton_of, const_of, var_of, vector_of}
+use Rattle.jani_tree.specs.Syntax.{automaton_of, const_of, element_of, var_of, vector_of}
 use Rattle.constant_folding.specs.Tables.{given_in, known_in}
 use Rattle.specialise_jani.specs.Specialised.{folded_automaton, folded_var, specialised_const}
 use Rattle.process_core.specs.Zip.{zipped}
@@ -18,7 +18,7 @@ returns c =
     (zipped var_of (folded_var K) c.as_slice-4.result.now _ c.in_ok-constants.variables c.as_slice-4.ensures (rw second.1 at c.all_folded-2.ensures))
     c.in_ok-written.ensures
     (zipped automaton_of (folded_automaton K) c.as_slice-5.result.now _ c.in_ok-automata.automata c.as_slice-5.ensures (rw third.0 at c.all_folded-automata.ensures))
-    (copied_all c.as_slice-2.result.now _ c.in_ok-actions.elements c.as_slice-2.ensures (rw first.1 at c.all_folded.ensures))
+    (zipped_same element_of c.as_slice-2.result.now _ c.in_ok-actions.elements c.as_slice-2.ensures (rw first.1 at c.all_folded.ensures))
     c.requires.elements
     (zipped_same vector_of c.as_slice-6.result.now _ c.in_ok-automata.vectors c.as_slice-6.ensures (rw third.1 at c.all_folded-3.ensures))
     c.requires.properties
