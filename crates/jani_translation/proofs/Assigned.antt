@@ -22,7 +22,7 @@ use Rattle.prism_flat.specs.Moment as prism_moment
 use Rattle.prism_flat.specs.Moment.{adds_of, item_at}
 use Rattle.prism_flat.specs.Process.{is_for_choices, choice_rewards, sum_for}
 use Rattle.prism_flat.specs.Scene.{has_condition}
-use Rattle.jani_tree.specs.Syntax.{File, Var}
+use Rattle.jani_tree.specs.Syntax.{File, Var, element_names}
 use Rattle.jani_tree.specs.Syntax as jani
 use Rattle.op_trees.specs.Names.{is_called}
 use Rattle.jani_meaning.specs.Elements.{Owned, owned_by, place_of as place_in, column_number, structure_number}
@@ -90,7 +90,7 @@ module _ (file : prism.File) where
   no_column i k e g =
       let a = slice_get-take (length file.rewards) k (drop (rewards_at file (entries file)) (entries file)) e g in
       let p = a.0 in
-      let m = length (translated file).elements in
+      let m = length (element_names (translated file)) in
       column_is file i e.name
       ∙ ap (λ ps. option_map (λ k. m + k) (position (λ y. is_called e.name y.name) (map (λ p. variable (new_names file).value (has_condition file) p.0 p.1) ps)))
       (sym (zip-take (variables file) (drop (length file.constants) (entries file))))

@@ -21,9 +21,9 @@ use Rattle.basics.specs.Mapped.{chosen_mapped, kept_mapped, any_mapped, joined, 
 use Rattle.prism_flat.specs.Scene.{has_condition}
 use Rattle.jani_table.specs.declared.operator.JaniOp.TheVariants.{Add, Ite}
 use Rattle.op_trees.specs.Names.{bare_name}
-use Rattle.jani_tree.specs.Places.{bare_kind, bare_var, bare_write, bare_destination, bare_edge, bare_automaton, bare_vector}
+use Rattle.jani_tree.specs.Places.{bare_kind, bare_var, bare_write, bare_destination, bare_edge, bare_automaton, bare_vector, bare_element}
 use Rattle.jani_tree.specs.Places as target
-use Rattle.jani_tree.specs.Syntax.{Expression, is_always, number, bounded, Write}
+use Rattle.jani_tree.specs.Syntax.{Expression, is_always, number, bounded, Write, plain_element}
 use Rattle.jani_meaning.proofs.Bare.{numbered_mapped, mapped_numbered}
 use Rattle.name_table.specs.declared.entry.Entry.{Entry}
 use Rattle.name_table.specs.Asks.{bodies, variables, actions, action_of, NewNames, new_names}
@@ -295,17 +295,17 @@ module _ (names : NewNames) where
           variables = global_variables names (source.bare_file file);
           restrict = o;
           automata = automata names (source.bare_file file);
-          elements = map (λ a. a.name) (automata names (source.bare_file file));
+          elements = map (λ a. plain_element a.name) (automata names (source.bare_file file));
           vectors = vectors names (source.bare_file file);
         }) (restriction-bare names.value file.init)
         ∙ ap₂ (λ xs vs. record (target.bare_file (translated_by names file)) {
           variables = xs;
           automata = automata names (source.bare_file file);
-          elements = map (λ a. a.name) (automata names (source.bare_file file));
+          elements = map (λ a. plain_element a.name) (automata names (source.bare_file file));
           vectors = vs;
         }) globals-bare vectors-bare
         ∙ ap₂ (λ as_ es. record (target.bare_file (translated_by names file)) { automata = as_; elements = es }) automata-bare
-        (ap (map (λ a. a.name)) automata-bare ∙ turned bare_name bare_automaton (λ a. a.name) (λ a. a.name) (λ a. refl) (automata names file))
+        (ap (map (λ a. plain_element a.name)) automata-bare ∙ turned bare_element bare_automaton (λ a. plain_element a.name) (λ a. plain_element a.name) (λ a. refl) (automata names file))
 
 translated-bare : (file : prism.File) → translated (source.bare_file file) ≡ target.bare_file (translated file)
 translated-bare file = ap (λ names. translated_by names (source.bare_file file)) (new_names-bare file) ∙ by-bare (new_names file) file

@@ -41,6 +41,8 @@ use Rattle.jani_translation.proofs.Vectors.{all_actions}
 use Rattle.jani_translation.proofs.Differ.{actions_differ}
 use Rattle.jani_translation.proofs.Written.{body_part, written_parts}
 use Rattle.jani_translation.proofs.Edges.{structures_owned, n_automata}
+use Rattle.jani_tree.specs.Syntax.{element_names}
+use Rattle.jani_translation.proofs.Counts.{element_total}
 
 -- ---- states
 pub any_state : Values → Bool
@@ -63,7 +65,7 @@ set_behind (x ∷ xs) s k u =
 
 module _ (file : prism.File) where
   abbrev pub n : ℕ
-  n = length (translated file).elements
+  n = length (element_names (translated file))
 
   abbrev pub state : Values → Values
   state s = state_of file s
@@ -71,7 +73,7 @@ module _ (file : prism.File) where
   written_behind : (s : Values) (ws : List Write) → written (state s) (map (shifted_write n) ws) ≡ state (written s ws)
   written_behind s [] = refl
   written_behind s (u ∷ ws) =
-      ap (λ t. written t (map (shifted_write n) ws)) (set_behind (translated file).elements s u.column (unwrap_or u.value.value (V.Truth false)))
+      ap (λ t. written t (map (shifted_write n) ws)) (set_behind (element_names (translated file)) s u.column (unwrap_or u.value.value (V.Truth false)))
       ∙ written_behind (slice_set s u.column (unwrap_or u.value.value (V.Truth false))) ws
 
   -- ---- updates and commands
@@ -88,7 +90,7 @@ module _ (file : prism.File) where
         (any_shifted (λ x. is_none x.value.value) (λ x. is_none x.value.value) (λ x. refl) u.writes);
     outside = any_shifted (λ x. is_some x.value.value && not x.fits) (λ x. is_some x.value.value && not x.fits) (λ x. refl) u.writes;
     rewards = λ own. refl;
-    target = λ s t. ap (λ r. written r (map (shifted_write n) u.writes)) (set_home (translated file).elements s i l) ∙ written_behind s u.writes;
+    target = λ s t. ap (λ r. written r (map (shifted_write n) u.writes)) (set_home (element_names (translated file)) s i l) ∙ written_behind s u.writes;
     stays = λ s t. t;
   }
 
@@ -251,12 +253,12 @@ module _ (file : prism.File) (v w : Valuation) (sound : IsSoundUnder file v) (al
   abbrev pub Follows : Combination → Combination → Type 0
   Follows = FollowsCombination any_state (state_of file) label
 
-  pub few : 0 + length mods ≤ length (translated file).elements
+  pub few : 0 + length mods ≤ length (element_names (translated file))
   few =
       let names = new_names file in
       let ms = module_automata names (earns_silently file) (location_values names file) (bodies file) names.modules in
       let a = n_automata names (earns_silently file) (location_values names file) (bodies file) names.modules (for_modules file) in
-      let b = length-map (translated file).automata (λ a. a.name) in
+      let b = element_total file in
       let c = length-append ms (monitor names file) in
       let d = length-map (map (part_of file) file.modules) (part_at file v s) in
       let e = length-map file.modules (part_of file) in
@@ -276,15 +278,15 @@ module _ (file : prism.File) (v w : Valuation) (sound : IsSoundUnder file v) (al
       ∙ no_rewards file (prism_moment.names_in file v s unchanged) a wanted e (jani_moment.transient_at (translated file) w (state_of file s)) file.rewards (new_names file).rewards (for_rewards file) h
 
   -- ---- commands without action
-  pub silent_follows : earns_silently file ≡ false → AllZip Follows (silent (earned None) mods) (silent own (shifted label (length (translated file).elements) mods))
+  pub silent_follows : earns_silently file ≡ false → AllZip Follows (silent (earned None) mods) (silent own (shifted label (length (element_names (translated file))) mods))
   silent_follows quiet = by_items (has_items for_silent file) refl quiet
     where
       by_items : (b : Bool) → has_items for_silent file ≡ b → (b && list_any has_silent (bodies file)) ≡ false →
-          AllZip Follows (silent (earned None) mods) (silent own (shifted label (length (translated file).elements) mods))
+          AllZip Follows (silent (earned None) mods) (silent own (shifted label (length (element_names (translated file))) mods))
       by_items false e h =
-          silent_follow any_state (state_of file) label refl (earned None) own (rewards_none None for_silent silently_for e) mods (shifted label (length (translated file).elements) mods) (modules_follow file 0 mods few)
+          silent_follow any_state (state_of file) label refl (earned None) own (rewards_none None for_silent silently_for e) mods (shifted label (length (element_names (translated file))) mods) (modules_follow file 0 mods few)
       by_items true e h =
-          let ns = shifted label (length (translated file).elements) mods in
+          let ns = shifted label (length (element_names (translated file))) mods in
           let nothing : (rewards : List Sum) → silent rewards mods ≡ [] = λ rewards. ap (silent rewards) are_bodies ∙ no_silent_combination file v s rewards (bodies file) h in
           subst (λ (r : List Combination). AllZip Follows r (silent own ns)) (nothing own ∙ sym (nothing (earned None)))
           (silent_follow any_state (state_of file) label refl own own refl mods ns (modules_follow file 0 mods few))

@@ -18,7 +18,7 @@ use Rattle.process_core.specs.Instance.{Valuation, Truths, Column, numbered, onl
 use Rattle.prism_flat.specs.Scene.{has_condition}
 use Rattle.prism_flat.specs.Scene as prism_scene
 use Rattle.prism_flat.specs.Moment as prism_moment
-use Rattle.jani_tree.specs.Syntax.{Automaton, Var, File}
+use Rattle.jani_tree.specs.Syntax.{Automaton, Var, File, element_names}
 use Rattle.jani_tree.specs.Syntax as jani
 use Rattle.op_trees.specs.Names.{is_called}
 use Rattle.jani_meaning.specs.Elements.{owned_by, place_of as place_in, is_structure, structures, is_boolean, column_number, structure_number, location_number}
@@ -43,6 +43,7 @@ use Rattle.jani_translation.proofs.StateNames.{place_owned, owned_more, column_i
 use Rattle.jani_translation.proofs.States.{columns_are}
 use Rattle.jani_translation.proofs.OneForOne.{filter-none}
 use Rattle.name_table.proofs.Parts.{values_apart}
+use Rattle.jani_translation.proofs.Counts.{element_total, named}
 
 -- ---- reward structures
 pub filter-all : {X Y : Type 0} (p : Y → Bool) (f : X → Y) → ((x : X) → p (f x) ≡ true) → (xs : List X) → filter p (map f xs) ≡ map f xs
@@ -143,12 +144,12 @@ module _ (new : Name → Name) (any : Bool) (old : Name → Seen) (x z : Name) w
       by_test false false h n = ap Some (omega arith)
 
 domain_behind : (new : Name → Name) (cs : List Column) (as_ : List Automaton) (k : ℕ) →
-    domain_at (map location_column as_ ++ map (renamed_column new) cs) (length (map (λ a. a.name) as_) + k) ≡ domain_at cs k
+    domain_at (map location_column as_ ++ map (renamed_column new) cs) (length (named as_) + k) ≡ domain_at cs k
 domain_behind new cs [] k =
     let on : zero + k ≡ k = omega arith in
     ap₂ (λ ds i. get_or ds i Truths) (map-map (λ c. c.domain) (renamed_column new) cs) on
 domain_behind new cs (a ∷ as_) k =
-    let on : suc (length (map (λ a. a.name) as_)) + k ≡ suc (length (map (λ a. a.name) as_) + k) = omega arith in
+    let on : suc (length (named as_)) + k ≡ suc (length (named as_) + k) = omega arith in
     ap (λ i. domain_at (map location_column (a ∷ as_) ++ map (renamed_column new) cs) i) on ∙ domain_behind new cs as_ k
 
 -- ---- the same writes, updates and commands
@@ -186,7 +187,7 @@ module _ (file : prism.File) (v w : Valuation) (sound : IsSoundUnder file v) (al
   new = (new_names file).value
 
   abbrev n : ℕ
-  n = length (translated file).elements
+  n = length (element_names (translated file))
 
   abbrev old : Name → Seen
   old = prism_moment.names_in file v s unchanged
@@ -284,7 +285,7 @@ module _ (file : prism.File) (v w : Valuation) (sound : IsSoundUnder file v) (al
   module_here silently values i m e l h =
       let a = module_automaton (new_names file) silently values m e in
       ap (map (jani_moment.edge_at g w (state_of file s) i a))
-      (filter-all (λ e. jani_moment.is_current (state_of file s) i a e.location.name) (edge (new_names file) silently) (λ c. ap (jani_moment.is_number 0) (home_at g.elements s i l)) m.commands)
+      (filter-all (λ e. jani_moment.is_current (state_of file s) i a e.location.name) (edge (new_names file) silently) (λ c. ap (jani_moment.is_number 0) (home_at (element_names g) s i l)) m.commands)
       ∙ commands_here silently i a refl m.commands h
 
   modules_here : (silently : Bool) (values : List jani.Write) (i : ℕ) (ms : List prism.Body) (es : List Entry) → length ms ≡ length es → i + length ms ≤ n → All (λ m. All (SoundCommand file v s) m.commands) ms →
@@ -314,13 +315,13 @@ edges_watched file v w sound alike s h =
     let at_element = jani_moment.element_at g w (state_of file s) in
     let k = n_bodies file in
     let a = n_automata names silently (location_values names file) (bodies file) names.modules (for_modules file) in
-    let b = length-map g.automata (λ a. a.name) in
+    let b = element_total file in
     let c = length-append mods (monitor names file) in
     ap (numbered (λ i a. at_element i a ∷ []) 0) (elements_are file)
     ∙ numbered_at (λ i a. at_element i a ∷ []) 0 (length file.modules) mods (monitor names file) (omega arith)
     ∙ ap₂ (λ x y. x ++ y)
     (modules_here file v w sound alike s h.values silently (location_values names file) 0 (bodies file) names.modules (for_modules file) (omega arith) h.commands
-    ∙ ap (λ ps. shifted (edge_label silently names.action) (length g.elements) (map (prism_moment.part_at file v s) ps)) (sym (written_parts file sound.written.modules)))
+    ∙ ap (λ ps. shifted (edge_label silently names.action) (length (element_names g)) (map (prism_moment.part_at file v s) ps)) (sym (written_parts file sound.written.modules)))
     (one_numbered at_element (length file.modules) (has_monitor file) (automaton names zz_monitor [] (monitor_edges names file)))
 
 pub quiet_label : (new : Name → Name) (a : Option Name) → edge_label false new a ≡ option_map new a

@@ -6,7 +6,7 @@ use Rattle.basics.specs.Texts.{bytes_ne, bytes_eq-self}
 use Rattle.bridge_io.specs.declared.reason.Named.{Named}
 use Rattle.prism_tree.specs.Syntax as prism
 use Rattle.process_core.specs.Instance.{only_if}
-use Rattle.jani_tree.specs.Syntax.{Automaton, Write}
+use Rattle.jani_tree.specs.Syntax.{Automaton, Write, plain_element}
 use Rattle.op_trees.specs.Names.{is_called}
 use Rattle.jani_meaning.specs.Elements.{nothing_called, elements}
 use Rattle.name_table.specs.declared.class.NameClass.{NameClass}
@@ -18,6 +18,8 @@ use Rattle.name_table.proofs.Parts.{get_part, not_named, module_class, modules_a
 use Rattle.name_table.specs.Asks.{bodies, asks, entries, modules_at, NewNames, new_names}
 use Rattle.jani_translation.specs.Automata.{zz_monitor, automaton, module_automaton, module_automata, monitor, monitor_edges, earns_silently, has_monitor, location_values}
 use Rattle.jani_translation.specs.Translated.{translated}
+use Rattle.jani_meaning.specs.LoopLaws.{elements_plain}
+use Rattle.jani_translation.proofs.Counts.{elements_named}
 
 -- ---- automata of different names are found by their names
 abbrev pub IsOther : Automaton → Automaton → Type 0
@@ -101,7 +103,13 @@ automata_lone file =
 
 pub elements_are : (file : prism.File) → elements (translated file) ≡ (translated file).automata
 unfolding called_in
-elements_are file = all_called (translated file).automata (automata_lone file)
+elements_are file =
+    let as_ = (translated file).automata in
+    elements_plain (translated file) (plain as_) ∙ ap (map (called_in as_)) (elements_named file) ∙ all_called as_ (automata_lone file)
+  where
+    plain : (as_ : List Automaton) → AllByRecursion (λ e. e.enable ≡ []) (map (λ a. plain_element a.name) as_)
+    plain [] = tt
+    plain (a ∷ as_) = (refl, plain as_)
 
 -- ---- each has the one location
 abbrev pub IsOne : NewNames → Automaton → Type 0

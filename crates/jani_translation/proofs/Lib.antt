@@ -25,3 +25,4 @@ mod StateWorked
 mod WatchedWorked
 pub mod Bare
 pub use Rattle.name_table.proofs.Parts
+pub mod Counts

@@ -33,6 +33,7 @@ use Rattle.jani_translation.specs.Automata.{loc, for_states, earns_silently, has
 use Rattle.jani_translation.specs.Translated.{translated}
 use Rattle.jani_translation.specs.SeenLaws.{IsSound, IsSoundUnder, GivesAlike}
 use Rattle.jani_translation.specs.StateLaws.{at_home, state_of, SoundItem, MarksAreSound, LabelsSeenAlike, MarksAlike}
+use Rattle.jani_translation.proofs.Counts.{element_total, named}
 use Rattle.jani_translation.proofs.Each.{n_bodies, for_labels, for_rewards, for_modules}
 use Rattle.jani_translation.proofs.Elements.{elements_are}
 use Rattle.jani_translation.proofs.StateNames.{owned_more}
@@ -280,7 +281,7 @@ module _ (file : prism.File) (v w : Valuation) (sound : IsSoundUnder file v) (al
       let values = location_values names file in
       let k = n_bodies file in
       let some = h.some_module in
-      let n = length-map g.automata (λ a. a.name) in
+      let n = element_total file in
       ap (λ as_. jani_moment.first_or g w st (jani_scene.start_of (jani_scene.constant_names g w) x.start) (numbered (given_by g w st x) 0 as_)) (elements_are file)
       ∙ ap (jani_moment.first_or g w st (jani_scene.start_of (jani_scene.constant_names g w) x.start))
       (first_gives g w st x names (earns_silently file) values (bodies file) names.modules (monitor names file) (omega arith) (for_modules file)
@@ -289,7 +290,7 @@ module _ (file : prism.File) (v w : Valuation) (sound : IsSoundUnder file v) (al
       ∙ first_seen g w st x (given x.name.name values)
     where
       home_first : (ms : List prism.Body) (es : List Entry) → length ms ≡ length es → 0 < length ms →
-          slice_get (map (λ a. at_home) (map (λ a. a.name) (module_automata (new_names file) (earns_silently file) (location_values (new_names file) file) ms es ++ monitor (new_names file) file)) ++ s) 0 ≡ Some at_home
+          slice_get (map (λ a. at_home) (named (module_automata (new_names file) (earns_silently file) (location_values (new_names file) file) ms es ++ monitor (new_names file) file)) ++ s) 0 ≡ Some at_home
       home_first [] es q l = absurd (omega arith)
       home_first (m ∷ ms) [] q l = absurd cc
       home_first (m ∷ ms) (e ∷ es) q l = refl

@@ -16,7 +16,7 @@ use Rattle.process_core.specs.Idle.{idle_update, idle}
 use Rattle.prism_tree.specs.Syntax as prism
 use Rattle.prism_tree.specs.declared.syntax.ItemOn.{ItemOn}
 use Rattle.process_core.specs.Instance.{Valuation, only_if}
-use Rattle.jani_tree.specs.Syntax.{Automaton, Edge, File}
+use Rattle.jani_tree.specs.Syntax.{Automaton, Edge, File, element_names}
 use Rattle.jani_meaning.specs.Moment as jani_moment
 use Rattle.jani_meaning.specs.Moment.{location_write}
 use Rattle.name_table.specs.Asks.{variables, actions, new_names}
@@ -95,7 +95,7 @@ module _ (file : prism.File) (v w : Valuation) (sound : IsSoundUnder file v) (al
   watching a wanted = jani_moment.edge_at (translated file) w (state_of file s) (length file.modules) (automaton (new_names file) zz_monitor [] (monitor_edges (new_names file) file)) (monitor_edge (new_names file) file a wanted)
 
   -- it is idle: it stays at its one location, and assigns the sums of the items
-  update_idle : length file.modules < length (translated file).elements → (rewards : List Reward) (ws : List Write) → ws ≡ [] →
+  update_idle : length file.modules < length (element_names (translated file)) → (rewards : List Reward) (ws : List Write) → ws ≡ [] →
       FollowsUpdate any_state (state_of file) (idle_update rewards)
       (record { weight = known (Some (V.Number unit)); writes = location_write (length file.modules) 0 ∷ ws; rewards = rewards })
   update_idle l rewards ws e =
@@ -106,11 +106,11 @@ module _ (file : prism.File) (v w : Valuation) (sound : IsSoundUnder file v) (al
         undef = refl;
         outside = refl;
         rewards = λ own. refl;
-        target = λ t h. set_home (translated file).elements t (length file.modules) l;
+        target = λ t h. set_home (element_names (translated file)) t (length file.modules) l;
         stays = λ t h. h;
       })
 
-  pub watching_idle : length file.modules < length (translated file).elements → (a : Named) (b : Option Name) (wanted : ItemOn → Bool) →
+  pub watching_idle : length file.modules < length (element_names (translated file)) → (a : Named) (b : Option Name) (wanted : ItemOn → Bool) →
       FollowsReady any_state (state_of file) (idle b (assigned_by file v w sound alike s long (length file.modules) (rewards_of (new_names file) wanted file.rewards))) (watching a wanted)
   watching_idle l a b wanted = record {
     guard = refl;
@@ -125,7 +125,7 @@ module _ (file : prism.File) (v w : Valuation) (sound : IsSoundUnder file v) (al
   abbrev pub watched_edges : List Ready
   watched_edges = map (λ a. watching (made ((new_names file).action a)) (for_action a)) (earning_actions file) ++ only_if (earns_silently file) (watching zz_silent for_silent)
 
-  pub monitor_here : length file.modules < length (translated file).elements →
+  pub monitor_here : length file.modules < length (element_names (translated file)) →
       jani_moment.element_at (translated file) w (state_of file s) (length file.modules) (automaton (new_names file) zz_monitor [] (monitor_edges (new_names file) file)) ≡ watched_edges
   monitor_here l =
       let names = new_names file in
@@ -134,7 +134,7 @@ module _ (file : prism.File) (v w : Valuation) (sound : IsSoundUnder file v) (al
       let f : Name → Edge = λ a. monitor_edge names file (made (names.action a)) (for_action a) in
       let silent = monitor_edge names file zz_silent for_silent in
       let at = jani_moment.edge_at g w (state_of file s) i a in
-      let home : jani_moment.is_current (state_of file s) i a loc.name ≡ true = ap (jani_moment.is_number 0) (home_at g.elements s i l) in
+      let home : jani_moment.is_current (state_of file s) i a loc.name ≡ true = ap (jani_moment.is_number 0) (home_at (element_names g) s i l) in
       ap (map at)
       (filter_all_behind (λ e. jani_moment.is_current (state_of file s) i a e.location.name) f (λ c. home) (earning_actions file) (only_if (earns_silently file) silent)
       (filter_one (λ e. jani_moment.is_current (state_of file s) i a e.location.name) (earns_silently file) silent home))

@@ -1,7 +1,7 @@
 -- The scenes of a file and of the translated file: constants, columns and instance faults.
 use Rattle.std.specs.Prelude.{◌≡◌, ℕ, suc, ◌+◌, List, [], ◌∷◌, ◌++◌, map, length, drop, Bool, true, false, not, ◌||◌, cond, Option, Some, None, is_some, unwrap_or, IfSome}
 use Rattle.std.specs.List.{All, AllByRecursion, find, filter, list_any, zip}
-use Rattle.std.proofs.Common.{refl, sym, ap, ap₂, ◌∙◌, append-nil}
+use Rattle.std.proofs.Common.{refl, sym, ap, ap₂, ◌∙◌, append-nil, subst}
 use Rattle.std.proofs.lemmas.List.Elements.{All-nil, All-cons, All-append, All-head, All-tail}
 use Rattle.std.proofs.lemmas.Bool.{or_right}
 use Rattle.bridge_io.specs.declared.reason.Named.{Named}
@@ -12,7 +12,7 @@ use Rattle.prism_names.specs.Names.{unchanged}
 use Rattle.process_core.specs.Instance.{Valuation, Domain, Between, Column, numbered, only_if, constant_faults, column_faults}
 use Rattle.prism_flat.specs.Scene as prism_scene
 use Rattle.prism_flat.specs.Scene.{has_condition}
-use Rattle.jani_tree.specs.Syntax.{Automaton, Var, Write, File}
+use Rattle.jani_tree.specs.Syntax.{Automaton, Var, Write, File, element_names}
 use Rattle.op_trees.specs.Names.{is_called}
 use Rattle.jani_meaning.specs.Elements.{automaton_called, nothing_called, elements, has_several_starts, Owned, owned_by, is_lasting, lasting}
 use Rattle.jani_meaning.specs.Scene as jani_scene
@@ -91,16 +91,6 @@ module _ (new : Name → Name) (any : Bool) (old env : Name → Seen) (n : (x : 
       ap₂ (λ c r. c ∷ r) (same_column _ _ _ _ _ _ t.0 (domain_alike x.range here.0) (start_alike any x.start x.range here.0 here.1)) (columns_alike vs es t.1 rest)
 
 -- ---- no automaton has variables of its own
-found_own : (n : Named) (as_ : List Automaton) → All (λ a. a.variables ≡ []) as_ → (unwrap_or (find (λ a. is_called n.name a.name) as_) (nothing_called n)).variables ≡ []
-found_own n [] h = refl
-found_own n (a ∷ as_) h =
-    picked (is_called n.name a.name) (All-head (λ a. a.variables ≡ []) a as_ h) (found_own n as_ (All-tail (λ a. a.variables ≡ []) a as_ h))
-  where
-    picked : (b : Bool) → a.variables ≡ [] → (unwrap_or (find (λ a. is_called n.name a.name) as_) (nothing_called n)).variables ≡ [] →
-        (unwrap_or (cond b (Some a) (find (λ a. is_called n.name a.name) as_)) (nothing_called n)).variables ≡ []
-    picked true p q = p
-    picked false p q = q
-
 no_owned : (i : ℕ) (as_ : List Automaton) → All (λ a. a.variables ≡ []) as_ → numbered (λ k a. owned_by (Some k) a.variables) i as_ ≡ []
 no_owned i [] h = refl
 no_owned i (a ∷ as_) h =
@@ -121,9 +111,8 @@ automata_own file =
     All-append (λ a. a.variables ≡ []) _ _ (module_owns names (earns_silently file) (location_values names file) (bodies file) names.modules)
     (monitor_owns (has_monitor file) (automaton names zz_monitor [] (monitor_edges names file)) refl)
 
-elements_own : (file : File) (ns : List Named) → All (λ a. a.variables ≡ []) file.automata → All (λ a. a.variables ≡ []) (map (automaton_called file) ns)
-elements_own file [] h = All-nil (λ a. a.variables ≡ [])
-elements_own file (n ∷ ns) h = All-cons (λ a. a.variables ≡ []) _ _ (found_own n file.automata h) (elements_own file ns h)
+elements_own : (file : prism.File) → All (λ a. a.variables ≡ []) (elements (translated file))
+elements_own file = subst (All (λ a. a.variables ≡ [])) (sym (elements_are file)) (automata_own file)
 
 -- ---- the variables that are not transient
 kept_alike : (b : Bool) (f : Var → Column) (x : Var) (os : List Owned) (xs : List Var) → map (λ o. f o.var) os ≡ map f xs →
@@ -140,7 +129,7 @@ lasting_alike : (file : prism.File) (f : Var → Column) →
 lasting_alike file f =
     let g = translated file in
     ap (λ r. map (λ o. f o.var) (filter is_lasting (owned_by None g.variables ++ r)))
-    (no_owned 0 (elements g) (elements_own g g.elements (automata_own file)))
+    (no_owned 0 (elements g) (elements_own file))
     ∙ ap (λ r. map (λ o. f o.var) (filter is_lasting r)) (append-nil (owned_by None g.variables))
     ∙ owned_lasting f g.variables
     ∙ ap (map f) (lasting_are file)
@@ -226,7 +215,7 @@ module _ (file : prism.File) where
 
 pub faults_alike : (file : prism.File) → FaultsAlike file
 faults_alike file v w sound alike =
-    let n = length (translated file).elements in
+    let n = length (element_names (translated file)) in
     let b = jani_scene.has_condition (translated file) in
     let cs = prism_scene.columns_of file v in
     locations_have_no_fault (translated file) w

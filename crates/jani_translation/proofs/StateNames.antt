@@ -14,7 +14,7 @@ use Rattle.process_core.specs.Instance.{numbered}
 use Rattle.prism_flat.specs.Scene.{has_condition}
 use Rattle.prism_flat.specs.Scene as prism_scene
 use Rattle.prism_flat.specs.Moment as prism_moment
-use Rattle.jani_tree.specs.Syntax.{Automaton, Var}
+use Rattle.jani_tree.specs.Syntax.{Automaton, Var, element_names}
 use Rattle.op_trees.specs.Names.{is_called}
 use Rattle.jani_meaning.specs.Elements.{elements, owned_by, is_lasting, is_own, is_global, lasting, place_of, column_number}
 use Rattle.jani_meaning.specs.Scene as jani_scene
@@ -76,10 +76,10 @@ lasting_owned file =
     ∙ ap (owned_by None) (lasting_are file ∙ ap (map (λ p. variable (new_names file).value (has_condition file) p.0 p.1)) (zip-take (variables file) (drop (length file.constants) (entries file))))
 
 pub column_is : (file : prism.File) (i : ℕ) (z : Name) →
-    column_number (translated file) i z ≡ option_map (λ k. length (translated file).elements + k) (position (λ y. is_called z y.name) (new_variables file))
+    column_number (translated file) i z ≡ option_map (λ k. length (element_names (translated file)) + k) (position (λ y. is_called z y.name) (new_variables file))
 column_is file i z =
-    ap (λ os. option_map (λ k. length (translated file).elements + k) (place_of os i z)) (lasting_owned file)
-    ∙ ap (option_map (λ k. length (translated file).elements + k)) (place_owned i z (new_variables file))
+    ap (λ os. option_map (λ k. length (element_names (translated file)) + k) (place_of os i z)) (lasting_owned file)
+    ∙ ap (option_map (λ k. length (element_names (translated file)) + k)) (place_owned i z (new_variables file))
 
 -- ---- values behind the locations
 pub get_behind : {X Y : Type 0} (f : X → Y) (xs : List X) (s : List Y) (k : ℕ) → slice_get (map f xs ++ s) (length xs + k) ≡ slice_get s k
@@ -125,7 +125,7 @@ names_seen_alike file v w sound alike s l i x =
     let found = position (λ y. is_called z y.name) (new_variables file) in
     ap known
     (ap (λ p. jani_moment.value_in (state_of file s) p (jani_scene.constant g w z)) (column_is file i z)
-    ∙ value_behind (λ a. at_home) g.elements s found (jani_scene.constant g w z)
+    ∙ value_behind (λ a. at_home) (element_names g) s found (jani_scene.constant g w z)
     ∙ value_alike new (has_condition file) (prism_scene.constant_names file v unchanged) (prism_scene.constant file v) x z (variables file) (drop (length file.constants) (entries file)) s (jani_scene.constant g w z)
     (variables_agree file v w sound alike x) l (constant_same file v w sound alike x)
     ∙ ap (λ cs. prism_moment.value_in cs s (prism_scene.constant file v) x) (sym (variable_columns file v sound.written.modules)))

@@ -17,7 +17,7 @@ use Rattle.prism_flat.specs.Moment as prism_moment
 use Rattle.prism_flat.specs.Moment.{condition_seen}
 use Rattle.prism_flat.specs.Scene as prism_scene
 use Rattle.prism_flat.specs.Scene.{has_condition}
-use Rattle.jani_tree.specs.Syntax.{Automaton, Expression, is_always}
+use Rattle.jani_tree.specs.Syntax.{Automaton, Expression, is_always, element_names}
 use Rattle.jani_meaning.specs.Elements.{has_several_starts}
 use Rattle.jani_meaning.specs.Moment as jani_moment
 use Rattle.jani_meaning.specs.Moment.{begin_here, is_among, restriction_seen}
@@ -30,6 +30,7 @@ use Rattle.jani_translation.specs.Parts.{restriction}
 use Rattle.jani_translation.specs.Translated.{translated}
 use Rattle.jani_translation.specs.SeenLaws.{IsSound, IsSoundUnder, GivesAlike, renamed_column}
 use Rattle.jani_translation.specs.StateLaws.{at_home, state_of, StatesAlike, ConditionSeenAlike, InitialAlike, StatesAreThese, StatesDiffer}
+use Rattle.jani_translation.proofs.Counts.{named}
 use Rattle.jani_translation.proofs.SameColumns.{columns_seen_alike}
 use Rattle.jani_translation.proofs.SameSeen.{image_seen}
 use Rattle.jani_translation.proofs.StateNames.{names_seen_alike}
@@ -38,13 +39,13 @@ use Rattle.jani_translation.proofs.Elements.{elements_are, IsOne, automata_one}
 
 module _ (names : NewNames) (cs : List Column) (s : Values) where
   home_states : (as_ : List Automaton) → AllByRecursion (IsOne names) as_ →
-      is_state (map location_column as_ ++ cs) (map (λ n. at_home) (map (λ a. a.name) as_) ++ s) ≡ is_state cs s
+      is_state (map location_column as_ ++ cs) (map (λ n. at_home) (named as_) ++ s) ≡ is_state cs s
   home_states [] h = refl
   home_states (a ∷ as_) h =
       ap₂ (λ x y. x && y) (ap (λ (b : Automaton). is_in (location_column b).domain at_home) h.0.1) (home_states as_ h.1)
 
   home_initial : (as_ : List Automaton) → AllByRecursion (IsOne names) as_ →
-      begin_all (map location_column as_ ++ cs) (map (λ n. at_home) (map (λ a. a.name) as_) ++ s) ≡ begin_all cs s
+      begin_all (map location_column as_ ++ cs) (map (λ n. at_home) (named as_) ++ s) ≡ begin_all cs s
   home_initial [] h = refl
   home_initial (a ∷ as_) h =
       ap₂ (λ x y. x && y) (ap (λ (b : Automaton). begins (location_column b) at_home) h.0.1) (home_initial as_ h.1)
@@ -114,7 +115,7 @@ home_here names u i (a ∷ as_) h =
 pub condition_seen_alike : (file : prism.File) → ConditionSeenAlike file
 condition_seen_alike file v w sound alike s l c =
     let g = translated file in
-    let n = length g.elements in
+    let n = length (element_names g) in
     let env = jani_moment.names_in g w (state_of file s) n in
     ap (λ b. if b then restriction_seen env g.restrict else known (Some (V.Truth false)))
     (ap (begin_here (state_of file s) 0) (elements_are file) ∙ home_here (new_names file) (state_of file s) 0 g.automata (automata_one file))
@@ -137,7 +138,7 @@ home_only : (u : Value) → is_in (Between (counted 0) (counted 0)) u ≡ true �
 home_only u h = sym (only_nought u h)
 
 behind : (names : NewNames) (cs : List Column) (as_ : List Automaton) → AllByRecursion (IsOne names) as_ → (u : Values) → is_state (map location_column as_ ++ cs) u ≡ true →
-    (s : Values) × (is_state cs s ≡ true) × (map (λ n. at_home) (map (λ a. a.name) as_) ++ s ≡ u)
+    (s : Values) × (is_state cs s ≡ true) × (map (λ n. at_home) (named as_) ++ s ≡ u)
 behind names cs [] h u k = (u, k, refl)
 behind names cs (a ∷ as_) h [] k = absurd cc
 behind names cs (a ∷ as_) h (x ∷ u) k =
@@ -152,4 +153,4 @@ states_are_these file v w sound alike u h =
     (r.0, sym (renamed_states (new_names file).value (prism_scene.columns_of file v) r.0) ∙ r.1, r.2)
 
 pub states_differ : (file : prism.File) → StatesDiffer file
-states_differ file s t e = append_cancel_left (map (λ a. at_home) (translated file).elements) s t e
+states_differ file s t e = append_cancel_left (map (λ a. at_home) (element_names (translated file))) s t e

@@ -1,12 +1,12 @@
 -- JANI trees of the worked cases. Each offset is 0, and a comment is a text.
-use Rattle.std.specs.Prelude.{ℕ, pos, List, [], ◌∷◌, Bool, true, false, Option, Some, None}
+use Rattle.std.specs.Prelude.{ℕ, pos, List, [], ◌∷◌, Bool, true, false, Option, Some, None, map}
 use Rattle.bridge_io.specs.declared.reason.Named.{Named}
 use Rattle.op_trees.specs.Tree.{Truth, Number, Name, One, Two, Three}
 use Rattle.op_trees.specs.declared.tree.Ty.{Ty}
 use Rattle.jani_table.specs.Node.{array, no_nodes}
 use Rattle.jani_table.specs.declared.operator.JaniOp.{JaniOp}
 use Rattle.jani_table.specs.declared.operator.JaniOp.TheVariants as O
-use Rattle.jani_tree.specs.Syntax.{Expression, Const, VarKind, boolean, number, bounded, Var, Write, Destination, Edge, Automaton, Vector, File}
+use Rattle.jani_tree.specs.Syntax.{Expression, Const, VarKind, boolean, number, bounded, Var, Write, Destination, Edge, Automaton, Vector, File, plain_element}
 
 abbrev pub at : List ℕ → Named
 at x = record { name = x; at = 0 }
@@ -72,4 +72,4 @@ vector parts result = record { parts = parts; result = result; at = 0 }
 -- the elements are the automata
 abbrev pub file : List Named → List Const → List Var → List Automaton → List Named → List Vector → File
 file acts cs vs as_ es ss =
-    record { actions = acts; constants = cs; variables = vs; restrict = None; automata = as_; elements = es; elements_at = 0; vectors = ss; properties = array 0 no_nodes }
+    record { actions = acts; constants = cs; variables = vs; restrict = None; automata = as_; elements = map plain_element es; elements_at = 0; vectors = ss; properties = array 0 no_nodes }

@@ -35,6 +35,8 @@ use Rattle.jani_translation.proofs.Edges.{n_automata}
 use Rattle.jani_translation.proofs.Choices.{any_state, is_any_state, IsOwnName, own_name, IsOwnLabel, taking_follows, action_for, none_earns, mods, own, earned, few, rewards_none}
 use Rattle.jani_translation.proofs.Assigned.{kept_all, assigned_by, monitor_assigned, monitor_undefined}
 use Rattle.jani_translation.proofs.Monitor.{at_place, watching, watching_idle, monitor_here, none_without, one_for_action}
+use Rattle.jani_tree.specs.Syntax.{element_names}
+use Rattle.jani_translation.proofs.Counts.{element_total}
 
 -- ---- lists
 pub n_numbered : {X Y : Type 0} (f : ℕ → X → Y) (i : ℕ) (xs : List X) → length (numbered (λ i x. f i x ∷ []) i xs) ≡ length xs
@@ -146,12 +148,12 @@ module _ (file : prism.File) where
           absurd (let t : true ≡ false = sym h ∙ ap (λ a. has_items (for_action a) file) (sym c.2) ∙ k in cc)
 
   -- its number is that behind the modules
-  pub monitor_number : has_monitor file ≡ true → length file.modules < length (translated file).elements
+  pub monitor_number : has_monitor file ≡ true → length file.modules < length (element_names (translated file))
   monitor_number h =
       let names = new_names file in
       let ms = module_automata names (earns_silently file) (location_values names file) (bodies file) names.modules in
       let a = n_automata names (earns_silently file) (location_values names file) (bodies file) names.modules (for_modules file) in
-      let b = length-map (translated file).automata (λ a. a.name) in
+      let b = element_total file in
       let c = length-append ms (monitor names file) in
       let d : length (monitor names file) ≡ 1 = ap (λ b. length (only_if b (automaton names zz_monitor [] (monitor_edges names file)))) h in
       let f = n_bodies file in
@@ -167,7 +169,7 @@ module _ (file : prism.File) (v w : Valuation) (sound : IsSoundUnder file v) (al
   watchers = map (jani_moment.element_at (translated file) w (state_of file s) (length file.modules)) (monitor (new_names file) file)
 
   abbrev pub commands : List (List Ready)
-  commands = shifted (edge_label (earns_silently file) (new_names file).action) (length (translated file).elements) (prism_moment.moment file v s).modules
+  commands = shifted (edge_label (earns_silently file) (new_names file).action) (length (element_names (translated file))) (prism_moment.moment file v s).modules
 
   -- the monitor has no edge without action
   pub no_silent_watcher : (rewards : List Sum) → silent rewards watchers ≡ []
@@ -211,7 +213,7 @@ module _ (file : prism.File) (v w : Valuation) (sound : IsSoundUnder file v) (al
       let l = edge_label (earns_silently file) (new_names file).action in
       let p = length-map (vector_of a ms).parts (option_map (new_names file).action) in
       let q = length-map ms (λ m. if list_any (has_action (Some a)) m then Some a else None) in
-      let r = n_numbered (λ i m. map (shifted_ready l (length (translated file).elements) i) m) 0 ms in
+      let r = n_numbered (λ i m. map (shifted_ready l (length (element_names (translated file))) i) m) 0 ms in
       taking-append (map (option_map (new_names file).action) (vector_of a ms).parts) _ commands watchers (omega arith)
 
   abbrev Alike : Name → List (List Ready) → Type 0

@@ -44,6 +44,7 @@ use Rattle.jani_translation.proofs.Choices.{any_state, ready_follows, no_silent,
 use Rattle.jani_translation.proofs.Assigned.{assigned_by, monitor_assigned, monitor_undefined}
 use Rattle.jani_translation.proofs.Monitor.{watching, watching_idle, monitor_here, one_silent}
 use Rattle.jani_translation.proofs.Watched.{n_numbered, taking-append, SameChoice, each_same, watched_together, sound_items, silent_choices, monitor_number, watchers, commands, no_silent_watcher, actions_watched, part_no_rewards}
+use Rattle.jani_tree.specs.Syntax.{element_names}
 
 -- ---- members of lists
 get_mapped : {X Y : Type 0} (f : X → Y) (xs : List X) (i : ℕ) (x : X) → slice_get xs i ≡ Some x → slice_get (map f xs) i ≡ Some (f x)
@@ -90,7 +91,7 @@ together_one a rewards (x ∷ xs) = ap (λ r. record { label = a; rewards = rewa
 -- ---- commands without action have the action zz_silent
 module _ (file : prism.File) (silently : earns_silently file ≡ true) where
   abbrev n : ℕ
-  n = length (translated file).elements
+  n = length (element_names (translated file))
 
   abbrev new_label : Option Name → Option Name
   new_label = edge_label (earns_silently file) (new_names file).action
@@ -145,7 +146,7 @@ module _ (file : prism.File) (v w : Valuation) (sound : IsSoundUnder file v) (al
 
   n_commands : length (bodies file) ≡ length (commands file v w sound alike s long)
   n_commands =
-      let a = n_numbered (λ i m. map (shifted_ready (edge_label (earns_silently file) (new_names file).action) (length (translated file).elements) i) m) 0 (mods file v w sound alike s) in
+      let a = n_numbered (λ i m. map (shifted_ready (edge_label (earns_silently file) (new_names file).action) (length (element_names (translated file))) i) m) 0 (mods file v w sound alike s) in
       let d = length-map (map (part_of file) file.modules) (part_at file v s) in
       let e = length-map file.modules (part_of file) in
       let f = n_bodies file in
@@ -165,7 +166,7 @@ module _ (file : prism.File) (v w : Valuation) (sound : IsSoundUnder file v) (al
       ap (λ l. slice_get l i) (are_bodies file v w sound alike s)
       ∙ get_mapped (part_at file v s) (map body_part (bodies file)) i (body_part b) (get_mapped body_part (bodies file) i b g)
 
-  module_number : (i : ℕ) (b : Body) → slice_get (bodies file) i ≡ Some b → i < length (translated file).elements
+  module_number : (i : ℕ) (b : Body) → slice_get (bodies file) i ≡ Some b → i < length (element_names (translated file))
   module_number i b g =
       let l = slice_get_within (mods file v w sound alike s) i (part_at file v s (body_part b)) (module_is i b g) in
       let k = few file v w sound alike s in
@@ -173,11 +174,11 @@ module _ (file : prism.File) (v w : Valuation) (sound : IsSoundUnder file v) (al
 
   silent_taken : earns_silently file ≡ true → (i : ℕ) (b : Body) → slice_get (bodies file) i ≡ Some b →
       taking (jani_moment.vector_of (silent_vector file i)).parts all_elements
-      ≡ filter (has_action (Some zz_silent.name)) (map (shifted_ready (edge_label (earns_silently file) (new_names file).action) (length (translated file).elements) i) (part_at file v s (body_part b)))
+      ≡ filter (has_action (Some zz_silent.name)) (map (shifted_ready (edge_label (earns_silently file) (new_names file).action) (length (element_names (translated file))) i) (part_at file v s (body_part b)))
       ∷ (watching file v w sound alike s long zz_silent for_silent ∷ []) ∷ []
   silent_taken h i b g =
       let l = edge_label (earns_silently file) (new_names file).action in
-      let k = length (translated file).elements in
+      let k = length (element_names (translated file)) in
       let on : 0 + i ≡ i = omega arith in
       let c = n_commands in
       let n = length-map (numbered (λ k m. part_if (nat_eq i k) zz_silent ∷ []) 0 (bodies file)) (option_map (λ n. n.name)) in
@@ -201,7 +202,7 @@ module _ (file : prism.File) (v w : Valuation) (sound : IsSoundUnder file v) (al
       let rewards = assigned_by file v w sound alike s long k (rewards_of (new_names file) for_silent file.rewards) in
       let good = sound_items file v s items (monitor_for_silent file h) for_silent silent_choices in
       let rs = filter (has_action None) m in
-      let ts = filter (has_action (Some zz_silent.name)) (map (shifted_ready l (length (translated file).elements) i) m) in
+      let ts = filter (has_action (Some zz_silent.name)) (map (shifted_ready l (length (element_names (translated file))) i) m) in
       subst (λ (x : List Combination). AllZip Same x (together None (own file v w sound alike s) (taking (jani_moment.vector_of (silent_vector file i)).parts all_elements)))
       (together_one None (earned file v w sound alike s None) rs)
       (subst (λ (x : List (List Ready)). AllZip Same (together None (earned file v w sound alike s None) (rs ∷ [])) (together None (own file v w sound alike s) x))
@@ -279,7 +280,7 @@ module _ (file : prism.File) (v w : Valuation) (sound : IsSoundUnder file v) (al
 
   quiet_follow : earns_silently file ≡ false → AllZip Same alone_ones alone_there
   quiet_follow quiet =
-      let k = length (translated file).elements in
+      let k = length (element_names (translated file)) in
       let ms = mods file v w sound alike s in
       let new = (new_names file).action in
       subst (λ (r : List Combination). AllZip Same alone_ones r)

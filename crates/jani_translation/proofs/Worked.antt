@@ -12,7 +12,7 @@ use Rattle.jani_table.specs.Node.{array, no_nodes}
 use Rattle.prism_images.specs.Image.{nought_literal}
 use Rattle.jani_table.specs.declared.operator.JaniOp.TheVariants as J
 use Rattle.jani_tree.specs.Syntax as jani
-use Rattle.jani_tree.specs.Syntax.{boolean}
+use Rattle.jani_tree.specs.Syntax.{boolean, element_names, plain_element}
 use Rattle.frac_core.specs.Text.{digits}
 use Rattle.prism_names.specs.Flat.{flat}
 use Rattle.jani_translation.specs.Translated.{translated}
@@ -231,7 +231,7 @@ two_processes =
     (p.label (codes "mutex") (p.is a 1) ∷ [])
     (p.rewards (codes "work") (p.in_state (p.is a 2) (p.int 1) ∷ []) ∷ p.rewards (codes "rounds") (p.on (codes "done") (p.truth true) (p.int 1) ∷ []) ∷ [])
 
-two_processes_elements : (translated two_processes).elements ≡ j.at x ∷ j.at y ∷ j.at (codes "zz_monitor") ∷ []
+two_processes_elements : (element_names (translated two_processes)) ≡ j.at x ∷ j.at y ∷ j.at (codes "zz_monitor") ∷ []
 unfolding digits
 two_processes_elements = refl
 
@@ -379,7 +379,7 @@ placed_file : translated placed
           ∷ j.automaton (codes "zz_monitor") []
           (j.sure with_a None (record { target = put r 80; value = j.ite (Truth 93 false) (Name 96 L) (j.int 0) } ∷ []) ∷ [])
           ∷ [];
-      elements = put M 30 ∷ j.at (codes "zz_monitor") ∷ [];
+      elements = plain_element (put M 30) ∷ plain_element (j.at (codes "zz_monitor")) ∷ [];
       elements_at = 0;
       vectors = j.vector (with_a ∷ with_a ∷ []) with_a ∷ [];
       properties = array 0 no_nodes;

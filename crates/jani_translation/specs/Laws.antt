@@ -14,15 +14,16 @@ use Rattle.name_table.specs.Asks.{bodies, variables, new_names}
 use Rattle.jani_translation.specs.Parts.{kind_of, start_under}
 use Rattle.jani_translation.specs.Automata.{has_items, for_action, earns_silently, has_monitor, edge}
 use Rattle.jani_translation.specs.Translated.{silent_vectors, translated}
+use Rattle.jani_tree.specs.Syntax.{plain_element}
 
 -- ---- one for one
 -- there is an automaton for each module, and one more where there is a monitor
 abbrev pub OneAutomatonEach : prism.File → Type 0
 OneAutomatonEach file = length (translated file).automata ≡ length file.modules + (if has_monitor file then 1 else 0)
 
--- each automaton is an element
+-- each automaton is an element, which accepts no action besides
 abbrev pub OneElementEach : prism.File → Type 0
-OneElementEach file = (translated file).elements ≡ map (λ a. a.name) (translated file).automata
+OneElementEach file = (translated file).elements ≡ map (λ a. plain_element a.name) (translated file).automata
 
 -- the first automata are those of the modules, in order: they have the new names of the modules
 abbrev pub ModulesComeFirst : prism.File → Type 0

@@ -14,6 +14,7 @@ use Rattle.jani_meaning.specs.Process as jani
 use Rattle.prism_images.specs.Laws.{HasItsOperands, ComparesTruths}
 use Rattle.name_table.specs.Asks.{variables, value_names, new_names}
 use Rattle.jani_translation.specs.Translated.{translated}
+use Rattle.jani_tree.specs.Syntax.{element_names}
 
 -- ---- what is asked of a file and a valuation
 -- an expression whose nodes have as many operands as their operators, and in which no `<=>` stands between two numbers
@@ -74,4 +75,4 @@ abbrev pub FaultsAlike : prism.File → Type 0
 FaultsAlike file = (v w : Valuation) → IsSoundUnder file v → GivesAlike file v w →
     (jani.model (translated file)).faults w
     ≡ numbered constant_faults 0 (prism_scene.scene file v).constants
-    ++ numbered (column_faults (prism_scene.scene file v).has_condition) (length (translated file).elements) (prism_scene.scene file v).columns
+    ++ numbered (column_faults (prism_scene.scene file v).has_condition) (length (element_names (translated file))) (prism_scene.scene file v).columns

@@ -21,6 +21,7 @@ use Rattle.name_table.specs.Asks.{bodies, variables, new_names}
 use Rattle.jani_translation.specs.Automata.{for_states, zz_silent, earns_silently, has_monitor, monitor}
 use Rattle.jani_translation.specs.Translated.{translated}
 use Rattle.jani_translation.specs.SeenLaws.{IsSound, IsSoundUnder, GivesAlike}
+use Rattle.jani_tree.specs.Syntax.{element_names}
 
 -- ---- elements
 -- each automaton is found by its name, so the elements are the automata, in order
@@ -34,7 +35,7 @@ at_home = V.Number (whole (pos 0))
 
 -- a state of the file: each element at its location, and then the variables
 abbrev pub state_of : prism.File → Values → Values
-state_of file s = map (λ a. at_home) (translated file).elements ++ s
+state_of file s = map (λ a. at_home) (element_names (translated file)) ++ s
 
 -- At this state, each name of the file, under its new name, is seen as in the file, in whatever element.
 abbrev pub NamesSeenAlike : prism.File → Type 0
@@ -131,7 +132,7 @@ shifted label n ms = numbered (λ i m. map (shifted_ready label n i) m ∷ []) 0
 abbrev pub EdgesWatched : prism.File → Type 0
 EdgesWatched file = (v w : Valuation) → IsSoundUnder file v → GivesAlike file v w → (s : Values) → CommandsAreSound file v s →
     (jani_moment.moment (translated file) w (state_of file s)).elements
-    ≡ shifted (edge_label (earns_silently file) (new_names file).action) (length (translated file).elements) (prism_moment.moment file v s).modules
+    ≡ shifted (edge_label (earns_silently file) (new_names file).action) (length (element_names (translated file))) (prism_moment.moment file v s).modules
     ++ map (jani_moment.element_at (translated file) w (state_of file s) (length file.modules)) (monitor (new_names file) file)
 
 -- ---- marks

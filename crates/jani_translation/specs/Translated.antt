@@ -10,7 +10,7 @@ use Rattle.prism_tree.specs.Syntax.{Body}
 use Rattle.process_core.specs.Instance.{numbered, only_if}
 use Rattle.prism_flat.specs.Scene.{has_condition}
 use Rattle.jani_table.specs.Node.{array, no_nodes}
-use Rattle.jani_tree.specs.Syntax.{Var, Vector, File}
+use Rattle.jani_tree.specs.Syntax.{Var, Vector, File, plain_element}
 use Rattle.name_table.specs.Asks.{bodies, variables, actions, action_of, NewNames, new_names}
 use Rattle.jani_translation.specs.Parts.{made, constant, variable, restriction, label, structure}
 use Rattle.jani_translation.specs.Automata.{zz_silent, has_items, for_action, has_silent, earns_silently, has_monitor, automata}
@@ -67,7 +67,7 @@ module _ (names : NewNames) where
     variables = global_variables file;
     restrict = restriction names.value file.init;
     automata = automata names file;
-    elements = map (λ a. a.name) (automata names file);
+    elements = map (λ a. plain_element a.name) (automata names file);
     elements_at = 0;
     vectors = vectors file;
     properties = array 0 no_nodes;

@@ -21,7 +21,7 @@ use Rattle.prism_tree.specs.Syntax as prism
 use Rattle.prism_tree.specs.Syntax.{Body}
 use Rattle.process_core.specs.Instance.{numbered, only_if}
 use Rattle.prism_check.specs.NameFaults as pc
-use Rattle.jani_tree.specs.Syntax.{Vector}
+use Rattle.jani_tree.specs.Syntax.{Vector, element_names}
 use Rattle.jani_check.specs.NameFaults.{automaton_names, doubled_names, unknown_names, circles, repeated_elements, no_element, bad_vector, composition_faults}
 use Rattle.jani_translation.specs.Asks.{bodies, actions, action_of, new_names}
 use Rattle.jani_translation.specs.Parts.{made}
@@ -37,6 +37,8 @@ use Rattle.jani_translation_laws.proofs.Form.{each_only, each_numbered}
 use Rattle.jani_translation_laws.proofs.Doubled.{automata_apart, none_doubled}
 use Rattle.jani_translation_laws.proofs.Unknown.{none_unknown}
 use Rattle.jani_translation_laws.proofs.Circles.{no_circles}
+use Rattle.jani_translation.proofs.Counts.{element_total, elements_named}
+use Rattle.name_rules.specs.Doubled.{doubled}
 
 -- ---- tests
 neither : (a b : Bool) → a ≡ true → b ≡ true → (not a || not b) ≡ false
@@ -64,10 +66,10 @@ some_module file a h =
 -- ---- lengths
 module _ (file : prism.File) where
   abbrev n : ℕ
-  n = length (translated file).elements
+  n = length (element_names (translated file))
 
   n_elements : n ≡ length (bodies file) + (if has_monitor file then 1 else 0)
-  n_elements = length-map (translated file).automata (λ a. a.name) ∙ one_automaton_each file ∙ ap (λ k. k + (if has_monitor file then 1 else 0)) (sym (n_bodies file))
+  n_elements = element_total file ∙ one_automaton_each file ∙ ap (λ k. k + (if has_monitor file then 1 else 0)) (sym (n_bodies file))
 
   -- ---- vectors
   abbrev IsFine : Vector → Type 0
@@ -122,7 +124,7 @@ module _ (file : prism.File) where
   some_element : pc.no_module file ≡ [] → nat_eq n 0 ≡ false
   some_element h =
       let m = no_fault (nat_eq (length file.modules) 0) file.end Nothing h in
-      more (length file.modules) n m (let o = one_automaton_each file in let l = length-map (translated file).automata (λ a. a.name) in (if has_monitor file then 1 else 0, l ∙ o))
+      more (length file.modules) n m (let o = one_automaton_each file in let l = element_total file in (if has_monitor file then 1 else 0, l ∙ o))
     where
       more : (i j : ℕ) → nat_eq i 0 ≡ false → (k : ℕ) × (j ≡ i + k) → nat_eq j 0 ≡ false
       more i j m e = let k = e.0 in let q = e.1 in grind (arith, nat_tests, m, q)
@@ -130,10 +132,10 @@ module _ (file : prism.File) where
 pub no_composition_faults : (file : prism.File) → NoCompositionFaults file
 no_composition_faults file flat =
     let t = translated file in
-    append_both (repeated_elements t) _ (not_doubled RepeatedAutomaton (automaton_names t) (automata_apart file))
-    (append_both (no_element t) (flat_map (bad_vector (length t.elements)) t.vectors)
-    (fault_none (nat_eq (length t.elements) 0) t.elements_at Nothing (some_element file (no_name_fault file flat).modules))
-    (each_empty (bad_vector (length t.elements)) t.vectors (vectors_fine file)))
+    append_both (repeated_elements t) _ (ap (doubled RepeatedAutomaton) (elements_named file) ∙ not_doubled RepeatedAutomaton (automaton_names t) (automata_apart file))
+    (append_both (no_element t) (flat_map (bad_vector (length (element_names t))) t.vectors)
+    (fault_none (nat_eq (length (element_names t)) 0) t.elements_at Nothing (some_element file (no_name_fault file flat).modules))
+    (each_empty (bad_vector (length (element_names t))) t.vectors (vectors_fine file)))
 
 pub no_name_faults : (file : prism.File) → NoNameFaults file
 no_name_faults file flat =

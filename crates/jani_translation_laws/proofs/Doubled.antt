@@ -19,7 +19,7 @@ use Rattle.process_core.specs.Instance.{only_if}
 use Rattle.prism_flat.specs.Scene.{has_condition}
 use Rattle.jani_tree.specs.Syntax.{Write, Automaton}
 use Rattle.name_rules.proofs.Plain.{Apart, not_doubled}
-use Rattle.jani_check.specs.NameFaults.{doubled, var_names, global_names, automaton_names, doubled_in}
+use Rattle.jani_check.specs.NameFaults.{doubled, var_names, global_names, automaton_names, doubled_in, repeated_enabled}
 use Rattle.jani_translation.specs.Entry.{Entry}
 use Rattle.jani_translation.proofs.Parts.{get_part, values_apart}
 use Rattle.jani_translation.specs.Asks.{bodies, variables, actions, entries, some_from, NewNames, new_names, labels_at}
@@ -30,6 +30,7 @@ use Rattle.jani_translation.proofs.Each.{map-zip-right, for_constants, for_varia
 use Rattle.jani_translation.proofs.Differ.{actions_differ, actions_are_not_silent}
 use Rattle.jani_translation.proofs.Elements.{IsOther, AreLone, automata_lone}
 use Rattle.jani_translation_laws.specs.NameLaws.{NoDoubledNames}
+use Rattle.jani_translation.proofs.Counts.{plain_none}
 
 -- ---- names that stand once
 
@@ -222,8 +223,10 @@ none_doubled file =
     let as_ = module_automata names (earns_silently file) (location_values names file) (bodies file) names.modules in
     append_both (doubled TwiceNamed (global_names t)) _ (not_doubled TwiceNamed (global_names t) (values_once file))
     (append_both (doubled TwiceNamed t.actions) _ (not_doubled TwiceNamed t.actions (actions_apart file))
-    (append_both (doubled TwiceNamed (automaton_names t)) (flat_map (doubled_in (global_names t)) t.automata) (not_doubled TwiceNamed (automaton_names t) (automata_apart file))
+    (append_both (doubled TwiceNamed (automaton_names t)) _ (not_doubled TwiceNamed (automaton_names t) (automata_apart file))
+    (append_both (flat_map (doubled_in (global_names t)) t.automata) (flat_map repeated_enabled t.elements)
     (flat_map-append (doubled_in (global_names t)) as_ (monitor names file)
     ∙ append_both (flat_map (doubled_in (global_names t)) as_) (flat_map (doubled_in (global_names t)) (monitor names file))
     (module_clean file (global_names t) (earns_silently file) (location_values names file) (bodies file) names.modules)
-    (monitor_clean file (global_names t) (has_monitor file)))))
+    (monitor_clean file (global_names t) (has_monitor file)))
+    (plain_none repeated_enabled (λ n. refl) t.automata))))

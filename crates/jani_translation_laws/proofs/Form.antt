@@ -16,9 +16,9 @@ use Rattle.prism_print.specs.Printable.{IsPrintableExpression, AreBranches}
 use Rattle.prism_print.proofs.Printable.{literals}
 use Rattle.prism_flat.specs.Scene.{has_condition}
 use Rattle.jani_table.specs.declared.operator.JaniOp.TheVariants.{Add}
-use Rattle.jani_tree.specs.Syntax.{Expression, Write, Edge, Automaton, is_always}
+use Rattle.jani_tree.specs.Syntax.{Expression, Write, Edge, Automaton, is_always, plain_element}
 use Rattle.basics.specs.Lists.{IsNotEmpty as HasItems}
-use Rattle.jani_tree.specs.Form.{NameForm, ExprForm, KindForm, ConstRead, VarRead, WriteRead, DestinationRead, EdgeRead, AutomatonRead, PartForm, VectorRead, RestrictionRead}
+use Rattle.jani_tree.specs.Form.{NameForm, ExprForm, KindForm, ConstRead, VarRead, WriteRead, DestinationRead, EdgeRead, AutomatonRead, PartForm, VectorRead, RestrictionRead, ElementRead}
 use Rattle.jani_translation.specs.Entry.{Entry}
 use Rattle.prism_images.specs.Image.{image}
 use Rattle.prism_images.specs.Laws.{HasItsOperands}
@@ -295,8 +295,8 @@ module _ (file : prism.File) where
       by_always true h = tt
       by_always false h = record { expression = form e g; restricts = h }
 
-  elements_form : (as_ : List Automaton) → Each (AutomatonRead HasItems) as_ → Each (NameForm HasItems) (map (λ a. a.name) as_)
-  elements_form as_ h = each_map (AutomatonRead HasItems) (NameForm HasItems) (λ a. a.name) (λ a r. r.name) as_ h
+  elements_form : (as_ : List Automaton) → Each (AutomatonRead HasItems) as_ → Each (ElementRead HasItems) (map (λ a. plain_element a.name) as_)
+  elements_form as_ h = each_map (AutomatonRead HasItems) (ElementRead HasItems) (λ a. plain_element a.name) (λ a r. record { name = r.name; enable = tt }) as_ h
 
 pub translated_has_form : (file : prism.File) → TranslatedHasForm file
 translated_has_form file flat =

@@ -24,6 +24,7 @@ use Rattle.jani_translation.specs.Translated.{translated}
 use Rattle.jani_translation_laws.specs.ProfileLaws.{OneRewardWriter}
 use Rattle.jani_translation_laws.proofs.Automata.{beside_none}
 use Rattle.jani_translation_laws.proofs.EdgeProfile.{no_reward}
+use Rattle.jani_translation.proofs.Counts.{elements_named}
 
 -- ---- automata that are found by their names
 abbrev has_called : Name → List Automaton → Bool
@@ -126,7 +127,7 @@ module _ (file : prism.File) (flat : IsFlat file) where
   one_writer : (v : Vector) → two_writers (translated file) v ≡ []
   one_writer v =
       ap (λ b. fault_if b v.at TwoRewardWriters)
-      (ap (λ es. two_hold (participants (rewards_with (global_thing (translated file))) false (translated file) es v.parts)) (map-append (λ a. a.name) of_modules (monitor (new_names file) file))
+      (ap (λ es. two_hold (participants (rewards_with (global_thing (translated file))) false (translated file) es v.parts)) (elements_named file ∙ map-append (λ a. a.name) of_modules (monitor (new_names file) file))
       ∙ quiet_then file of_modules v.parts (all_taken of_modules (each_called of_modules of_modules (λ z g. g))))
 
   all_vectors : (vs : List Vector) → flat_map (two_writers (translated file)) vs ≡ []

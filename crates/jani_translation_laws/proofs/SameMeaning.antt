@@ -43,6 +43,8 @@ use Rattle.jani_translation.specs.Correspond.{GivenAlike, Correspond}
 use Rattle.jani_translation_laws.specs.SameMeaning.{placed, homes, label_in, MeansTheSame, TranslationMeansTheSame}
 use Rattle.jani_translation_laws.proofs.Constants.{flat_is_sound}
 use Rattle.jani_translation_laws.proofs.States.{commands_are_sound, marks_are_sound, items_are_sound, condition_is_sound}
+use Rattle.jani_tree.specs.Syntax.{element_names}
+use Rattle.jani_tree.specs.Laws.{element_names-bare}
 
 -- ---- faults
 module _ (n : ℕ) where
@@ -94,7 +96,7 @@ module _ (n : ℕ) where
 -- ---- a file that is written out
 module _ (file : prism.File) (flat : IsFlat file) (v w : Valuation) (gives : GivesTyped file v) (alike : GivesAlike file v w) where
   abbrev elements : ℕ
-  elements = length (translated file).elements
+  elements = length (element_names (translated file))
 
   same_faults : map (placed elements) ((prism_process.model file).faults v) ≡ (jani_process.model (translated file)).faults w
   same_faults =
@@ -152,7 +154,7 @@ module _ (v w : Valuation) where
 
 -- a file that is written out, and its translation
 flat_means_the_same : (file : prism.File) → IsFlat file →
-    SameProcess (prism_process.model file) (jani_process.model (translated file)) (Correspond file (translated file)) (placed (length (translated file).elements))
+    SameProcess (prism_process.model file) (jani_process.model (translated file)) (Correspond file (translated file)) (placed (length (element_names (translated file))))
     (option_map (new_names file).action) (state_of file)
 flat_means_the_same file flat = record {
   faults = λ v w c f. (fault_there file flat v w (gives v w c) (alike v w c) f, fault_back file flat v w (gives v w c) (alike v w c) f);
@@ -177,7 +179,7 @@ module _ (old : prism.File) where
   from_flat h =
       let s = flat_means_the_same (flat old) h in
       let P : Model Valuation Fault Name Fraction Mark Values → Type 0 =
-      λ p. SameProcess p (jani_process.model (translated (flat old))) (Correspond old (translated (flat old))) (placed (length (translated (flat old)).elements)) (label_in old)
+      λ p. SameProcess p (jani_process.model (translated (flat old))) (Correspond old (translated (flat old))) (placed (length (element_names (translated (flat old))))) (label_in old)
       (λ s. homes (translated (flat old)) ++ s) in
       subst P (model-flat old) (record {
         faults = λ v w c. s.faults v w (written_out v w old old.constants (map (λ d. d.name.name) (translated (flat old)).constants) c);
@@ -188,18 +190,21 @@ module _ (old : prism.File) where
   names-bare f = map-map (λ d. d.name.name) bare_const f.constants
 
   homes-bare : (f : jani.File) → homes (bare_file f) ≡ homes f
-  homes-bare f = map-map (λ a. at_home) bare_name f.elements
+  homes-bare f = ap (map (λ a. at_home)) (element_names-bare f) ∙ map-map (λ a. at_home) bare_name (element_names f)
+
+  count-bare : (f : jani.File) → length (element_names (bare_file f)) ≡ length (element_names f)
+  count-bare f = ap length (element_names-bare f) ∙ length-map (element_names f) bare_name
 
   -- files that are the same but for their places
   pub moved : (f g : jani.File) → bare_file f ≡ bare_file g → MeansTheSame old f → MeansTheSame old g
   moved f g e h =
       let names = sym (names-bare f) ∙ ap (λ x. map (λ d. d.name.name) x.constants) e ∙ names-bare g in
-      let count = sym (length-map f.elements bare_name) ∙ ap (λ x. length x.elements) e ∙ length-map g.elements bare_name in
+      let count = sym (count-bare f) ∙ ap (λ x. length (element_names x)) e ∙ count-bare g in
       let at_homes = sym (homes-bare f) ∙ ap homes e ∙ homes-bare g in
-      subst (λ q. Means q (map (λ d. d.name.name) g.constants) (length g.elements) (homes g)) (places_mean_nothing f g e)
-      (subst (λ x. Means (jani_process.model f) x (length g.elements) (homes g)) names
+      subst (λ q. Means q (map (λ d. d.name.name) g.constants) (length (element_names g)) (homes g)) (places_mean_nothing f g e)
+      (subst (λ x. Means (jani_process.model f) x (length (element_names g)) (homes g)) names
       (subst (λ n. Means (jani_process.model f) (map (λ d. d.name.name) f.constants) n (homes g)) count
-      (subst (Means (jani_process.model f) (map (λ d. d.name.name) f.constants) (length f.elements)) at_homes h)))
+      (subst (Means (jani_process.model f) (map (λ d. d.name.name) f.constants) (length (element_names f))) at_homes h)))
 
 pub translation_means_the_same : TranslationMeansTheSame
 translation_means_the_same c h new e =

@@ -39,6 +39,7 @@ use Rattle.jani_translation_laws.proofs.Writes.{written_fine}
 use Rattle.jani_translation_laws.proofs.Rewarding.{IsReward, rewards_given}
 use Rattle.jani_translation_laws.proofs.Once.{is_value}
 use Rattle.jani_translation_laws.proofs.Lone.{automata_found}
+use Rattle.jani_translation.proofs.Counts.{elements_named}
 
 -- ---- lists have no name in common, whose names belong to their numbers
 abbrev OwnLists : (ℕ → Name → Type 0) → ℕ → List (List Name) → Type 0
@@ -252,7 +253,8 @@ module _ (file : prism.File) (flat : IsFlat file) where
   last_named a false c = tt
 
   one_clash : (v : Vector) → meet (shares file (translated file).automata v.parts) ≡ false → clashing_writes (translated file) v ≡ []
-  one_clash v h = ap (λ b. fault_if b v.at WrittenTwice) (ap meet (shares_are file (translated file).automata v.parts (automata_found file)) ∙ h)
+  one_clash v h = ap (λ b. fault_if b v.at WrittenTwice) (ap meet
+      (ap (λ es. participants (shared_by (global_thing (translated file))) [] (translated file) es v.parts) (elements_named file) ∙ shares_are file (translated file).automata v.parts (automata_found file)) ∙ h)
 
   action_clash : (a : Name) → clashing_writes (translated file) (action_vector (new_names file) file a) ≡ []
   action_clash a =

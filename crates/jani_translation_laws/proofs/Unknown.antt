@@ -23,11 +23,11 @@ use Rattle.process_core.specs.Instance.{numbered, only_if}
 use Rattle.op_trees.specs.declared.wanted.Wanted.TheVariants as W
 use Rattle.prism_flat.specs.Scene.{has_condition}
 use Rattle.jani_table.specs.declared.operator.JaniOp.TheVariants.{Add}
-use Rattle.jani_tree.specs.Syntax.{Expression, Const, Var, Write, Destination, Edge, Automaton, Vector, is_always}
+use Rattle.jani_tree.specs.Syntax.{Expression, Const, Var, Write, Destination, Edge, Automaton, Vector, is_always, element_names}
 use Rattle.basics.specs.Options.{if_some, IfAny}
 use Rattle.op_trees.specs.Wanted.{wanted_by}
 use Rattle.jani_check.specs.Demands.{Demand, fixed, varying, assigned, given, const_demands, bound_demands, var_demands, destination_demands, edge_demands, automaton_demands, outer_demands}
-use Rattle.jani_check.specs.NameFaults.{is_among, global_names, automaton_names, unless_known, unknown_by, edge_locations, locations_used, actions_used, unknown_in, vector_actions}
+use Rattle.jani_check.specs.NameFaults.{is_among, global_names, automaton_names, unless_known, unknown_by, edge_locations, locations_used, actions_used, unknown_in, vector_actions, unknown_enabled}
 use Rattle.jani_translation.specs.Entry.{Entry}
 use Rattle.prism_images.specs.Image.{image}
 use Rattle.prism_images.proofs.Form.{one_names}
@@ -41,6 +41,7 @@ use Rattle.jani_translation_laws.proofs.Known.{IsKnown, Good, GoodConst, GoodRan
 use Rattle.jani_translation_laws.proofs.Actions.{Has, IsAction, HasAction, front, back, each_among, actions_among, actions_of_commands}
 use Rattle.jani_translation_laws.proofs.Form.{each_only, each_numbered}
 use Rattle.jani_translation_laws.proofs.Doubled.{names_of, entry_names, names, cs, vs, ls, rs, values_named, actions_named}
+use Rattle.jani_translation.proofs.Counts.{elements_named, plain_none}
 
 -- ---- names that are declared
 
@@ -396,10 +397,11 @@ module _ (file : prism.File) where
       any_entry (e ∷ es) = (tt, any_entry es)
 
   -- ---- elements and vectors
-  elements_known : flat_map (unless_known (is_among (automaton_names (translated file)))) (translated file).elements ≡ []
+  elements_known : flat_map (unless_known (is_among (automaton_names (translated file)))) (element_names (translated file)) ≡ []
   elements_known =
       let ns = automaton_names (translated file) in
-      each_empty (unless_known (is_among ns)) ns
+      ap (flat_map (unless_known (is_among ns))) (elements_named file)
+      ∙ each_empty (unless_known (is_among ns)) ns
       (each_then (λ n. Has (names_of ns) n.name) (λ n. unless_known (is_among ns) n ≡ []) (λ n h. is_declared ns n h) ns
       (map_each (Has (names_of ns)) (λ n. n.name) ns (each_among (names_of ns))))
 
@@ -455,4 +457,6 @@ none_unknown file flat =
     let t = translated file in
     append_both (flat_map (unknown_by (is_among (global_names t))) (outer_demands t)) _ (outer_known file g)
     (append_both (flat_map (unknown_in (is_among (global_names t)) (is_among t.actions)) t.automata) _ (automata_known file g)
-    (append_both (flat_map (unless_known (is_among (automaton_names t))) t.elements) _ (elements_known file) (vectors_known file)))
+    (append_both (flat_map (unless_known (is_among (automaton_names t))) (element_names t)) _ (elements_known file)
+    (append_both (flat_map (unless_known (is_among t.actions)) (flat_map vector_actions t.vectors)) _ (vectors_known file)
+    (plain_none (unknown_enabled (is_among t.actions)) (λ n. refl) t.automata))))

@@ -16,6 +16,7 @@ use Rattle.name_table.specs.Asks.{new_names}
 use Rattle.name_table.specs.Correspond.{Correspond}
 use Rattle.jani_translation.specs.Translated.{translated}
 use Rattle.jani_translation.specs.StateLaws.{at_home}
+use Rattle.jani_tree.specs.Syntax.{element_names}
 
 -- ---- what corresponds: constants do by their places (`Correspond`)
 
@@ -25,7 +26,7 @@ placed n f = fault_of f.kind (if is_of_constant f.kind then f.place else n + f.p
 
 -- a state of the translated file: each element at its one location, and then the same values
 abbrev pub homes : jani.File → Values
-homes new = map (λ a. at_home) new.elements
+homes new = map (λ a. at_home) (element_names new)
 
 -- a label of the translated file: the new name of an action, and none for none
 abbrev pub label_in : prism.File → Option Name → Option Name
@@ -37,7 +38,7 @@ label_in old = option_map (new_names (flat old)).action
 -- new name of its label, the same probabilities and rewards, and the states that go with its targets, or the same kinds.
 abbrev pub MeansTheSame : prism.File → jani.File → Type 0
 MeansTheSame old new =
-    SameProcess (prism_process.model old) (jani_process.model new) (Correspond old new) (placed (length new.elements)) (label_in old) (λ s. homes new ++ s)
+    SameProcess (prism_process.model old) (jani_process.model new) (Correspond old new) (placed (length (element_names new))) (label_in old) (λ s. homes new ++ s)
 
 -- A file without faults means the same as what it is translated to, formulas and copies written out, places aside.
 abbrev pub TranslationMeansTheSame : Type 0

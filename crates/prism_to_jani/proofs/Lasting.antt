@@ -12,13 +12,15 @@ use Rattle.op_trees.specs.Names.{bare_name, is_called}
 use Rattle.process_core.specs.Instance.{numbered}
 use Rattle.prism_tree.specs.Syntax as prism
 use Rattle.jani_tree.specs.Places.{bare_automaton, bare_file, bare_var}
-use Rattle.jani_tree.specs.Syntax.{Automaton, File, Var}
-use Rattle.jani_meaning.specs.Elements.{automaton_called, is_lasting, lasting, nothing_called, Owned, owned_by}
+use Rattle.jani_tree.specs.Syntax.{Automaton, File, Var, element_names, Element}
+use Rattle.jani_meaning.specs.Elements.{automaton_called, is_lasting, lasting, nothing_called, Owned, owned_by, element_automaton}
 use Rattle.name_table.specs.Asks.{new_names, variables}
 use Rattle.jani_translation.specs.Parts.{kind_of}
 use Rattle.jani_translation.specs.Translated.{translated}
 use Rattle.jani_translation.proofs.Elements.{automata_one, IsOne}
 use Rattle.jani_translation.proofs.OneForOne.{variable_kinds}
+use Rattle.jani_tree.specs.Laws.{element_names-bare}
+use Rattle.jani_meaning.specs.LoopLaws.{same_variables}
 
 abbrev OwnsNone : Automaton → Type 0
 OwnsNone a = a.variables ≡ []
@@ -35,9 +37,9 @@ module _ (f : File) (own : Each OwnsNone f.automata) where
       by_found None h = refl
       by_found (Some a) h = h
 
-  none_owned : (i : ℕ) (ns : List Named) → numbered (λ k a. owned_by (Some k) a.variables) i (map (automaton_called f) ns) ≡ []
+  none_owned : (i : ℕ) (es : List Element) → numbered (λ k a. owned_by (Some k) a.variables) i (map (element_automaton f) es) ≡ []
   none_owned i [] = refl
-  none_owned i (n ∷ ns) = ap₂ (λ x y. x ++ y) (ap (owned_by (Some i)) (called_owns n)) (none_owned (i + 1) ns)
+  none_owned i (e ∷ es) = ap₂ (λ x y. x ++ y) (ap (owned_by (Some i)) (same_variables e.enable (automaton_called f e.name) ∙ called_owns e.name)) (none_owned (i + 1) es)
 
   lasting_count : length (lasting f) ≡ length (not_transient f.variables)
   lasting_count =
@@ -71,5 +73,8 @@ module _ (file : prism.File) (new : File) (same : bare_file new ≡ bare_file (t
       ∙ ap length (variable_kinds file)
       ∙ length-map (variables file) (λ x. kind_of (new_names file).value x.range)
 
-  pub elements_as_many : length new.elements ≡ length (translated file).elements
-  elements_as_many = sym (length-map new.elements bare_name) ∙ ap (λ (f : File). length f.elements) same ∙ length-map (translated file).elements bare_name
+  pub elements_as_many : length (element_names new) ≡ length (element_names (translated file))
+  elements_as_many = sym (names_as_many new) ∙ ap (λ (f : File). length (element_names f)) same ∙ names_as_many (translated file)
+    where
+      names_as_many : (f : File) → length (element_names (bare_file f)) ≡ length (element_names f)
+      names_as_many f = ap length (element_names-bare f) ∙ length-map (element_names f) bare_name

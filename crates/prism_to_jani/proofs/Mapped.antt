@@ -57,6 +57,8 @@ use Rattle.prism_to_jani.proofs.Counted.{all_below, all_same, each_once, numbere
 use Rattle.prism_to_jani.proofs.Labels.{choices_labels, modules_labels}
 use Rattle.prism_to_jani.proofs.Lasting.{elements_as_many, lasting_as_many}
 use Rattle.prism_to_jani.proofs.Pairs.{have_labels, label_found, names_kept, pair_stands}
+use Rattle.jani_tree.specs.Syntax.{element_names}
+use Rattle.jani_translation.proofs.Counts.{element_total}
 
 -- ---- labels
 -- a label of the file: none, or an action
@@ -100,13 +102,13 @@ module _ (old : prism.File) (new : jani.File) (m : CarryMap) (same : bare_file n
   written = flat old
 
   abbrev n : ℕ
-  n = length new.elements
+  n = length (element_names new)
 
   abbrev k : ℕ
   k = length (variables written)
 
   element_count : length m.locations ≡ n
-  element_count = ap length h.locations ∙ length-map (translated written).elements (λ a. 1) ∙ sym (elements_as_many written new same)
+  element_count = ap length h.locations ∙ length-map (element_names (translated written)) (λ a. 1) ∙ sym (elements_as_many written new same)
 
   numbers : column_numbers m ≡ counting n k
   numbers =
@@ -121,7 +123,7 @@ module _ (old : prism.File) (new : jani.File) (m : CarryMap) (same : bare_file n
   }
 
   homes_are : replicate n at_start ≡ homes new
-  homes_are = sym (all_same at_start new.elements)
+  homes_are = sym (all_same at_start (element_names new))
 
   module _ (v : Valuation) (d e : Process) (stepped : IsSteppedPrism old v d) (wide : length e.columns ≡ n + length (lasting new)) where
     scene_columns : length (prism_scene.columns_of written v) ≡ k
@@ -197,17 +199,17 @@ map_aside f g m e h =
     record {
       locations =
           h.locations
-          ∙ all_same 1 (translated f).elements
+          ∙ all_same 1 (element_names (translated f))
           ∙ ap (λ j. replicate j 1) (elements_as_many g (translated f) (translated_alike f g e))
-          ∙ sym (all_same 1 (translated g).elements);
+          ∙ sym (all_same 1 (element_names (translated g)));
       columns = h.columns ∙ ap (λ j. map Variable (counting 0 j)) count;
       labels = h.labels ∙ ap₂ (λ (q : NewNames) xs. map (pair_by q.action) xs) names same_actions;
     }
 
 -- ---- the code's locations
 pub one_location_each : (file : prism.File) (count : ℕ) → count ≡ length file.modules →
-    replicate {A = ℕ} (count + (if has_monitor file then 1 else 0)) 1 ≡ map (λ a. 1) (translated file).elements
+    replicate {A = ℕ} (count + (if has_monitor file then 1 else 0)) 1 ≡ map (λ a. 1) (element_names (translated file))
 one_location_each file count e =
     ap (λ j. replicate {A = ℕ} (j + (if has_monitor file then 1 else 0)) 1) e
-    ∙ ap (λ j. replicate {A = ℕ} j 1) (sym (length-map (translated file).automata (λ a. a.name) ∙ one_automaton_each file))
-    ∙ sym (all_same 1 (translated file).elements)
+    ∙ ap (λ j. replicate {A = ℕ} j 1) (sym (element_total file ∙ one_automaton_each file))
+    ∙ sym (all_same 1 (element_names (translated file)))

@@ -27,6 +27,7 @@ use Rattle.name_table.specs.Correspond.{Correspond}
 use Rattle.jani_translation.specs.Translated.{translated}
 use Rattle.jani_translation_laws.specs.SameMeaning.{label_in}
 use Rattle.prism_to_jani.specs.Promise.{IsJaniOf, state_in}
+use Rattle.jani_tree.specs.Syntax.{element_names}
 
 -- ---- the map
 -- an action with its new name
@@ -36,7 +37,7 @@ pair_by new a = record { prism = a; jani = Some (new a) }
 -- The map of a file whose formulas and copies of modules are written out: each element has one location, which is no column here, each column
 -- is the variable of its number, and each action goes with its new name.
 pub record IsMapToJani (file : prism.File) (m : CarryMap) : Type 0 where
-  pub locations : m.locations ≡ map (λ a. 1) (translated file).elements
+  pub locations : m.locations ≡ map (λ a. 1) (element_names (translated file))
   pub columns : m.columns ≡ map Variable (counting 0 (length (variables file)))
   pub labels : m.labels ≡ map (pair_by (new_names file).action) (actions file)
 
@@ -49,7 +50,7 @@ pub record IsSteppedPrism (file : prism.File) (v : Valuation) (d : Process) : Ty
 -- and of a JANI file: with a column for the location of each element, and for each variable that is not transient
 pub record IsSteppedJani (file : jani.File) (w : Valuation) (e : Process) : Type 0 where
   pub seen : seen_by e ≡ under (jani_process.model file) w
-  pub columns : length e.columns ≡ length file.elements + length (lasting file)
+  pub columns : length e.columns ≡ length (element_names file) + length (lasting file)
 
 -- It is the map of whatever is stepped of the file and of the JANI file that it is translated to, places aside, by the maps of labels and
 -- states with which these mean the same.

@@ -10,6 +10,7 @@ ghost use Rattle.jani_automata.specs.Code.{names_in};
 ghost use Rattle.jani_automata.specs.Translated.{translated};
 ghost use Rattle.prism_to_jani.specs.Maps.{pair_by, IsMapToJani};
 ghost use Rattle.prism_to_jani.specs.Statements.{AreVariables, AreActions, AreEntries, AreNames};
+ghost use Rattle.jani_tree.specs.Syntax.{element_names};
 
 use crate::translation::{file_actions, file_names, file_table, file_variables};
 use bridge_io::{List, Text};
@@ -89,7 +90,7 @@ fn map_by(
 /// The number of locations of each element: one of each module, and of the monitor, if there is one.
 fn locations(alloc: Global, file: &PrismFile, acts: &[&Text]) -> Result<List<usize>, AllocError>
     requires { map (λ x. x.now) acts.now ≡ actions (file_of file.now) }
-    ensures { IfOk result (λ r. r ≡ map (λ a. 1) (translated (file_of file.now)).elements) }
+    ensures { IfOk result (λ r. r ≡ map (λ a. 1) (element_names (translated (file_of file.now)))) }
 {
     let watched = has_monitor(alloc, file, acts)?;
     let all = one_each(alloc, file.modules.len(), watched)?;

@@ -16,9 +16,9 @@ use Rattle.basics.specs.Options.{IfAny}
 use Rattle.prism_print.specs.Printable.{IsPrintableExpression, AreBranches}
 use Rattle.prism_print.proofs.Printable.{literals}
 use Rattle.jani_table.specs.declared.operator.JaniOp.TheVariants.{Add}
-use Rattle.jani_tree.specs.Syntax.{Expression, Write, Edge, Automaton, is_always}
+use Rattle.jani_tree.specs.Syntax.{Expression, Write, Edge, Automaton, is_always, plain_element}
 use Rattle.basics.specs.Lists.{IsNotEmpty as HasItems}
-use Rattle.jani_tree.specs.Form.{NameForm, ExprForm, KindForm, ConstRead, VarRead, WriteRead, DestinationRead, EdgeRead, AutomatonRead, PartForm, VectorRead, RestrictionRead, FileWith}
+use Rattle.jani_tree.specs.Form.{NameForm, ExprForm, KindForm, ConstRead, VarRead, WriteRead, DestinationRead, EdgeRead, AutomatonRead, PartForm, VectorRead, RestrictionRead, FileWith, ElementRead}
 use Rattle.name_table.specs.declared.entry.Entry.{Entry}
 use Rattle.prism_images.specs.Image.{image, image_one}
 use Rattle.prism_images.specs.Laws.{HasItsOperands}
@@ -316,8 +316,8 @@ module _ (P : Name → Type 0) (file : prism.File) (all : Each (λ e. P e.name) 
       by_always true h = tt
       by_always false h = record { expression = form e g; restricts = h }
 
-  elements_form : (as_ : List Automaton) → Each (AutomatonRead P) as_ → Each (NameForm P) (map (λ a. a.name) as_)
-  elements_form as_ h = each_map (AutomatonRead P) (NameForm P) (λ a. a.name) (λ a r. r.name) as_ h
+  elements_form : (as_ : List Automaton) → Each (AutomatonRead P) as_ → Each (ElementRead P) (map (λ a. plain_element a.name) as_)
+  elements_form as_ h = each_map (AutomatonRead P) (ElementRead P) (λ a. plain_element a.name) (λ a r. record { name = r.name; enable = tt }) as_ h
 
   pub named_as : IsFlat file → FileWith P (translated file)
   named_as flat =

@@ -4,7 +4,7 @@ use Rattle.std.proofs.Common.{◌∙◌, ap, ap₂}
 use Rattle.op_trees.specs.Tree.{tree}
 use Rattle.jani_table.specs.Node.{array, nodes}
 use Rattle.jani_table.specs.NodeLaws.{node_array}
-use Rattle.jani_tree.specs.Syntax.{File, const_of, var_of, automaton_of, vector_of}
+use Rattle.jani_tree.specs.Syntax.{File, const_of, var_of, automaton_of, vector_of, plain_element}
 use Rattle.prism_to_jani.proofs.translation.filed.Goals as goal
 
 pub returns : goal.returns
@@ -20,5 +20,5 @@ returns c =
       vectors = map vector_of c.args.vectors;
       properties = p;
     })
-    (c.in_ok-elements.ensures ∙ ap (λ k. map (λ a. a.name) (map automaton_of k)) c.as_slice.ensures)
+    (c.in_ok-elements.ensures ∙ ap (λ k. map (λ a. plain_element a.name) (map automaton_of k)) c.as_slice.ensures)
     (node_array 0 c.new.result ∙ ap (λ l. array 0 (nodes l)) c.new.ensures)
