@@ -4,7 +4,7 @@ use Rattle.std.proofs.lemmas.List.{length-map, length-drop, length-append}
 use Rattle.std.specs.Prelude.{Some, codes}
 use Rattle.std.specs.List.{flat_map}
 use Rattle.bridge_io.specs.declared.reason.Named.{Named}
-use Rattle.jani_tree.specs.Syntax.{Const, File}
+use Rattle.jani_tree.specs.Syntax.{Const, File, element_names}
 use Rattle.jani_meaning.specs.Elements.{lasting, labels, structures}
 use Rattle.prism_targets.specs.Elements.{elements}
 use Rattle.prism_targets.specs.Lines.{name_lines, location_line, called, lines_by}
@@ -36,7 +36,7 @@ in_parts names file =
     let a = name_lines (codes "constant") names.constants (map (λ (c : Const). Some c.name.name) file.constants) in
     let b = name_lines (codes "variable") names.variables (map called (lasting file)) in
     let c = flat_map (location_line names) (elements file) in
-    let d = name_lines (codes "module") names.modules (map (λ (n : Named). Some n.name) file.elements) in
+    let d = name_lines (codes "module") names.modules (map (λ (n : Named). Some n.name) (element_names file)) in
     let e = name_lines (codes "action") names.actions (map old_name (targets file)) in
     let f = mark_lines names (labels file) (structures file) in
     append_assoc a (b ++ c) ((d ++ e) ++ f)

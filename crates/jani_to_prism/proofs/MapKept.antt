@@ -23,7 +23,7 @@ use Rattle.carry_maps.specs.Instances.{SameByItsMap}
 use Rattle.prism_flat.specs.Process as prism_process
 use Rattle.prism_flat.specs.Scene as prism_scene
 use Rattle.prism_check.specs.PlacesLaws.{PlacesKeepScenes, PlacesMeanNothing}
-use Rattle.jani_tree.specs.Syntax.{Automaton, File}
+use Rattle.jani_tree.specs.Syntax.{Automaton, File, element_names}
 use Rattle.jani_meaning.specs.Elements as jani
 use Rattle.jani_meaning.specs.Elements.{lasting}
 use Rattle.prism_translation.specs.Modules.{Action, actions}
@@ -67,16 +67,16 @@ module _ (old : File) where
   -- ---- columns
   numbers : (m : CarryMap) → IsMapToPrism old m → column_numbers m ≡ columns old
   numbers m h =
-      let many : length m.locations ≡ length old.elements = ap length h.locations ∙ length-map (jani.elements old) (λ (a : Automaton). length a.locations) ∙ automata_length old in
-      ap₂ (λ n cs. map (column_number n) cs) many h.columns ∙ numbers_back (length old.elements) (columns old)
+      let many : length m.locations ≡ length (element_names old) = ap length h.locations ∙ length-map (jani.elements old) (λ (a : Automaton). length a.locations) ∙ automata_length old in
+      ap₂ (λ n cs. map (column_number n) cs) many h.columns ∙ numbers_back (length (element_names old)) (columns old)
 
   columns_long : (v : Valuation) → length (prism_scene.scene (translated old) v).columns ≡ length (columns old)
   columns_long v =
       sym (length-map (prism_scene.columns_of (translated old) v) (λ (k : Column). k.name)) ∙ ap length (names_of_columns old v) ∙ length-map (columns old) (name_of old v)
 
-  is_map : (m : CarryMap) (n k : ℕ) → IsMapToPrism old m → n ≡ length (columns old) → k ≡ length old.elements + length (lasting old) → IsMap m n k
+  is_map : (m : CarryMap) (n k : ℕ) → IsMapToPrism old m → n ≡ length (columns old) → k ≡ length (element_names old) + length (lasting old) → IsMap m n k
   is_map m n k h many wide = record {
-    each = ap length h.columns ∙ length-map (columns old) (column_at (length old.elements)) ∙ sym many;
+    each = ap length h.columns ∙ length-map (columns old) (column_at (length (element_names old))) ∙ sym many;
     below = subst₂ (λ w js. All (λ j. j < w) js) (sym wide) (sym (numbers m h)) (all_within old);
     differ = subst (λ js. All (λ i. count_by (λ j. nat_eq j i) js ≤ 1) js) (sym (numbers m h)) (columns_once old);
     actions = once m.labels h.labels;

@@ -9,7 +9,7 @@ use Rattle.process_core.specs.Product.{map-flat_map, map-map}
 use Rattle.choice_laws.proofs.Walks.{flat_map_agree_in}
 use Rattle.carry_maps.specs.declared.map.CarryMap.{CarryMap}
 use Rattle.carry_maps.specs.declared.map.Column.TheVariants as at
-use Rattle.jani_tree.specs.Syntax.{File}
+use Rattle.jani_tree.specs.Syntax.{File, element_names}
 use Rattle.jani_meaning.specs.Elements as jani
 use Rattle.name_table.specs.declared.entry.Entry.{Entry}
 use Rattle.name_table.specs.PrismAsks.{NewNames}
@@ -37,7 +37,7 @@ at_variable n i =
 
 module _ (file : File) where
   abbrev n : ℕ
-  n = length file.elements
+  n = length (element_names file)
 
   variables_at : (xs : List Lasting) → map (column_at n) (map (column_of file) xs) ≡ variable_columns xs
   variables_at xs = map-map (column_at n) (column_of file) xs ∙ map_agree (λ x. column_at n (column_of file x)) (λ x. at.Variable x.number) (λ x. at_variable n x.number) xs
@@ -71,6 +71,6 @@ actions_paired file names ts e = paired file names.actions ts ∙ ap (λ us. map
 pub is_map_to_prism : (f g : File) (names : NewNames) (m : CarryMap) → g ≡ f → names ≡ new_names f → IsMapBy names g m → IsMapToPrism f m
 is_map_to_prism f g names m file named h = record {
   locations = h.locations ∙ ap (λ x. map (λ a. length a.locations) (jani.elements x)) file;
-  columns = h.columns ∙ sym (columns_are g) ∙ ap (λ x. map (column_at (length x.elements)) (columns x)) file;
+  columns = h.columns ∙ sym (columns_are g) ∙ ap (λ x. map (column_at (length (element_names x))) (columns x)) file;
   labels = h.labels ∙ ap₂ (λ x n. map pair_of (actions x n)) file named;
 }

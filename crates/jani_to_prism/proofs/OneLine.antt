@@ -13,7 +13,7 @@ use Rattle.process_core.specs.Instance.{Scene, Valuation}
 use Rattle.process_core.specs.Ready.{Name}
 use Rattle.process_texts.specs.Texts.{header_text}
 use Rattle.prism_check.specs.PlacesLaws.{PlacesKeepScenes}
-use Rattle.jani_tree.specs.Syntax.{File}
+use Rattle.jani_tree.specs.Syntax.{File, element_names}
 use Rattle.jani_meaning.specs.Elements.{lasting}
 use Rattle.name_table.specs.declared.entry.Entry.{Entry}
 use Rattle.name_table.specs.Asks.{some_from}
@@ -67,11 +67,11 @@ module _ (file : File) (v : Valuation) where
   some_valid at n = each_take IsValidName n (drop at (entries file)) (each_drop IsValidName at (entries file) (all_valid (all_asks file)))
 
   column_line : (j : ℕ) → OneLine (name_of file v j)
-  column_line j = by_test (nat_lt j (length file.elements))
+  column_line j = by_test (nat_lt j (length (element_names file)))
     where
-      by_test : (b : Bool) → OneLine (if b then name_at (new_names file).locations j else name_at (new_names file).variables (j - length file.elements))
-      by_test true = entry_line (new_names file).locations j (some_valid (locations_at file) (length file.elements))
-      by_test false = entry_line (new_names file).variables (j - length file.elements) (some_valid (length file.constants) (length (lasting file)))
+      by_test : (b : Bool) → OneLine (if b then name_at (new_names file).locations j else name_at (new_names file).variables (j - length (element_names file)))
+      by_test true = entry_line (new_names file).locations j (some_valid (locations_at file) (length (element_names file)))
+      by_test false = entry_line (new_names file).variables (j - length (element_names file)) (some_valid (length file.constants) (length (lasting file)))
 
   columns_line : Each OneLine (column_names (translated file) v)
   columns_line = subst (Each OneLine) (sym (names_of_columns file v)) (each_any OneLine (name_of file v) column_line (columns file))

@@ -3,7 +3,7 @@ use Rattle.std.specs.Prelude.{ℕ, List, ◌++◌, codes, map, Option, Some}
 use Rattle.std.specs.List.{flat_map}
 use Rattle.process_core.specs.Ready.{Name}
 use Rattle.decimal_json.specs.Text.{quoted}
-use Rattle.jani_tree.specs.Syntax.{Location, File}
+use Rattle.jani_tree.specs.Syntax.{Location, File, element_names}
 use Rattle.jani_meaning.specs.Elements.{Owned}
 use Rattle.name_table.specs.PrismAsks.{NewNames}
 use Rattle.prism_translation.specs.Elements.{Element}
@@ -34,7 +34,7 @@ value_lines names file vars els =
 -- those of modules and actions
 abbrev pub moving_lines : NewNames → File → List (Option Name) → List (List ℕ)
 moving_lines names file olds =
-    name_lines (codes "module") names.modules (map (λ n. Some n.name) file.elements) ++ name_lines (codes "action") names.actions olds
+    name_lines (codes "module") names.modules (map (λ n. Some n.name) (element_names file)) ++ name_lines (codes "action") names.actions olds
 
 -- those of labels and reward structures
 abbrev pub mark_lines : NewNames → List Owned → List Owned → List (List ℕ)

@@ -17,7 +17,7 @@ use Rattle.prism_tree.specs.Syntax as prism
 use Rattle.prism_flat.specs.Process as prism_process
 use Rattle.prism_flat.specs.Scene as prism_scene
 use Rattle.prism_print.specs.Same.{bare_file}
-use Rattle.jani_tree.specs.Syntax.{File}
+use Rattle.jani_tree.specs.Syntax.{File, element_names}
 use Rattle.jani_meaning.specs.Elements.{elements, lasting}
 use Rattle.jani_meaning.specs.Process as jani_process
 use Rattle.name_table.specs.Correspond.{Correspond}
@@ -41,7 +41,7 @@ pair_of t = record { prism = t.name; jani = old_name t.target }
 -- its label, in the order of their entries.
 pub record IsMapToPrism (file : File) (m : CarryMap) : Type 0 where
   pub locations : m.locations ≡ map (λ a. length a.locations) (elements file)
-  pub columns : m.columns ≡ map (column_at (length file.elements)) (columns file)
+  pub columns : m.columns ≡ map (column_at (length (element_names file))) (columns file)
   pub labels : m.labels ≡ map pair_of (actions file (new_names file))
 
 -- ---- what it is of
@@ -53,7 +53,7 @@ pub record IsSteppedPrism (file : prism.File) (v : Valuation) (d : Process) : Ty
 -- and of a JANI file: with a column for the location of each element, and for each variable that is not transient
 pub record IsSteppedJani (file : File) (w : Valuation) (e : Process) : Type 0 where
   pub seen : seen_by e ≡ under (jani_process.model file) w
-  pub columns : length e.columns ≡ length file.elements + length (lasting file)
+  pub columns : length e.columns ≡ length (element_names file) + length (lasting file)
 
 -- It is the map of whatever is stepped of the file and of the PRISM file that it is translated to, places aside, by the maps of labels and
 -- states with which these mean the same; each action of a choice has its pair.

@@ -14,11 +14,12 @@ use Rattle.prism_translation.specs.Modules.{actions}
 use Rattle.prism_translation.specs.Names.{all_asks, entries, new_names}
 use Rattle.prism_translation.specs.StateLaws.{columns, old_label}
 use Rattle.prism_translation.specs.Targets.{old_name, targets}
+use Rattle.jani_tree.specs.Syntax.{element_names}
 
 -- the new name of a column of the JANI file: that of the location of an element, or of a variable that is not transient
 abbrev pub column_name : jani.File → ℕ → Name
 column_name old j =
-    if nat_lt j (length old.elements) then name_at (new_names old).locations j else name_at (new_names old).variables (j - length old.elements)
+    if nat_lt j (length (element_names old)) then name_at (new_names old).locations j else name_at (new_names old).variables (j - length (element_names old))
 
 -- Each constant, element, label and reward structure of the JANI file has its entry's name in the PRISM file, in order, where elements are modules,
 -- and labels and reward structures were transient variables. The variables of the PRISM file, in the order of its columns, are called as the

@@ -18,6 +18,7 @@ use crate::naming::file_names;
 use bridge_io::{List, together};
 use carry_maps::CarryMap;
 use jani_check::CheckedJani;
+use jani_loops::{COUNTED, looped};
 use jani_tree::{JaniAutomaton, JaniFile};
 use name_table::Entry;
 use prism_modules::{FileParts, Names, file_parts};
@@ -32,7 +33,8 @@ pub fn carry_map(alloc: Global, checked: &CheckedJani) -> Result<CarryMap, Alloc
     ensures short { IfOk result (λ m. Each (λ p. length p.prism ≤ 255) m.labels) }
 {
     let file = checked.file();
-    let parts = file_parts(alloc, file)?;
+    let looped = looped(alloc, file, COUNTED)?;
+    let parts = file_parts(alloc, file, &looped)?;
     map_for(alloc, file, &parts)
 }
 

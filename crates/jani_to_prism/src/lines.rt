@@ -15,10 +15,10 @@ ghost use Rattle.prism_modules.specs.Gathered.{AreGathered};
 ghost use Rattle.jani_to_prism.specs.LineParts.{made_line, several_line, old_of, value_lines, moving_lines, mark_lines};
 
 use crate::actions::old_name;
-use bridge_io::{List, Named, Text};
+use bridge_io::{List, Text};
 use decimal_json::push_string;
 use gathering::shorter;
-use jani_tree::{JaniConst, JaniLocation};
+use jani_tree::{JaniConst, JaniElement, JaniLocation};
 use name_table::{Entry, OwnedVar};
 use prism_modules::{Element, FileParts, Names, name_at};
 use prism_targets::Target;
@@ -124,14 +124,14 @@ fn add_module_lines(
     alloc: Global,
     lines: &mut List<Text>,
     entries: &[Entry],
-    elements: &[Named],
+    elements: &[JaniElement],
 ) -> Result<(), AllocError>
-    ensures { OnOk result (lines.new ≡ lines.old ++ name_lines (codes "module") entries.now (map (λ n. Some n.name) elements.now)) }
+    ensures { OnOk result (lines.new ≡ lines.old ++ name_lines (codes "module") entries.now (map (λ e. Some e.name.name) elements.now)) }
 {
     let count = shorter(entries.len(), elements.len());
     for i in 0..count {
         let element = &elements[i];
-        let old = Some(element.name.as_str());
+        let old = Some(element.name.name.as_str());
         add_name_line(alloc, lines, "module", &entries[i], old)?;
     }
     Ok(())

@@ -19,6 +19,7 @@ use crate::named_targets::named_targets;
 use crate::naming::file_names;
 use bridge_io::{Fault, List, Refused, Text, together};
 use jani_check::CheckedJani;
+use jani_loops::{COUNTED, looped};
 use jani_tree::JaniFile;
 use name_table::Entry;
 use prism_modules::{Element, FileParts, Names, elements, file_parts};
@@ -43,7 +44,8 @@ pub fn translate(alloc: Global, checked: &CheckedJani) -> Result<CheckedPrismTex
     ensures least { IfErr result (FailsFor (refused (file_of checked.now))) }
 {
     let file = checked.file();
-    let parts = file_parts(alloc, file)?;
+    let looped = looped(alloc, file, COUNTED)?;
+    let parts = file_parts(alloc, file, &looped)?;
     judged(alloc, file, &parts)
 }
 

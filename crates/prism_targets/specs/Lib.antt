@@ -14,3 +14,4 @@ pub use Rattle.prism_translation.specs.Names
 pub use Rattle.prism_translation.specs.Refused
 pub use Rattle.prism_translation.specs.Translated
 pub use Rattle.prism_translation.specs.Image
+pub mod Crowds

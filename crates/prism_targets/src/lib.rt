@@ -2,6 +2,7 @@
 //! serve them and which elements block them. The rule is this project's own.
 #![tactic(auto)]
 
+mod crowds;
 mod making;
 mod participants;
 mod refused;

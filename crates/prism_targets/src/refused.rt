@@ -12,6 +12,7 @@ ghost use Rattle.edge_tables.specs.Tables.{table_in};
 ghost use Rattle.edge_tables.specs.Counts.{crowded_from, has_many_commands, usable_among};
 ghost use Rattle.edge_tables.specs.Code.{table_view};
 
+use crate::crowds::has_long_guard;
 use bridge_io::{Fault, Reason};
 use edge_tables::{
     ElementEdges, Places, all_splits, element_edges, has_many_starts, has_many_values,
@@ -78,6 +79,9 @@ fn is_too_large<'a>(
     ensures { IfOk result (λ b. b ≡ is_too_large (file_of file.now)) }
 {
     if has_many_starts(file, automata, lasting) {
+        return Ok(true);
+    }
+    if has_long_guard(alloc, file.elements.as_slice(), automata)? {
         return Ok(true);
     }
     has_large_result(alloc, file, automata, edges, labels)

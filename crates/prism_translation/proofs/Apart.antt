@@ -8,7 +8,7 @@ use Rattle.std.proofs.lemmas.List.{length-map}
 use Rattle.basics.specs.Lists.{slice_get-append_add}
 use Rattle.process_core.specs.Product.{map-map}
 use Rattle.process_core.proofs.Targets.{Distinct}
-use Rattle.jani_tree.specs.Syntax.{File}
+use Rattle.jani_tree.specs.Syntax.{File, element_names}
 use Rattle.jani_meaning.specs.Elements.{lasting, labels, structures}
 use Rattle.name_table.specs.declared.class.NameClass.TheVariants.{Variable, Action, Label, Reward}
 use Rattle.name_table.specs.declared.class.Target.TheVariants.{Prism}
@@ -34,8 +34,8 @@ module _ (file : File) where
   asks_length =
       let a = map constant_ask file.constants in
       let b = map (ask_for Variable) (lasting file) in
-      let c = map location_ask file.elements in
-      let d = map module_ask file.elements in
+      let c = map location_ask (element_names file) in
+      let d = map module_ask (element_names file) in
       let e = map (ask_for Label) (labels file) in
       let f = map (ask_for Reward) (structures file) in
       let p = length-append a (b ++ (c ++ (d ++ (e ++ f)))) in
@@ -45,8 +45,8 @@ module _ (file : File) where
       let t = length-append e f in
       let i = length-map file.constants constant_ask in
       let j = length-map (lasting file) (ask_for Variable) in
-      let k = length-map file.elements location_ask in
-      let l = length-map file.elements module_ask in
+      let k = length-map (element_names file) location_ask in
+      let l = length-map (element_names file) module_ask in
       let m = length-map (labels file) (ask_for Label) in
       let n = length-map (structures file) (ask_for Reward) in
       omega arith

@@ -10,7 +10,7 @@ use Rattle.basics.specs.Each.{each_then, empty_each}
 use Rattle.basics.specs.Lists.{append_right, append_left, IsNotEmpty as HasItems}
 use Rattle.bridge_io.specs.declared.reason.Reason.TheVariants.{TwiceNamed, RepeatedAutomaton, BranchReward, WrittenTwice, Nothing}
 use Rattle.name_rules.proofs.Plain.{no_fault}
-use Rattle.jani_tree.specs.Syntax.{Var, Automaton, File}
+use Rattle.jani_tree.specs.Syntax.{Var, Automaton, File, element_names}
 use Rattle.jani_tree.specs.Form.{AutomatonRead}
 use Rattle.std.specs.Option.{option_or as else_thing}
 use Rattle.jani_check.specs.Things.{Name, global_thing, beside}
@@ -25,6 +25,7 @@ use Rattle.jani_meaning.specs.Elements as jani
 use Rattle.name_table.specs.PrismAsks.{outside}
 use Rattle.prism_translation.proofs.Distinct.{AreDistinct, AreNew, once_each, distinct_names, distinct_front, distinct_rest, distinct_apart}
 use Rattle.prism_translation.proofs.Scopes.{vars_of, own_vars, const_names, NamesApart}
+use Rattle.jani_meaning.specs.LoopLaws.{element_count}
 
 -- ---- demands
 -- a demand without faults where these variables are known besides the global ones
@@ -91,7 +92,8 @@ module _ (file : File) (c : IsChecked file) where
   automata_once : OfAll (λ a. doubled_in (global_names file) a ≡ []) file.automata
   automata_once =
       empty_each (doubled_in (global_names file)) file.automata
-      (append_right (doubled TwiceNamed (automaton_names file)) _ (append_right (doubled TwiceNamed file.actions) _ (append_right (doubled TwiceNamed (global_names file)) _ once_here)))
+      (append_left (flat_map (doubled_in (global_names file)) file.automata) _
+      (append_right (doubled TwiceNamed (automaton_names file)) _ (append_right (doubled TwiceNamed file.actions) _ (append_right (doubled TwiceNamed (global_names file)) _ once_here))))
 
   names_apart : (vars : List Var) → AreDistinct (var_names vars) → AreNew (global_names file) (var_names vars) → NamesApart file vars
   names_apart vars once new = record {
@@ -115,10 +117,10 @@ module _ (file : File) (c : IsChecked file) where
       (append_left (flat_map (unknown_in (is_among (global_names file)) (is_among file.actions)) file.automata) _
       (append_right (flat_map (unknown_by (is_among (global_names file))) (outer_demands file)) _ rest_known))
 
-  pub elements_known : OfAll (λ n. unless_known (is_among (automaton_names file)) n ≡ []) file.elements
+  pub elements_known : OfAll (λ n. unless_known (is_among (automaton_names file)) n ≡ []) (element_names file)
   elements_known =
-      empty_each (unless_known (is_among (automaton_names file))) file.elements
-      (append_left (flat_map (unless_known (is_among (automaton_names file))) file.elements) _
+      empty_each (unless_known (is_among (automaton_names file))) (element_names file)
+      (append_left (flat_map (unless_known (is_among (automaton_names file))) (element_names file)) _
       (append_right (flat_map (unknown_in (is_among (global_names file)) (is_among file.actions)) file.automata) _
       (append_right (flat_map (unknown_by (is_among (global_names file))) (outer_demands file)) _ rest_known)))
 
@@ -129,22 +131,22 @@ module _ (file : File) (c : IsChecked file) where
   composed : composition_faults file ≡ []
   composed = append_right (circles file) _ (append_right (unknown_names file) _ (append_right (doubled_names file) _ no_names))
 
-  pub elements_once : AreDistinct file.elements
-  elements_once = distinct_names RepeatedAutomaton file.elements (append_left (repeated_elements file) _ composed)
+  pub elements_once : AreDistinct (element_names file)
+  elements_once = distinct_names RepeatedAutomaton (element_names file) (append_left (repeated_elements file) _ composed)
 
-  pub some_elements : nat_eq (length file.elements) 0 ≡ false
+  pub some_elements : nat_eq (length (element_names file)) 0 ≡ false
   some_elements =
-      no_fault (nat_eq (length file.elements) 0) file.elements_at Nothing (append_left (no_element file) _ (append_right (repeated_elements file) _ composed))
+      no_fault (nat_eq (length (element_names file)) 0) file.elements_at Nothing (append_left (no_element file) _ (append_right (repeated_elements file) _ composed))
 
-  pub has_element : 0 < length file.elements
-  has_element = by_list file.elements some_elements
+  pub has_element : 0 < length (element_names file)
+  has_element = by_list (element_names file) some_elements
     where
       by_list : {A : Type 0} (xs : List A) → nat_eq (length xs) 0 ≡ false → 0 < length xs
       by_list [] e = absurd cc
       by_list (x ∷ xs) e = omega arith
 
-  pub vectors_fit : OfAll (λ v. bad_vector (length file.elements) v ≡ []) file.vectors
-  vectors_fit = empty_each (bad_vector (length file.elements)) file.vectors (append_right (no_element file) _ (append_right (repeated_elements file) _ composed))
+  pub vectors_fit : OfAll (λ v. bad_vector (length (element_names file)) v ≡ []) file.vectors
+  vectors_fit = empty_each (bad_vector (length (element_names file))) file.vectors (append_right (no_element file) _ (append_right (repeated_elements file) _ composed))
 
   -- ---- types
   types_later : flat_map (demand_faults (global_thing file)) (outer_demands file) ++ (flat_map (automaton_faults (global_thing file)) file.automata ++ flat_map (clashing_writes file) file.vectors) ≡ []
@@ -189,7 +191,7 @@ module _ (file : File) (c : IsChecked file) where
 
   pub none_outside : own_vars file (outside file) ≡ []
   none_outside =
-      ap vars_of (slice_get_past (jani.elements file) (outside file) (let e = length-map file.elements (jani.automaton_called file) in omega arith))
+      ap vars_of (slice_get_past (jani.elements file) (outside file) (let e = element_count file in omega arith))
 
   pub names_outside : NamesApart file (own_vars file (outside file))
   names_outside = subst (NamesApart file) (sym none_outside) (names_apart_outside)

@@ -16,7 +16,7 @@ use Rattle.choice_laws.specs.Columns.{slot}
 use Rattle.process_core.specs.Instance.{Valuation, Column}
 use Rattle.prism_flat.specs.Scene as prism_scene
 use Rattle.prism_flat.specs.Moment.{place_of}
-use Rattle.jani_tree.specs.Syntax.{File}
+use Rattle.jani_tree.specs.Syntax.{File, element_names}
 use Rattle.jani_meaning.specs.Elements as jani
 use Rattle.jani_meaning.specs.Elements.{lasting, labels, structures}
 use Rattle.name_table.specs.declared.class.NameClass.{NameClass}
@@ -38,10 +38,11 @@ use Rattle.prism_translation.proofs.ColumnsAlike.{columns_alike}
 use Rattle.prism_translation.proofs.Numbered.{numbers_below}
 use Rattle.prism_translation.proofs.Apart.{asks_length}
 use Rattle.prism_translation.proofs.Follows.{column_name, variable_name, prism_columns}
+use Rattle.jani_meaning.specs.LoopLaws.{element_count}
 
 module _ (file : File) where
   abbrev n : ℕ
-  n = length file.elements
+  n = length (element_names file)
 
   abbrev total : ℕ
   total = n + length (lasting file)
@@ -49,7 +50,7 @@ module _ (file : File) where
   pub below : All (λ el. el.number < n) (elements file)
   below =
       All-weaker (λ el. el.number < 0 + length (jani.elements file)) (λ el. el.number < n)
-      (λ el l. let e = length-map file.elements (jani.automaton_called file) in omega arith) (elements file) (numbers_below 0 (jani.elements file))
+      (λ el l. let e = element_count file in omega arith) (elements file) (numbers_below 0 (jani.elements file))
 
   abbrev names : NewNames
   names = new_names file
@@ -80,10 +81,10 @@ module _ (file : File) where
 
   value_asked : (i : ℕ) (a : Ask) → i < c + (m + n) → slice_get (all_asks file) i ≡ Some a → IsValue a.0
   value_asked i a l g =
-      let rest = map module_ask file.elements ++ (map (ask_for Label) (labels file) ++ map (ask_for Reward) (structures file)) in
-      first_have IsValue constant_ask (λ x. refl) file.constants (map (ask_for Variable) (lasting file) ++ (map location_ask file.elements ++ rest)) (m + (n + 0))
-      (first_have IsValue (ask_for Variable) (λ x. refl) (lasting file) (map location_ask file.elements ++ rest) (n + 0)
-      (first_have IsValue location_ask (λ x. refl) file.elements rest 0 (λ j b k h. absurd (omega arith)))) i a (omega arith)
+      let rest = map module_ask (element_names file) ++ (map (ask_for Label) (labels file) ++ map (ask_for Reward) (structures file)) in
+      first_have IsValue constant_ask (λ x. refl) file.constants (map (ask_for Variable) (lasting file) ++ (map location_ask (element_names file) ++ rest)) (m + (n + 0))
+      (first_have IsValue (ask_for Variable) (λ x. refl) (lasting file) (map location_ask (element_names file) ++ rest) (n + 0)
+      (first_have IsValue location_ask (λ x. refl) (element_names file) rest 0 (λ j b k h. absurd (omega arith)))) i a (omega arith)
       (sym (slice_get-front (asks file) (map action_ask (targets file)) i (let k = asks_length file in omega arith)) ∙ g)
 
   pub nothing : Entry

@@ -20,7 +20,7 @@ use Rattle.prism_tree.specs.Syntax.{plain}
 use Rattle.prism_names.specs.Names.{unchanged, part_of}
 use Rattle.process_core.specs.Instance.{Valuation, Domain, Column, only_if, is_in, is_first, is_state, begins, begin_all}
 use Rattle.prism_flat.specs.Scene as prism_scene
-use Rattle.jani_tree.specs.Syntax.{Automaton, File}
+use Rattle.jani_tree.specs.Syntax.{Automaton, File, element_names}
 use Rattle.jani_meaning.specs.Elements as jani
 use Rattle.jani_meaning.specs.Elements.{Owned, lasting}
 use Rattle.jani_meaning.specs.Scene as jani_scene
@@ -99,7 +99,7 @@ module _ (file : File) (w : Valuation) where
         ∙ ap (λ n. get_or (map get cs ++ map get ds) (n + i) other) (sym (length-map cs get))
         ∙ get_or-append-add (map get cs) (map get ds) i other
 
-    variable_at : (i : ℕ) (o : Owned) → i < length (lasting file) → there (length file.elements + i) ≡ get (jani_column (get_or (lasting file) i o))
+    variable_at : (i : ℕ) (o : Owned) → i < length (lasting file) → there (length (element_names file) + i) ≡ get (jani_column (get_or (lasting file) i o))
     variable_at i o l =
         ap (λ n. there (n + i)) (sym (length-map (jani.elements file) location_column ∙ automata_length file))
         ∙ behind (map location_column (jani.elements file)) (map jani_column (lasting file)) i
@@ -113,7 +113,7 @@ module _ (file : File) (w : Valuation) where
         let number : x.number ≡ i = lasting_numbers 0 (lasting file) i d within ∙ (let o : 0 + i ≡ i = omega arith in o) in
         ap (λ (o : Owned). get (jani_column o)) (lasting_owned_at 0 (lasting file) i d x.owned within)
         ∙ sym (variable_at i x.owned within)
-        ∙ ap (λ k. there (length file.elements + k)) (sym number)
+        ∙ ap (λ k. there (length (element_names file) + k)) (sym number)
 
     location_at : (xs : List Automaton) (rest : List Column) (i : ℕ) (a : Automaton) → slice_get xs i ≡ Some a → get_or (map get (map location_column xs ++ rest)) i other ≡ get (location_column a)
     location_at [] rest i a e = absurd cc

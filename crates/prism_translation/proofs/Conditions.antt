@@ -29,7 +29,7 @@ use Rattle.prism_flat.specs.Process as prism_process
 use Rattle.prism_flat.specs.Moment as prism_moment
 use Rattle.prism_flat.specs.Joined.{IsDecided, IsTruth, all_hold, and_holds, and_truth, holds, is_decided, is_decided_truth, is_truth, joined, or_decided, some_holds}
 use Rattle.prism_flat.specs.Scene as prism_scene
-use Rattle.jani_tree.specs.Syntax.{Automaton, Expression, File}
+use Rattle.jani_tree.specs.Syntax.{Automaton, Expression, File, element_names}
 use Rattle.jani_meaning.specs.Elements as jani
 use Rattle.jani_meaning.specs.Elements.{Owned, lasting, location_number}
 use Rattle.jani_meaning.specs.Moment as jani_moment
@@ -57,6 +57,7 @@ use Rattle.prism_translation.proofs.Numbered.{element_all, lasting_below, lastin
 use Rattle.prism_translation.proofs.SoundEdges.{expression_sound, location_sound}
 use Rattle.prism_translation.proofs.Starts.{begin_alike, flags_alike}
 use Rattle.prism_translation.proofs.States.{state_long, states_into}
+use Rattle.jani_meaning.specs.LoopLaws.{element_count}
 
 -- ---- truth values
 -- `x = e`, where x has this value
@@ -223,7 +224,7 @@ module _ (file : File) (v w : Valuation) (sound : FileIsSound file) (alike : Giv
   cols = columns file
 
   abbrev n : ℕ
-  n = length file.elements
+  n = length (element_names file)
 
   abbrev total : ℕ
   total = n + length (lasting file)
@@ -407,7 +408,7 @@ module _ (file : File) (v w : Valuation) (sound : FileIsSound file) (alike : Giv
 
   begun : (list_all here (elements file) && started) ≡ (begin_all jani_columns u && begin_here u 0 as_)
   begun =
-      let k = length-map file.elements (jani.automaton_called file) in
+      let k = element_count file in
       let count : counting 0 total ≡ counting 0 n ++ counting n (length (lasting file)) = counting-append 0 n (length (lasting file)) ∙ (let e : 0 + n ≡ n = omega arith in ap (λ j. counting 0 n ++ counting j (length (lasting file))) e) in
       let long : length u ≡ total = length-map (counting 0 total) (value_at cols s) ∙ length-counting 0 total in
       let first : length (map at (counting 0 n)) ≡ length (map location_column as_) = length-map (counting 0 n) at ∙ length-counting 0 n ∙ sym k ∙ sym (length-map as_ location_column) in

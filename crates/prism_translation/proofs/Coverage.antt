@@ -13,7 +13,7 @@ use Rattle.basics.specs.Members.{any-map, any_agree}
 use Rattle.choice_laws.specs.Columns.{stands}
 use Rattle.choice_laws.proofs.Walks.{All-flat_map, any-filter, any-flat_map, has_any}
 use Rattle.process_core.specs.Instance.{numbered, only_if}
-use Rattle.jani_tree.specs.Syntax.{Var, Automaton, File}
+use Rattle.jani_tree.specs.Syntax.{Var, Automaton, File, element_names}
 use Rattle.jani_meaning.specs.Elements as jani
 use Rattle.jani_meaning.specs.Elements.{Owned, owned_by, is_lasting, is_owner, lasting}
 use Rattle.prism_translation.specs.Elements.{Element, elements, has_several, Lasting, lasting_variables, is_at, writers, shared_home, home_by, home, shared, own, adopted, at_home}
@@ -23,7 +23,7 @@ use Rattle.prism_translation.proofs.ColumnNames.{below}
 
 module _ (file : File) where
   abbrev n : ℕ
-  n = length file.elements
+  n = length (element_names file)
 
   abbrev m : ℕ
   m = length (lasting file)

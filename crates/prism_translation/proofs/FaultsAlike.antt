@@ -21,7 +21,7 @@ use Rattle.prism_tree.specs.Syntax as prism
 use Rattle.prism_names.specs.Names.{unchanged}
 use Rattle.process_core.specs.Instance.{Valuation, Fault, fault_of, Domain, Truths, Between, Range, Column, only_if, numbered, constant_faults, range_faults, domain_faults, first_faults, column_faults, range_from, is_empty, is_outside, instance_faults, value_faults}
 use Rattle.prism_flat.specs.Scene as prism_scene
-use Rattle.jani_tree.specs.Syntax.{Expression, Const, File}
+use Rattle.jani_tree.specs.Syntax.{Expression, Const, File, element_names}
 use Rattle.jani_meaning.specs.Elements.{lasting}
 use Rattle.jani_meaning.specs.Scene as jani_scene
 use Rattle.name_table.specs.declared.entry.Entry.{Entry}
@@ -187,7 +187,7 @@ module _ (file : File) where
     cols = columns file
 
     abbrev total : ℕ
-    total = length file.elements + length (lasting file)
+    total = length (element_names file) + length (lasting file)
 
     map-numbered : {X Y Z : Type 0} (h : Y → Z) (f : ℕ → X → List Y) (k : ℕ) (xs : List X) → map h (numbered f k xs) ≡ numbered (λ i x. map h (f i x)) k xs
     map-numbered h f k [] = refl

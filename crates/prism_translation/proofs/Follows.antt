@@ -31,7 +31,7 @@ use Rattle.prism_flat.specs.Scene as prism_scene
 use Rattle.prism_flat.specs.Moment as prism_moment
 use Rattle.prism_flat.specs.Moment.{place_of}
 use Rattle.jani_tree.specs.Syntax as syntax
-use Rattle.jani_tree.specs.Syntax.{Expression, Destination, Edge, File}
+use Rattle.jani_tree.specs.Syntax.{Expression, Destination, Edge, File, element_names}
 use Rattle.jani_tree.specs.Canonical.{HasOperands}
 use Rattle.jani_meaning.specs.Elements as jani
 use Rattle.jani_meaning.specs.Elements.{location_number, lasting}
@@ -75,7 +75,7 @@ module _ (file : File) (v w : Valuation) (s : Values) where
   cols = columns file
 
   abbrev pub total : ℕ
-  total = length file.elements + length (lasting file)
+  total = length (element_names file) + length (lasting file)
 
   abbrev pub prism_columns : List Column
   prism_columns = prism_scene.columns_of (translated file) v
@@ -94,7 +94,7 @@ module _ (file : File) (v w : Valuation) (s : Values) where
 
   -- the name of the column of the JANI file with this number
   abbrev pub column_name : ℕ → Name
-  column_name j = if nat_lt j (length file.elements) then name_at names.locations j else name_at names.variables (j - length file.elements)
+  column_name j = if nat_lt j (length (element_names file)) then name_at names.locations j else name_at names.variables (j - length (element_names file))
 
   -- an expression of an element: each operator has its operands, and each name is seen alike
   abbrev pub IsSound : ℕ → Expression → Type 0
@@ -118,7 +118,7 @@ module _ (file : File) (v w : Valuation) (s : Values) where
 
   -- a variable that is assigned to has a column; a reward has none
   abbrev pub SoundWrite : ℕ → syntax.Write → Type 0
-  SoundWrite k x = IsSound k x.value × IfSome (jani.place_of (lasting file) k x.target.name) (λ i. IsColumn (length file.elements + i))
+  SoundWrite k x = IsSound k x.value × IfSome (jani.place_of (lasting file) k x.target.name) (λ i. IsColumn (length (element_names file) + i))
 
   abbrev pub SoundDestination : ℕ → Destination → Type 0
   SoundDestination k d = IfSome d.weight (IsSound k) × All (SoundWrite k) d.writes
@@ -183,21 +183,21 @@ module _ (file : File) (v w : Valuation) (s : Values) where
   abbrev prism_write : prism.Write → Write
   prism_write x = prism_moment.write_at (translated file) prism_columns unchanged env x
 
-  pub variable_name : (i : ℕ) → column_name (length file.elements + i) ≡ name_at names.variables i
+  pub variable_name : (i : ℕ) → column_name (length (element_names file) + i) ≡ name_at names.variables i
   variable_name i =
-      ap (λ b. if b then name_at names.locations (length file.elements + i) else name_at names.variables ((length file.elements + i) - length file.elements)) (not_less (length file.elements) i)
-      ∙ (let e : (length file.elements + i) - length file.elements ≡ i = omega arith in ap (name_at names.variables) e)
+      ap (λ b. if b then name_at names.locations (length (element_names file) + i) else name_at names.variables ((length (element_names file) + i) - length (element_names file))) (not_less (length (element_names file)) i)
+      ∙ (let e : (length (element_names file) + i) - length (element_names file) ≡ i = omega arith in ap (name_at names.variables) e)
 
   write_alike : (el : Element) (x : syntax.Write) → SoundWrite el.number x →
       AllZip AlikeWrite (map prism_write (write file names el x)) (jani_moment.write_at file w u el.number x)
   write_alike el x h = by_place (jani.place_of (lasting file) el.number x.target.name) h.1
     where
-      by_place : (o : Option ℕ) → IfSome o (λ i. IsColumn (length file.elements + i)) →
+      by_place : (o : Option ℕ) → IfSome o (λ i. IsColumn (length (element_names file) + i)) →
           AllZip AlikeWrite (map prism_write (write_by file names el o x))
-          (jani_moment.column_write jani_columns (option_map (λ i. length file.elements + i) o) (jani_scene.see x.value (old el.number)))
+          (jani_moment.column_write jani_columns (option_map (λ i. length (element_names file) + i) o) (jani_scene.see x.value (old el.number)))
       by_place None k = tt
       by_place (Some i) k =
-          let place : place_of prism_columns (name_at names.variables i) ≡ slot cols (length file.elements + i) = ap (place_of prism_columns) (sym (variable_name i)) ∙ k.place in
+          let place : place_of prism_columns (name_at names.variables i) ≡ slot cols (length (element_names file) + i) = ap (place_of prism_columns) (sym (variable_name i)) ∙ k.place in
           let value = sees el.number x.value h.0 in (
             record {
               column = place;

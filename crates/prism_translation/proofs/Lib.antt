@@ -32,6 +32,7 @@ pub mod Lists
 pub mod Distinct
 pub mod Scopes
 pub mod Clean
+pub mod Looped
 pub mod Elements
 pub mod Expressions
 pub use Rattle.name_table.proofs.EntryLemmas

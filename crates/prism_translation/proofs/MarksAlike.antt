@@ -35,7 +35,7 @@ use Rattle.prism_flat.specs.Moment.{Earned, adds_of, item_at}
 use Rattle.prism_flat.specs.Process.{is_for_states, state_reward}
 use Rattle.prism_flat.specs.Process as prism_process
 use Rattle.jani_tree.specs.Syntax as syntax
-use Rattle.jani_tree.specs.Syntax.{Location, Automaton, File}
+use Rattle.jani_tree.specs.Syntax.{Location, Automaton, File, element_names}
 use Rattle.jani_meaning.specs.Elements as jani
 use Rattle.op_trees.specs.Names.{is_called}
 use Rattle.jani_meaning.specs.Elements.{Owned, location_number, lasting}
@@ -103,7 +103,7 @@ module _ (file : File) (v w : Valuation) (sound : FileIsSound file) (alike : Giv
   old k = jani_moment.names_in file w u k
 
   abbrev total : ℕ
-  total = length file.elements + length (lasting file)
+  total = length (element_names file) + length (lasting file)
 
   -- ---- where an element is
   abbrev test : Element → ℕ → Bool

@@ -29,7 +29,7 @@ use Rattle.prism_names.specs.Names.{unchanged}
 use Rattle.process_core.specs.Instance.{Valuation, Column}
 use Rattle.prism_flat.specs.Scene as prism_scene
 use Rattle.prism_flat.specs.Moment as prism_moment
-use Rattle.jani_tree.specs.Syntax.{Expression, Const, File}
+use Rattle.jani_tree.specs.Syntax.{Expression, Const, File, element_names}
 use Rattle.jani_tree.specs.Canonical.{HasOperands}
 use Rattle.jani_meaning.specs.Elements as jani
 use Rattle.op_trees.specs.Names.{is_called}
@@ -176,9 +176,9 @@ module _ (file : File) (v w : Valuation) where
     constant_alike k x h = ap (λ d. prism_scene.constant_within (translated file) v d (value_name file names k x)) constants_length ∙ value_within count k x h
 
     -- ---- names at a state
-    module _ (s : Values) (long : length s ≡ length (columns file)) (all_below : All (λ j. j < length file.elements + length (lasting file)) (columns file)) where
+    module _ (s : Values) (long : length s ≡ length (columns file)) (all_below : All (λ j. j < length (element_names file) + length (lasting file)) (columns file)) where
       abbrev total : ℕ
-      total = length file.elements + length (lasting file)
+      total = length (element_names file) + length (lasting file)
 
       abbrev prism_columns : List Column
       prism_columns = prism_scene.columns_of (translated file) v
@@ -226,7 +226,7 @@ module _ (file : File) (v w : Valuation) where
           (All-map (λ x. bytes_eq x (name_at names.constants i) ≡ false) name_of cols
           (λ k d x.
           let j = get_or cols k d in
-          let b = nat_lt j (length file.elements) in
+          let b = nat_lt j (length (element_names file)) in
           bytes_ne (name_of j) (name_at names.constants i)
           (λ e. entries_differ file (index file b j) (0 + i) (index_below file v j b refl (all_below k d x)) (let h = entries_long file in omega arith) (above j b)
           (sym (named_by file v j b refl (all_below k d x)) ∙ e ∙ constant_entry file i l)))))
@@ -257,7 +257,7 @@ module _ (file : File) (v w : Valuation) where
           ∙ not_there prism_columns s (name_at names.constants h.number) (prism_scene.constant (translated file) v) (constant_apart h.number found.within)
           ∙ ap (prism_scene.constant (translated file) v) (sym (constant_named k x h))
           ∙ constant_alike k x h
-          ∙ ap (λ o. jani_moment.value_in (state_of file s) (option_map (λ i. length file.elements + i) o) (jani_scene.constant file w x)) (sym h.no_variable))
+          ∙ ap (λ o. jani_moment.value_in (state_of file s) (option_map (λ i. length (element_names file) + i) o) (jani_scene.constant file w x)) (sym h.no_variable))
 
       pub place_below : (k : ℕ) (x : Name) (i : ℕ) → jani.place_of (lasting file) k x ≡ Some i → i < length (lasting file)
       place_below k x i h = by_first (position (jani.is_own k x) (lasting file)) refl h
@@ -266,16 +266,16 @@ module _ (file : File) (v w : Valuation) where
           by_first None e f = (found_at (jani.is_global x) (lasting file) i no_owned f).within
           by_first (Some j) e f = (found_at (jani.is_own k x) (lasting file) i no_owned (e ∙ f)).within
 
-      variable_named : (k : ℕ) (x : Name) (h : IsVariable file k x) → value_name file names k x ≡ name_of (length file.elements + h.number)
+      variable_named : (k : ℕ) (x : Name) (h : IsVariable file k x) → value_name file names k x ≡ name_of (length (element_names file) + h.number)
       variable_named k x h =
           ap (λ a. unwrap_or (option_or (option_map (name_at names.variables) a) (option_map (name_at names.constants) (position (λ d. is_called x d.name) file.constants))) []) h.stands_there
           ∙ sym (variable_name file v v [] h.number)
 
-      pub variable_seen_alike : (k : ℕ) (x : Name) (h : IsVariable file k x) → stands cols (length file.elements + h.number) ≡ true → env (value_name file names k x) ≡ old k x
+      pub variable_seen_alike : (k : ℕ) (x : Name) (h : IsVariable file k x) → stands cols (length (element_names file) + h.number) ≡ true → env (value_name file names k x) ≡ old k x
       variable_seen_alike k x h there =
           let below = place_below k x h.number h.stands_there in
           ap env (variable_named k x h)
-          ∙ env_column (length file.elements + h.number) (omega arith) there
+          ∙ env_column (length (element_names file) + h.number) (omega arith) there
           ∙ ap known
-          (sym (read_at cols total s (length file.elements + h.number) (omega arith))
-          ∙ ap (λ o. jani_moment.value_in (state_of file s) (option_map (λ i. length file.elements + i) o) (jani_scene.constant file w x)) (sym h.stands_there))
+          (sym (read_at cols total s (length (element_names file) + h.number) (omega arith))
+          ∙ ap (λ o. jani_moment.value_in (state_of file s) (option_map (λ i. length (element_names file) + i) o) (jani_scene.constant file w x)) (sym h.stands_there))

@@ -11,10 +11,11 @@ use Rattle.basics.specs.Members.{any_agree}
 use Rattle.basics.specs.Numbers.{nat_eq-self, nat_eq_comm}
 use Rattle.choice_laws.proofs.Walks.{filter_agree_in, filter_none, filter-filter, kept_walk_in, any-filter}
 use Rattle.process_core.specs.Instance.{numbered}
-use Rattle.jani_tree.specs.Syntax.{boolean, Automaton, Edge, File}
+use Rattle.jani_tree.specs.Syntax.{boolean, Automaton, Edge, File, element_names}
 use Rattle.jani_meaning.specs.Elements as jani
 use Rattle.jani_meaning.specs.Elements.{Owned}
 use Rattle.prism_translation.specs.Elements.{Element, Placed, placed_edges, edges_of, same_place, Lasting}
+use Rattle.jani_meaning.specs.LoopLaws.{element_count}
 
 -- where one alone passes a test, it is counted among those of any other test that it passes
 counted_one : {Y : Type 0} (s r : Y → Bool) (y : Y) (ys : List Y) → filter s ys ≡ y ∷ [] → count_by s (filter r ys) ≡ cond (r y) 1 0
@@ -154,8 +155,8 @@ element_once = once_from element_made element_number (λ i x. refl)
 pub element_alone : (k : ℕ) (xs : List Automaton) → All (λ w. filter (λ el. nat_eq el.number w.number) (numbered_from k xs) ≡ w ∷ []) (numbered_from k xs)
 element_alone = one_at element_made element_number (λ i x. refl)
 
-pub automata_length : (file : File) → length (jani.elements file) ≡ length file.elements
-automata_length file = length-map file.elements (jani.automaton_called file)
+pub automata_length : (file : File) → length (jani.elements file) ≡ length (element_names file)
+automata_length file = element_count file
 
 -- a walk with numbers is one over elements
 pub numbered_walk : {Y : Type 0} (g : Element → List Y) (k : ℕ) (xs : List Automaton) → flat_map g (numbered_from k xs) ≡ numbered (λ k a. g (record { number = k; automaton = a })) k xs

@@ -14,7 +14,7 @@ use Rattle.choice_laws.specs.Columns.{value_at}
 use Rattle.choice_laws.proofs.Columns.{read_at, read_back, times_of}
 use Rattle.choice_laws.proofs.Members.{if_zero, none_counted, sum_by_agree_in}
 use Rattle.process_core.specs.Instance.{only_if}
-use Rattle.jani_tree.specs.Syntax.{File}
+use Rattle.jani_tree.specs.Syntax.{File, element_names}
 use Rattle.jani_meaning.specs.Elements as jani
 use Rattle.jani_meaning.specs.Elements.{Owned, lasting, is_owner}
 use Rattle.prism_translation.specs.Elements.{Element, elements, has_several, Lasting, lasting_variables, is_at, writers, home_by, home, shared, own, adopted, at_home}
@@ -25,7 +25,7 @@ use Rattle.prism_translation.proofs.Coverage.{no_variable, all_within}
 
 module _ (file : File) where
   abbrev n : ℕ
-  n = length file.elements
+  n = length (element_names file)
 
   shifted : (a b : ℕ) → nat_eq (n + a) (n + b) ≡ nat_eq a b
   shifted a b = by_test (nat_eq a b) refl
@@ -142,7 +142,7 @@ module _ (file : File) where
 pub states_one : (file : File) (s t : Values) → length s ≡ length (columns file) → length t ≡ length (columns file) → state_of file s ≡ state_of file t → s ≡ t
 states_one file s t l m e =
     let cols = columns file in
-    let total = length file.elements + length (lasting file) in
+    let total = length (element_names file) + length (lasting file) in
     sym (read_back cols s l (columns_once file))
     ∙ map_agree_in (value_at cols s) (value_at cols t) cols
     (λ k d x.

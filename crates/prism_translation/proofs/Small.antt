@@ -46,7 +46,7 @@ abbrev machine : Automaton
 machine = record { name = name (codes "A"); variables = []; locations = spot ∷ []; initial = name (codes "l") ∷ []; edges = move ∷ [] }
 
 abbrev pub small : File
-small = record { actions = []; constants = []; variables = x_var ∷ r_var ∷ []; restrict = None; automata = machine ∷ []; elements = name (codes "A") ∷ []; elements_at = 0; vectors = []; properties = array 0 no_nodes }
+small = record { actions = []; constants = []; variables = x_var ∷ r_var ∷ []; restrict = None; automata = machine ∷ []; elements = record { name = name (codes "A"); enable = [] } ∷ []; elements_at = 0; vectors = []; properties = array 0 no_nodes }
 
 abbrev el : Element
 el = record { number = 0; automaton = machine }

@@ -21,7 +21,7 @@ use Rattle.prism_flat.specs.Moment as prism_moment
 use Rattle.process_core.specs.Instance.{Valuation, Truths, Between, Range, Column, is_in, is_state, range_from, range_has, domain_at}
 use Rattle.prism_flat.specs.Scene as prism_scene
 use Rattle.prism_flat.specs.Process as prism_process
-use Rattle.jani_tree.specs.Syntax.{Expression, Destination, Edge, File}
+use Rattle.jani_tree.specs.Syntax.{Expression, Destination, Edge, File, element_names}
 use Rattle.jani_meaning.specs.Scene as jani_scene
 use Rattle.jani_meaning.specs.Moment as jani_moment
 use Rattle.jani_meaning.specs.Elements as jani
@@ -66,7 +66,7 @@ module _ (file : File) (v w : Valuation) where
     cols = columns file
 
     abbrev n : ℕ
-    n = length file.elements
+    n = length (element_names file)
 
     abbrev total : ℕ
     total = n + length (lasting file)

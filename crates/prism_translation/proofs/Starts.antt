@@ -15,7 +15,7 @@ use Rattle.choice_laws.proofs.Columns.{read_at, value_absent, length-counting, r
 use Rattle.process_core.specs.Instance.{Valuation, Column, is_state, is_first, begin_all}
 use Rattle.prism_tree.specs.Syntax as prism
 use Rattle.prism_flat.specs.Scene as prism_scene
-use Rattle.jani_tree.specs.Syntax.{Expression, File, Var}
+use Rattle.jani_tree.specs.Syntax.{Expression, File, Var, element_names}
 use Rattle.jani_meaning.specs.Elements as jani
 use Rattle.jani_meaning.specs.Elements.{Owned, has_several_starts, lasting, initial_number}
 use Rattle.jani_meaning.specs.Scene as jani_scene
@@ -136,7 +136,7 @@ module _ (file : File) (v w : Valuation) where
     cols = columns file
 
     abbrev total : ℕ
-    total = length file.elements + length (lasting file)
+    total = length (element_names file) + length (lasting file)
 
     only_initial : (el : Element) → has_several el ≡ false → initial_number el.automaton ≡ 0
     only_initial el h = by_list el.automaton.initial

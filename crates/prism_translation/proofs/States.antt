@@ -9,7 +9,7 @@ use Rattle.choice_laws.specs.Columns.{at_start, counting, stands, value_at}
 use Rattle.choice_laws.proofs.Columns.{read_at, value_absent, length-counting, value_at-map, listed}
 use Rattle.process_core.specs.Instance.{Valuation, Domain, Between, Column, is_in, is_state, Truths, domain_at}
 use Rattle.prism_flat.specs.Scene as prism_scene
-use Rattle.jani_tree.specs.Syntax.{File}
+use Rattle.jani_tree.specs.Syntax.{File, element_names}
 use Rattle.jani_meaning.specs.Elements as jani
 use Rattle.jani_meaning.specs.Elements.{lasting}
 use Rattle.jani_meaning.specs.Scene as jani_scene
@@ -46,7 +46,7 @@ state_long file v s h =
 
 module _ (file : File) (v w : Valuation) (sound : FileIsSound file) (alike : GivesAlike file v w) where
   abbrev n : ℕ
-  n = length file.elements
+  n = length (element_names file)
 
   abbrev total : ℕ
   total = n + length (lasting file)

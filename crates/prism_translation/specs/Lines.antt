@@ -4,7 +4,7 @@ use Rattle.std.specs.List.{flat_map, zip}
 use Rattle.decimal_json.specs.Text.{quoted}
 use Rattle.process_core.specs.Ready.{Name}
 use Rattle.process_core.specs.Instance.{only_if}
-use Rattle.jani_tree.specs.Syntax.{File}
+use Rattle.jani_tree.specs.Syntax.{File, element_names}
 use Rattle.jani_meaning.specs.Elements.{Owned, lasting, labels, structures}
 use Rattle.name_table.specs.declared.entry.Entry.{Entry}
 use Rattle.name_table.specs.PrismAsks.{NewNames, name_at}
@@ -47,7 +47,7 @@ lines_by names file =
     name_lines (codes "constant") names.constants (map (λ c. Some c.name.name) file.constants)
     ++ (name_lines (codes "variable") names.variables (map called (lasting file))
     ++ (flat_map (location_line names) (elements file)
-    ++ (name_lines (codes "module") names.modules (map (λ n. Some n.name) file.elements)
+    ++ (name_lines (codes "module") names.modules (map (λ n. Some n.name) (element_names file))
     ++ (name_lines (codes "action") names.actions (map old_name (targets file))
     ++ (name_lines (codes "label") names.labels (map called (labels file))
     ++ name_lines (codes "reward") names.rewards (map called (structures file)))))))

@@ -4,7 +4,7 @@ use Rattle.std.specs.List.{filter, flat_map, list_any, sum_by}
 use Rattle.bridge_io.specs.declared.reason.Fault.{Fault}
 use Rattle.bridge_io.specs.declared.reason.Reason.TheVariants.{SharedWrite, TooLarge}
 use Rattle.op_trees.specs.Tree.{node_count}
-use Rattle.jani_tree.specs.Syntax.{Expression, Destination, Edge, File}
+use Rattle.jani_tree.specs.Syntax.{Expression, Destination, Edge, File, element_names, Automaton, Location}
 use Rattle.name_rules.specs.Least.{fault, fault_if, or_else}
 use Rattle.jani_meaning.specs.Elements as jani
 use Rattle.jani_meaning.specs.Elements.{Owned, labels, lasting}
@@ -12,6 +12,8 @@ use Rattle.jani_meaning.specs.Scene.{has_condition}
 use Rattle.prism_translation.specs.Elements.{Element, elements, edges_of, Placed, placed_edges, some_write, is_to, is_reward, Lasting, lasting_variables, writers, may_use}
 use Rattle.prism_translation.specs.Targets.{targets, serves, serves_silently, is_blocked}
 use Rattle.prism_translation.specs.Marks.{given_by}
+use Rattle.bridge_io.specs.declared.reason.Named.{Named}
+use Rattle.jani_meaning.specs.Loops.{is_with}
 
 -- ---- a global variable that edges of two elements write, one of them with an action or with rewards: PRISM's commands with
 -- an action write no global variable
@@ -65,7 +67,7 @@ values_given o el = if may_use el.number o.owner then length (given_by o.var.nam
 -- the initial condition has more parts than an expression may, or one of its parts has
 abbrev pub has_many_starts : File → Bool
 has_many_starts file =
-    has_condition file && (list_any (λ a. nat_lt 1024 (length a.initial)) (jani.elements file) || nat_lt 1024 (length file.elements + length (lasting file)))
+    has_condition file && (list_any (λ a. nat_lt 1024 (length a.initial)) (jani.elements file) || nat_lt 1024 (length (element_names file) + length (lasting file)))
 
 -- commands or nodes, or values of a label
 abbrev pub has_large_result : File → Bool
@@ -73,8 +75,20 @@ has_large_result file =
     nat_lt 200000 (result_commands file) || (nat_lt 2000000 (result_nodes file)
     || list_any (λ o. list_any (λ el. nat_lt 1024 (values_given o el)) (elements file)) (labels file))
 
+-- an automaton with loops has more than 1,024 edges with this action at this location
+abbrev pub is_crowded_at : Automaton → Named → Location → Bool
+is_crowded_at a x l = nat_lt 1024 (length (filter (is_with x.name l.name.name) a.edges))
+
+-- for one of these actions, at one of its locations
+abbrev pub has_crowd : List Named → Automaton → Bool
+has_crowd actions a = list_any (λ x. list_any (is_crowded_at a x) a.locations) actions
+
+-- the guard of a loop joins the guards of so many edges: an element has too many with an action that it accepts everywhere
+abbrev pub has_long_guard : File → Bool
+has_long_guard file = list_any (λ e. has_crowd e.enable (jani.element_automaton file e)) file.elements
+
 abbrev pub is_too_large : File → Bool
-is_too_large file = has_many_starts file || has_large_result file
+is_too_large file = has_many_starts file || (has_large_result file || has_long_guard file)
 
 abbrev pub size_faults : File → List Fault
 size_faults file = fault_if (is_too_large file) 0 TooLarge

@@ -11,7 +11,7 @@ use Rattle.op_trees.specs.Tree.{Truth, Number, AllNames}
 use Rattle.process_core.specs.Ready.{Values, Name, Reward}
 use Rattle.process_core.specs.Choices.{number_of, assigned}
 use Rattle.process_core.specs.Instance.{Valuation}
-use Rattle.jani_tree.specs.Syntax.{Const, Expression, VarKind, boolean, integer, number, real_bounded, one_sided, bounded, Location, Destination, Edge, Vector, File}
+use Rattle.jani_tree.specs.Syntax.{Const, Expression, VarKind, boolean, integer, number, real_bounded, one_sided, bounded, Location, Destination, Edge, Vector, File, element_names}
 use Rattle.jani_tree.specs.Canonical.{HasOperands}
 use Rattle.op_trees.specs.Names.{is_called}
 use Rattle.jani_meaning.specs.Elements.{Owned, location_number, lasting, place_of, labels, structures}
@@ -129,7 +129,7 @@ pub record FileIsSound (file : File) : Type 0 where
   -- no two constants have one name: the first of a constant's name is that constant (8)
   pub named : (i : ℕ) (d : Const) → slice_get file.constants i ≡ Some d → position (λ e. is_called d.name.name e.name) file.constants ≡ Some i
   -- there is an element (18)
-  pub some_element : 0 < length file.elements
+  pub some_element : 0 < length (element_names file)
   -- the expressions of constants, and the bounds of variables, name constants alone (9, 14), and operators have their operands
   pub constants : All (λ d. IfSome d.value (IsConstantExpression file)) file.constants
   pub kinds : All (λ o. SoundKind file (scope_of file (new_names file) o) o.var.kind) (lasting file)

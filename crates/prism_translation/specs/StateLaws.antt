@@ -5,7 +5,7 @@ use Rattle.std.specs.List.{find, flat_map}
 use Rattle.process_core.specs.Ready.{Values, Name}
 use Rattle.choice_laws.specs.Columns.{state_by}
 use Rattle.process_core.specs.Instance.{only_if}
-use Rattle.jani_tree.specs.Syntax.{File}
+use Rattle.jani_tree.specs.Syntax.{File, element_names}
 use Rattle.jani_meaning.specs.Elements.{lasting}
 use Rattle.prism_translation.specs.Elements.{Element, elements, has_several, Lasting, shared, at_home}
 use Rattle.prism_translation.specs.Targets.{old_name}
@@ -15,7 +15,7 @@ use Rattle.prism_translation.specs.Modules.{Action, actions}
 -- ---- columns
 -- the column of a variable in the states of the JANI file, behind the locations of the elements
 abbrev pub column_of : File → Lasting → ℕ
-column_of file x = length file.elements + x.number
+column_of file x = length (element_names file) + x.number
 
 -- the columns of a module: the location, where there are several, and the variables that are at home there
 abbrev pub module_columns : File → Element → List ℕ
@@ -29,7 +29,7 @@ columns file = map (column_of file) (shared file) ++ flat_map (module_columns fi
 -- the state of the JANI file: the locations of the elements, and then the variables; an element without a column is at its
 -- only location, which has the number 0
 abbrev pub state_of : File → Values → Values
-state_of file s = state_by (columns file) (length file.elements + length (lasting file)) s
+state_of file s = state_by (columns file) (length (element_names file) + length (lasting file)) s
 
 -- ---- labels: the old name of the target that the action is made for, which may be none
 abbrev pub old_name_of : Option Action → Option Name

@@ -34,7 +34,7 @@ use Rattle.prism_check.specs.NameFaults as pc
 use Rattle.name_rules.specs.Uses.{used}
 use Rattle.name_rules.proofs.Plain.{no_fault, fault_none}
 use Rattle.prism_check.specs.NameFaults.{Declared, circles}
-use Rattle.jani_tree.specs.Syntax.{Expression, Const, Var, Automaton, File}
+use Rattle.jani_tree.specs.Syntax.{Expression, Const, Var, Automaton, File, element_names}
 use Rattle.jani_check.specs.NameFaults as jc
 use Rattle.jani_check.specs.NameFaults.{global_names, var_names}
 use Rattle.jani_check.specs.Faults.{IsChecked}
@@ -52,6 +52,7 @@ use Rattle.prism_translation.proofs.Follows.{variable_name}
 use Rattle.prism_translation.proofs.Clean.{once_here, no_circles}
 use Rattle.prism_translation_laws.proofs.Segments.{constants_part, constant_spelled}
 use Rattle.prism_translation_laws.proofs.Values.{Differ, column_named, nowhere, constant_differs, constant_becomes, variable_becomes, place_below}
+use Rattle.jani_meaning.specs.LoopLaws.{element_count}
 
 -- ---- names of images
 abbrev bytes_of : List Named → List Name
@@ -221,7 +222,7 @@ first_place (c ∷ cs) h (suc i) d e =
 
 module _ (file : File) (checked : IsChecked file) where
   abbrev n : ℕ
-  n = length file.elements
+  n = length (element_names file)
 
   globals_apart : Differ (map (λ c. c.name.name) file.constants) × Each (λ x. Each (λ y. bytes_eq x y ≡ false) (map (λ v. v.name.name) file.variables)) (map (λ c. c.name.name) file.constants)
   globals_apart =
@@ -267,7 +268,7 @@ module _ (file : File) (checked : IsChecked file) where
   no_place : (x : Name) → Each (λ y. bytes_eq x y ≡ false) (map (λ v. v.name.name) file.variables) → place_of (lasting file) n x ≡ None
   no_place x h =
       let inner = numbered (λ i a. owned_by (Some i) a.variables) 0 (jani.elements file) in
-      let l = length-map file.elements (jani.automaton_called file) in
+      let l = element_count file in
       ap₂ option_or
       (nowhere_there (is_own n x) (lasting file)
       (none_kept is_lasting (is_own n x) (jani.variables file)

@@ -14,7 +14,7 @@ use Rattle.process_core.specs.Ready.{Name}
 use Rattle.process_core.specs.Instance.{only_if}
 use Rattle.prism_print.specs.Comments.{IsComment}
 use Rattle.bridge_io.specs.declared.reason.Named.{Named}
-use Rattle.jani_tree.specs.Syntax.{Const, Location, File}
+use Rattle.jani_tree.specs.Syntax.{Const, Location, File, element_names}
 use Rattle.jani_meaning.specs.Elements.{lasting, labels, structures}
 use Rattle.prism_translation.specs.Entry.{Entry}
 use Rattle.prism_translation.specs.Asks.{some_from}
@@ -164,15 +164,15 @@ lines_are_comments file =
     let valid : Each IsValidName (entries file) = all_valid (all_asks file) in
     let segment : (at n : ℕ) → Each IsValidName (some_from at n (entries file)) = λ at n. each_take IsValidName n (drop at (entries file)) (each_drop IsValidName at (entries file) valid) in
     let constants = map (λ (c : Const). Some c.name.name) file.constants in
-    let modules = map (λ (n : Named). Some n.name) file.elements in
+    let modules = map (λ (n : Named). Some n.name) (element_names file) in
     each_join IsComment (name_lines (codes "constant") names.constants constants) _
     (names_each (codes "constant") names.constants constants refl (segment 0 (length file.constants)))
     (each_join IsComment (name_lines (codes "variable") names.variables (map called (lasting file))) _
     (names_each (codes "variable") names.variables (map called (lasting file)) refl (segment (length file.constants) (length (lasting file))))
     (each_join IsComment (flat_map (location_line names) (elements file)) _
-    (locations_each names (elements file) (segment (locations_at file) (length file.elements)))
+    (locations_each names (elements file) (segment (locations_at file) (length (element_names file))))
     (each_join IsComment (name_lines (codes "module") names.modules modules) _
-    (names_each (codes "module") names.modules modules refl (segment (modules_at file) (length file.elements)))
+    (names_each (codes "module") names.modules modules refl (segment (modules_at file) (length (element_names file))))
     (each_join IsComment (name_lines (codes "action") names.actions (map old_name (targets file))) _
     (names_each (codes "action") names.actions (map old_name (targets file)) refl (each_drop IsValidName (actions_at file) (entries file) valid))
     (each_join IsComment (name_lines (codes "label") names.labels (map called (labels file))) _

@@ -18,7 +18,7 @@ use Rattle.prism_names.specs.Names.{part_of}
 use Rattle.process_core.specs.Instance.{Valuation, only_if}
 use Rattle.prism_check.specs.Demands.{var_type}
 use Rattle.prism_check.specs.TypeFaults.{Variable, part_variables, numbered_variables, variables, variable_called, declared_types}
-use Rattle.jani_tree.specs.Syntax.{Const, Automaton, File}
+use Rattle.jani_tree.specs.Syntax.{Const, Automaton, File, element_names}
 use Rattle.jani_meaning.specs.Elements as jani
 use Rattle.jani_meaning.specs.Elements.{lasting, is_owner}
 use Rattle.prism_translation.specs.PrismAsks.{NewNames, name_at}
@@ -57,7 +57,7 @@ module _ (file : File) where
   names = new_names file
 
   abbrev n : ℕ
-  n = length file.elements
+  n = length (element_names file)
 
   abbrev m : ℕ
   m = length (lasting file)

@@ -24,7 +24,7 @@ use Rattle.prism_tree.specs.Syntax.{plain, copied}
 use Rattle.prism_names.specs.Names.{module_name}
 use Rattle.process_core.specs.Instance.{numbered}
 use Rattle.prism_check.specs.NameFaults.{doubled, values, given_labels, doubled_pairs, doubled_names}
-use Rattle.jani_tree.specs.Syntax.{Automaton, File}
+use Rattle.jani_tree.specs.Syntax.{Automaton, File, element_names}
 use Rattle.jani_meaning.specs.Elements as jani
 use Rattle.jani_meaning.specs.Elements.{Owned, labels, structures}
 use Rattle.prism_translation.specs.NameClass.{NameClass}
@@ -40,6 +40,7 @@ use Rattle.prism_translation.specs.Translated.{translated}
 use Rattle.prism_translation_laws.proofs.Entries.{IsValidName}
 use Rattle.prism_translation_laws.proofs.Segments.{modules_part, labels_part, rewards_part, labels_spelled, is_of_label}
 use Rattle.prism_translation_laws.proofs.Values.{Differ, zip_named, values_differ}
+use Rattle.jani_meaning.specs.LoopLaws.{element_count}
 
 -- ---- names that stand once
 abbrev names_of : List Named → List Name
@@ -88,7 +89,7 @@ module _ (file : File) where
   pub modules_named : names_of (map module_name new.modules) ≡ map (λ e. e.name) names.modules
   modules_named =
       let l = (modules_part file).long in
-      let m = length-map file.elements (jani.automaton_called file) in
+      let m = element_count file in
       ap names_of (map-map module_name (λ el. plain (module_of file names el)) (elements file))
       ∙ map-map (λ (n : Named). n.name) (λ el. module_name (plain (module_of file names el))) (elements file)
       ∙ modules_from (name_at names.modules) 0 (jani.elements file) names.modules (omega arith) (agree names.modules)

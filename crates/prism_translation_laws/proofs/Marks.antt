@@ -24,7 +24,10 @@ use Rattle.op_trees.specs.Names.{offset_of}
 use Rattle.choice_laws.proofs.Walks.{any-flat_map, any-filter}
 use Rattle.process_core.specs.Instance.{numbered}
 use Rattle.jani_tree.specs.Form.{IsGiven, VarRead}
-use Rattle.jani_tree.specs.Syntax.{Expression, VarKind, boolean, integer, number, real_bounded, one_sided, bounded, Var, Write, Location, Automaton, File}
+use Rattle.jani_tree.specs.Syntax.{Element as Part}
+use Rattle.jani_meaning.specs.Loops.{with_loops}
+use Rattle.jani_meaning.specs.LoopLaws.{same_name}
+use Rattle.jani_tree.specs.Syntax.{Expression, VarKind, boolean, integer, number, real_bounded, one_sided, bounded, Var, Write, Location, Automaton, File, element_names}
 use Rattle.basics.specs.Mapped.{any_mapped}
 use Rattle.name_rules.proofs.Plain.{no_fault}
 use Rattle.jani_check.specs.Things.{Name, is_called, kind_type, const_thing, var_thing, const_called, var_called, global_thing, is_transient}
@@ -43,7 +46,7 @@ use Rattle.prism_translation.proofs.Lists.{of_front, to_map, of_numbered, any-nu
 use Rattle.prism_translation.proofs.Distinct.{AreDistinct, not_among, stands_first, found_itself}
 use Rattle.prism_translation.proofs.Scopes.{own_vars, const_names}
 use Rattle.prism_translation.proofs.Clean.{IsJudged, names_apart_outside, elements_known, elements_once, starts_outside, given_once}
-use Rattle.prism_translation.proofs.Elements.{IsElement, element, elements_are, judged_element, is_automaton, called_alike}
+use Rattle.prism_translation.proofs.Elements.{IsElement, element, elements_are, parts_known, judged_element, is_automaton, called_alike}
 use Rattle.prism_translation_laws.proofs.KnownValues.{locations_known}
 use Rattle.prism_translation_laws.proofs.Rewards.{one_each, one_write}
 
@@ -120,6 +123,11 @@ of_passing P test (x ∷ xs) p = by_test (test x) refl (of_passing P test xs p.1
     by_test false e q = q
 
 -- ---- what is given once
+-- loops give nothing
+looped_gives : (xs : List Named) (a : Automaton) → given_by (with_loops xs a) ≡ given_by a
+looped_gives [] a = refl
+looped_gives (x ∷ xs) a = refl
+
 -- what an element's locations give to a name
 gives : (x : Name) (el : Element) → is_some_given (given_values x el) ≡ is_among (given_by el.automaton) x
 gives x el =
@@ -287,38 +295,46 @@ module _ (file : File) (c : IsChecked file) where
       (of_passing StartsWithNought is_structure (jani.variables file) (each_then FineOwned (λ o. is_structure o ≡ true → StartsWithNought o) structure_starts (jani.variables file) variables_fine))
 
   -- ---- elements have names that differ
-  called_name : (el : Element) → (is : IsElement file el) → is.name.name ≡ el.automaton.name.name
-  called_name el is = sym (bytes_eq-true el.automaton.name.name is.name.name (found_passes (λ a. is_called is.name.name a.name) file.automata el.automaton is.found))
+  called_name : (el : Element) → (is : IsElement file el) → is.part.name.name ≡ el.automaton.name.name
+  called_name el is =
+      sym (bytes_eq-true is.own.name.name is.part.name.name (found_passes (λ a. is_called is.part.name.name a.name) file.automata is.own is.found))
+      ∙ sym (ap (λ (a : Automaton). a.name.name) is.looped ∙ ap (λ (n : Named). n.name) (same_name is.part.enable is.own))
 
   abbrev element_name : Element → Named
   element_name el = el.automaton.name
 
-  same_names : (k : ℕ) (ns : List Named) → OfAll (λ n. unless_known (is_among (automaton_names file)) n ≡ []) ns → (x : Name) →
-      is_among (map element_name (numbered (element file) k (map (jani.automaton_called file) ns))) x ≡ is_among ns x
-  same_names k [] h x = refl
-  same_names k (n ∷ ns) h x = ap₂ (λ a b. a || b) (ap (λ y. bytes_eq y x) (own_name n h.0)) (same_names (k + 1) ns h.1 x)
-    where
-      own_name : (n : Named) → unless_known (is_among (automaton_names file)) n ≡ [] → (jani.automaton_called file n).name.name ≡ n.name
-      own_name n e =
-          let a = is_automaton file n e in
-          ap (λ (b : Automaton). b.name.name) (called_alike file n a.0 a.1) ∙ bytes_eq-true a.0.name.name n.name (found_passes (λ a. is_called n.name a.name) file.automata a.0 a.1)
+  abbrev IsKnownPart : Part → Type 0
+  IsKnownPart e = unless_known (is_among (automaton_names file)) e.name ≡ []
 
-  names_once : (k : ℕ) (ns : List Named) → OfAll (λ n. unless_known (is_among (automaton_names file)) n ≡ []) ns → AreDistinct ns → AreDistinct (map element_name (numbered (element file) k (map (jani.automaton_called file) ns)))
+  own_name : (e : Part) → IsKnownPart e → (jani.element_automaton file e).name.name ≡ e.name.name
+  own_name e k =
+      let a = is_automaton file e.name k in
+      ap (λ (n : Named). n.name) (same_name e.enable (jani.automaton_called file e.name))
+      ∙ ap (λ (b : Automaton). b.name.name) (called_alike file e.name a.0 a.1) ∙ bytes_eq-true a.0.name.name e.name.name (found_passes (λ a. is_called e.name.name a.name) file.automata a.0 a.1)
+
+  same_names : (k : ℕ) (es : List Part) → OfAll IsKnownPart es → (x : Name) →
+      is_among (map element_name (numbered (element file) k (map (jani.element_automaton file) es))) x ≡ is_among (map (λ e. e.name) es) x
+  same_names k [] h x = refl
+  same_names k (e ∷ es) h x = ap₂ (λ a b. a || b) (ap (λ y. bytes_eq y x) (own_name e h.0)) (same_names (k + 1) es h.1 x)
+
+  names_once : (k : ℕ) (es : List Part) → OfAll IsKnownPart es → AreDistinct (map (λ e. e.name) es) → AreDistinct (map element_name (numbered (element file) k (map (jani.element_automaton file) es)))
   names_once k [] h d = tt
-  names_once k (n ∷ ns) h d =
-      let a = is_automaton file n h.0 in (
-        same_names (k + 1) ns h.1 (jani.automaton_called file n).name.name
-            ∙ ap (is_among ns) (ap (λ (b : Automaton). b.name.name) (called_alike file n a.0 a.1) ∙ bytes_eq-true a.0.name.name n.name (found_passes (λ a. is_called n.name a.name) file.automata a.0 a.1))
-            ∙ d.0,
-        names_once (k + 1) ns h.1 d.1,
-      )
+  names_once k (e ∷ es) h d = (
+    same_names (k + 1) es h.1 (jani.element_automaton file e).name.name ∙ ap (is_among (map (λ e. e.name) es)) (own_name e h.0) ∙ d.0,
+    names_once (k + 1) es h.1 d.1,
+  )
 
   -- ---- one gives
   one_giver : (o : Owned) → FineOwned o → is_structure o ≡ true → HasOneGiver file o
   one_giver o f h =
       one_each element_name (IsElement file) (λ el. is_some_given (given_there file o el)) (elements file) (by_owner o.owner refl) (elements_are file c)
-      (names_once 0 file.elements (elements_known file c) (elements_once file c))
+      (names_once 0 file.elements (parts_known file c) (elements_once file c))
     where
+      -- loops give nothing, so the automaton gives what the element does
+      own_gives : (el : Element) (is : IsElement file el) → is_among (given_by is.own) o.var.name.name ≡ is_some_given (given_values o.var.name.name el)
+      own_gives el is =
+          ap (λ gs. is_among gs o.var.name.name) (sym (ap given_by is.looped ∙ looped_gives is.part.enable is.own)) ∙ sym (gives o.var.name.name el)
+
       within : (b : Bool) (gs : List Given) → is_some_given (if b then gs else []) ≡ true → (b ≡ true) × (is_some_given gs ≡ true)
       within true gs e = (refl, e)
       within false gs e = absurd cc
@@ -329,8 +345,8 @@ module _ (file : File) (c : IsChecked file) where
           let here = within (may_use a.number o.owner) (given_values o.var.name.name a) u in
           let there = within (may_use b.number o.owner) (given_values o.var.name.name b) v in
           sym (called_name a p)
-          ∙ one_gives file o.var.name.name (f.stands e ∙ (and_parts o.var.transient (not (is_boolean o.var.kind)) h).0) (λ x. false) file.automata (given_once file c) p.name.name q.name.name a.automaton b.automaton
-          p.found q.found (sym (gives o.var.name.name a) ∙ here.1) (sym (gives o.var.name.name b) ∙ there.1)
+          ∙ one_gives file o.var.name.name (f.stands e ∙ (and_parts o.var.transient (not (is_boolean o.var.kind)) h).0) (λ x. false) file.automata (given_once file c) p.part.name.name q.part.name.name p.own q.own
+          p.found q.found (own_gives a p ∙ here.1) (own_gives b q ∙ there.1)
           ∙ called_name b q
       by_owner (Some k) e a b p q u v =
           let here = within (may_use a.number o.owner) (given_values o.var.name.name a) u in
@@ -338,7 +354,7 @@ module _ (file : File) (c : IsChecked file) where
           let left = eqb-true a.number k (sym (ap (may_use a.number) e) ∙ here.0) in
           let right = eqb-true b.number k (sym (ap (may_use b.number) e) ∙ there.0) in
           sym (called_name a p)
-          ∙ ap (λ (n : Named). n.name) (same_Some p.name q.name (sym p.stands ∙ ap (slice_get file.elements) (left ∙ sym right) ∙ q.stands))
+          ∙ ap (λ (e : Part). e.name.name) (same_Some p.part q.part (sym p.stands ∙ ap (slice_get file.elements) (left ∙ sym right) ∙ q.stands))
           ∙ called_name b q
 
   one_givers : All (HasOneGiver file) (structures file)

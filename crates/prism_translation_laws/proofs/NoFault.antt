@@ -15,10 +15,11 @@ use Rattle.prism_tree.specs.Syntax as prism
 use Rattle.prism_tree.specs.Syntax.{plain}
 use Rattle.prism_flat.specs.Kept.{is_plain}
 use Rattle.prism_check.specs.NameFaults.{doubled_names, unknown_names, circles, copy_faults, no_module, own_start, own_starts, two_inits}
-use Rattle.jani_tree.specs.Syntax.{File}
+use Rattle.jani_tree.specs.Syntax.{File, element_names}
 use Rattle.jani_meaning.specs.Elements as jani
 use Rattle.jani_meaning.specs.Elements.{initial_number, structures}
 use Rattle.jani_meaning.specs.Scene.{has_condition}
+use Rattle.jani_meaning.specs.LoopLaws.{element_count}
 use Rattle.prism_translation.specs.PrismAsks.{name_at, value_name}
 use Rattle.prism_translation.specs.Elements.{Element, Lasting, at_home, elements, has_several, shared}
 use Rattle.prism_translation.specs.Names.{new_names}
@@ -70,7 +71,7 @@ pub some_module : (file : File) → SomeModule file
 some_module file checked =
     let m = length-map (elements file) (λ el. plain (module_of file (new_names file) el)) in
     let e = element_length 0 (jani.elements file) in
-    let a = length-map file.elements (jani.automaton_called file) in
+    let a = element_count file in
     let some = has_element file checked in
     fault_none (nat_eq (length (translated file).modules) 0) (translated file).end Nothing (ne_eqb (length (translated file).modules) 0 (λ h. let no : ⊥ = omega arith in no))
 

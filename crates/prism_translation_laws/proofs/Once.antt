@@ -16,7 +16,7 @@ use Rattle.prism_tree.specs.Syntax as prism
 use Rattle.process_core.specs.Instance.{only_if}
 use Rattle.prism_check.specs.NameFaults.{clash, doubled_after, doubled}
 use Rattle.prism_check.specs.TypeFaults.{repeated_writes}
-use Rattle.jani_tree.specs.Syntax.{Write, Destination, File}
+use Rattle.jani_tree.specs.Syntax.{Write, Destination, File, element_names}
 use Rattle.jani_check.specs.TypeFaults.{targets, repeated}
 use Rattle.jani_check.specs.Faults.{IsChecked}
 use Rattle.jani_meaning.specs.Elements.{lasting, place_of, location_number}
@@ -52,7 +52,7 @@ module _ (file : File) where
       bytes_ne (name_at names.variables i) (name_at names.variables j)
       (λ e. entries_differ file (length file.constants + i) (length file.constants + j) (omega arith) (omega arith) (λ f. d (omega arith)) (sym (variable_entry file i l) ∙ e ∙ variable_entry file j k))
 
-  location_differs : (k i : ℕ) → k < length file.elements → i < length (lasting file) → bytes_eq (name_at names.locations k) (name_at names.variables i) ≡ false
+  location_differs : (k i : ℕ) → k < length (element_names file) → i < length (lasting file) → bytes_eq (name_at names.locations k) (name_at names.variables i) ≡ false
   location_differs k i l h =
       bytes_ne (name_at names.locations k) (name_at names.variables i)
       (λ e. entries_differ file ((length file.constants + length (lasting file)) + k) (length file.constants + i) (omega arith) (omega arith) (λ f. omega arith)
@@ -99,7 +99,7 @@ module _ (file : File) where
         by_place (Some n) e r = (names_have (λ m. bytes_eq (name_at names.variables n) m.name ≡ false) ws (others n e ws a.0), r)
 
     -- the location is another name
-    written_apart : el.number < length file.elements → (d : Destination) → AreApart (targets d.writes) → AreApart (map (λ (x : prism.Write). x.name) (location_write file names el d ++ flat_map (write file names el) d.writes))
+    written_apart : el.number < length (element_names file) → (d : Destination) → AreApart (targets d.writes) → AreApart (map (λ (x : prism.Write). x.name) (location_write file names el d ++ flat_map (write file names el) d.writes))
     written_apart l d a = by_several (has_several el)
       where
         others : (us : List Write) → Each (λ u. (k : ℕ) → place_of (lasting file) el.number u.target.name ≡ Some k → bytes_eq (name_at names.locations el.number) (name_at names.variables k) ≡ false) us
@@ -112,7 +112,7 @@ module _ (file : File) where
         by_several false = new_apart d.writes a
 
     -- so none of them is written twice
-    destination_once : el.number < length file.elements → (single : Bool) (d : Destination) → repeated d.writes ≡ [] → doubled WrittenTwice (map (λ (x : prism.Write). x.name) (branch file names el single d).writes) ≡ []
+    destination_once : el.number < length (element_names file) → (single : Bool) (d : Destination) → repeated d.writes ≡ [] → doubled WrittenTwice (map (λ (x : prism.Write). x.name) (branch file names el single d).writes) ≡ []
     destination_once l single d h = not_doubled WrittenTwice [] (map (λ (x : prism.Write). x.name) (branch file names el single d).writes) (written_apart l d (after_apart WrittenTwice [] (targets d.writes) h)) tt
 
 module _ (file : File) (checked : IsChecked file) where

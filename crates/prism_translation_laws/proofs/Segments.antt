@@ -9,7 +9,7 @@ use Rattle.basics.specs.Lists.{slice_get-append_add, slice_get-front}
 use Rattle.prism_lex.specs.declared.token.TokenKind.TheVariants.{Ident}
 use Rattle.prism_lex.specs.Tokens.{IsKind}
 use Rattle.std.specs.List.{AllByRecursion as Each}
-use Rattle.jani_tree.specs.Syntax.{File}
+use Rattle.jani_tree.specs.Syntax.{File, element_names}
 use Rattle.jani_meaning.specs.Elements.{lasting, labels, structures}
 use Rattle.prism_translation.specs.NameClass.{NameClass}
 use Rattle.prism_translation.specs.NameClass.TheVariants.{Constant, Variable, Location, Module, Label, Reward}
@@ -57,10 +57,10 @@ module _ (file : File) where
   from_labels = map (ask_for Label) (labels file) ++ from_rewards
 
   abbrev from_modules : List Ask
-  from_modules = map module_ask file.elements ++ from_labels
+  from_modules = map module_ask (element_names file) ++ from_labels
 
   abbrev from_locations : List Ask
-  from_locations = map location_ask file.elements ++ from_modules
+  from_locations = map location_ask (element_names file) ++ from_modules
 
   abbrev from_variables : List Ask
   from_variables = map (ask_for Variable) (lasting file) ++ from_locations
@@ -76,15 +76,15 @@ module _ (file : File) where
 
   behind_locations : (i : ℕ) → slice_get (asks file) (modules_at file + i) ≡ slice_get from_modules i
   behind_locations i =
-      let n = length file.elements in
+      let n = length (element_names file) in
       let re : modules_at file + i ≡ locations_at file + (n + i) = omega arith in
-      ap (slice_get (asks file)) re ∙ behind_variables (n + i) ∙ slice_get-append_add (map location_ask file.elements) from_modules n i (length-map file.elements location_ask)
+      ap (slice_get (asks file)) re ∙ behind_variables (n + i) ∙ slice_get-append_add (map location_ask (element_names file)) from_modules n i (length-map (element_names file) location_ask)
 
   behind_modules : (i : ℕ) → slice_get (asks file) (labels_at file + i) ≡ slice_get from_labels i
   behind_modules i =
-      let n = length file.elements in
+      let n = length (element_names file) in
       let re : labels_at file + i ≡ modules_at file + (n + i) = omega arith in
-      ap (slice_get (asks file)) re ∙ behind_locations (n + i) ∙ slice_get-append_add (map module_ask file.elements) from_labels n i (length-map file.elements module_ask)
+      ap (slice_get (asks file)) re ∙ behind_locations (n + i) ∙ slice_get-append_add (map module_ask (element_names file)) from_labels n i (length-map (element_names file) module_ask)
 
   behind_labels : (i : ℕ) → slice_get (asks file) (rewards_at file + i) ≡ slice_get from_rewards i
   behind_labels i =
@@ -107,11 +107,11 @@ module _ (file : File) where
   pub variables_part : IsPart Prism Variable (length (lasting file)) names.variables
   variables_part = part_at Variable (ask_for Variable) (λ x. refl) (lasting file) from_locations (length file.constants) (omega arith) behind_constants
 
-  pub locations_part : IsPart Prism Location (length file.elements) names.locations
-  locations_part = part_at Location location_ask (λ x. refl) file.elements from_modules (locations_at file) (omega arith) behind_variables
+  pub locations_part : IsPart Prism Location (length (element_names file)) names.locations
+  locations_part = part_at Location location_ask (λ x. refl) (element_names file) from_modules (locations_at file) (omega arith) behind_variables
 
-  pub modules_part : IsPart Prism Module (length file.elements) names.modules
-  modules_part = part_at Module module_ask (λ x. refl) file.elements from_labels (modules_at file) (omega arith) behind_locations
+  pub modules_part : IsPart Prism Module (length (element_names file)) names.modules
+  modules_part = part_at Module module_ask (λ x. refl) (element_names file) from_labels (modules_at file) (omega arith) behind_locations
 
   pub labels_part : IsPart Prism Label (length (labels file)) names.labels
   labels_part = part_at Label (ask_for Label) (λ x. refl) (labels file) from_rewards (labels_at file) (omega arith) behind_modules
@@ -127,11 +127,11 @@ module _ (file : File) where
   pub constant_spelled : (i : ℕ) → i < length file.constants → IsKind (name_at names.constants i) Ident
   constant_spelled i l = name_spelled names.constants i nothing (valid_from 0 (length file.constants)) (let p = constants_part.long in omega arith)
 
-  pub location_spelled : (i : ℕ) → i < length file.elements → IsKind (name_at names.locations i) Ident
-  location_spelled i l = name_spelled names.locations i nothing (valid_from (length file.constants + length (lasting file)) (length file.elements)) (let p = locations_part.long in omega arith)
+  pub location_spelled : (i : ℕ) → i < length (element_names file) → IsKind (name_at names.locations i) Ident
+  location_spelled i l = name_spelled names.locations i nothing (valid_from (length file.constants + length (lasting file)) (length (element_names file))) (let p = locations_part.long in omega arith)
 
-  pub module_spelled : (i : ℕ) → i < length file.elements → IsKind (name_at names.modules i) Ident
-  module_spelled i l = name_spelled names.modules i nothing (valid_from (modules_at file) (length file.elements)) (let p = modules_part.long in omega arith)
+  pub module_spelled : (i : ℕ) → i < length (element_names file) → IsKind (name_at names.modules i) Ident
+  module_spelled i l = name_spelled names.modules i nothing (valid_from (modules_at file) (length (element_names file))) (let p = modules_part.long in omega arith)
 
   pub reward_spelled : (i : ℕ) → i < length (structures file) → IsKind (name_at names.rewards i) Ident
   reward_spelled i l = name_spelled names.rewards i nothing (valid_from (rewards_at file) (length (structures file))) (let p = rewards_part.long in omega arith)

@@ -21,7 +21,7 @@ use Rattle.prism_tree.specs.declared.operator.PrismOp.TheVariants.{And, Equal, I
 use Rattle.prism_tree.specs.Syntax as prism
 use Rattle.process_core.specs.Instance.{only_if}
 use Rattle.prism_print.specs.Printable.{HasWeight, AreBranches}
-use Rattle.jani_tree.specs.Syntax.{Expression, VarKind, boolean, integer, number, real_bounded, one_sided, bounded, Const, Var, Write, Destination, Edge, Vector, File}
+use Rattle.jani_tree.specs.Syntax.{Expression, VarKind, boolean, integer, number, real_bounded, one_sided, bounded, Const, Var, Write, Destination, Edge, Vector, File, element_names}
 use Rattle.jani_check.specs.Things.{kind_type}
 use Rattle.jani_check.specs.ProfileFaults.{is_first, first_fault, start_faults}
 use Rattle.bridge_io.specs.declared.reason.Reason.TheVariants.{TransientInitial}
@@ -62,9 +62,9 @@ each_kept {A = A} P p (x ∷ xs) h = by_test (p x) refl (each_kept P p xs h.1)
     by_test true e r = ((h.0, e), r)
     by_test false e r = r
 
-module _ (file : File) (all : IsFine file) (some : 0 < length file.elements) where
+module _ (file : File) (all : IsFine file) (some : 0 < length (element_names file)) where
   abbrev n : ℕ
-  n = length file.elements
+  n = length (element_names file)
 
   abbrev names : NewNames
   names = new_names file

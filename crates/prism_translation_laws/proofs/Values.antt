@@ -28,7 +28,7 @@ use Rattle.prism_tree.specs.Syntax as prism
 use Rattle.prism_tree.specs.Syntax.{plain}
 use Rattle.process_core.specs.Instance.{Valuation, only_if}
 use Rattle.prism_check.specs.NameFaults.{module_vars, values}
-use Rattle.jani_tree.specs.Syntax.{boolean, Const, File}
+use Rattle.jani_tree.specs.Syntax.{boolean, Const, File, element_names}
 use Rattle.op_trees.specs.Names.{is_called}
 use Rattle.jani_meaning.specs.Elements.{is_own, is_global, lasting, place_of}
 use Rattle.prism_translation.specs.Entry.{Entry}
@@ -108,7 +108,7 @@ once_differ f total apart (j ∷ js) w o = (
 -- ---- a file
 module _ (file : File) where
   abbrev n : ℕ
-  n = length file.elements
+  n = length (element_names file)
 
   abbrev names : NewNames
   names = new_names file

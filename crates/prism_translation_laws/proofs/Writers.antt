@@ -5,6 +5,7 @@ use Rattle.std.specs.Option.{option_map}
 use Rattle.std.proofs.Common.{refl, sym, ap, ap₂, ◌∙◌, arith}
 use Rattle.std.proofs.lemmas.Bool.{eqb-true, or_parts, not-false}
 use Rattle.std.proofs.lemmas.List.{length-map}
+use Rattle.std.proofs.lemmas.List.Folds.{list_any-append}
 use Rattle.std.proofs.lemmas.Option.{same_Some}
 use Rattle.std.proofs.Math.Bool.{or-false}
 use Rattle.std.proofs.lemmas.List.Elements.{All-from_recursion}
@@ -16,7 +17,10 @@ use Rattle.bridge_io.specs.declared.reason.Reason.TheVariants.{BadVector, TwoRew
 use Rattle.name_rules.proofs.Plain.{no_fault}
 use Rattle.choice_laws.proofs.Walks.{any-filter, any-flat_map}
 use Rattle.process_core.specs.Instance.{numbered}
-use Rattle.jani_tree.specs.Syntax.{Edge, Automaton, Vector, File}
+use Rattle.jani_tree.specs.Syntax.{Edge, Location, Automaton, Vector, File, element_names}
+use Rattle.jani_tree.specs.Syntax.{Element as Part}
+use Rattle.jani_meaning.specs.Loops.{loop_at, loops, with_loops}
+use Rattle.jani_check.specs.declared.things.Thing.{Thing}
 use Rattle.jani_check.specs.Things.{Name, is_called, is_reward as is_reward_thing, global_thing, beside}
 use Rattle.basics.specs.Options.{if_some}
 use Rattle.jani_check.specs.NameFaults.{bad_vector}
@@ -31,6 +35,7 @@ use Rattle.prism_translation.proofs.Lists.{any-numbered}
 use Rattle.prism_translation.proofs.Scopes.{has_number}
 use Rattle.prism_translation.proofs.Clean.{vectors_fit, one_writer_each}
 use Rattle.prism_translation.proofs.Elements.{IsElement, element, elements_are, own_are, judged_element}
+use Rattle.jani_meaning.specs.LoopLaws.{element_count}
 
 -- ---- vectors
 some-name : (p : Option Named) → is_some (option_map (λ n. n.name) p) ≡ is_some p
@@ -60,6 +65,27 @@ module _ (v : Vector) where
 all_parts : (v : Vector) → HasParts v 0 v.parts
 all_parts v i = let on : 0 + i ≡ i = omega arith in ap (slice_get v.parts) on
 
+-- ---- loops assign no rewards
+looped_pays : (global : Name → Option Thing) (xs : List Named) (a : Automaton) (x : Name) → rewards_with global (with_loops xs a) x ≡ rewards_with global a x
+looped_pays global [] a x = refl
+looped_pays global (y ∷ ys) a x =
+    list_any-append (pays_with x) a.edges (loops (y ∷ ys) a) ∙ ap (λ b. list_any (pays_with x) a.edges || b) (none (y ∷ ys)) ∙ or-false (list_any (pays_with x) a.edges)
+  where
+    pays_with : Name → Edge → Bool
+    pays_with x e = has_action x e && assigns_reward (beside global a.variables) e
+
+    never : (b : Bool) → (b && false) ≡ false
+    never true = refl
+    never false = refl
+
+    each_none : (z : Named) (ls : List Location) → list_any (pays_with x) (map (loop_at a z) ls) ≡ false
+    each_none z [] = refl
+    each_none z (l ∷ ls) = ap₂ (λ b c. b || c) (never (has_action x (loop_at a z l))) (each_none z ls)
+
+    none : (zs : List Named) → list_any (pays_with x) (loops zs a) ≡ false
+    none [] = refl
+    none (z ∷ zs) = list_any-append (pays_with x) (map (loop_at a z) a.locations) (loops zs a) ∙ ap₂ (λ b c. b || c) (each_none z a.locations) (none zs)
+
 -- ---- edges with an action that assign rewards
 module _ (file : File) (c : IsChecked file) (v : Vector) where
   -- the element has such an edge with the action that the vector names
@@ -87,30 +113,35 @@ module _ (file : File) (c : IsChecked file) (v : Vector) where
         (λ w. has_number file el.number (judged_element file c el is).names w.target.name ∙ ap (λ vs. is_reward_thing (beside (global_thing file) vs w.target.name)) (own_are file c el is)) d.writes) e.destinations
         ∙ sym (any-flat_map (λ w. is_reward_thing (beside (global_thing file) el.automaton.variables w.target.name)) (λ d. d.writes) e.destinations)
 
-    part_pays : (p : Option Named) → slice_get v.parts el.number ≡ Some p → taken_part (rewards_with (global_thing file)) false file is.name p ≡ pays el
+    -- loops assign nothing, so the automaton pays as the element does
+    own_pays : (x : Name) → rewards_with (global_thing file) is.own x ≡ rewards_with (global_thing file) el.automaton x
+    own_pays x = sym (looped_pays (global_thing file) is.part.enable is.own x) ∙ ap (λ a. rewards_with (global_thing file) a x) (sym is.looped)
+
+    part_pays : (p : Option Named) → slice_get v.parts el.number ≡ Some p → taken_part (rewards_with (global_thing file)) false file is.part.name p ≡ pays el
     part_pays None e =
         sym (pays_edges el
         ∙ ap (λ o. list_any (λ e. is_named o (action_of e) && some_write (is_reward file el.number) e) el.automaton.edges) (ap name_in e)
         ∙ any_never el.automaton.edges)
     part_pays (Some n) e =
         ap (with_automaton (λ a. rewards_with (global_thing file) a n.name) false) is.found
+        ∙ own_pays n.name
         ∙ sym (pays_edges el
         ∙ ap (λ o. list_any (λ e. is_named o (action_of e) && some_write (is_reward file el.number) e) el.automaton.edges) (ap name_in e)
         ∙ any_agree (λ e. is_named (Some n.name) (action_of e) && some_write (is_reward file el.number) e) (λ e. has_action n.name e && assigns_reward (beside (global_thing file) el.automaton.variables) e)
         (λ e. ap₂ (λ a b. a && b) (same_action n.name e) (same_rewards e)) el.automaton.edges)
 
   -- what the participants do is what the elements do
-  parts_pay : (k : ℕ) (ns : List Named) (ps : List (Option Named)) → length ps ≡ length ns → HasParts v k ps → ((i : ℕ) → slice_get file.elements (k + i) ≡ slice_get ns i) →
-      OfAll (IsElement file) (numbered (element file) k (map (jani.automaton_called file) ns)) →
-      participants (rewards_with (global_thing file)) false file ns ps ≡ map pays (numbered (element file) k (map (jani.automaton_called file) ns))
+  parts_pay : (k : ℕ) (es : List Part) (ps : List (Option Named)) → length ps ≡ length es → HasParts v k ps → ((i : ℕ) → slice_get file.elements (k + i) ≡ slice_get es i) →
+      OfAll (IsElement file) (numbered (element file) k (map (jani.element_automaton file) es)) →
+      participants (rewards_with (global_thing file)) false file (map (λ e. e.name) es) ps ≡ map pays (numbered (element file) k (map (jani.element_automaton file) es))
   parts_pay k [] ps e h at is = refl
   parts_pay k (n ∷ ns) [] e h at is = absurd (let no : ⊥ = omega arith in no)
   parts_pay k (n ∷ ns) (p ∷ ps) e h at is =
       let here : k ≡ k + 0 = omega arith in
-      let name : n ≡ is.0.name = same_Some n is.0.name (sym (ap (slice_get file.elements) here ∙ at 0) ∙ is.0.stands) in
+      let part : n ≡ is.0.part = same_Some n is.0.part (sym (ap (slice_get file.elements) here ∙ at 0) ∙ is.0.stands) in
       ap₂ (λ x xs. x ∷ xs)
-      (ap (λ m. taken_part (rewards_with (global_thing file)) false file m p) name
-      ∙ part_pays (record { number = k; automaton = jani.automaton_called file n }) is.0 p (first_part v k p ps h))
+      (ap (λ (m : Part). taken_part (rewards_with (global_thing file)) false file m.name p) part
+      ∙ part_pays (record { number = k; automaton = jani.element_automaton file n }) is.0 p (first_part v k p ps h))
       (parts_pay (k + 1) ns ps (omega arith) (next_parts v k p ps h) (λ i. let on : (k + 1) + i ≡ k + suc i = omega arith in ap (slice_get file.elements) on ∙ at (suc i)) is.1)
 
   one_alone : (els : List Element) (w : Element) → two_hold (map pays els) ≡ false → find pays els ≡ Some w → OfAll (λ el. (el.number ≡ w.number → ⊥) → pays el ≡ false) els
@@ -128,34 +159,34 @@ module _ (file : File) (c : IsChecked file) (v : Vector) where
       by_test false f g both ih = ((λ d. f), ih both.1 g)
 
   record Fits : Type 0 where
-    long : length v.parts ≡ length file.elements
+    long : length v.parts ≡ length (element_names file)
     some : list_any is_some v.parts ≡ true
 
-  fits : bad_vector (length file.elements) v ≡ [] → Fits
+  fits : bad_vector (length (element_names file)) v ≡ [] → Fits
   fits e =
-      let both = or_parts (not (nat_eq (length v.parts) (length file.elements))) (not (list_any is_some v.parts)) (no_fault _ v.at BadVector e) in
-      record { long = eqb-true (length v.parts) (length file.elements) (not-false _ both.0); some = not-false _ both.1 }
+      let both = or_parts (not (nat_eq (length v.parts) (length (element_names file)))) (not (list_any is_some v.parts)) (no_fault _ v.at BadVector e) in
+      record { long = eqb-true (length v.parts) (length (element_names file)) (not-false _ both.0); some = not-false _ both.1 }
 
-  has_part : bad_vector (length file.elements) v ≡ [] → HasPart file v
+  has_part : bad_vector (length (element_names file)) v ≡ [] → HasPart file v
   has_part e =
       let f = fits e in
-      some_part v file 0 (jani.elements file) v.parts (f.long ∙ sym (length-map file.elements (jani.automaton_called file))) (all_parts v) ∙ f.some
+      some_part v file 0 (jani.elements file) v.parts (f.long ∙ sym (element_count file)) (all_parts v) ∙ f.some
 
-  has_one_writer : bad_vector (length file.elements) v ≡ [] → two_writers file v ≡ [] → HasOneWriter file v
+  has_one_writer : bad_vector (length (element_names file)) v ≡ [] → two_writers file v ≡ [] → HasOneWriter file v
   has_one_writer e t w found =
       let f = fits e in
       All-from_recursion (λ el. (el.number ≡ w.number → ⊥) → pays el ≡ false) (elements file)
       (one_alone (elements file) w
-      (ap two_hold (sym (parts_pay 0 file.elements v.parts f.long (all_parts v) (λ i. let on : 0 + i ≡ i = omega arith in ap (slice_get file.elements) on) (elements_are file c)))
+      (ap two_hold (sym (parts_pay 0 file.elements v.parts (f.long ∙ length-map file.elements (λ e. e.name)) (all_parts v) (λ i. let on : 0 + i ≡ i = omega arith in ap (slice_get file.elements) on) (elements_are file c)))
       ∙ no_fault _ v.at TwoRewardWriters t) found)
 
 module _ (file : File) (c : IsChecked file) where
   pub vectors_have_parts : All (HasPart file) file.vectors
   vectors_have_parts =
-      All-from_recursion (HasPart file) file.vectors (each_then (λ v. bad_vector (length file.elements) v ≡ []) (HasPart file) (λ v e. has_part file c v e) file.vectors (vectors_fit file c))
+      All-from_recursion (HasPart file) file.vectors (each_then (λ v. bad_vector (length (element_names file)) v ≡ []) (HasPart file) (λ v e. has_part file c v e) file.vectors (vectors_fit file c))
 
   pub one_writer_each_vector : All (HasOneWriter file) file.vectors
   one_writer_each_vector =
       All-from_recursion (HasOneWriter file) file.vectors
-      (each_with (λ v. bad_vector (length file.elements) v ≡ []) (λ v. two_writers file v ≡ []) (HasOneWriter file)
+      (each_with (λ v. bad_vector (length (element_names file)) v ≡ []) (λ v. two_writers file v ≡ []) (HasOneWriter file)
       (λ v e t. has_one_writer file c v e t) file.vectors (vectors_fit file c) (one_writer_each file c))

@@ -1,7 +1,7 @@
 -- The entries of a file are the first ones where the names of properties are asked for behind its own.
 use Rattle.std.proofs.Common.{arith, ◌≡◌, ◌∙◌, refl, sym, ap, ℕ, zero, suc, ◌+◌, ◌≤◌, List, [], ◌∷◌, ◌++◌, length, take, drop, map, length-append}
 use Rattle.std.proofs.lemmas.List.{length-map}
-use Rattle.jani_tree.specs.Syntax.{File}
+use Rattle.jani_tree.specs.Syntax.{File, element_names}
 use Rattle.jani_meaning.specs.Elements.{lasting, labels, structures}
 use Rattle.name_table.specs.declared.class.NameClass.TheVariants.{Variable, Label, Reward}
 use Rattle.name_table.specs.declared.class.Target.TheVariants.{Prism}
@@ -30,15 +30,15 @@ module _ (file : File) where
   asks_count =
       let c = length-map file.constants constant_ask in
       let v = length-map (lasting file) (ask_for Variable) in
-      let l = length-map file.elements location_ask in
-      let m = length-map file.elements module_ask in
+      let l = length-map (element_names file) location_ask in
+      let m = length-map (element_names file) module_ask in
       let b = length-map (labels file) (ask_for Label) in
       let r = length-map (structures file) (ask_for Reward) in
       let br = length-append (map (ask_for Label) (labels file)) (map (ask_for Reward) (structures file)) in
-      let mbr = length-append (map module_ask file.elements) (map (ask_for Label) (labels file) ++ map (ask_for Reward) (structures file)) in
-      let lmbr = length-append (map location_ask file.elements) (map module_ask file.elements ++ (map (ask_for Label) (labels file) ++ map (ask_for Reward) (structures file))) in
-      let vs = length-append (map (ask_for Variable) (lasting file)) (map location_ask file.elements ++ (map module_ask file.elements ++ (map (ask_for Label) (labels file) ++ map (ask_for Reward) (structures file)))) in
-      let cs = length-append (map constant_ask file.constants) (map (ask_for Variable) (lasting file) ++ (map location_ask file.elements ++ (map module_ask file.elements ++ (map (ask_for Label) (labels file) ++ map (ask_for Reward) (structures file))))) in
+      let mbr = length-append (map module_ask (element_names file)) (map (ask_for Label) (labels file) ++ map (ask_for Reward) (structures file)) in
+      let lmbr = length-append (map location_ask (element_names file)) (map module_ask (element_names file) ++ (map (ask_for Label) (labels file) ++ map (ask_for Reward) (structures file))) in
+      let vs = length-append (map (ask_for Variable) (lasting file)) (map location_ask (element_names file) ++ (map module_ask (element_names file) ++ (map (ask_for Label) (labels file) ++ map (ask_for Reward) (structures file)))) in
+      let cs = length-append (map constant_ask file.constants) (map (ask_for Variable) (lasting file) ++ (map location_ask (element_names file) ++ (map module_ask (element_names file) ++ (map (ask_for Label) (labels file) ++ map (ask_for Reward) (structures file))))) in
       omega (arith, c, v, l, m, b, r, br, mbr, lmbr, vs, cs)
 
   module _ (first : FirstAlone) (more : List Ask) where
