@@ -2,7 +2,7 @@
 -- (The table is this project's own.)
 use Rattle.std.specs.Prelude.{ℕ, List, codes}
 use Rattle.bridge_io.specs.declared.reason.Reason.{Reason}
-use Rattle.bridge_io.specs.declared.reason.Reason.TheVariants.{TooLong, BadByte, BadNumber, Syntax, TooDeep, OtherKind, LeftOut, TwiceNamed, Unknown, Cycle, RenameMissing, RenameOfRenamed, WrongType, NotConstant, ForeignWrite, SyncGlobalWrite, WrittenTwice, Nothing, TooLarge, JsonSyntax, TwiceMember, MissingMember, UnknownMember, WrongShape, OtherFeature, UnboundedVariable, RealVariable, TransientRead, TransientInitial, TransientTwoAutomata, LabelOnEdge, BranchReward, TwoRewardWriters, SharedWrite, BadVector, InputEnable, NoDestination, RepeatedAutomaton, PropertyLeftOut, RowSyntax, TwoInits}
+use Rattle.bridge_io.specs.declared.reason.Reason.TheVariants.{TooLong, BadByte, BadNumber, Syntax, TooDeep, OtherKind, LeftOut, TwiceNamed, Unknown, Cycle, RenameMissing, RenameOfRenamed, WrongType, NotConstant, ForeignWrite, SyncGlobalWrite, WrittenTwice, Nothing, TooLarge, JsonSyntax, TwiceMember, MissingMember, UnknownMember, WrongShape, OtherFeature, UnboundedVariable, RealVariable, TransientRead, TransientInitial, TransientTwoAutomata, LabelOnEdge, BranchReward, TwoRewardWriters, SharedWrite, BadVector, NoDestination, RepeatedAutomaton, PropertyLeftOut, RowSyntax, TwoInits}
 
 -- its number
 abbrev pub number_of : Reason → ℕ
@@ -41,7 +41,6 @@ number_of BranchReward = 32
 number_of TwoRewardWriters = 33
 number_of SharedWrite = 34
 number_of BadVector = 35
-number_of InputEnable = 36
 number_of NoDestination = 38
 number_of RepeatedAutomaton = 39
 number_of PropertyLeftOut = 40
@@ -85,7 +84,6 @@ name_of BranchReward = codes "BranchReward"
 name_of TwoRewardWriters = codes "TwoRewardWriters"
 name_of SharedWrite = codes "SharedWrite"
 name_of BadVector = codes "BadVector"
-name_of InputEnable = codes "InputEnable"
 name_of NoDestination = codes "NoDestination"
 name_of RepeatedAutomaton = codes "RepeatedAutomaton"
 name_of PropertyLeftOut = codes "PropertyLeftOut"

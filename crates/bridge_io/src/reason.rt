@@ -81,8 +81,6 @@ pub enum Reason {
     SharedWrite = 34,
     /// A synchronisation vector has another length than the elements, or names no action.
     BadVector = 35,
-    /// An automaton is made to accept an action everywhere.
-    InputEnable = 36,
     /// An edge has no destination.
     NoDestination = 38,
     /// An automaton takes part twice.
@@ -143,7 +141,6 @@ impl Reason {
             Reason::TwoRewardWriters => "TwoRewardWriters",
             Reason::SharedWrite => "SharedWrite",
             Reason::BadVector => "BadVector",
-            Reason::InputEnable => "InputEnable",
             Reason::NoDestination => "NoDestination",
             Reason::RepeatedAutomaton => "RepeatedAutomaton",
             Reason::PropertyLeftOut => "PropertyLeftOut",

@@ -13,13 +13,14 @@ use Rattle.process_core.specs.Ready.{Name, Values}
 use Rattle.process_core.specs.Steps.{Process}
 use Rattle.instance_start.specs.Description.{Constant, Description}
 use Rattle.jani_tree.specs.Places.{bare_const, bare_file}
-use Rattle.jani_tree.specs.Syntax.{Const, File}
+use Rattle.jani_tree.specs.Syntax.{Const, File, element_names}
 use Rattle.jani_meaning.specs.Elements.{Owned, labels, lasting, structures}
 use Rattle.jani_meaning.specs.Moment.{Moment, moment}
 use Rattle.jani_meaning.specs.Process.{choices, excess, has_wide_mark, marks}
 use Rattle.jani_meaning.specs.Scene.{scene}
 use Rattle.jani_meaning.proofs.Bare.{bare_owned, labels-bare, lasting-bare, moment-bare, scene-bare, structures-bare}
 use Rattle.jani_instance.specs.Described.{column_texts, described, jani_description, mark_names, texts_from}
+use Rattle.jani_tree.specs.Laws.{element_names-bare}
 
 -- ---- what is described
 abbrev opened : Const → Constant
@@ -58,7 +59,7 @@ description_by cs k p = record { constants = cs; scene = k; process = p }
 module _ (file : File) where
   columns-same : column_texts (bare_file file) ≡ column_texts file
   columns-same =
-      ap₂ (λ n m. texts_from (codes "@") 0 n ++ texts_from (codes "#") 0 m) (length-map file.elements bare_name)
+      ap₂ (λ n m. texts_from (codes "@") 0 n ++ texts_from (codes "#") 0 m) (ap length (element_names-bare file) ∙ length-map (element_names file) bare_name)
       (ap length (lasting-bare file) ∙ length-map (lasting file) bare_owned)
 
   marks-same : mark_names (bare_file file) ≡ mark_names file

@@ -42,6 +42,7 @@ use Rattle.model_carrying.specs.Together.{GivenCorrespond, TogetherInJani}
 use Rattle.model_carrying.specs.Values.{AreGivenAlike, GoTogether, ValuesAreAlike, ValuesFit}
 use Rattle.model_carrying.proofs.Faultless.{no_name_fault, none_in}
 use Rattle.model_carrying.proofs.Started.{both_started}
+use Rattle.jani_tree.specs.Syntax.{element_names}
 
 is_short : (p : LabelPair) → IfSome p.jani IsShortName → IfSome p.jani IsShort
 is_short p h = by_label p.jani h
@@ -86,7 +87,7 @@ module _ (alike : DescribedAlike) (fit : ValuesFit) (same_values : ValuesAreAlik
     none_there : instance_faults (scene_for d given) ≡ [] → instance_faults (scene_there d o given) ≡ []
     none_there h =
         none_in (instance_faults (scene_there d o given))
-        (λ f i. subst (λ fs. IsIn f (map (placed (length new.elements)) fs)) (none_of_old h) (((pair.translated.same).faults v w corresponds f).1 i))
+        (λ f i. subst (λ fs. IsIn f (map (placed (length (element_names new))) fs)) (none_of_old h) (((pair.translated.same).faults v w corresponds f).1 i))
 
   pub paired_to_jani : ArePaired d o given
   paired_to_jani = record {

@@ -5,7 +5,7 @@ use Rattle.std.proofs.lemmas.Option.{same_Some}
 use Rattle.bridge_io.specs.Reason.{number_of}
 use Rattle.bridge_io.specs.declared.reason.Fault.{Fault}
 use Rattle.bridge_io.specs.declared.reason.Reason.{Reason}
-use Rattle.bridge_io.specs.declared.reason.Reason.TheVariants.{TooLong, BadByte, BadNumber, Syntax, TooDeep, OtherKind, LeftOut, TwiceNamed, Unknown, Cycle, RenameMissing, RenameOfRenamed, WrongType, NotConstant, ForeignWrite, SyncGlobalWrite, WrittenTwice, Nothing, TooLarge, JsonSyntax, TwiceMember, MissingMember, UnknownMember, WrongShape, OtherFeature, UnboundedVariable, RealVariable, TransientRead, TransientInitial, TransientTwoAutomata, LabelOnEdge, BranchReward, TwoRewardWriters, SharedWrite, BadVector, InputEnable, NoDestination, RepeatedAutomaton, PropertyLeftOut, RowSyntax, TwoInits}
+use Rattle.bridge_io.specs.declared.reason.Reason.TheVariants.{TooLong, BadByte, BadNumber, Syntax, TooDeep, OtherKind, LeftOut, TwiceNamed, Unknown, Cycle, RenameMissing, RenameOfRenamed, WrongType, NotConstant, ForeignWrite, SyncGlobalWrite, WrittenTwice, Nothing, TooLarge, JsonSyntax, TwiceMember, MissingMember, UnknownMember, WrongShape, OtherFeature, UnboundedVariable, RealVariable, TransientRead, TransientInitial, TransientTwoAutomata, LabelOnEdge, BranchReward, TwoRewardWriters, SharedWrite, BadVector, NoDestination, RepeatedAutomaton, PropertyLeftOut, RowSyntax, TwoInits}
 use Rattle.name_rules.specs.Least.{AtMost, IsLeast}
 use Rattle.name_rules.proofs.Plain.{no_least}
 use Rattle.prism_parse.specs.Laws.{OneSyntax}
@@ -27,7 +27,7 @@ abbrev reasons : List Reason
 reasons =
     TooLong ∷ TooLong ∷ BadByte ∷ BadNumber ∷ Syntax ∷ TooDeep ∷ OtherKind ∷ LeftOut ∷ TwiceNamed ∷ Unknown ∷ Cycle ∷ RenameMissing ∷ RenameOfRenamed ∷ WrongType ∷ NotConstant ∷ ForeignWrite
     ∷ SyncGlobalWrite ∷ WrittenTwice ∷ Nothing ∷ TooLarge ∷ JsonSyntax ∷ TwiceMember ∷ MissingMember ∷ UnknownMember ∷ WrongShape ∷ OtherFeature ∷ UnboundedVariable ∷ RealVariable ∷ TransientRead
-    ∷ TransientInitial ∷ TransientTwoAutomata ∷ LabelOnEdge ∷ BranchReward ∷ TwoRewardWriters ∷ SharedWrite ∷ BadVector ∷ InputEnable ∷ NoDestination ∷ NoDestination ∷ RepeatedAutomaton ∷ PropertyLeftOut
+    ∷ TransientInitial ∷ TransientTwoAutomata ∷ LabelOnEdge ∷ BranchReward ∷ TwoRewardWriters ∷ SharedWrite ∷ BadVector ∷ NoDestination ∷ NoDestination ∷ NoDestination ∷ RepeatedAutomaton ∷ PropertyLeftOut
     ∷ RowSyntax ∷ TwoInits ∷ TwoInits ∷ []
 
 numbered : (r : Reason) → slice_get reasons (number_of r) ≡ Some r
@@ -66,7 +66,6 @@ numbered BranchReward = refl
 numbered TwoRewardWriters = refl
 numbered SharedWrite = refl
 numbered BadVector = refl
-numbered InputEnable = refl
 numbered NoDestination = refl
 numbered RepeatedAutomaton = refl
 numbered PropertyLeftOut = refl

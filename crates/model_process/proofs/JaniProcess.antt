@@ -8,7 +8,7 @@ use Rattle.basics.specs.Options.{IfAny}
 use Rattle.bridge_io.specs.declared.reason.Named.{Named}
 use Rattle.decimal_json.proofs.Once.{reads_once}
 use Rattle.jani_tree.specs.Node.{node}
-use Rattle.jani_tree.specs.Syntax.{File}
+use Rattle.jani_tree.specs.Syntax.{File, element_names}
 use Rattle.jani_tree.specs.Form.{FileShort, IsShortName, NameForm, VectorRead}
 use Rattle.jani_tree.proofs.Formed.{file_once}
 use Rattle.jani_tree.proofs.Once.{once_node}
@@ -46,8 +46,8 @@ texts_no_feed mark h i (suc n) = (lacks_join 10 mark (decimal i) h (decimal_no_f
 pub header_read : (file : File) → Lacks 10 (header_text (column_texts file))
 header_read file =
     names_no_feed (column_texts file)
-    (each_join (Lacks 10) (texts_from (codes "@") 0 (length file.elements)) (texts_from (codes "#") 0 (length (lasting file)))
-    (texts_no_feed (codes "@") refl 0 (length file.elements)) (texts_no_feed (codes "#") refl 0 (length (lasting file))))
+    (each_join (Lacks 10) (texts_from (codes "@") 0 (length (element_names file))) (texts_from (codes "#") 0 (length (lasting file)))
+    (texts_no_feed (codes "@") refl 0 (length (element_names file))) (texts_no_feed (codes "#") refl 0 (length (lasting file))))
 
 -- ---- labels
 label_read : (o : Option Named) → IfAny (NameForm IsShortName) o → IfAny (λ n. is_utf8 n.name ≡ true) o → IfAny IsReadName (option_map (λ x. x.name) o)

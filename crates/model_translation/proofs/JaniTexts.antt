@@ -13,9 +13,9 @@ use Rattle.jani_table.specs.declared.key.Key.TheVariants as K
 use Rattle.jani_table.specs.Node.{Node, null, truth, number, text, array, object, Nodes, no_nodes, more_nodes, Fields, no_fields, field, nodes_of}
 use Rattle.jani_table.specs.Words.{ty_text}
 use Rattle.jani_table.specs.Operators.{op_text}
-use Rattle.jani_tree.specs.Syntax.{Expression, Const, VarKind, boolean, integer, number as real, real_bounded, one_sided, bounded, Var, Write, Location, Destination, Edge, Automaton, Vector, File}
-use Rattle.jani_tree.specs.Canonical.{with_entry, with_maybe, with_members, object_of, list_node, some_list, word, name_node, keyed_node, expr_node, boxed_node, bounded_word, kind_node, const_node, flag_node, var_node, write_node, location_node, destination_node, edge_node, automaton_node, part_node, vector_node, system_node, head_members, file_members, file_node}
-use Rattle.jani_tree.specs.Places.{bare_node, bare_nodes, bare_fields, bare_const, bare_kind, bare_var, bare_write, bare_location, bare_destination, bare_edge, bare_automaton, bare_part, bare_vector, bare_file}
+use Rattle.jani_tree.specs.Syntax.{Expression, Const, VarKind, boolean, integer, number as real, real_bounded, one_sided, bounded, Var, Write, Location, Destination, Edge, Automaton, Vector, File, Element}
+use Rattle.jani_tree.specs.Canonical.{with_entry, with_maybe, with_members, object_of, list_node, some_list, word, name_node, keyed_node, expr_node, boxed_node, bounded_word, kind_node, const_node, flag_node, var_node, write_node, location_node, destination_node, edge_node, automaton_node, part_node, vector_node, system_node, head_members, file_members, file_node, element_node}
+use Rattle.jani_tree.specs.Places.{bare_node, bare_nodes, bare_fields, bare_const, bare_kind, bare_var, bare_write, bare_location, bare_destination, bare_edge, bare_automaton, bare_part, bare_vector, bare_file, bare_element}
 use Rattle.jani_tree.specs.Text.{node_text, item_texts, member_texts, jani_text}
 
 -- ---- the text of a value is that of the value with each offset 0
@@ -191,20 +191,25 @@ vector-bare x =
 keyed-bare : (k : Key) (n : Named) → keyed_node k (bare_name n) ≡ bare_node (keyed_node k n)
 keyed-bare k n = made 0 ((k, Some (name_node n)) ∷ []) _ refl
 
-system-bare : (f : File) → system_node (map bare_name f.elements) 0 (map bare_vector f.vectors) ≡ bare_node (system_node f.elements f.elements_at f.vectors)
+element-bare : (e : Element) → element_node (bare_element e) ≡ bare_node (element_node e)
+element-bare e =
+    made 0 ((K.Automaton, Some (name_node e.name)) ∷ (K.InputEnable, some_list name_node e.enable) ∷ []) _
+    (ap (λ l. (K.Automaton, Some (name_node (bare_name e.name))) ∷ (K.InputEnable, l) ∷ []) (some_list-bare name_node bare_name name-bare e.enable))
+
+system-bare : (f : File) → system_node (map bare_element f.elements) 0 (map bare_vector f.vectors) ≡ bare_node (system_node f.elements f.elements_at f.vectors)
 system-bare f =
-    made 0 ((K.Elements, Some (list_node (keyed_node K.Automaton) f.elements_at f.elements)) ∷ (K.Syncs, Some (list_node vector_node 0 f.vectors)) ∷ []) _
-    (ap₂ (λ e s. (K.Elements, Some e) ∷ (K.Syncs, Some s) ∷ []) (list-bare (keyed_node K.Automaton) bare_name (keyed-bare K.Automaton) f.elements_at f.elements)
+    made 0 ((K.Elements, Some (list_node element_node f.elements_at f.elements)) ∷ (K.Syncs, Some (list_node vector_node 0 f.vectors)) ∷ []) _
+    (ap₂ (λ e s. (K.Elements, Some e) ∷ (K.Syncs, Some s) ∷ []) (list-bare element_node bare_element element-bare f.elements_at f.elements)
     (list-bare vector_node bare_vector vector-bare 0 f.vectors))
 
 file_members-bare : (f : File) → file_members (bare_file f) ≡ map bare_entry (file_members f)
 file_members-bare f =
     ap₂ (λ a c. (K.Actions, Some a) ∷ (K.Constants, Some c) ∷ (K.Variables, Some (list_node var_node 0 (map bare_var f.variables)))
     ∷ (K.RestrictInitial, option_map boxed_node (option_map bare f.restrict)) ∷ (K.Properties, Some (bare_node f.properties))
-    ∷ (K.Automata, Some (list_node automaton_node 0 (map bare_automaton f.automata))) ∷ (K.System, Some (system_node (map bare_name f.elements) 0 (map bare_vector f.vectors))) ∷ [])
+    ∷ (K.Automata, Some (list_node automaton_node 0 (map bare_automaton f.automata))) ∷ (K.System, Some (system_node (map bare_element f.elements) 0 (map bare_vector f.vectors))) ∷ [])
     (list-bare (keyed_node K.Name) bare_name (keyed-bare K.Name) 0 f.actions) (list-bare const_node bare_const const-bare 0 f.constants)
     ∙ ap₂ (λ v a. (K.Actions, Some (bare_node (list_node (keyed_node K.Name) 0 f.actions))) ∷ (K.Constants, Some (bare_node (list_node const_node 0 f.constants))) ∷ (K.Variables, Some v)
-    ∷ (K.RestrictInitial, option_map boxed_node (option_map bare f.restrict)) ∷ (K.Properties, Some (bare_node f.properties)) ∷ (K.Automata, Some a) ∷ (K.System, Some (system_node (map bare_name f.elements) 0 (map bare_vector f.vectors))) ∷ [])
+    ∷ (K.RestrictInitial, option_map boxed_node (option_map bare f.restrict)) ∷ (K.Properties, Some (bare_node f.properties)) ∷ (K.Automata, Some a) ∷ (K.System, Some (system_node (map bare_element f.elements) 0 (map bare_vector f.vectors))) ∷ [])
     (list-bare var_node bare_var var-bare 0 f.variables) (list-bare automaton_node bare_automaton automaton-bare 0 f.automata)
     ∙ ap₂ (λ r s. (K.Actions, Some (bare_node (list_node (keyed_node K.Name) 0 f.actions))) ∷ (K.Constants, Some (bare_node (list_node const_node 0 f.constants)))
     ∷ (K.Variables, Some (bare_node (list_node var_node 0 f.variables))) ∷ (K.RestrictInitial, r) ∷ (K.Properties, Some (bare_node f.properties))
