@@ -359,6 +359,27 @@ def initial_locations(n):
     return jani(automata=automaton("A", locations=listed(n, '{"name":"l@"}'), first='","'.join("l%d" % k for k in range(n))))
 
 
+ACCEPTING = '{"automaton":"A","input-enable":[%s]}'
+
+
+@kind("show jani f (0)")
+def loops_of_many_actions(n):
+    """An element that accepts many actions everywhere, none of which an edge has."""
+    return jani(actions=listed(n, '{"name":"a@"}'), elements=ACCEPTING % listed(n, '"a@"'), syncs='{"synchronise":["a0"]}')
+
+
+@kind("show jani f (0)")
+def loops_of_many_locations(n):
+    return jani(actions='{"name":"a"}', automata=automaton("A", locations=listed(n, '{"name":"l@"}'), first="l0"), elements=ACCEPTING % '"a"', syncs='{"synchronise":["a"]}')
+
+
+@kind("to-prism f", most=98000)
+def loops_beside_edges(n):
+    """A loop beside an edge with a guard, at each of many locations."""
+    edges = ",".join(edge("a", location="l%d" % k).replace('"dest', '"guard":{"exp":"v"},"dest') for k in range(n))
+    return jani(FLAG, automaton("A", locations=listed(n, '{"name":"l@"}'), edges=edges, first="l0"), ACCEPTING % '"a"', '{"synchronise":["a"]}', actions='{"name":"a"}')
+
+
 @kind("simulate jani f seed 1 1")
 def elements(n):
     return jani(automata=listed(n, automaton("A@")), elements=listed(n, '{"automaton":"A@"}'))

@@ -43,11 +43,18 @@ PARTS = '{"jani-version":1,"name":"m","type":"mdp","variables":[{"name":"r","typ
         "".join(',{"name":"l%d","transient-values":[{"ref":"r","value":true}]}' % k for k in range(1, 1024)),
     )
 
+# An action that is accepted everywhere, and 1,023 edges with it, the first with a deep guard: the guard of the loop negates the chain of them all.
+LOOP = '{"jani-version":1,"name":"m","type":"mdp","actions":[{"name":"a"}],"automata":[{"name":"A","locations":[{"name":"l"}],"initial-locations":["l"],' \
+    '"edges":[%s]}],"system":{"elements":[{"automaton":"A","input-enable":["a"]}],"syncs":[{"synchronise":["a"],"result":"a"}]}}' % ",".join(
+        '{"location":"l","action":"a","guard":{"exp":%s},"destinations":[{"location":"l"}]}' % it
+        for it in ['{"op":"¬","exp":' * 1017 + "true" + "}" * 1017] + ["false"] * 1022)
+
 JANI_FILES = {
     "1,018 negations": JANI % ('{"op":"¬","exp":' * 1018 + "true" + "}" * 1018, ""),
     "sums to the left": JANI % ('{"op":">","right":-1,"left":' + '{"op":"+","right":0,"left":' * 1017 + "1" + "}" * 1018, ""),
     "conditions of conditions": JANI % ('{"op":"ite","then":true,"else":false,"if":' * 1018 + "true" + "}" * 1018, ""),
     "a chain of 1,024 parts": PARTS,
+    "a loop beside 1,023 edges": LOOP,
     "1,022 lists in metadata": JANI % ("true", ',"metadata":{"a":' + "[" * 1022 + "]" * 1022 + "}"),
     "1,024 opening brackets": "[" * 1024,
 }
