@@ -9,7 +9,7 @@ use Rattle.name_rules.specs.declared.map.NameMap.{NameMap}
 use Rattle.name_rules.specs.Names.{Name}
 use Rattle.jani_tree.specs.declared.syntax.JaniAutomaton.{JaniAutomaton}
 use Rattle.jani_tree.specs.declared.syntax.JaniElement.{JaniElement}
-use Rattle.jani_tree.specs.Syntax.{Automaton, File, automaton_of, element_of}
+use Rattle.jani_tree.specs.Syntax.{Automaton, File, element_of}
 use Rattle.jani_check.specs.Participants.{automaton_in, automaton_under}
 use Rattle.jani_meaning.specs.Loops.{with_loops}
 use Rattle.jani_meaning.specs.Elements.{automaton_called, element_automaton, nothing_called}

@@ -6,7 +6,7 @@ use Rattle.std.proofs.lemmas.List.{length-map}
 use Rattle.basics.specs.Lists.{slice_get-front}
 use Rattle.process_core.specs.Instance.{Valuation}
 use Rattle.jani_tree.specs.Syntax.{File, element_names}
-use Rattle.jani_meaning.specs.Elements.{automaton_called, elements, lasting}
+use Rattle.jani_meaning.specs.Elements.{elements, lasting}
 use Rattle.jani_meaning.specs.Scene.{column, columns_of, constant_names, location_column}
 use Rattle.instance_start.specs.Columns.{column_of}
 use Rattle.instance_start.specs.declared.data.Column.{Column}

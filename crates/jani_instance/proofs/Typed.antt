@@ -33,7 +33,7 @@ use Rattle.instance_start.specs.Given.{given_by, misfit}
 use Rattle.jani_table.specs.Operators.{jani_meaning}
 use Rattle.jani_table.specs.OperatorLaws.{jani_lawful}
 use Rattle.bridge_io.specs.declared.reason.Named.{Named}
-use Rattle.jani_tree.specs.Syntax.{Expression, Const, VarKind, boolean, integer, number, real_bounded, one_sided, bounded, Var, Automaton, File, element_names}
+use Rattle.jani_tree.specs.Syntax.{Expression, Const, VarKind, boolean, integer, number, real_bounded, one_sided, bounded, Var, Automaton, File}
 use Rattle.jani_tree.specs.Form.{ExprForm, ConstRead, VarRead, AutomatonRead}
 use Rattle.basics.specs.Mapped.{found_mapped}
 use Rattle.op_trees.specs.declared.wanted.Wanted.TheVariants as W

@@ -3,7 +3,6 @@ use Rattle.std.specs.Prelude.{◌≡◌, ℕ, ◌+◌, ◌≤◌, List, [], ◌�
 use Rattle.std.specs.List.{filter, list_any, position}
 use Rattle.std.proofs.Common.{refl, ap₂, ◌∙◌, arith}
 use Rattle.std.proofs.lemmas.Bool.{ne_eqb, or_parts}
-use Rattle.std.proofs.lemmas.List.{length-map}
 use Rattle.std.proofs.lemmas.List.Folds.{list_any-append}
 use Rattle.basics.specs.Members.{is_some-position}
 use Rattle.basics.specs.Options.{none_of}
@@ -11,7 +10,7 @@ use Rattle.process_core.specs.Instance.{numbered}
 use Rattle.process_core.specs.Ready.{Name}
 use Rattle.jani_tree.specs.Syntax.{Automaton, File, Var, element_names}
 use Rattle.op_trees.specs.Names.{is_called}
-use Rattle.jani_meaning.specs.Elements.{automaton_called, elements, is_lasting, is_own, is_owner, lasting, owned_by, variables}
+use Rattle.jani_meaning.specs.Elements.{elements, is_lasting, is_own, is_owner, lasting, owned_by, variables}
 use Rattle.jani_meaning.specs.LoopLaws.{element_count}
 
 pub none_left : {A : Type 0} (p q : A → Bool) (l : List A) → list_any p l ≡ false → list_any p (filter q l) ≡ false

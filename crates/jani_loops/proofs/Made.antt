@@ -8,9 +8,9 @@ use Rattle.std.proofs.lemmas.List.{map-append}
 use Rattle.gathering.proofs.Loops.{taken}
 use Rattle.bridge_io.specs.declared.reason.Named.{Named}
 use Rattle.op_trees.specs.Names.{is_called}
-use Rattle.op_trees.specs.Tree.{One, Two}
+use Rattle.op_trees.specs.Tree.{One}
 use Rattle.process_core.specs.Ready.{Name}
-use Rattle.jani_tree.specs.JaniOp.TheVariants.{Not, Or}
+use Rattle.jani_tree.specs.JaniOp.TheVariants.{Not}
 use Rattle.name_rules.specs.declared.map.NameMap.{NameMap}
 use Rattle.name_rules.specs.Names.{under}
 use Rattle.jani_tree.specs.declared.syntax.JaniAutomaton.{JaniAutomaton}
@@ -19,7 +19,7 @@ use Rattle.jani_tree.specs.declared.syntax.JaniElement.{JaniElement}
 use Rattle.jani_tree.specs.Syntax.{Expression, Location, Edge, Automaton, Element, File, automaton_of, element_of}
 use Rattle.jani_meaning.specs.Elements.{element_automaton, nothing_called}
 use Rattle.jani_meaning.specs.Loops.{either, none_of, has_name, is_with, loop_at, loops, with_loops}
-use Rattle.jani_loops.specs.Looped.{accepts, beside, element_under, guards, lent_edge, loop_with, some_of}
+use Rattle.jani_loops.specs.Looped.{accepts, beside, element_under, lent_edge, loop_with, some_of}
 
 -- ---- guards
 -- those that were joined, and those that are left

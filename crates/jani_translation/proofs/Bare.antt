@@ -1,5 +1,5 @@
 -- A PRISM file without its places is translated to what the file is translated to, without its places.
-use Rattle.std.specs.Prelude.{◌≡◌, ℕ, ◌+◌, List, [], ◌∷◌, map, codes, Bool, true, false, ◌&&◌, ◌||◌, Option, Some, None, is_none, if◌then◌else◌, nat_eq}
+use Rattle.std.specs.Prelude.{◌≡◌, ℕ, List, [], ◌∷◌, map, codes, Bool, true, false, ◌&&◌, ◌||◌, Option, Some, None, is_none, if◌then◌else◌, nat_eq}
 use Rattle.std.specs.List.{flat_map, filter, list_any, zip}
 use Rattle.std.specs.Option.{option_map}
 use Rattle.std.proofs.Common.{refl, sym, ap, ap₂, ◌∙◌}
@@ -12,7 +12,7 @@ use Rattle.process_core.specs.Ready.{Name, same_label}
 use Rattle.prism_tree.specs.declared.syntax.ItemOn.{ItemOn}
 use Rattle.prism_tree.specs.declared.syntax.ItemOn.TheVariants as On
 use Rattle.prism_tree.specs.Syntax as prism
-use Rattle.prism_tree.specs.Syntax.{Body, Command, Branch, Label, Item, Rewards}
+use Rattle.prism_tree.specs.Syntax.{Body, Command, Branch, Item, Rewards}
 use Rattle.prism_print.specs.Same.{bare_body, bare_branch, bare_command, bare_const, bare_item, bare_label, bare_on, bare_range, bare_rewards}
 use Rattle.prism_print.specs.Same as source
 use Rattle.process_core.specs.Instance.{numbered, only_if}

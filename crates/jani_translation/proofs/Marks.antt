@@ -2,7 +2,6 @@
 use Rattle.std.specs.Prelude.{◌≡◌, ℕ, suc, ◌+◌, ◌<◌, List, [], ◌∷◌, ◌++◌, map, length, drop, Bool, true, false, ◌&&◌, cond, Option, Some, None, slice_get, bytes_eq}
 use Rattle.std.specs.List.{All, AllByRecursion, filter, find, flat_map, zip}
 use Rattle.std.proofs.Common.{refl, sym, ap, ap₂, ◌∙◌, arith, append-nil}
-use Rattle.std.proofs.lemmas.List.{length-map}
 use Rattle.std.proofs.lemmas.List.Elements.{All-head, All-tail}
 use Rattle.basics.specs.Texts.{bytes_eq-self}
 use Rattle.basics.specs.Lists.{slice_get-drop, slice_get-take}

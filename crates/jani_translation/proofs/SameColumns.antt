@@ -1,10 +1,9 @@
 -- The scenes of a file and of the translated file: constants, columns and instance faults.
-use Rattle.std.specs.Prelude.{◌≡◌, ℕ, suc, ◌+◌, List, [], ◌∷◌, ◌++◌, map, length, drop, Bool, true, false, not, ◌||◌, cond, Option, Some, None, is_some, unwrap_or, IfSome}
-use Rattle.std.specs.List.{All, AllByRecursion, find, filter, list_any, zip}
+use Rattle.std.specs.Prelude.{◌≡◌, ℕ, suc, ◌+◌, List, [], ◌∷◌, ◌++◌, map, length, drop, Bool, true, false, not, ◌||◌, cond, Option, Some, None, is_some, IfSome}
+use Rattle.std.specs.List.{All, AllByRecursion, filter, list_any, zip}
 use Rattle.std.proofs.Common.{refl, sym, ap, ap₂, ◌∙◌, append-nil, subst}
 use Rattle.std.proofs.lemmas.List.Elements.{All-nil, All-cons, All-append, All-head, All-tail}
 use Rattle.std.proofs.lemmas.Bool.{or_right}
-use Rattle.bridge_io.specs.declared.reason.Named.{Named}
 use Rattle.op_trees.specs.Seen.{Seen, known}
 use Rattle.process_core.specs.Ready.{Name}
 use Rattle.prism_tree.specs.Syntax as prism
@@ -13,8 +12,7 @@ use Rattle.process_core.specs.Instance.{Valuation, Domain, Between, Column, numb
 use Rattle.prism_flat.specs.Scene as prism_scene
 use Rattle.prism_flat.specs.Scene.{has_condition}
 use Rattle.jani_tree.specs.Syntax.{Automaton, Var, Write, File, element_names}
-use Rattle.op_trees.specs.Names.{is_called}
-use Rattle.jani_meaning.specs.Elements.{automaton_called, nothing_called, elements, has_several_starts, Owned, owned_by, is_lasting, lasting}
+use Rattle.jani_meaning.specs.Elements.{elements, has_several_starts, Owned, owned_by, is_lasting, lasting}
 use Rattle.jani_meaning.specs.Scene as jani_scene
 use Rattle.jani_meaning.specs.Scene.{begins_anywhere, location_column}
 use Rattle.jani_meaning.proofs.Columns.{locations_have_no_fault}

@@ -1,10 +1,9 @@
 -- Names of a translated file at a state: each is seen as its old name is.
-use Rattle.std.specs.Prelude.{◌≡◌, ℕ, zero, suc, ◌+◌, nat_lt, List, [], ◌∷◌, ◌++◌, map, length, drop, Bool, true, false, not, cond, Option, Some, None, slice_get, bytes_eq, if◌then◌else◌}
+use Rattle.std.specs.Prelude.{◌≡◌, ℕ, zero, suc, ◌+◌, List, [], ◌∷◌, ◌++◌, map, length, drop, Bool, true, false, not, cond, Option, Some, None, slice_get, bytes_eq, if◌then◌else◌}
 use Rattle.std.specs.List.{filter, zip, position, AllByRecursion}
 use Rattle.std.specs.Option.{option_map, option_or}
-use Rattle.std.proofs.Common.{refl, sym, ap, ap₂, ◌∙◌, arith, lt-ltb, append-nil}
+use Rattle.std.proofs.Common.{refl, sym, ap, ap₂, ◌∙◌, arith, append-nil}
 use Rattle.basics.specs.Members.{position_cons}
-use Rattle.basics.specs.Numbers.{nat_lt-suc}
 use Rattle.op_trees.specs.Seen.{Seen, known}
 use Rattle.op_trees.specs.declared.tree.Value.{Value}
 use Rattle.process_core.specs.Ready.{Values, Name}

@@ -1,8 +1,7 @@
 -- The parts of a JANI file, gathered by loops.
-use Rattle.std.proofs.Common.{◌≡◌, ℕ, ◌+◌, ◌<◌, ◌≤◌, List, [], ◌∷◌, ◌++◌, map, length, get_or, drop, refl, sym, ap, ap₂, subst, ◌∙◌, append-nil, append_assoc, arith}
+use Rattle.std.proofs.Common.{◌≡◌, ℕ, ◌+◌, ◌<◌, List, [], ◌∷◌, ◌++◌, map, length, get_or, refl, sym, ap, ap₂, subst, ◌∙◌, arith}
 use Rattle.std.specs.Prelude.{zero, suc, not, ◌||◌, Bool, true, false, Some, None, is_some, if◌then◌else◌}
 use Rattle.std.specs.List.{filter, find, flat_map}
-use Rattle.std.proofs.lemmas.List.{drop_more, drop_all}
 use Rattle.std.proofs.lemmas.List.Elements.{filter-append}
 use Rattle.basics.specs.Lists.{append_parts}
 use Rattle.bridge_io.specs.declared.reason.Named.{Named}

@@ -9,7 +9,7 @@ use Rattle.bridge_io.specs.declared.reason.Named.{Named}
 use Rattle.process_core.specs.Ready.{Name}
 use Rattle.jani_tree.specs.declared.syntax.JaniEdge.{JaniEdge}
 use Rattle.jani_tree.specs.declared.syntax.JaniLocation.{JaniLocation}
-use Rattle.jani_tree.specs.Syntax.{Automaton, Edge, Element, location_of}
+use Rattle.jani_tree.specs.Syntax.{Automaton, Element, location_of}
 use Rattle.jani_meaning.specs.Loops.{is_with}
 use Rattle.jani_loops.specs.Looped.{lent_edge}
 use Rattle.prism_translation.specs.Refused.{has_crowd, is_crowded_at}

@@ -15,7 +15,7 @@ use Rattle.choice_laws.proofs.Walks.{All-flat_map, any-filter, any-flat_map, has
 use Rattle.process_core.specs.Instance.{numbered, only_if}
 use Rattle.jani_tree.specs.Syntax.{Var, Automaton, File, element_names}
 use Rattle.jani_meaning.specs.Elements as jani
-use Rattle.jani_meaning.specs.Elements.{Owned, owned_by, is_lasting, is_owner, lasting}
+use Rattle.jani_meaning.specs.Elements.{owned_by, is_lasting, is_owner, lasting}
 use Rattle.prism_translation.specs.Elements.{Element, elements, has_several, Lasting, lasting_variables, is_at, writers, shared_home, home_by, home, shared, own, adopted, at_home}
 use Rattle.prism_translation.specs.StateLaws.{column_of, module_columns, columns}
 use Rattle.prism_translation.proofs.Numbered.{automata_length, element_length, lasting_below, lasting_owned, told_by_number, element_numbers, lasting_length, no_element, lasting_numbers, no_lasting}

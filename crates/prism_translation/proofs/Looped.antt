@@ -1,11 +1,10 @@
 -- An automaton without faults has none with loops either: a loop's guard joins and negates guards that are bools, and it assigns nothing.
-use Rattle.std.specs.Prelude.{◌≡◌, List, [], ◌∷◌, ◌++◌, map, Bool, true, false, not, ◌||◌, Option, Some, None, IsTrue, is_some}
+use Rattle.std.specs.Prelude.{◌≡◌, List, [], ◌∷◌, ◌++◌, map, Bool, true, false, ◌||◌, Option, Some, None, IsTrue, is_some}
 use Rattle.std.specs.List.{filter, flat_map, AllByRecursion as OfAll}
-use Rattle.std.specs.Option.{option_or as else_thing}
 use Rattle.std.proofs.Common.{refl, sym, ap, ap₂, subst, ◌∙◌}
 use Rattle.std.proofs.lemmas.Bool.{not-false}
 use Rattle.std.proofs.lemmas.List.Concat.{flat_map-append}
-use Rattle.basics.specs.Each.{each_any, each_filter, each_flat, each_join, each_map, each_of, each_parts, each_then, each_with}
+use Rattle.basics.specs.Each.{each_filter, each_flat, each_join, each_map, each_of, each_parts, each_with}
 use Rattle.basics.specs.Lists.{append_both, append_parts, empty_map, IsNotEmpty as HasItems}
 use Rattle.basics.specs.Options.{has_some, if_some, IfAny as OfSome}
 use Rattle.bridge_io.specs.declared.reason.Named.{Named}
@@ -22,14 +21,14 @@ use Rattle.op_trees.specs.Types.{Types, misfits, sort_one, sort_two, type_in}
 use Rattle.op_trees.specs.Wanted.{is_unwanted, is_wanted}
 use Rattle.jani_table.specs.Operators.{jani_meaning}
 use Rattle.jani_tree.specs.JaniOp.TheVariants.{Not, Or}
-use Rattle.jani_tree.specs.Syntax.{Expression, Var, Write, Location, Destination, Edge, Automaton, File}
+use Rattle.jani_tree.specs.Syntax.{Expression, Var, Location, Edge, Automaton, File}
 use Rattle.jani_tree.specs.Form.{AutomatonRead, EdgeRead, ExprForm, LocationRead, NameForm}
 use Rattle.jani_check.specs.declared.things.Thing.{Thing}
 use Rattle.jani_check.specs.Things.{Name, beside, global_thing, types_by}
 use Rattle.jani_check.specs.Demands.{Demand, varying, automaton_demands, edge_demands, location_demands, var_demands}
 use Rattle.jani_check.specs.NameFaults.{global_names, is_among, unless_known, var_names}
 use Rattle.jani_check.specs.ProfileFaults.{read_fault, some_differ}
-use Rattle.jani_check.specs.TypeFaults.{edge_repeats, targets, type_faults_of}
+use Rattle.jani_check.specs.TypeFaults.{edge_repeats, targets}
 use Rattle.jani_meaning.specs.Loops.{either, is_with, loop_at, loops, none_of, or_true, with_loops}
 use Rattle.prism_translation.proofs.Clean.{IsJudged, IsJudgedIn}
 use Rattle.prism_translation.proofs.Distinct.{AreDistinct}

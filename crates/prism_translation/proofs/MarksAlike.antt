@@ -35,13 +35,13 @@ use Rattle.prism_flat.specs.Moment.{Earned, adds_of, item_at}
 use Rattle.prism_flat.specs.Process.{is_for_states, state_reward}
 use Rattle.prism_flat.specs.Process as prism_process
 use Rattle.jani_tree.specs.Syntax as syntax
-use Rattle.jani_tree.specs.Syntax.{Location, Automaton, File, element_names}
+use Rattle.jani_tree.specs.Syntax.{Location, File, element_names}
 use Rattle.jani_meaning.specs.Elements as jani
 use Rattle.op_trees.specs.Names.{is_called}
 use Rattle.jani_meaning.specs.Elements.{Owned, location_number, lasting}
 use Rattle.jani_meaning.specs.Scene as jani_scene
 use Rattle.jani_meaning.specs.Moment as jani_moment
-use Rattle.jani_meaning.specs.Moment.{is_number, is_current, current_location, given_in, given_at, given_to, may_give, first_or}
+use Rattle.jani_meaning.specs.Moment.{is_number, current_location, given_in, given_at, given_to, first_or}
 use Rattle.jani_meaning.specs.Process as jani_process
 use Rattle.name_table.specs.PrismAsks.{NewNames, outside, value_name, asks, labels_at, name_at}
 use Rattle.name_table.specs.declared.entry.Entry.{Entry}
@@ -51,7 +51,7 @@ use Rattle.prism_translation.specs.Elements.{Element, elements, has_several, may
 use Rattle.prism_translation.specs.Names.{new_names, all_asks, entries, action_ask}
 use Rattle.prism_translation.specs.Parts.{is_there, counted, whole_literal}
 use Rattle.prism_translation.specs.Marks as translation
-use Rattle.prism_translation.specs.Marks.{Given, given_by, given_image, given_where, label_body, state_item, target_item, target_items_by, target_items, assigned_to, or_nought, structure, label}
+use Rattle.prism_translation.specs.Marks.{Given, given_by, given_image, label_body, state_item, target_item, target_items_by, target_items, assigned_to, or_nought, structure, label}
 use Rattle.prism_translation.specs.Modules.{Action, actions, truth, falsehood}
 use Rattle.prism_translation.specs.Targets.{targets}
 use Rattle.prism_translation.specs.StateLaws.{columns, state_of}

@@ -16,7 +16,7 @@ use Rattle.choice_laws.proofs.Members.{if_zero, none_counted, sum_by_agree_in}
 use Rattle.process_core.specs.Instance.{only_if}
 use Rattle.jani_tree.specs.Syntax.{File, element_names}
 use Rattle.jani_meaning.specs.Elements as jani
-use Rattle.jani_meaning.specs.Elements.{Owned, lasting, is_owner}
+use Rattle.jani_meaning.specs.Elements.{lasting, is_owner}
 use Rattle.prism_translation.specs.Elements.{Element, elements, has_several, Lasting, lasting_variables, is_at, writers, home_by, home, shared, own, adopted, at_home}
 use Rattle.prism_translation.specs.StateLaws.{column_of, module_columns, columns, state_of}
 use Rattle.prism_translation.proofs.Numbered.{lasting_length, lasting_numbers, element_once, lasting_counted, no_lasting}

@@ -18,7 +18,7 @@ use Rattle.choice_laws.proofs.Rewards.{PaysHere}
 use Rattle.choice_laws.proofs.Columns.{slot_at}
 use Rattle.prism_names.specs.Names.{unchanged}
 use Rattle.prism_flat.specs.Moment as prism_moment
-use Rattle.process_core.specs.Instance.{Valuation, Truths, Between, Range, Column, is_in, is_state, range_from, range_has, domain_at}
+use Rattle.process_core.specs.Instance.{Valuation, Truths, Between, Range, Column, is_in, is_state, range_from, range_has}
 use Rattle.prism_flat.specs.Scene as prism_scene
 use Rattle.prism_flat.specs.Process as prism_process
 use Rattle.jani_tree.specs.Syntax.{Expression, Destination, Edge, File, element_names}
@@ -26,7 +26,6 @@ use Rattle.jani_meaning.specs.Scene as jani_scene
 use Rattle.jani_meaning.specs.Moment as jani_moment
 use Rattle.jani_meaning.specs.Elements as jani
 use Rattle.jani_meaning.specs.Elements.{lasting}
-use Rattle.jani_meaning.specs.Scene.{location_column}
 use Rattle.jani_meaning.specs.Process as jani_process
 use Rattle.jani_meaning.specs.Moment.{update_at}
 use Rattle.name_table.specs.PrismAsks.{value_name}

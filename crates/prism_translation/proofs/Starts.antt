@@ -17,7 +17,7 @@ use Rattle.prism_tree.specs.Syntax as prism
 use Rattle.prism_flat.specs.Scene as prism_scene
 use Rattle.jani_tree.specs.Syntax.{Expression, File, Var, element_names}
 use Rattle.jani_meaning.specs.Elements as jani
-use Rattle.jani_meaning.specs.Elements.{Owned, has_several_starts, lasting, initial_number}
+use Rattle.jani_meaning.specs.Elements.{has_several_starts, lasting, initial_number}
 use Rattle.jani_meaning.specs.Scene as jani_scene
 use Rattle.jani_meaning.specs.Scene.{begins_anywhere, first_location, location_column}
 use Rattle.name_table.specs.PrismAsks.{NewNames, value_name}

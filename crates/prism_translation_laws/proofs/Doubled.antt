@@ -4,7 +4,6 @@ use Rattle.std.specs.Prelude.{◌≡◌, ℕ, suc, ◌+◌, List, [], ◌∷◌,
 use Rattle.std.proofs.Common.{refl, sym, ap, ap₂, subst, ◌∙◌, arith}
 use Rattle.std.specs.Option.{option_map}
 use Rattle.std.proofs.lemmas.Option.{slice_get-get_or}
-use Rattle.std.proofs.lemmas.List.{length-map}
 use Rattle.std.proofs.lemmas.List.Elements.{All-cons, All-map, recursion_from_All}
 use Rattle.std.proofs.lemmas.Bool.{or_parts}
 use Rattle.basics.specs.Booleans.{not_both}
@@ -20,11 +19,11 @@ use Rattle.process_core.specs.Product.{map-map}
 use Rattle.basics.specs.Options.{if_some}
 use Rattle.process_core.specs.Ready.{Name}
 use Rattle.prism_tree.specs.Syntax as prism
-use Rattle.prism_tree.specs.Syntax.{plain, copied}
+use Rattle.prism_tree.specs.Syntax.{plain}
 use Rattle.prism_names.specs.Names.{module_name}
 use Rattle.process_core.specs.Instance.{numbered}
 use Rattle.prism_check.specs.NameFaults.{doubled, values, given_labels, doubled_pairs, doubled_names}
-use Rattle.jani_tree.specs.Syntax.{Automaton, File, element_names}
+use Rattle.jani_tree.specs.Syntax.{Automaton, File}
 use Rattle.jani_meaning.specs.Elements as jani
 use Rattle.jani_meaning.specs.Elements.{Owned, labels, structures}
 use Rattle.prism_translation.specs.NameClass.{NameClass}

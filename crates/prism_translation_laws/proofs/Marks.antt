@@ -27,7 +27,7 @@ use Rattle.jani_tree.specs.Form.{IsGiven, VarRead}
 use Rattle.jani_tree.specs.Syntax.{Element as Part}
 use Rattle.jani_meaning.specs.Loops.{with_loops}
 use Rattle.jani_meaning.specs.LoopLaws.{same_name}
-use Rattle.jani_tree.specs.Syntax.{Expression, VarKind, boolean, integer, number, real_bounded, one_sided, bounded, Var, Write, Location, Automaton, File, element_names}
+use Rattle.jani_tree.specs.Syntax.{Expression, VarKind, boolean, integer, number, real_bounded, one_sided, bounded, Var, Write, Location, Automaton, File}
 use Rattle.basics.specs.Mapped.{any_mapped}
 use Rattle.name_rules.proofs.Plain.{no_fault}
 use Rattle.jani_check.specs.Things.{Name, is_called, kind_type, const_thing, var_thing, const_called, var_called, global_thing, is_transient}
@@ -45,7 +45,7 @@ use Rattle.prism_translation.specs.Sound.{KnownExpression, AtMostOne, is_some_gi
 use Rattle.prism_translation.proofs.Lists.{of_front, to_map, of_numbered, any-numbered}
 use Rattle.prism_translation.proofs.Distinct.{AreDistinct, not_among, stands_first, found_itself}
 use Rattle.prism_translation.proofs.Scopes.{own_vars, const_names}
-use Rattle.prism_translation.proofs.Clean.{IsJudged, names_apart_outside, elements_known, elements_once, starts_outside, given_once}
+use Rattle.prism_translation.proofs.Clean.{IsJudged, names_apart_outside, elements_once, starts_outside, given_once}
 use Rattle.prism_translation.proofs.Elements.{IsElement, element, elements_are, parts_known, judged_element, is_automaton, called_alike}
 use Rattle.prism_translation_laws.proofs.KnownValues.{locations_known}
 use Rattle.prism_translation_laws.proofs.Rewards.{one_each, one_write}

@@ -15,7 +15,7 @@ use Rattle.prism_tree.specs.Syntax as prism
 use Rattle.prism_tree.specs.Syntax.{plain}
 use Rattle.prism_flat.specs.Kept.{is_plain}
 use Rattle.prism_check.specs.NameFaults.{doubled_names, unknown_names, circles, copy_faults, no_module, own_start, own_starts, two_inits}
-use Rattle.jani_tree.specs.Syntax.{File, element_names}
+use Rattle.jani_tree.specs.Syntax.{File}
 use Rattle.jani_meaning.specs.Elements as jani
 use Rattle.jani_meaning.specs.Elements.{initial_number, structures}
 use Rattle.jani_meaning.specs.Scene.{has_condition}

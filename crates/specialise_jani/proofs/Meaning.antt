@@ -18,7 +18,7 @@ use Rattle.op_trees.specs.declared.tree.Value.TheVariants as V
 use Rattle.process_core.specs.Product.{map-map}
 use Rattle.process_core.specs.Ready.{Values, Name, Write, Update}
 use Rattle.process_core.specs.Instance.{Valuation, Between, Column, Scene, instance_faults, is_wide_instance, is_state, is_initial, numbered}
-use Rattle.jani_tree.specs.Syntax.{Expression, is_always, Const, VarKind, boolean, integer, number, real_bounded, one_sided, bounded, Var, Location, Destination, Edge, Automaton, Element, File, element_names}
+use Rattle.jani_tree.specs.Syntax.{Expression, is_always, VarKind, boolean, integer, number, real_bounded, one_sided, bounded, Var, Location, Destination, Edge, Automaton, Element, File, element_names}
 use Rattle.jani_tree.specs.Syntax as syntax
 use Rattle.std.proofs.lemmas.List.Elements.{filter-append}
 use Rattle.frac_core.specs.Fraction.{unit}

@@ -4,7 +4,7 @@ use Rattle.std.specs.Option.{option_map}
 use Rattle.std.proofs.lemmas.List.{length-map}
 use Rattle.instance_start.specs.declared.data.Place.TheVariants.{Variable}
 use Rattle.jani_tree.specs.Syntax.{file_of, element_names}
-use Rattle.jani_meaning.specs.Elements.{automaton_called, is_global, is_own}
+use Rattle.jani_meaning.specs.Elements.{is_global, is_own}
 use Rattle.jani_instance.specs.Parts.{automaton_at}
 use Rattle.jani_meaning.specs.LoopLaws.{element_count}
 use Rattle.jani_instance.proofs.located.owning_of.Goals as goal

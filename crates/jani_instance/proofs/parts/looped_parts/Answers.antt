@@ -1,4 +1,4 @@
-use Rattle.std.specs.Prelude.{length, map}
+use Rattle.std.specs.Prelude.{map}
 use Rattle.std.proofs.Common.{◌∙◌, ap, arith, sym}
 use Rattle.name_rules.specs.Names.{under}
 use Rattle.gathering.proofs.Loops.{map_more}

@@ -1,8 +1,6 @@
 use Rattle.std.proofs.Common.{◌∙◌, map}
-use Rattle.std.proofs.lemmas.List.{length-map}
 use Rattle.instance_start.specs.Given.{given_by}
-use Rattle.jani_tree.specs.Syntax.{file_of, element_names}
-use Rattle.jani_meaning.specs.Elements.{automaton_called}
+use Rattle.jani_tree.specs.Syntax.{file_of}
 use Rattle.jani_instance.specs.Actions.{actions_of}
 use Rattle.jani_instance.specs.Initial.{numbers_in}
 use Rattle.jani_instance.proofs.Whole.{condition_is, right}

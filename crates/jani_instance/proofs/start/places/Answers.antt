@@ -4,8 +4,8 @@ use Rattle.std.specs.List.{position}
 use Rattle.std.specs.Option.{option_map, option_or}
 use Rattle.std.proofs.lemmas.List.{length-map}
 use Rattle.instance_start.specs.declared.data.Place.TheVariants.{Variable}
-use Rattle.jani_tree.specs.Syntax.{const_of, file_of, element_names}
-use Rattle.jani_meaning.specs.Elements.{automaton_called, is_global, lasting}
+use Rattle.jani_tree.specs.Syntax.{const_of, file_of}
+use Rattle.jani_meaning.specs.Elements.{is_global, lasting}
 use Rattle.jani_instance.specs.Constants.{constant_place}
 use Rattle.jani_instance.specs.Parts.{automaton_at, owned_at}
 use Rattle.jani_meaning.specs.LoopLaws.{element_count}

@@ -1,8 +1,6 @@
-use Rattle.std.proofs.Common.{Result, Ok, Err, subst, map}
+use Rattle.std.proofs.Common.{Result, Ok, Err, map}
 use Rattle.std.specs.Result.{IfOk}
-use Rattle.std.specs.List.{AllZip}
 use Rattle.jani_tree.specs.Syntax.{file_of, vector_of}
-use Rattle.jani_instance.specs.Actions.{IsLinked}
 use Rattle.jani_instance.proofs.Kept.{vectors_are}
 use Rattle.jani_instance.proofs.vectors.vectors.Goals as goal
 

@@ -1,6 +1,5 @@
 use Rattle.std.specs.Prelude.{map}
 use Rattle.std.proofs.Common.{ap, ◌∙◌}
-use Rattle.op_trees.specs.Names.{is_called}
 use Rattle.gathering.specs.Lists.{list_under}
 use Rattle.jani_tree.specs.Syntax.{Location, edge_of, location_of}
 use Rattle.jani_loops.specs.Looped.{lent_edge, loop_with}

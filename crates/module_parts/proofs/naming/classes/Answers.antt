@@ -1,4 +1,4 @@
-use Rattle.std.proofs.Common.{◌≡◌, ◌∙◌, ap, sym, length, take, drop, ℕ, List, map}
+use Rattle.std.proofs.Common.{◌≡◌, ◌∙◌, ap, sym, length, take, drop, ℕ}
 use Rattle.std.proofs.lemmas.List.{length-map}
 use Rattle.jani_tree.specs.Syntax.{File, file_of, const_of}
 use Rattle.module_parts.proofs.EntryClasses.{classes_are, elements_counted}

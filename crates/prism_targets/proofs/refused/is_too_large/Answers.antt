@@ -3,7 +3,6 @@ use Rattle.std.specs.List.{list_any}
 use Rattle.std.proofs.Common.{◌∙◌, refl, ap, ap₂, sym, subst}
 use Rattle.std.proofs.Math.Bool.{or-false}
 use Rattle.std.proofs.lemmas.Bool.{or_right}
-use Rattle.jani_tree.specs.declared.syntax.JaniElement.{JaniElement}
 use Rattle.jani_tree.specs.Syntax.{Element, File, element_of, file_of}
 use Rattle.jani_meaning.specs.Elements.{element_automaton}
 use Rattle.prism_translation.specs.Refused.{has_crowd, has_large_result, has_long_guard, has_many_starts}
