@@ -1,5 +1,6 @@
 -- Lists: what makes one empty, the item at an index, and maps.
-use Rattle.std.proofs.Common.{◌≡◌, ℕ, zero, suc, ◌+◌, ◌<◌, ◌≤◌, List, [], ◌∷◌, ◌++◌, map, length, take, drop, get_or, slice_get, zip, flat_map, Some, refl, sym, ap, ap₂, ◌∙◌, arith, add-one, drop-cons, take_all}
+use Rattle.std.proofs.Common.{◌≡◌, ℕ, zero, suc, ◌+◌, ◌<◌, ◌≤◌, List, [], ◌∷◌, ◌++◌, map, length, take, drop, get_or, slice_get, slice_set, zip, flat_map, false, nat_eq, Some, if◌then◌else◌, refl, sym, ap, ap₂, ◌∙◌, arith, add-one, drop-cons, take_all}
+use Rattle.std.proofs.lemmas.Bool.Decides.{nat_tests}
 use Rattle.std.proofs.lemmas.List.Concat.{flat_map-append}
 use Rattle.std.proofs.lemmas.List.Folds.{flat_map-map}
 
@@ -83,3 +84,13 @@ each_one f (x ∷ xs) = ap (λ l. f x ∷ l) (each_one f xs)
 pub zip_none : {A B Z : Type 0} (f : A → B → Z) (xs : List A) → map (λ p. f p.0 p.1) (zip xs []) ≡ []
 zip_none f [] = refl
 zip_none f (x ∷ xs) = refl
+
+-- ---- an item put in place of another
+
+pub get_set : {A : Type 0} (xs : List A) (i j : ℕ) (x : A) → i < length xs → slice_get (slice_set xs i x) j ≡ (if nat_eq j i then Some x else slice_get xs j)
+get_set [] i j x h = absurd (omega (arith, h))
+get_set (y ∷ ys) zero zero x h = refl
+get_set (y ∷ ys) zero (suc j) x h = ap (λ b. if b then Some x else slice_get ys j) (let e : false ≡ nat_eq (suc j) 0 = grind (arith, nat_tests) in e)
+get_set (y ∷ ys) (suc i) zero x h = ap (λ b. if b then Some x else Some y) (let e : false ≡ nat_eq 0 (suc i) = grind (arith, nat_tests) in e)
+get_set (y ∷ ys) (suc i) (suc j) x h =
+    get_set ys i j x (omega (arith, h)) ∙ ap (λ b. if b then Some x else slice_get ys j) (let e : nat_eq j i ≡ nat_eq (suc j) (suc i) = grind (arith, nat_tests) in e)

@@ -33,6 +33,10 @@ pub is_some-map : {A B : Type 0} (f : A → B) (o : Option A) → is_some (optio
 is_some-map f None = refl
 is_some-map f (Some x) = refl
 
+pub is_none-map : {A B : Type 0} (f : A → B) (o : Option A) → is_none (option_map f o) ≡ is_none o
+is_none-map f None = refl
+is_none-map f (Some x) = refl
+
 pub is_some-or : {A : Type 0} (a b : Option A) → is_some (option_or a b) ≡ (is_some a || is_some b)
 is_some-or None b = refl
 is_some-or (Some x) b = refl

@@ -25,7 +25,8 @@ use Rattle.constant_folding.specs.Known.{Known, worth}
 use Rattle.constant_folding.specs.Constants.{AnyConst, const_of, called, declared, RanksBelow, IsRank, fixed_as, known_by, known_const, known_within, known_constants}
 use Rattle.constant_folding.proofs.Kept.{summary_agree_on}
 use Rattle.name_rules.proofs.InTurn.{left_in_turn, turn_of}
-use Rattle.constant_folding.proofs.Turns.{each_name, const_at, found_const, declared_there, ranked}
+use Rattle.constant_folding.proofs.Turns.{const_at, found_const, declared_there, ranked}
+use Rattle.op_trees.specs.NameLaws.{each_name}
 
 -- the constant that has its turn
 pub const_there : {O : Type 0} (cs : List (code.AnyConst O)) (turns : List ℕ) → All (λ t. t < length (map declared (map const_of cs))) turns → (k : ℕ) → k < length turns →

@@ -1,6 +1,7 @@
 mod Called
 pub mod Kept
 pub mod Steps
+pub mod Fits
 pub mod Monotone
 pub mod Typed
 pub mod WholeNumbers

@@ -1,40 +1,19 @@
 -- Where constants have their turns after those that they need, the turns are ranks.
-use Rattle.std.proofs.Common.{◌≡◌, ℕ, suc, ◌<◌, List, [], ◌∷◌, ◌++◌, map, length, take, Bool, true, false, Some, refl, ap, subst, ◌∙◌, arith}
-use Rattle.std.specs.Prelude.{◌-◌, slice_get, if◌then◌else◌}
+use Rattle.std.proofs.Common.{◌≡◌, ℕ, suc, ◌<◌, List, [], ◌∷◌, map, length, take, Bool, true, false, Some, refl, ap, subst, ◌∙◌, arith}
+use Rattle.std.specs.Prelude.{slice_get, if◌then◌else◌}
 use Rattle.std.specs.List.{All, find}
 use Rattle.std.specs.Option.{option_map}
 use Rattle.std.proofs.lemmas.List.{length-map}
-use Rattle.std.proofs.lemmas.List.Elements.{All-head, All-tail, All-nil, All-cons}
 use Rattle.std.proofs.lemmas.Option.{slice_get-map, slice_get_within, get_or_from_slice_get}
-use Rattle.bridge_io.specs.declared.reason.Named.{Named}
-use Rattle.op_trees.specs.Tree.{Tree, Truth, Number, Name as At, One, Two, Three, AllNames}
+use Rattle.op_trees.specs.Tree.{Tree, AllNames}
 use Rattle.op_trees.specs.SeenLaws.{names_then}
-use Rattle.op_trees.specs.Names.{is_called, names_of}
+use Rattle.op_trees.specs.Names.{is_called}
 use Rattle.name_rules.specs.Circles.{Declared, nothing_declared, declared_at, HasTurned, AreTurns}
 use Rattle.name_rules.proofs.InTurn.{turn_of, turn_within, turn_before, in_turn, all_turns}
 use Rattle.name_rules.specs.Uses.{used}
 use Rattle.process_core.specs.Ready.{Name}
 use Rattle.constant_folding.specs.Constants.{AnyConst, called, declared, RanksBelow, IsRank, AreRanked}
-
--- ---- what holds of all names of an expression, where they are listed
-in_both : (P : Name → Type 0) (xs ys : List Named) → All P (map (λ n. n.name) (xs ++ ys)) → All P (map (λ n. n.name) xs) × All P (map (λ n. n.name) ys)
-in_both P [] ys h = (All-nil P, h)
-in_both P (x ∷ xs) ys h =
-    let rest = in_both P xs ys (All-tail P x.name (map (λ n. n.name) (xs ++ ys)) h) in
-    (All-cons P x.name (map (λ n. n.name) xs) (All-head P x.name (map (λ n. n.name) (xs ++ ys)) h) rest.0, rest.1)
-
-pub each_name : {O : Type 0} (P : Name → Type 0) (t : Tree O) → All P (map (λ n. n.name) (names_of t)) → AllNames P t
-each_name P (Truth at b) h = tt
-each_name P (Number at d) h = tt
-each_name P (At at x) h = All-head P x [] h
-each_name P (One at o a) h = each_name P a h
-each_name P (Two at o a b) h =
-    let parts = in_both P (names_of a) (names_of b) h in
-    (each_name P a parts.0, each_name P b parts.1)
-each_name P (Three at o a b c) h =
-    let parts = in_both P (names_of a) (names_of b ++ names_of c) h in
-    let last = in_both P (names_of b) (names_of c) parts.1 in
-    (each_name P a parts.0, each_name P b last.0, each_name P c last.1)
+use Rattle.op_trees.specs.NameLaws.{each_name}
 
 -- ---- the number of a constant
 abbrev pub const_at : {O : Type 0} → List (AnyConst O) → Name → ℕ

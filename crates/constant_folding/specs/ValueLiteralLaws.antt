@@ -1,5 +1,5 @@
 -- Where whole numbers are written as they should be, the literals of values are worth these, have their types and name nothing.
-use Rattle.std.specs.Prelude.{◌≡◌, ℕ, ◌<◌, ◌^◌, ℤ, pos, nat_abs, nat_lt, Bool, true, false, not, ◌&&◌, ◌||◌, Some, None, List, IsTrue, if◌then◌else◌}
+use Rattle.std.specs.Prelude.{◌≡◌, ℕ, ◌<◌, ◌^◌, ℤ, pos, nat_abs, nat_lt, Bool, true, false, not, ◌&&◌, Some, None, List, IsTrue, if◌then◌else◌}
 use Rattle.std.specs.Ordering.{int_eq}
 use Rattle.std.proofs.Common.{refl, sym, ap, ap₂, ◌∙◌, arith}
 use Rattle.std.proofs.Math.Bool.{or-false}

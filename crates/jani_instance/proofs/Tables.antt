@@ -1,5 +1,5 @@
 -- Tables that hold values of constants, and those that a turn more does not change.
-use Rattle.std.specs.Prelude.{◌≡◌, ℕ, zero, suc, ◌+◌, ◌<◌, List, [], ◌∷◌, map, length, Bool, true, false, Option, Some, None, nat_eq, slice_get, slice_set, unwrap_or, if◌then◌else◌}
+use Rattle.std.specs.Prelude.{◌≡◌, ℕ, zero, suc, ◌+◌, ◌<◌, List, map, length, Bool, true, false, Option, Some, None, nat_eq, slice_get, slice_set, unwrap_or, if◌then◌else◌}
 use Rattle.std.specs.List.{list_any, position}
 use Rattle.std.specs.Option.{option_map}
 use Rattle.std.proofs.Common.{refl, sym, ap, ◌∙◌, arith}
@@ -19,16 +19,9 @@ use Rattle.jani_meaning.specs.Scene.{constant, constant_called, constant_names, 
 use Rattle.jani_instance.specs.Built.{value_from}
 use Rattle.jani_instance.specs.Constants.{AreWithin, first_table, names_by, round_of}
 use Rattle.jani_instance.proofs.Rounds.{any_below, below_constant, below_known, found_is, found_value, no_values, stays, value_stays}
+use Rattle.basics.specs.Lists.{get_set}
 
 -- ---- lists and options
-set_at : {A : Type 0} (xs : List A) (i j : ℕ) (x : A) → i < length xs → slice_get (slice_set xs i x) j ≡ (if nat_eq j i then Some x else slice_get xs j)
-set_at [] i j x h = absurd (omega (arith, h))
-set_at (y ∷ ys) zero zero x h = refl
-set_at (y ∷ ys) zero (suc j) x h = ap (λ b. if b then Some x else slice_get ys j) (let e : false ≡ nat_eq (suc j) 0 = grind (arith, nat_tests) in e)
-set_at (y ∷ ys) (suc i) zero x h = ap (λ b. if b then Some x else Some y) (let e : false ≡ nat_eq 0 (suc i) = grind (arith, nat_tests) in e)
-set_at (y ∷ ys) (suc i) (suc j) x h =
-    set_at ys i j x (omega (arith, h)) ∙ ap (λ b. if b then Some x else slice_get ys j) (let e : nat_eq j i ≡ nat_eq (suc j) (suc i) = grind (arith, nat_tests) in e)
-
 agree : (a b : Option Value) → ((w : Value) → a ≡ Some w → b ≡ Some w) → ((w : Value) → b ≡ Some w → a ≡ Some w) → a ≡ b
 agree None None f g = refl
 agree None (Some w) f g = g w refl
@@ -88,7 +81,7 @@ module _ (file : File) (v : Valuation) where
 
       by_place : (p : Option ℕ) → position (λ c. is_called x c.name) file.constants ≡ p → value_from (slice_set table i o) p ≡ Some w → constant_within file v (suc n) x ≡ Some w
       by_place None p q = absurd cc
-      by_place (Some k) p q = by_test k (nat_eq k i) refl p (sym (ap (λ z. unwrap_or z None) (set_at table i k o l)) ∙ q)
+      by_place (Some k) p q = by_test k (nat_eq k i) refl p (sym (ap (λ z. unwrap_or z None) (get_set table i k o l)) ∙ q)
 
   -- ---- what a turn more doesn't change is settled
   fixed : (table : List (Option Value)) → map (λ s. s.value) (round_of file.constants v table) ≡ table → (n : ℕ) (x : ready.Name) (w : Value) →

@@ -10,7 +10,6 @@ use Rattle.basics.specs.Lists.{append_parts, empty_map, IsNotEmpty as HasItems}
 use Rattle.basics.specs.Each.{each_then, each_with, each_any, each_map, each_join, each_parts, each_of, empty_each, each_found}
 use Rattle.bridge_io.specs.declared.reason.Fault.{Fault}
 use Rattle.bridge_io.specs.declared.reason.Reason.TheVariants.{WrongType, NotConstant}
-use Rattle.frac_core.specs.Decimal.{is_normal}
 use Rattle.op_trees.specs.declared.tree.Ty.{Ty}
 use Rattle.op_trees.specs.declared.tree.Ty.TheVariants as T
 use Rattle.op_trees.specs.declared.tree.Value.{Value}
@@ -18,7 +17,6 @@ use Rattle.op_trees.specs.Meaning.{Environment, value_of}
 use Rattle.op_trees.specs.Seen.{known_names}
 use Rattle.op_trees.specs.SeenLaws.{names_all, seen_is}
 use Rattle.op_trees.specs.Names.{offset_of, is_called}
-use Rattle.op_trees.specs.Tree.{Truth, Number, Name as At, One, Two, Three, AllNumbers}
 use Rattle.op_trees.specs.Types.{Types, AgreesWith, has_type, type_in, misfits}
 use Rattle.op_trees.specs.TypeLaws.{misfits_none, value_agrees}
 use Rattle.name_rules.specs.Least.{fault, fault_if, or_else}
@@ -35,6 +33,7 @@ use Rattle.jani_table.specs.OperatorLaws.{jani_lawful}
 use Rattle.bridge_io.specs.declared.reason.Named.{Named}
 use Rattle.jani_tree.specs.Syntax.{Expression, Const, VarKind, boolean, integer, number, real_bounded, one_sided, bounded, Var, Automaton, File}
 use Rattle.jani_tree.specs.Form.{ExprForm, ConstRead, VarRead, AutomatonRead}
+use Rattle.jani_tree.proofs.Literals.{literals}
 use Rattle.basics.specs.Mapped.{found_mapped}
 use Rattle.op_trees.specs.declared.wanted.Wanted.TheVariants as W
 use Rattle.op_trees.specs.Wanted.{wider, is_wanted, is_unwanted, wanted_by}
@@ -69,15 +68,6 @@ each_numbered : {A B : Type 0} (P : A → Type 0) (Q : B → Type 0) (f : ℕ �
 each_numbered P Q f h i [] p = tt
 each_numbered P Q f h i (x ∷ xs) p = each_join Q (f i x) (numbered f (i + 1) xs) (h i x p.0) (each_numbered P Q f h (i + 1) xs p.1)
 
--- ---- literals are in normal form
-normal_numbers : (e : Expression) → ExprForm HasItems e → AllNumbers (λ d. IsTrue (is_normal d)) e
-normal_numbers (Truth at b) h = tt
-normal_numbers (Number at d) h = h
-normal_numbers (At at x) h = tt
-normal_numbers (One at o a) h = normal_numbers a h.1
-normal_numbers (Two at o a b) h = (normal_numbers a h.1, normal_numbers b h.2)
-normal_numbers (Three at o a b c) h = (normal_numbers a h.1, normal_numbers b h.2, normal_numbers c h.3)
-
 -- ---- a value of a type that is wanted
 
 seen_value : (e : Expression) (env : Environment) → (see e (known_names env)).value ≡ value_of jani_meaning e env
@@ -100,7 +90,7 @@ fine_value types env agree w e h v k =
     let s = has_some t ((misfits_none jani_meaning types e).0 (empty_map (λ at. fault at WrongType) (misfits jani_meaning types e) r.0)) in
     let wanted = not-false (is_wanted (wanted_by w) s.0) (sym (ap (is_unwanted (wanted_by w)) s.1) ∙ no_fault (is_unwanted (wanted_by w) t) (offset_of e) WrongType r.1) in
     wider w s.0 v wanted
-    ((value_agrees jani_meaning jani_lawful types env e (normal_numbers e h.form) (names_all (λ x. AgreesWith (types x) (env x)) agree e)).agrees s.0 v s.1 k)
+    ((value_agrees jani_meaning jani_lawful types env e (literals e h.form) (names_all (λ x. AgreesWith (types x) (env x)) agree e)).agrees s.0 v s.1 k)
 
 -- where a demand for a type has no fault, its expression has none
 abbrev Judges : Types → (Demand → List Fault) → Type 0

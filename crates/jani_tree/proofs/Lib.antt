@@ -8,6 +8,7 @@ pub mod Again
 pub mod Bare
 pub mod Same
 pub mod Formed
+pub mod Literals
 pub mod Normal
 pub mod Once
 pub mod Filled

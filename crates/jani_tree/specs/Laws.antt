@@ -1,5 +1,5 @@
 -- The names of a file's elements: how many there are, and that they are the same without places.
-use Rattle.std.specs.Prelude.{◌≡◌, ℕ, List, map, length}
+use Rattle.std.specs.Prelude.{◌≡◌, List, map, length}
 use Rattle.std.proofs.Common.{refl, sym, ◌∙◌}
 use Rattle.std.proofs.lemmas.List.{length-map}
 use Rattle.basics.specs.Mapped.{mapped}

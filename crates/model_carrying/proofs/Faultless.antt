@@ -1,15 +1,10 @@
 -- Files without fault, and lists that nothing is in.
 use Rattle.std.proofs.Common.{◌≡◌, refl, List, [], ◌∷◌, inl}
-use Rattle.bridge_io.specs.declared.reason.Fault.{Fault}
-use Rattle.name_rules.specs.Least.{or_else}
 use Rattle.process_core.specs.Process.{IsIn}
 use Rattle.jani_tree.specs.Syntax.{File}
 use Rattle.jani_check.specs.Faults.{IsChecked, faults}
 use Rattle.jani_check.specs.NameFaults.{name_faults}
-
-first_none : (xs ys : List Fault) → or_else xs ys ≡ [] → xs ≡ []
-first_none [] ys e = refl
-first_none (x ∷ xs) ys e = absurd cc
+use Rattle.jani_check.proofs.Profiled.{first_none}
 
 pub no_name_fault_in : (file : File) → faults file ≡ [] → name_faults file ≡ []
 no_name_fault_in file e = first_none (name_faults file) _ e

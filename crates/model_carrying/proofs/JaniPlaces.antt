@@ -1,7 +1,6 @@
 -- What a JANI file describes does not depend on the places that its tree keeps.
-use Rattle.std.specs.Prelude.{◌≡◌, ℕ, List, ◌++◌, map, length, Option, Some, None, is_none, codes}
-use Rattle.std.specs.Option.{option_map}
-use Rattle.std.proofs.Common.{refl, sym, ap, ap₂, ◌∙◌}
+use Rattle.std.specs.Prelude.{◌≡◌, ℕ, List, ◌++◌, map, length, is_none, codes}
+use Rattle.std.proofs.Common.{sym, ap, ap₂, ◌∙◌}
 use Rattle.std.proofs.lemmas.List.{length-map}
 use Rattle.std.proofs.Math.Path.{fun_ext}
 use Rattle.basics.specs.Lists.{map_agree}
@@ -21,17 +20,14 @@ use Rattle.jani_meaning.specs.Scene.{scene}
 use Rattle.jani_meaning.proofs.Bare.{bare_owned, labels-bare, lasting-bare, moment-bare, scene-bare, structures-bare}
 use Rattle.jani_instance.specs.Described.{column_texts, described, jani_description, mark_names, texts_from}
 use Rattle.jani_tree.specs.Laws.{element_names-bare}
+use Rattle.basics.specs.Options.{is_none-map}
 
 -- ---- what is described
 abbrev opened : Const → Constant
 opened c = record { name = c.name.name; ty = c.ty; is_open = is_none c.value }
 
 opened-bare : (c : Const) → opened (bare_const c) ≡ opened c
-opened-bare c = ap {B = Constant} (λ b. record { name = c.name.name; ty = c.ty; is_open = b }) (none_mapped bare c.value)
-  where
-    none_mapped : {A B : Type 0} (f : A → B) (o : Option A) → is_none (option_map f o) ≡ is_none o
-    none_mapped f None = refl
-    none_mapped f (Some x) = refl
+opened-bare c = ap {B = Constant} (λ b. record { name = c.name.name; ty = c.ty; is_open = b }) (is_none-map bare c.value)
 
 owner_names : (os ps : List Owned) → os ≡ map bare_owned ps → map (λ o. o.var.name.name) os ≡ map (λ o. o.var.name.name) ps
 owner_names os ps e = ap (map (λ o. o.var.name.name)) e ∙ map-map (λ o. o.var.name.name) bare_owned ps

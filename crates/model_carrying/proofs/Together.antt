@@ -30,6 +30,7 @@ use Rattle.prism_translation.specs.Translated as to_prism
 use Rattle.prism_translation.proofs.NamesAlike.{constants_long}
 use Rattle.model_carrying.specs.Values.{AreLike, names, AreGivenAlike}
 use Rattle.model_carrying.specs.Together.{TogetherInJani, TogetherInPrism, GivenCorrespond, GivenCorrespondBack}
+use Rattle.basics.specs.Options.{is_none-map}
 
 abbrev jani_opened : jani.Const → Constant
 jani_opened c = record { name = c.name.name; ty = c.ty; is_open = is_none c.value }
@@ -67,10 +68,6 @@ jani_distinct file h =
     (first_distinct (map (λ c. c.name) file.constants) _ (append_parts (doubled TwiceNamed (jani_names.global_names file)) _ (append_parts (jani_names.doubled_names file) _ h).0).0)
 
 -- ---- types, and which are open
-none_mapped : {A B : Type 0} (f : A → B) (o : Option A) → is_none (option_map f o) ≡ is_none o
-none_mapped f None = refl
-none_mapped f (Some x) = refl
-
 abbrev prism_types : List prism.Const → List Ty
 prism_types cs = map (λ c. c.ty) cs
 
@@ -89,7 +86,7 @@ jani_bare_types (c ∷ cs) = ap (λ r. c.ty ∷ r) (jani_bare_types cs)
 
 jani_bare_opens : (cs : List jani.Const) → jani_opens (map jani_places.bare_const cs) ≡ jani_opens cs
 jani_bare_opens [] = refl
-jani_bare_opens (c ∷ cs) = ap₂ (λ b r. b ∷ r) (none_mapped _ c.value) (jani_bare_opens cs)
+jani_bare_opens (c ∷ cs) = ap₂ (λ b r. b ∷ r) (is_none-map _ c.value) (jani_bare_opens cs)
 
 prism_bare_types : (cs : List prism.Const) → prism_types (map prism_places.bare_const cs) ≡ prism_types cs
 prism_bare_types [] = refl
@@ -97,7 +94,7 @@ prism_bare_types (c ∷ cs) = ap (λ r. c.ty ∷ r) (prism_bare_types cs)
 
 prism_bare_opens : (cs : List prism.Const) → prism_opens (map prism_places.bare_const cs) ≡ prism_opens cs
 prism_bare_opens [] = refl
-prism_bare_opens (c ∷ cs) = ap₂ (λ b r. b ∷ r) (none_mapped _ c.value) (prism_bare_opens cs)
+prism_bare_opens (c ∷ cs) = ap₂ (λ b r. b ∷ r) (is_none-map _ c.value) (prism_bare_opens cs)
 
 jani_same : (f g : jani.File) → jani_places.bare_file f ≡ jani_places.bare_file g → (jani_types f.constants ≡ jani_types g.constants) × (jani_opens f.constants ≡ jani_opens g.constants)
 jani_same f g e = (
@@ -153,7 +150,7 @@ together_in_jani described types values old new a b e =
     let ts : prism_types cs ≡ jani_types new.constants = sym (same.0 ∙ types (flat old)) in
     let os : prism_opens cs ≡ jani_opens new.constants =
     sym (opens_of cs)
-    ∙ value_opens (to_jani.translated (flat old)).constants (map (λ c. c.value) cs) (option_map _) (none_mapped _) (values (flat old) ∙ sym (mapped_values (option_map _) cs))
+    ∙ value_opens (to_jani.translated (flat old)).constants (map (λ c. c.value) cs) (option_map _) (is_none-map _) (values (flat old) ∙ sym (mapped_values (option_map _) cs))
     ∙ sym same.1 in
     record {
       alike = subst (λ d. AllZip AreLike d (map jani_opened new.constants)) (ap (λ d. d.constants) (described (flat old) old refl)) (alike cs new.constants ts os);
@@ -174,7 +171,7 @@ module _ (file : jani.File) where
   made_opens : (ds : List jani.Const) (es : List Entry) → length es ≡ length ds → prism_opens (map made (zip ds es)) ≡ jani_opens ds
   made_opens [] es h = refl
   made_opens (d ∷ ds) [] h = absurd (let no : 0 ≡ suc (length ds) = h in omega arith)
-  made_opens (d ∷ ds) (e ∷ es) h = ap₂ (λ b r. b ∷ r) (none_mapped _ d.value) (made_opens ds es (let k : suc (length es) ≡ suc (length ds) = h in omega arith))
+  made_opens (d ∷ ds) (e ∷ es) h = ap₂ (λ b r. b ∷ r) (is_none-map _ d.value) (made_opens ds es (let k : suc (length es) ≡ suc (length ds) = h in omega arith))
 
 pub together_in_prism : TogetherInPrism
 together_in_prism old new a b e =

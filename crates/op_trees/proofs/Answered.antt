@@ -153,7 +153,7 @@ module _ {O : Type 0} (m : Meaning O) (env : Environment) where
       ≡ lazy_answer m o (answer m a env) (Err Undef) (Err Undef)
   lazy_one at o a s = rw s (lone_answered m o (needs_wide m a env) (value_of m a env))
 
-  one_is : (at : ℕ) (o : O) (a : Tree O) (s : Bool) → m.strict o ≡ s → answer m (One at o a) env
+  pub one_is : (at : ℕ) (o : O) (a : Tree O) (s : Bool) → m.strict o ≡ s → answer m (One at o a) env
       ≡ (if s then one_answer m o (answer m a env) else lazy_answer m o (answer m a env) (Err Undef) (Err Undef))
   one_is at o a true st = strict_one at o a st
   one_is at o a false st = lazy_one at o a st

@@ -1,10 +1,13 @@
 -- Laws of the names in an expression: under other offsets and other names, and what holds of each of them.
-use Rattle.std.specs.Prelude.{◌≡◌, ℕ, List, ◌++◌, map, Bool, false, ◌||◌}
+use Rattle.std.specs.Prelude.{◌≡◌, ℕ, List, ◌++◌, map, Bool, false, ◌||◌, [], ◌∷◌}
 use Rattle.std.proofs.Common.{refl, sym, ap₂, ◌∙◌}
 use Rattle.std.proofs.lemmas.Bool.{or_parts}
 use Rattle.std.proofs.lemmas.List.{map-append}
 use Rattle.op_trees.specs.Tree.{Tree, Truth, Number, Name, One, Two, Three, AllNames, bare, renamed}
 use Rattle.op_trees.specs.Names.{offset_of, names_of, bare_name, some_name}
+use Rattle.std.specs.List.{All}
+use Rattle.std.proofs.lemmas.List.Elements.{All-head, All-tail, All-nil, All-cons}
+use Rattle.bridge_io.specs.declared.reason.Named.{Named}
 
 -- ---- offsets do not matter
 pub offset-bare : {O : Type 0} (t : Tree O) → offset_of (bare t) ≡ 0
@@ -104,3 +107,23 @@ some_agree_on f g (One at o a) h = some_agree_on f g a h
 some_agree_on f g (Two at o a b) h = ap₂ (λ p q. p || q) (some_agree_on f g a h.0) (some_agree_on f g b h.1)
 some_agree_on f g (Three at o a b c) h =
     ap₂ (λ p q. p || q) (some_agree_on f g a h.0) (ap₂ (λ p q. p || q) (some_agree_on f g b h.1) (some_agree_on f g c h.2))
+
+-- ---- what holds of the bytes of all names, where they are listed
+in_both : (P : List ℕ → Type 0) (xs ys : List Named) → All P (map (λ n. n.name) (xs ++ ys)) → All P (map (λ n. n.name) xs) × All P (map (λ n. n.name) ys)
+in_both P [] ys h = (All-nil P, h)
+in_both P (x ∷ xs) ys h =
+    let rest = in_both P xs ys (All-tail P x.name (map (λ n. n.name) (xs ++ ys)) h) in
+    (All-cons P x.name (map (λ n. n.name) xs) (All-head P x.name (map (λ n. n.name) (xs ++ ys)) h) rest.0, rest.1)
+
+pub each_name : {O : Type 0} (P : List ℕ → Type 0) (t : Tree O) → All P (map (λ n. n.name) (names_of t)) → AllNames P t
+each_name P (Truth at b) h = tt
+each_name P (Number at d) h = tt
+each_name P (Name at x) h = All-head P x [] h
+each_name P (One at o a) h = each_name P a h
+each_name P (Two at o a b) h =
+    let parts = in_both P (names_of a) (names_of b) h in
+    (each_name P a parts.0, each_name P b parts.1)
+each_name P (Three at o a b c) h =
+    let parts = in_both P (names_of a) (names_of b ++ names_of c) h in
+    let last = in_both P (names_of b) (names_of c) parts.1 in
+    (each_name P a parts.0, each_name P b last.0, each_name P c last.1)

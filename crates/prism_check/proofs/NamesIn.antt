@@ -1,10 +1,7 @@
 -- What holds of each name of an expression: where its names are listed, tested, replaced by bodies and read through a map.
-use Rattle.std.specs.Prelude.{ℕ, zero, suc, List, [], ◌∷◌, ◌++◌, map, Option, Some, None}
-use Rattle.std.specs.List.{All}
+use Rattle.std.specs.Prelude.{ℕ, zero, suc, ◌++◌, map, Option, Some, None}
 use Rattle.std.specs.Option.{option_map}
-use Rattle.std.proofs.lemmas.List.Elements.{All-head, All-tail, All-nil, All-cons}
 use Rattle.basics.specs.Each.{each_join, each_parts, any_map}
-use Rattle.bridge_io.specs.declared.reason.Named.{Named}
 use Rattle.op_trees.specs.Tree.{Tree, Truth, Number, Name as At, One, Two, Three, AllNames, replaced, written_out}
 use Rattle.op_trees.specs.SeenLaws.{names_then}
 use Rattle.op_trees.specs.Names.{names_of}
@@ -36,26 +33,6 @@ names_listed P (Two at o a b) h = each_join (λ n. P n.name) (names_of a) (names
 names_listed P (Three at o a b c) h =
     each_join (λ n. P n.name) (names_of a) (names_of b ++ names_of c) (names_listed P a h.0)
     (each_join (λ n. P n.name) (names_of b) (names_of c) (names_listed P b h.1) (names_listed P c h.2))
-
--- ---- names whose bytes are listed
-in_both : (P : Name → Type 0) (xs ys : List Named) → All P (map (λ n. n.name) (xs ++ ys)) → All P (map (λ n. n.name) xs) × All P (map (λ n. n.name) ys)
-in_both P [] ys h = (All-nil P, h)
-in_both P (x ∷ xs) ys h =
-    let rest = in_both P xs ys (All-tail P x.name (map (λ n. n.name) (xs ++ ys)) h) in
-    (All-cons P x.name (map (λ n. n.name) xs) (All-head P x.name (map (λ n. n.name) (xs ++ ys)) h) rest.0, rest.1)
-
-pub each_name : {O : Type 0} (P : Name → Type 0) (t : Tree O) → All P (map (λ n. n.name) (names_of t)) → AllNames P t
-each_name P (Truth at b) h = tt
-each_name P (Number at d) h = tt
-each_name P (At at x) h = All-head P x [] h
-each_name P (One at o a) h = each_name P a h
-each_name P (Two at o a b) h =
-    let parts = in_both P (names_of a) (names_of b) h in
-    (each_name P a parts.0, each_name P b parts.1)
-each_name P (Three at o a b c) h =
-    let parts = in_both P (names_of a) (names_of b ++ names_of c) h in
-    let last = in_both P (names_of b) (names_of c) parts.1 in
-    (each_name P a parts.0, each_name P b last.0, each_name P c last.1)
 
 -- ---- bodies written out
 -- where what holds of a name holds of the names in its body, it holds of all names that come out

@@ -26,7 +26,7 @@ use Rattle.name_rules.specs.Least.{fault_if}
 use Rattle.name_rules.specs.Doubled.{clash, doubled_after, doubled}
 use Rattle.name_rules.specs.Circles.{Declared, nothing_declared, declared_at, HasTurned, AreInTurn, turns_from, AreTurns}
 use Rattle.prism_check.specs.NameFaults.{doubled_names, values, declared_const, declared_formula, declarations}
-use Rattle.prism_check.proofs.NamesIn.{each_name}
+use Rattle.op_trees.specs.NameLaws.{each_name}
 
 -- ---- names that are not doubled
 module _ (r : Reason) where

@@ -1,5 +1,5 @@
 -- A file that is another one written out is described as that one.
-use Rattle.std.proofs.Common.{◌≡◌, ℕ, List, ◌++◌, map, length, Option, Some, None, is_none, refl, sym, ap, ap₂, ◌∙◌}
+use Rattle.std.proofs.Common.{◌≡◌, ℕ, List, ◌++◌, map, length, Option, Some, None, refl, sym, ap, ap₂, ◌∙◌}
 use Rattle.std.proofs.lemmas.List.{length-map}
 use Rattle.std.specs.Option.{option_map}
 use Rattle.std.proofs.Math.Path.{fun_ext}
@@ -20,21 +20,18 @@ use Rattle.prism_check.specs.FlatLaws.{scene-flat, moment-flat}
 use Rattle.prism_check.specs.PlacesLaws.{PlacesKeepScenes, PlacesKeepMoments}
 use Rattle.instance_start.specs.Description.{Constant, Description}
 use Rattle.prism_meaning.specs.Described.{described, mark_names, opened, prism_description, structure_name}
+use Rattle.basics.specs.Options.{is_none-map}
 
 -- ---- what files that are the same have in common, by parts
-open_bare : {A B : Type 0} (f : A → B) (o : Option A) → is_none (option_map f o) ≡ is_none o
-open_bare f None = refl
-open_bare f (Some x) = refl
-
 name_bare : (o : Option Named) → structure_name (option_map bare_name o) ≡ structure_name o
 name_bare None = refl
 name_bare (Some n) = refl
 
 opened_bare : (c : Const) → opened (bare_const c) ≡ opened c
-opened_bare c = ap {B = Constant} (λ b. record { name = c.name.name; ty = c.ty; is_open = b }) (open_bare _ c.value)
+opened_bare c = ap {B = Constant} (λ b. record { name = c.name.name; ty = c.ty; is_open = b }) (is_none-map _ c.value)
 
 opened_flat : (file : File) (c : Const) → opened (flat_constant file c) ≡ opened c
-opened_flat file c = ap {B = Constant} (λ b. record { name = c.name.name; ty = c.ty; is_open = b }) (open_bare _ c.value)
+opened_flat file c = ap {B = Constant} (λ b. record { name = c.name.name; ty = c.ty; is_open = b }) (is_none-map _ c.value)
 
 mapped_same : {A B : Type 0} (f : A → B) (g : A → A) → ((x : A) → f (g x) ≡ f x) → (xs : List A) → map f (map g xs) ≡ map f xs
 mapped_same f g h xs = map-map f g xs ∙ map_agree (λ x. f (g x)) f h xs

@@ -36,19 +36,12 @@ use Rattle.prism_meaning.specs.Places.{constant_place}
 use Rattle.prism_meaning.specs.Views.{names_by}
 use Rattle.prism_meaning.proofs.Found.{narrow_seen, value_seen}
 use Rattle.prism_meaning.proofs.Whole.{reads_plainly}
-use Rattle.prism_check.proofs.NamesIn.{each_name}
+use Rattle.op_trees.specs.NameLaws.{each_name}
 use Rattle.name_rules.proofs.InTurn.{left_in_turn}
 use Rattle.prism_meaning.proofs.Turns.{declared_there, have_values}
+use Rattle.basics.specs.Lists.{get_set}
 
 -- ---- lists by their places
-get_set : {A : Type 0} (xs : List A) (i j : ℕ) (x : A) → i < length xs → slice_get (slice_set xs i x) j ≡ (if nat_eq j i then Some x else slice_get xs j)
-get_set [] i j x h = absurd (omega (arith, h))
-get_set (y ∷ ys) zero zero x h = refl
-get_set (y ∷ ys) zero (suc j) x h = ap (λ b. if b then Some x else slice_get ys j) (let e : false ≡ nat_eq (suc j) 0 = grind (arith, nat_tests) in e)
-get_set (y ∷ ys) (suc i) zero x h = ap (λ b. if b then Some x else Some y) (let e : false ≡ nat_eq 0 (suc i) = grind (arith, nat_tests) in e)
-get_set (y ∷ ys) (suc i) (suc j) x h =
-    get_set ys i j x (omega (arith, h)) ∙ ap (λ b. if b then Some x else slice_get ys j) (let e : nat_eq j i ≡ nat_eq (suc j) (suc i) = grind (arith, nat_tests) in e)
-
 set_length : {A : Type 0} (xs : List A) (i : ℕ) (x : A) → length (slice_set xs i x) ≡ length xs
 set_length [] i x = refl
 set_length (y ∷ ys) zero x = refl

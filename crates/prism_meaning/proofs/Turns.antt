@@ -16,7 +16,7 @@ use Rattle.prism_tree.specs.Syntax.{Expression, Const, File}
 use Rattle.prism_names.specs.Names.{formula_body}
 use Rattle.prism_names.specs.Order.{whole}
 use Rattle.prism_check.specs.Scene.{constant_called}
-use Rattle.prism_check.proofs.NamesIn.{each_name}
+use Rattle.op_trees.specs.NameLaws.{each_name}
 use Rattle.prism_check.specs.ConstantLaws.{RanksBelow, ConstantsHaveValues, constants_have_values}
 use Rattle.prism_meaning.specs.Constants.{declared_const}
 

@@ -1,11 +1,10 @@
 -- The map of a file is that of what the file is translated to.
-use Rattle.std.specs.Prelude.{◌≡◌, ℕ, suc, ◌+◌, ◌<◌, ◌≤◌, List, [], ◌∷◌, ◌++◌, map, length, replicate, true, Option, Some, None, IsTrue, bytes_eq, nat_eq, if◌then◌else◌}
+use Rattle.std.specs.Prelude.{◌≡◌, ℕ, ◌+◌, ◌<◌, ◌≤◌, ◌++◌, map, length, replicate, true, Option, Some, None, IsTrue, bytes_eq, nat_eq, if◌then◌else◌}
 use Rattle.std.specs.List.{All, count_by, IsDistinct, AllByRecursion as Each}
 use Rattle.std.specs.Option.{IfSome, option_map}
 use Rattle.std.proofs.Common.{refl, sym, ap, ap₂, subst, subst₂, ◌∙◌, arith}
 use Rattle.std.proofs.lemmas.List.{length-map}
 use Rattle.std.proofs.lemmas.List.Elements.{All-from_recursion, All-weaker}
-use Rattle.basics.specs.Booleans.{second_true}
 use Rattle.basics.specs.Each.{each_map, each_parts, map_each}
 use Rattle.basics.specs.Options.{IfAny}
 use Rattle.bridge_io.specs.declared.reason.Named.{Named}
@@ -15,7 +14,7 @@ use Rattle.process_core.specs.Process.{SameAt, under}
 use Rattle.process_core.specs.Process as core
 use Rattle.process_core.specs.Product.{map-map}
 use Rattle.process_core.specs.Ready.{Name, Values, firsts}
-use Rattle.process_core.specs.Instance.{Column, is_in, is_state, only_if, Valuation}
+use Rattle.process_core.specs.Instance.{is_state, only_if, Valuation}
 use Rattle.process_core.specs.Steps.{Process, seen_by}
 use Rattle.process_core.specs.declared.data.Mark.{Mark}
 use Rattle.choice_laws.specs.Columns.{at_start, counting, state_by}
@@ -59,6 +58,7 @@ use Rattle.prism_to_jani.proofs.Lasting.{elements_as_many, lasting_as_many}
 use Rattle.prism_to_jani.proofs.Pairs.{have_labels, label_found, names_kept, pair_stands}
 use Rattle.jani_tree.specs.Syntax.{element_names}
 use Rattle.jani_translation.proofs.Counts.{element_total}
+use Rattle.jani_meaning.proofs.Columns.{state_length}
 
 -- ---- labels
 -- a label of the file: none, or an action
@@ -91,12 +91,6 @@ has_labels file m h =
 
 -- ---- columns and states
 -- a state has a value for each column
-wide_as : (cs : List Column) (s : Values) → IsTrue (is_state cs s) → length s ≡ length cs
-wide_as [] [] h = refl
-wide_as [] (v ∷ s) h = absurd cc
-wide_as (c ∷ cs) [] h = absurd cc
-wide_as (c ∷ cs) (v ∷ s) h = ap suc (wide_as cs s (second_true (is_in c.domain v) (is_state cs s) h))
-
 module _ (old : prism.File) (new : jani.File) (m : CarryMap) (same : bare_file new ≡ bare_file (translated (flat old))) (h : IsMapToJani (flat old) m) where
   abbrev written : prism.File
   written = flat old
@@ -140,7 +134,7 @@ module _ (old : prism.File) (new : jani.File) (m : CarryMap) (same : bare_file n
     seen = stepped.seen ∙ ap (λ q. under q v) (sym (model-flat old))
 
     values : (s : Values) → IsTrue (d.is_state s) → length s ≡ k
-    values s i = wide_as (prism_scene.columns_of written v) s (subst (λ (p : core.Process Name Fraction Mark Values). IsTrue (p.is_state s)) seen i) ∙ scene_columns
+    values s i = state_length (prism_scene.columns_of written v) s (subst (λ (p : core.Process Name Fraction Mark Values). IsTrue (p.is_state s)) seen i) ∙ scene_columns
 
     states : (s : Values) → IsTrue (d.is_state s) → jani_state m (length e.columns) s ≡ state_in new s
     states s i =

@@ -1,5 +1,5 @@
 -- The names in a translated file.
-use Rattle.std.specs.Prelude.{◌≡◌, ◌++◌, [], ◌∷◌, List, length, map, Bool, true, false, Option, Some, None}
+use Rattle.std.specs.Prelude.{◌≡◌, ◌++◌, [], ◌∷◌, List, length, map, Bool, true, false}
 use Rattle.std.specs.List.{zip}
 use Rattle.std.proofs.Common.{refl, sym, ap, ap₂, ◌∙◌, arith}
 use Rattle.std.proofs.lemmas.List.{map-append}
@@ -18,13 +18,14 @@ use Rattle.name_table.specs.declared.entry.Entry.{Entry}
 use Rattle.name_table.specs.Asks.{asks, bodies, NewNames, new_names, variables}
 use Rattle.renaming.specs.Renaming.{names_of}
 use Rattle.renaming.proofs.Renaming.{one_to_one}
-use Rattle.jani_translation.specs.Parts.{constant, instead_if, label, structure, variable}
+use Rattle.jani_translation.specs.Parts.{constant, label, structure, variable}
 use Rattle.jani_translation.specs.Automata.{automaton, earns_silently, has_monitor, location_values, module_automata, monitor, monitor_edges, zz_monitor}
 use Rattle.jani_translation.specs.Translated.{translated}
 use Rattle.jani_translation.proofs.Differ.{actions_differ}
 use Rattle.jani_translation.proofs.Each.{for_constants, for_labels, for_modules, for_rewards, for_variables, map-zip-right}
 use Rattle.jani_translation_laws.proofs.Doubled.{actions_named}
 use Rattle.prism_to_jani.specs.Names.{AreJaniNames}
+use Rattle.jani_translation_laws.proofs.Alike.{structure_name}
 
 -- an automaton for each module has its entry's name
 modules_named : (n : NewNames) (silently : Bool) (ws : List Write) (ms : List prism.Body) (es : List Entry) → length ms ≡ length es →
@@ -37,13 +38,6 @@ modules_named n silently ws (m ∷ ms) (e ∷ es) l = ap (λ (xs : List Name). e
 monitor_named : (n : NewNames) (file : prism.File) (b : Bool) → map (λ a. a.name.name) (only_if b (automaton n zz_monitor [] (monitor_edges n file))) ≡ only_if b zz_monitor.name
 monitor_named n file true = refl
 monitor_named n file false = refl
-
-structure_named : (r : prism.Rewards) (e : Entry) → (structure r e).name.name ≡ e.name
-structure_named r e = by_name r.name
-  where
-    by_name : (o : Option Named) → (instead_if o e.name).name ≡ e.name
-    by_name None = refl
-    by_name (Some n) = refl
 
 module _ (old : prism.File) where
   abbrev file : prism.File
@@ -61,7 +55,7 @@ module _ (old : prism.File) where
       ∙ ap₂ (λ a b. a ++ b) (map-zip-right (λ x. x.name.name) (variable n.value (has_condition file)) (λ e. e.name) (λ x e. refl) (variables file) n.variables (for_variables file))
       (map-append (λ x. x.name.name) ys zs
       ∙ ap₂ (λ a b. a ++ b) (map-zip-right (λ x. x.name.name) label (λ e. e.name) (λ x e. refl) file.labels n.labels (for_labels file))
-      (map-zip-right (λ x. x.name.name) structure (λ e. e.name) structure_named file.rewards n.rewards (for_rewards file)))
+      (map-zip-right (λ x. x.name.name) structure (λ e. e.name) structure_name file.rewards n.rewards (for_rewards file)))
 
   automata_named : map (λ a. a.name.name) (translated file).automata ≡ names_of n.modules ++ only_if (has_monitor file) zz_monitor.name
   automata_named =

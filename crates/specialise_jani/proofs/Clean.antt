@@ -10,17 +10,14 @@ use Rattle.basics.specs.Lists.{append_both, append_left, append_parts, append_ri
 use Rattle.basics.specs.Mapped.{found_mapped, kept_mapped, walked}
 use Rattle.basics.specs.Each.{each_empty, each_found, each_join, each_map, each_none, each_of, each_parts, each_then, each_with, empty_each, map_each, none_each}
 use Rattle.bridge_io.specs.declared.reason.Reason.TheVariants.{BranchReward, ForeignWrite, LabelOnEdge, NotConstant, TransientInitial, TransientRead, Unknown, WrongType}
-use Rattle.frac_core.specs.Decimal.{is_normal}
 use Rattle.op_trees.specs.declared.tree.Ty.{Ty}
 use Rattle.op_trees.specs.declared.tree.Ty.TheVariants as T
 use Rattle.op_trees.specs.declared.tree.Value.{Value}
 use Rattle.op_trees.specs.declared.wanted.Wanted.{Wanted}
 use Rattle.op_trees.specs.declared.wanted.Wanted.TheVariants as W
-use Rattle.op_trees.specs.Tree.{Truth, Number, Name as At, One, Two, Three, AllNumbers, bare}
+use Rattle.op_trees.specs.Tree.{Truth, Number, bare}
 use Rattle.op_trees.specs.Names.{is_called, names_of, offset_of, some_name}
-use Rattle.op_trees.specs.Operators.{IsLawful, fits_some}
-use Rattle.op_trees.specs.Standard.{standard_meaning}
-use Rattle.op_trees.specs.StandardLaws.{lawful_along, standard_lawful}
+use Rattle.op_trees.specs.Operators.{fits_some}
 use Rattle.op_trees.specs.Types.{fits, has_type, misfits, type_in, Types}
 use Rattle.op_trees.specs.TypeLaws.{misfits_none}
 use Rattle.op_trees.specs.Wanted.{is_unwanted, is_wanted, wanted_by}
@@ -32,9 +29,11 @@ use Rattle.name_rules.proofs.Plain.{fault_none, no_fault}
 use Rattle.process_core.specs.Product.{map-map}
 use Rattle.process_core.specs.Instance.{Valuation}
 use Rattle.jani_table.specs.declared.operator.JaniOp.{JaniOp}
-use Rattle.jani_table.specs.Operators.{jani_meaning, standard}
+use Rattle.jani_table.specs.Operators.{jani_meaning}
+use Rattle.jani_table.specs.OperatorLaws.{jani_lawful}
 use Rattle.jani_tree.specs.Syntax.{Expression, is_always, Const, Var, Write, Destination, Edge, Automaton, File, element_names}
 use Rattle.jani_tree.specs.Form.{AutomatonRead, ExprForm}
+use Rattle.jani_tree.proofs.Literals.{literals}
 use Rattle.jani_check.specs.declared.things.Thing.{Thing}
 use Rattle.jani_check.specs.Things.{beside, const_called, const_thing, global_thing, is_constant, is_label, is_reward, is_transient, kind_type, thing_type, types_by, var_called, var_thing}
 use Rattle.jani_check.specs.Demands.{Demand, assigned, automaton_demands, const_demands, fixed, given, outer_demands, var_demands, varying}
@@ -47,6 +46,7 @@ use Rattle.constant_folding.specs.Constants.{AnyConst, called, declared}
 use Rattle.constant_folding.specs.Known.{Known}
 use Rattle.constant_folding.specs.Kept.{AreTyped, GivesTypes}
 use Rattle.constant_folding.specs.Unfit.{AreFitting}
+use Rattle.constant_folding.proofs.Fits.{fits_refl, fitting_wanted, own_wanted}
 use Rattle.constant_folding.proofs.Kept.{fold_names_no_more}
 use Rattle.constant_folding.proofs.KnownTypes as known_types
 use Rattle.constant_folding.proofs.KnownTypes.{HasWanted}
@@ -63,36 +63,6 @@ use Rattle.specialise_jani.proofs.Demanding.{HasForm, automaton_form, consts_car
 use Rattle.specialise_jani.proofs.Formed.{specialised_formed}
 use Rattle.specialise_jani.proofs.Once.{any_own, any_uncircled, circles_same, composed, no_profile, no_types, none_unknown, once_here}
 use Rattle.specialise_jani.proofs.Same.{automata_same, beside_same, clashes_same, doubled_same, given_after_same, globals_same, kind_same, repeats_same, things_same, var_faults_same, var_names_same, within_same, writers_same}
-
-jani_lawful : IsLawful jani_meaning
-jani_lawful = lawful_along standard standard_meaning standard_lawful
-
--- ---- types that fit
-fitting_wanted : (w : Wanted) (u a : Ty) → IsTrue (fits u a) → is_unwanted w (Some a) ≡ false → is_unwanted w (Some u) ≡ false
-fitting_wanted w T.Bool T.Bool h k = k
-fitting_wanted w T.Int T.Int h k = k
-fitting_wanted w T.Real T.Real h k = k
-fitting_wanted W.Anything T.Int T.Real h k = refl
-fitting_wanted W.Number T.Int T.Real h k = refl
-fitting_wanted w u a h k = cc
-
-own_wanted : (t : Ty) → is_unwanted (wanted_by t) (Some t) ≡ false
-own_wanted T.Bool = refl
-own_wanted T.Int = refl
-own_wanted T.Real = refl
-
-fits_itself : (t : Ty) → IsTrue (fits t t)
-fits_itself T.Bool = refl
-fits_itself T.Int = refl
-fits_itself T.Real = refl
-
-normal_of : (e : Expression) → ExprForm HasItems e → AllNumbers (λ d. IsTrue (is_normal d)) e
-normal_of (Truth at b) h = tt
-normal_of (Number at d) h = h
-normal_of (At at x) h = tt
-normal_of (One at o a) h = normal_of a h.1
-normal_of (Two at o a b) h = (normal_of a h.1, normal_of b h.2)
-normal_of (Three at o a b c) h = (normal_of a h.1, normal_of b h.2, normal_of c h.3)
 
 -- the type of an expression without a fault
 typed_of : (ty : Types) (w : Wanted) (e : Expression) → type_faults_of ty w e ≡ [] → (t : Ty) × (type_in jani_meaning ty e ≡ Some t) × (is_unwanted w (Some t) ≡ false)
@@ -146,7 +116,7 @@ module _ (K : Known) (typed : AreTyped K) where
     folded_types w e p h =
         let t = typed_of (types_by things) w e h in
         by t.0 t.2 (type_in jani_meaning (types_by things) (folded K e)) refl
-        (fold_is_typed jani_meaning jani_lawful jani_monotone jani_literal jani_literals K (types_by things) typed gives e (normal_of e p) t.0 t.1)
+        (fold_is_typed jani_meaning jani_lawful jani_monotone jani_literal jani_literals K (types_by things) typed gives e (literals e p) t.0 t.1)
       where
         by : (a : Ty) → is_unwanted w (Some a) ≡ false → (o : Option Ty) → type_in jani_meaning (types_by things) (folded K e) ≡ o → IsTrue (fits_some o a) →
             type_faults_of (types_by things) w (folded K e) ≡ []
@@ -210,7 +180,7 @@ module _ (K : Known) (typed : AreTyped K) where
           names = named_fine (λ x. not (known x)) Unknown e (without (λ x. not (known x)));
           types =
               append_both (type_faults_of (types_by things) (wanted_by ty) e) (fault_if (has_variable things e) (offset_of e) NotConstant)
-              (typed_fine (types_by things) (wanted_by ty) e ty ty (jani_literals.typed y ty (types_by things) h) (fits_itself ty) (own_wanted ty))
+              (typed_fine (types_by things) (wanted_by ty) e ty ty (jani_literals.typed y ty (types_by things) h) (fits_refl ty) (own_wanted ty))
               (fault_none (has_variable things e) (offset_of e) NotConstant (without (λ x. is_variable (things x))));
           profile = named_fine (λ x. is_transient (things x)) TransientRead e (without (λ x. is_transient (things x)));
         }
@@ -418,7 +388,7 @@ module _ (file : File) (checked : IsChecked file) (values : Valuation) (fitting 
       let own : IsSound known global (fixed (wanted_by c.ty) e) =
       (subst (λ (o : Option Expression). Each (IsSound known global) (map (fixed (wanted_by c.ty)) (elim o as (λ r. List Expression) [ None ↦ [] | Some t ↦ t ∷ [] ]))) v sound).0 in
       let t = typed_of (types_by global) (wanted_by c.ty) e (append_left (type_faults_of (types_by global) (wanted_by c.ty) e) _ own.fine.types) in
-      record { own = t.0; is = t.1; wanted = not-false (is_wanted (wanted_by c.ty) t.0) t.2; normal = normal_of e own.form }
+      record { own = t.0; is = t.1; wanted = not-false (is_wanted (wanted_by c.ty) t.0) t.2; normal = literals e own.form }
 
   wanted_of : (x : Name) (c : AnyConst JaniOp) (e : Expression) → called (any_constants file) x ≡ Some c → c.value ≡ Some e → HasWanted jani_meaning (types_by global) c.ty e
   wanted_of x c e h v =

@@ -15,13 +15,10 @@ use Rattle.op_trees.specs.declared.tree.Ty.{Ty}
 use Rattle.op_trees.specs.declared.tree.Ty.TheVariants as T
 use Rattle.op_trees.specs.declared.tree.Value.{Value}
 use Rattle.op_trees.specs.declared.wanted.Wanted.{Wanted}
-use Rattle.op_trees.specs.declared.wanted.Wanted.TheVariants as W
 use Rattle.op_trees.specs.Tree.{AllNames}
 use Rattle.op_trees.specs.Names.{names_of, offset_of, some_name, is_called}
 use Rattle.op_trees.specs.SeenLaws.{names_then}
-use Rattle.op_trees.specs.Operators.{IsLawful, fits_some}
-use Rattle.op_trees.specs.StandardLaws.{standard_lawful, lawful_along}
-use Rattle.op_trees.specs.Standard.{standard_meaning}
+use Rattle.op_trees.specs.Operators.{fits_some}
 use Rattle.op_trees.specs.Types.{fits, has_type, type_in, types_looked_up}
 use Rattle.op_trees.specs.TypeLaws.{misfits_none}
 use Rattle.op_trees.specs.Wanted.{wanted_by, is_unwanted}
@@ -34,13 +31,15 @@ use Rattle.name_rules.proofs.Plain.{no_fault, fault_none}
 use Rattle.process_core.specs.Ready.{Name}
 use Rattle.process_core.specs.Product.{map-map}
 use Rattle.process_core.specs.Instance.{Valuation}
-use Rattle.prism_tree.specs.Operators.{prism_meaning, standard}
+use Rattle.prism_tree.specs.Operators.{prism_meaning}
+use Rattle.prism_tree.specs.OperatorLaws.{prism_lawful}
 use Rattle.prism_tree.specs.Syntax.{Expression, Const, Range, Var, Command, Module, plain, copied, File}
 use Rattle.prism_names.specs.Names.{is_formula, module_name, part_of, formula_body}
 use Rattle.prism_flat.specs.Scene.{constant_called}
 use Rattle.prism_flat.specs.FlatLaws.{found_after}
 use Rattle.prism_flat.specs.Kept.{is_plain}
 use Rattle.prism_print.specs.Printable.{IsPrintableExpression, IsPrintableModule}
+use Rattle.prism_print.proofs.Printable.{literals}
 use Rattle.prism_rewriter.specs.Rewritten.{rewritten_range, rewritten_var, rewritten_write, rewritten_branch, rewritten_command, rewritten_label, rewritten_rewards}
 use Rattle.prism_check.specs.Demands.{Demand, fixed, varying, written, const_demands, type_by, var_type, var_demands, command_demands, formula_demands, part_demands, outer_demands}
 use Rattle.prism_check.specs.NameFaults.{declared_const, declared_formula, circles, copy_faults, doubled_names, doubled_pairs, given_labels, module_vars, name_faults, no_module, own_start, own_starts, two_inits, unknown, unknown_in, unknown_names, values}
@@ -53,6 +52,7 @@ use Rattle.prism_check.proofs.NoFaults.{NoNameFaults, IsKnown, known_one, all_kn
 use Rattle.prism_check.proofs.Typed.{has_wanted_type, known_typed, no_name_fault, no_type_fault, same_misfits, types_declared}
 use Rattle.constant_folding.specs.Known.{Known}
 use Rattle.constant_folding.specs.Kept.{AreTyped, GivesTypes}
+use Rattle.constant_folding.proofs.Fits.{fits_refl, fitting_wanted, own_wanted}
 use Rattle.constant_folding.proofs.Kept.{fold_names, fold_names_no_more}
 use Rattle.constant_folding.proofs.Typed.{fold_is_typed}
 use Rattle.specialise_prism.specs.Literal.{prism_literal}
@@ -65,28 +65,11 @@ use Rattle.specialise_prism.specs.Specialised.{any_const, any_constants, known_c
 use Rattle.specialise_prism.specs.Clean.{SpecialisedIsClean}
 use Rattle.specialise_prism.specs.LiteralLaws.{prism_literals, prism_monotone}
 use Rattle.specialise_prism.proofs.ConstantLaws.{own_const, plain_whole}
-use Rattle.specialise_prism.proofs.Printed.{normal_of, specialised_printable}
+use Rattle.specialise_prism.proofs.Printed.{specialised_printable}
 use Rattle.specialise_prism.proofs.Demanding.{HasForm, folded_demand, outer_form, vars_form, commands_form, outer_carried, vars_carried, commands_carried}
 use Rattle.specialise_prism.proofs.Once.{any_own}
 use Rattle.constant_folding.proofs.Listed.{const_uses_less, nameless}
 use Rattle.constant_folding.proofs.Uncircled.{circles_less}
-
-prism_lawful : IsLawful prism_meaning
-prism_lawful = lawful_along standard standard_meaning standard_lawful
-
--- ---- types that fit
-fitting_wanted : (w : Wanted) (u a : Ty) → IsTrue (fits u a) → is_unwanted w (Some a) ≡ false → is_unwanted w (Some u) ≡ false
-fitting_wanted w T.Bool T.Bool h k = k
-fitting_wanted w T.Int T.Int h k = k
-fitting_wanted w T.Real T.Real h k = k
-fitting_wanted W.Anything T.Int T.Real h k = refl
-fitting_wanted W.Number T.Int T.Real h k = refl
-fitting_wanted w u a h k = cc
-
-own_wanted : (t : Ty) → is_unwanted (wanted_by t) (Some t) ≡ false
-own_wanted T.Bool = refl
-own_wanted T.Int = refl
-own_wanted T.Real = refl
 
 names_known : (file : File) (e : Expression) → AllNames (IsKnown file) e → flat_map (unless_known (is_among (values file))) (names_of e) ≡ []
 names_known file e k =
@@ -153,7 +136,7 @@ module _ (file : File) (flat : IsFlat file) where
   wanted_type x c e sound v =
       let own : IsSound file 0 (fixed (wanted_by c.ty) e) = (subst (λ (o : Option Expression). Each (IsSound file 0) (map (fixed (wanted_by c.ty)) (elim o as (λ r. List Expression) [ None ↦ [] | Some t ↦ t ∷ [] ]))) v sound).0 in
       let has = has_wanted_type file flat c.ty e own.known (append_parts (type_faults_of (types file) (wanted_by c.ty) e) _ own.judged).0 in
-      record { own = has.ty; is = has.is; wanted = has.wanted; normal = normal_of e own.form }
+      record { own = has.ty; is = has.is; wanted = has.wanted; normal = literals e own.form }
 
   module _ (given : Valuation) (fitting : AreFitting (any_constants file) given) where
     declared_type : (x : Name) (c : AnyConst PrismOp) → called (any_constants file) x ≡ Some c → types file x ≡ Some c.ty
@@ -261,7 +244,7 @@ module _ (file : File) (flat : IsFlat file) where
         let s = has_some t ((misfits_none prism_meaning (types file) e).0 (same_misfits (types file) e (typed_names e k) ∙ empty_map (λ at. fault at WrongType) (misfits (types file) e) r.0)) in
         let wanted = sym (ap (is_unwanted w) s.1) ∙ no_fault (is_unwanted w t) (offset_of e) WrongType r.1 in
         by s.0 wanted (type_in prism_meaning (types file) (folded K e)) refl
-        (fold_is_typed prism_meaning prism_lawful prism_monotone prism_literal prism_literals K (types file) known_typed_right known_types_right e (normal_of e p) s.0 s.1)
+        (fold_is_typed prism_meaning prism_lawful prism_monotone prism_literal prism_literals K (types file) known_typed_right known_types_right e (literals e p) s.0 s.1)
       where
         by : (a : Ty) → is_unwanted w (Some a) ≡ false → (o : Option Ty) → type_in prism_meaning (types file) (folded K e) ≡ o → IsTrue (fits_some o a) → type_faults_of (types file) w (folded K e) ≡ []
         by a wanted None is f = cc
@@ -321,14 +304,9 @@ module _ (file : File) (flat : IsFlat file) where
           names = listed_fine e known;
           judged =
               append_both (type_faults_of (types new) (wanted_by ty) e) (fault_if (has_variable new e) (offset_of e) NotConstant)
-              (types_fine (wanted_by ty) e (typed_fine (wanted_by ty) e ty ty known (prism_literals.typed y ty (types file) h) (fits_itself ty) (own_wanted ty)))
+              (types_fine (wanted_by ty) e (typed_fine (wanted_by ty) e ty ty known (prism_literals.typed y ty (types file) h) (fits_refl ty) (own_wanted ty)))
               (fault_none (has_variable new e) (offset_of e) NotConstant (ap (some_name (is_variable new)) (plain_whole new flat.form.formulas e) ∙ nameless prism_meaning prism_literal prism_literals K (is_variable new) y ty));
         }
-      where
-        fits_itself : (t : Ty) → IsTrue (fits t t)
-        fits_itself T.Bool = refl
-        fits_itself T.Int = refl
-        fits_itself T.Real = refl
 
     consts_fit : Each (λ c. (y : Value) → given c.name.name ≡ Some y → IsTrue (has_type c.ty y)) file.constants
     consts_fit =

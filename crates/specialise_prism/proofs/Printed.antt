@@ -1,14 +1,12 @@
 -- Texts spell a specialised file, where they spell the file.
-use Rattle.std.specs.Prelude.{◌≡◌, List, [], ◌∷◌, map, false, Option, Some, None, IsTrue}
+use Rattle.std.specs.Prelude.{◌≡◌, List, [], ◌∷◌, map, false, Option, Some, None}
 use Rattle.std.specs.Option.{option_map}
 use Rattle.std.proofs.Common.{refl}
 use Rattle.basics.specs.Options.{IfAny}
 use Rattle.basics.specs.Each.{each_map, any_map}
-use Rattle.frac_core.specs.Decimal.{is_normal}
 use Rattle.bridge_io.specs.declared.reason.Named.{Named}
 use Rattle.op_trees.specs.declared.tree.Ty.{Ty}
 use Rattle.op_trees.specs.declared.tree.Value.{Value}
-use Rattle.op_trees.specs.Tree.{Truth, Number, Name as At, One, Two, Three, AllNumbers}
 use Rattle.process_core.specs.Instance.{Valuation}
 use Rattle.prism_tree.specs.Operators.{prism_meaning}
 use Rattle.prism_tree.specs.Syntax.{Expression, Const, Range, Var, Label, Write, Branch, Command, Module, plain, copied, Item, Rewards, File}
@@ -23,15 +21,6 @@ use Rattle.constant_folding.specs.ValueLiteralLaws.{literal_holds}
 use Rattle.prism_tree.specs.declared.operator.PrismOp.TheVariants.{Div}
 use Rattle.specialise_prism.specs.Specialised.{folded, folding_by, specialised_const, specialised_module, specialised_by}
 use Rattle.specialise_prism.specs.LiteralLaws.{whole_holds, prism_literals}
-
--- its literals are in normal form
-pub normal_of : (e : Expression) → IsPrintableExpression e → AllNumbers (λ d. IsTrue (is_normal d)) e
-normal_of (Truth at b) h = tt
-normal_of (Number at d) h = h.0
-normal_of (At at x) h = tt
-normal_of (One at o a) h = normal_of a h.1
-normal_of (Two at o a b) h = (normal_of a h.1, normal_of b h.2)
-normal_of (Three at o a b c) h = (normal_of a h.1, normal_of b h.2, normal_of c h.3)
 
 pub literal_printable : (v : Value) (ty : Ty) → IsPrintableExpression (prism_literal v ty)
 literal_printable =

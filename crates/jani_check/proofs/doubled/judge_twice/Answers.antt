@@ -1,13 +1,12 @@
-use Rattle.std.specs.Prelude.{◌≡◌, List, map}
+use Rattle.std.specs.Prelude.{◌≡◌, map}
 use Rattle.std.specs.List.{flat_map}
 use Rattle.std.proofs.Common.{◌∙◌, ap}
 use Rattle.std.proofs.lemmas.Result.{IfOk-weaker}
-use Rattle.bridge_io.specs.declared.reason.Named.{Named}
 use Rattle.bridge_io.specs.declared.reason.Reason.TheVariants.{TwiceNamed}
 use Rattle.name_rules.specs.Least.{soonest}
 use Rattle.jani_tree.specs.Syntax.{automaton_of, element_of, file_of}
 use Rattle.jani_check.specs.NameFaults.{automaton_names, doubled_in, doubled_names, global_names, repeated_enabled}
-use Rattle.name_rules.specs.Doubled.{doubled, IsLowest, lowest_of}
+use Rattle.name_rules.specs.Doubled.{doubled, lowest_of}
 use Rattle.name_rules.proofs.Append.{five_parts}
 use Rattle.jani_check.proofs.Parts.{each_itself, each_name}
 use Rattle.jani_check.proofs.doubled.judge_twice.Goals as goal
