@@ -1,4 +1,3 @@
-pub mod Walk
 pub mod Known
 pub mod Folded
 pub mod Literals

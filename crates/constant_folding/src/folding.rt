@@ -5,17 +5,18 @@ ghost use Rattle.op_trees.specs.Tree.{Tree, tree, Name, One, Two, Three};
 ghost use Rattle.op_trees.specs.Types.{number_type, sort_one, sort_two, sort_three};
 ghost use Rattle.op_trees.specs.Meaning.{both_answer, one_answer};
 ghost use Rattle.constant_folding.specs.Known.{truth_summary, name_summary, number_summary, one_summary, two_summary, three_summary, summary, worth};
-ghost use Rattle.constant_folding.specs.Walk.{pair};
-ghost use Rattle.constant_folding.specs.Folded.{by_first, fixed_of, fold, fold_step, folded_one, folded_two, folded_three, named, one_fold, two_fold, three_fold};
+ghost use Rattle.op_trees.specs.Walk.{pair};
+ghost use Rattle.constant_folding.specs.Folded.{by_first, fixed_of, fold, named};
 ghost use Rattle.op_trees.specs.declared.tree.EvalFail.TheVariants.{Undef};
 ghost use Rattle.op_trees.proofs.Answered.{lazy_answer};
 ghost use Rattle.constant_folding.specs.Asked.{asked_of};
 
 use crate::known::{Constants, Fixed, Summary};
-use crate::walk::{Fold, Over, fold_ops};
 use bridge_io::Text;
 use frac_core::Decimal;
-use op_trees::{EvalFail, Expr, Next, Operator, Ty, Value, apply_both, apply_one, held, literal};
+use op_trees::{
+    EvalFail, Expr, Fold, Next, Operator, Ty, Value, apply_both, apply_one, fold_ops, held, literal,
+};
 use std::alloc::{AllocError, Global};
 
 /// The expression folded: what names known constants alone, is defined and needs nothing wide, becomes the literal of its value; a lazy operator whose
@@ -50,33 +51,77 @@ struct Folding<'a, K> {
 
 impl<'a, O: Operator, K: Constants<O>> Fold<O, O, Summary> for Folding<'a, K> {
     ghost use Rattle.std.specs.Prelude.{◌≡◌, IfOk};
-    ghost use Rattle.constant_folding.specs.Walk.{over, pair};
+    ghost use Rattle.op_trees.specs.Tree.{tree};
+    ghost use Rattle.op_trees.specs.Walk.{TruthNode, NumberNode, NameNode, OneNode, TwoNode, ThreeNode, pair};
     ghost use Rattle.constant_folding.specs.Folded.{fold_step};
 
     ghost step = { λ f. fold_step O.meaning K.literal (K.known f.constants.now) };
 
-    fn fold(
+    fn truth(&self, alloc: Global, at: usize, b: bool) -> Result<(Expr<O>, Summary), AllocError>
+        ensures { IfOk result (λ r. pair r ≡ fold_step O.meaning K.literal (K.known self.now.constants.now) (TruthNode at b)) }
+    {
+        Ok((Expr::Truth(at, b), truth_summary(b)))
+    }
+
+    fn number(&self, alloc: Global, at: usize, d: Decimal) -> Result<(Expr<O>, Summary), AllocError>
+        ensures { IfOk result (λ r. pair r ≡ fold_step O.meaning K.literal (K.known self.now.constants.now) (NumberNode at d)) }
+    {
+        Ok((Expr::Number(at, d), number_summary(d)))
+    }
+
+    fn name(&self, alloc: Global, at: usize, x: &str) -> Result<(Expr<O>, Summary), AllocError>
+        ensures { IfOk result (λ r. pair r ≡ fold_step O.meaning K.literal (K.known self.now.constants.now) (NameNode at x.now)) }
+    {
+        let known = self.constants.fixed(x);
+        let rest = Expr::Name(at, Text::copy_of(alloc, x)?);
+        Ok((named::<O, K>(alloc, known, rest)?, name_summary(known)))
+    }
+
+    fn one(
         &self,
         alloc: Global,
-        node: Over<O, O, Summary>,
+        at: usize,
+        o: O,
+        a: (Box<Expr<O>>, Summary),
     ) -> Result<(Expr<O>, Summary), AllocError>
-        ensures { IfOk result (λ r. pair r ≡ fold_step O.meaning K.literal (K.known self.now.constants.now) (over node)) }
+        ensures { IfOk result (λ r. pair r ≡ fold_step O.meaning K.literal (K.known self.now.constants.now) (OneNode at o (tree a.0.value, a.1))) }
     {
-        match node {
-            Over::Truth(at, b) => Ok((Expr::Truth(at, b), truth_summary(b))),
-            Over::Number(at, d) => Ok((Expr::Number(at, d), number_summary(d))),
-            Over::Name(at, x) => folded_name::<O, K>(
-                alloc,
-                self.constants.fixed(x.as_str()),
-                at,
-                x,
-            ),
-            Over::One(at, o, x, a) => folded_one::<O, K>(alloc, at, o, x, &a),
-            Over::Two(at, o, x, a, y, b) => folded_two::<O, K>(alloc, at, o, x, &a, y, &b),
-            Over::Three(at, o, x, a, y, b, z, c) => folded_three::<O, K>(
-                alloc, at, o, x, &a, y, &b, z, &c,
-            ),
-        }
+        let s = one_summary(o, &a.1);
+        let rest = rest_of_one(at, o, asked_by(o, &a.1), a.0);
+        Ok((named::<O, K>(alloc, fixed_of(&s), rest)?, s))
+    }
+
+    fn two(
+        &self,
+        alloc: Global,
+        at: usize,
+        o: O,
+        a: (Box<Expr<O>>, Summary),
+        b: (Box<Expr<O>>, Summary),
+    ) -> Result<(Expr<O>, Summary), AllocError>
+        ensures { IfOk result (λ r. pair r ≡ fold_step O.meaning K.literal (K.known self.now.constants.now)
+            (TwoNode at o (tree a.0.value, a.1) (tree b.0.value, b.1))) }
+    {
+        let s = two_summary(o, &a.1, &b.1);
+        let rest = rest_of_two(at, o, asked_by(o, &a.1), a.0, b.0);
+        Ok((named::<O, K>(alloc, fixed_of(&s), rest)?, s))
+    }
+
+    fn three(
+        &self,
+        alloc: Global,
+        at: usize,
+        o: O,
+        a: (Box<Expr<O>>, Summary),
+        b: (Box<Expr<O>>, Summary),
+        c: (Box<Expr<O>>, Summary),
+    ) -> Result<(Expr<O>, Summary), AllocError>
+        ensures { IfOk result (λ r. pair r ≡ fold_step O.meaning K.literal (K.known self.now.constants.now)
+            (ThreeNode at o (tree a.0.value, a.1) (tree b.0.value, b.1) (tree c.0.value, c.1))) }
+    {
+        let s = three_summary(o, &a.1, &b.1, &c.1);
+        let rest = rest_of_three(at, o, asked_by(o, &a.1), a.0, b.0, c.0);
+        Ok((named::<O, K>(alloc, fixed_of(&s), rest)?, s))
     }
 }
 
@@ -120,21 +165,21 @@ fn name_summary(known: Option<Fixed>) -> Summary
     }
 }
 
-/// A name, or the literal of its value.
-fn folded_name<O: Operator, K: Constants<O>>(
+/// The literal of a value, where it is known, in place of what stands there otherwise.
+fn named<O: Operator, K: Constants<O>>(
     alloc: Global,
     known: Option<Fixed>,
-    at: usize,
-    x: Text,
-) -> Result<(Expr<O>, Summary), AllocError>
-    ensures { IfOk result (λ r. pair r ≡ (named K.literal known (Name at x), name_summary known)) }
+    rest: Expr<O>,
+) -> Result<Expr<O>, AllocError>
+    ensures { IfOk result (λ e. tree e ≡ named K.literal known (tree rest)) }
 {
-    let summary = name_summary(known);
-    let e = match known {
-        Some(k) => K::literal(alloc, k.value, k.ty),
-        None => Ok(Expr::Name(at, x)),
-    };
-    Ok((e?, summary))
+    match known {
+        Some(k) => {
+            drop(rest);
+            K::literal(alloc, k.value, k.ty)
+        }
+        None => Ok(rest),
+    }
 }
 
 /// What comes after the first operand of a node, where it is worth a value.
@@ -144,76 +189,6 @@ enum Asked {
     Truth(bool),
     Second,
     Third,
-}
-
-/// A node over one operand, and its summary.
-fn folded_one<O: Operator, K: Constants<O>>(
-    alloc: Global,
-    at: usize,
-    o: O,
-    x: Box<Expr<O>>,
-    a: &Summary,
-) -> Result<(Expr<O>, Summary), AllocError>
-    ensures { IfOk result (λ r. pair r ≡ folded_one O.meaning K.literal at o (one_summary O.meaning o a.now) (tree x.value, a.now)) }
-{
-    let s = one_summary(o, a);
-    let e = match fixed_of(&s) {
-        Some(k) => {
-            drop(x);
-            K::literal(alloc, k.value, k.ty)
-        }
-        None => Ok(rest_of_one(at, o, asked_by(o, a), x)),
-    };
-    Ok((e?, s))
-}
-
-/// A node over two operands, and its summary.
-fn folded_two<O: Operator, K: Constants<O>>(
-    alloc: Global,
-    at: usize,
-    o: O,
-    x: Box<Expr<O>>,
-    a: &Summary,
-    y: Box<Expr<O>>,
-    b: &Summary,
-) -> Result<(Expr<O>, Summary), AllocError>
-    ensures { IfOk result (λ r. pair r ≡ folded_two O.meaning K.literal at o (two_summary O.meaning o a.now b.now) (tree x.value, a.now) (tree y.value, b.now)) }
-{
-    let s = two_summary(o, a, b);
-    let e = match fixed_of(&s) {
-        Some(k) => {
-            drop((x, y));
-            K::literal(alloc, k.value, k.ty)
-        }
-        None => Ok(rest_of_two(at, o, asked_by(o, a), x, y)),
-    };
-    Ok((e?, s))
-}
-
-/// A node over three operands, and its summary.
-fn folded_three<O: Operator, K: Constants<O>>(
-    alloc: Global,
-    at: usize,
-    o: O,
-    x: Box<Expr<O>>,
-    a: &Summary,
-    y: Box<Expr<O>>,
-    b: &Summary,
-    z: Box<Expr<O>>,
-    c: &Summary,
-) -> Result<(Expr<O>, Summary), AllocError>
-    ensures { IfOk result (λ r. pair r ≡ folded_three O.meaning K.literal at o (three_summary O.meaning o a.now b.now c.now)
-        (tree x.value, a.now) (tree y.value, b.now) (tree z.value, c.now)) }
-{
-    let s = three_summary(o, a, b, c);
-    let e = match fixed_of(&s) {
-        Some(k) => {
-            drop((x, y, z));
-            K::literal(alloc, k.value, k.ty)
-        }
-        None => Ok(rest_of_three(at, o, asked_by(o, a), x, y, z)),
-    };
-    Ok((e?, s))
 }
 
 /// A node over one operand, which its operator doesn't ask for, or the truth value that this settles.

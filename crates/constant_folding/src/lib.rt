@@ -10,7 +10,6 @@ mod laws;
 mod literals;
 mod numbers;
 mod table;
-mod walk;
 
 pub use constants::{AnyConst, known_under, specialised_value};
 pub use folding::{fold, fold_noted, worth};
@@ -20,4 +19,3 @@ pub use laws::{folded_type_law, folding_law};
 pub use literals::{Numerals, value_literal};
 pub use numbers::whole_literal;
 pub use table::KnownTable;
-pub use walk::{Fold, Over, fold_ops};

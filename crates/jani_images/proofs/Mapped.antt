@@ -1,14 +1,14 @@
 -- The image of an expression is made node by node; under new names that are the same, name by name, it is the same.
 use Rattle.std.proofs.Common.{◌≡◌, refl, ap, ap₂}
 use Rattle.op_trees.specs.Tree.{Truth, Number, Name as At, One, Two, Three}
-use Rattle.op_trees.specs.Rebuilt.{mapped}
+use Rattle.op_trees.specs.Walk.{walked}
 use Rattle.process_core.specs.Ready.{Name}
 use Rattle.prism_tree.specs.Syntax as prism
 use Rattle.jani_tree.specs.Syntax.{Expression}
 use Rattle.jani_images.specs.Image.{image, prism_op}
 use Rattle.jani_images.specs.Nodes.{image_node}
 
-pub image_mapped : (new : Name → Name) (e : Expression) → mapped (image_node new) e ≡ image new e
+pub image_mapped : (new : Name → Name) (e : Expression) → walked (image_node new) e ≡ image new e
 image_mapped new (Truth at b) = refl
 image_mapped new (Number at d) = refl
 image_mapped new (At at x) = refl

@@ -1,13 +1,13 @@
 -- The image of an expression, node by node (this project's own rule; Image.antt states it of whole expressions).
 use Rattle.op_trees.specs.Tree.{Tree, Truth, Name as At, One, Two, Three}
-use Rattle.op_trees.specs.Rebuilt.{Node, TruthNode, NumberNode, NameNode, OneNode, TwoNode, ThreeNode}
+use Rattle.op_trees.specs.Walk.{Node, TruthNode, NumberNode, NameNode, OneNode, TwoNode, ThreeNode}
 use Rattle.process_core.specs.Ready.{Name}
 use Rattle.prism_tree.specs.declared.operator.PrismOp.{PrismOp}
 use Rattle.jani_table.specs.declared.operator.JaniOp.{JaniOp}
 use Rattle.jani_images.specs.Image.{prism_op, literal}
 
 -- one node, over the images of its operands
-abbrev pub image_node : (Name → Name) → Node JaniOp PrismOp → Tree PrismOp
+abbrev pub image_node : (Name → Name) → Node JaniOp (Tree PrismOp) → Tree PrismOp
 image_node new (TruthNode at b) = Truth at b
 image_node new (NumberNode at d) = literal at d
 image_node new (NameNode at x) = At at (new x)

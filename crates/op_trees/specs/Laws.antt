@@ -6,7 +6,8 @@ use Rattle.op_trees.specs.Tree.{Tree, AllNames, AllNumbers, bare, renamed, subst
 use Rattle.op_trees.specs.Meaning.{Meaning, Environment, answer, answered, needs_wide, value_of}
 use Rattle.op_trees.specs.Types.{Types, AgreesWith, has_type, misfits, type_in, type_through, types_looked_up}
 use Rattle.op_trees.specs.Seen.{FallsTo, IsFalling, Seen, SeesBodies, known_names, looked_up, seen, seen_through}
-use Rattle.op_trees.specs.Rebuilt.{KeepsAnswers, Node, mapped}
+use Rattle.op_trees.specs.Walk.{Node, walked}
+use Rattle.op_trees.specs.Rebuilt.{KeepsAnswers}
 
 module _ {O : Type 0} (m : Meaning O) where
   -- one recursion sees the value and the bound on what it needs, and an evaluation answers by it
@@ -88,4 +89,4 @@ module _ {O : Type 0} (m : Meaning O) where
 -- where each rebuilt node is seen as the node, the rebuilt tree is seen as the tree
 abbrev pub MappingKeepsAnswers : {O Q : Type 0} → Meaning O → Meaning Q → Type 0
 MappingKeepsAnswers {O} {Q} m k =
-    (rebuilt : Node O Q → Tree Q) (t : Tree O) → KeepsAnswers m k rebuilt t (mapped rebuilt t)
+    (rebuilt : Node O (Tree Q) → Tree Q) (t : Tree O) → KeepsAnswers m k (λ r. r) rebuilt t (walked rebuilt t)

@@ -10,6 +10,7 @@ pub mod Standard
 pub mod StandardLaws
 pub mod AlongLaws
 pub mod TypeLaws
+pub mod Walk
 pub mod Rebuilt
 pub mod Laws
 pub mod Wanted

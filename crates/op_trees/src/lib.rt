@@ -11,6 +11,7 @@ mod rebuild;
 mod standard;
 mod tree;
 mod typing;
+mod walk;
 mod wanted;
 
 pub use evaluation::{apply_both, apply_one, eval, held, literal};
@@ -24,4 +25,5 @@ pub use rebuild::{Bodies, OpMap, Shape, copy_expr, map_ops, one, substitute, thr
 pub use standard::StandardOp;
 pub use tree::{EvalFail, Expr, Next, Ty, Value};
 pub use typing::type_of;
+pub use walk::{Fold, fold_ops};
 pub use wanted::{Wanted, is_wanted, wanted_by};

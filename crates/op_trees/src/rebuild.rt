@@ -4,10 +4,12 @@ ghost use Rattle.std.specs.Prelude.{◌≡◌, IfOk, IsOkAnd, List, Ok, Option, 
 ghost use Rattle.std.specs.Option.{option_copied, option_map};
 ghost use Rattle.op_trees.specs.Tree.{Tree, Name, One, Two, Three, replaced, substituted, tree};
 ghost use Rattle.op_trees.specs.Seen.{SeesBodies};
-ghost use Rattle.op_trees.specs.Rebuilt.{KeepsAnswers, Node, NameNode, OneNode, TwoNode, ThreeNode, mapped, shape};
+ghost use Rattle.op_trees.specs.Walk.{Node, pair, walked};
+ghost use Rattle.op_trees.specs.Rebuilt.{KeepsAnswers, shape};
 
 use crate::operator::Operator;
 use crate::tree::Expr;
+use crate::walk::{Fold, fold_ops};
 use bridge_io::{Text, together};
 use frac_core::Decimal;
 use std::alloc::{AllocError, Global};
@@ -34,7 +36,7 @@ pub enum Shape<O, Q> {
 
 /// A change of operators and names.
 pub trait OpMap<O: Operator, Q: Operator> {
-    ghost rebuilt: { Self → Node O Q → Tree Q };
+    ghost rebuilt: { Self → Node O (Tree Q) → Tree Q };
 
     /// Rebuilds one node over rebuilt operands, and renames names. `Err` is want of memory.
     fn rebuild(&self, alloc: Global, node: Shape<O, Q>) -> Result<Expr<Q>, AllocError>
@@ -191,104 +193,103 @@ pub fn map_ops<O: Operator, Q: Operator, M: OpMap<O, Q>>(
     e: &Expr<O>,
     map: &M,
 ) -> Result<Expr<Q>, AllocError>
-    ensures tree { IfOk result (λ r. tree r ≡ mapped (M.rebuilt map.now) (tree e.now)) }
+    ensures tree { IfOk result (λ r. tree r ≡ walked (M.rebuilt map.now) (tree e.now)) }
     ensures answers { IfOk result
-        (λ r. KeepsAnswers O.meaning Q.meaning (M.rebuilt map.now) (tree e.now) (tree r)) }
+        (λ r. KeepsAnswers O.meaning Q.meaning (λ t. t) (M.rebuilt map.now) (tree e.now) (tree r)) }
 {
     rebuilt(alloc, e, map)
 }
 
-/// The same by recursion.
+/// The same as a walk on which nothing is noted.
 fn rebuilt<O: Operator, Q: Operator, M: OpMap<O, Q>>(
     alloc: Global,
     e: &Expr<O>,
     map: &M,
 ) -> Result<Expr<Q>, AllocError>
-    ensures { IfOk result (λ r. tree r ≡ mapped (M.rebuilt map.now) (tree e.now)) }
+    ensures { IfOk result (λ r. tree r ≡ walked (M.rebuilt map.now) (tree e.now)) }
 {
-    match e {
-        Expr::Truth(at, b) => map.rebuild(alloc, Shape::Truth(*at, *b)),
-        Expr::Number(at, d) => map.rebuild(alloc, Shape::Number(*at, *d)),
-        Expr::Name(at, x) => rebuilt_name(alloc, map, *at, x.as_str()),
-        Expr::One(at, o, a) => rebuilt_one(alloc, map, *at, *o, rebuilt(alloc, a, map)),
-        Expr::Two(at, o, a, b) => rebuilt_two(
-            alloc,
-            map,
-            *at,
-            *o,
-            rebuilt(alloc, a, map),
-            rebuilt(alloc, b, map),
-        ),
-        Expr::Three(at, o, a, b, c) => rebuilt_three(
-            alloc,
-            map,
-            *at,
-            *o,
-            rebuilt(alloc, a, map),
-            rebuilt(alloc, b, map),
-            rebuilt(alloc, c, map),
-        ),
+    let (new, ()) = fold_ops(alloc, e, &Rebuilding { map })?;
+    Ok(new)
+}
+
+/// Rebuilds nodes, and notes nothing.
+#[derive(Drop)]
+struct Rebuilding<'a, M> {
+    map: &'a M,
+}
+
+impl<'a, O: Operator, Q: Operator, M: OpMap<O, Q>> Fold<O, Q, ()> for Rebuilding<'a, M> {
+    ghost use Rattle.std.specs.Prelude.{◌≡◌, IfOk};
+    ghost use Rattle.op_trees.specs.Tree.{tree};
+    ghost use Rattle.op_trees.specs.Walk.{TruthNode, NumberNode, NameNode, OneNode, TwoNode, ThreeNode, pair};
+    ghost use Rattle.op_trees.specs.Rebuilt.{noting};
+
+    ghost step = { λ r. noting (M.rebuilt r.map.now) };
+
+    fn truth(&self, alloc: Global, at: usize, b: bool) -> Result<(Expr<Q>, ()), AllocError>
+        ensures { IfOk result (λ r. pair r ≡ noting (M.rebuilt self.now.map.now) (TruthNode at b)) }
+    {
+        unnoted(self.map.rebuild(alloc, Shape::Truth(at, b)))
+    }
+
+    fn number(&self, alloc: Global, at: usize, d: Decimal) -> Result<(Expr<Q>, ()), AllocError>
+        ensures { IfOk result (λ r. pair r ≡ noting (M.rebuilt self.now.map.now) (NumberNode at d)) }
+    {
+        unnoted(self.map.rebuild(alloc, Shape::Number(at, d)))
+    }
+
+    fn name(&self, alloc: Global, at: usize, x: &str) -> Result<(Expr<Q>, ()), AllocError>
+        ensures { IfOk result (λ r. pair r ≡ noting (M.rebuilt self.now.map.now) (NameNode at x.now)) }
+    {
+        let name = Text::copy_of(alloc, x)?;
+        unnoted(self.map.rebuild(alloc, Shape::Name(at, name)))
+    }
+
+    fn one(
+        &self,
+        alloc: Global,
+        at: usize,
+        o: O,
+        a: (Box<Expr<Q>>, ()),
+    ) -> Result<(Expr<Q>, ()), AllocError>
+        ensures { IfOk result (λ r. pair r ≡ noting (M.rebuilt self.now.map.now) (OneNode at o (tree a.0.value, a.1))) }
+    {
+        unnoted(self.map.rebuild(alloc, Shape::One(at, o, a.0)))
+    }
+
+    fn two(
+        &self,
+        alloc: Global,
+        at: usize,
+        o: O,
+        a: (Box<Expr<Q>>, ()),
+        b: (Box<Expr<Q>>, ()),
+    ) -> Result<(Expr<Q>, ()), AllocError>
+        ensures { IfOk result (λ r. pair r ≡ noting (M.rebuilt self.now.map.now)
+            (TwoNode at o (tree a.0.value, a.1) (tree b.0.value, b.1))) }
+    {
+        unnoted(self.map.rebuild(alloc, Shape::Two(at, o, a.0, b.0)))
+    }
+
+    fn three(
+        &self,
+        alloc: Global,
+        at: usize,
+        o: O,
+        a: (Box<Expr<Q>>, ()),
+        b: (Box<Expr<Q>>, ()),
+        c: (Box<Expr<Q>>, ()),
+    ) -> Result<(Expr<Q>, ()), AllocError>
+        ensures { IfOk result (λ r. pair r ≡ noting (M.rebuilt self.now.map.now)
+            (ThreeNode at o (tree a.0.value, a.1) (tree b.0.value, b.1) (tree c.0.value, c.1))) }
+    {
+        unnoted(self.map.rebuild(alloc, Shape::Three(at, o, a.0, b.0, c.0)))
     }
 }
 
-/// A name rebuilt.
-fn rebuilt_name<O: Operator, Q: Operator, M: OpMap<O, Q>>(
-    alloc: Global,
-    map: &M,
-    at: usize,
-    x: &str,
-) -> Result<Expr<Q>, AllocError>
-    ensures { IfOk result (λ r. tree r ≡ M.rebuilt map.now (NameNode at x.now)) }
+/// What was rebuilt, with nothing noted of it.
+fn unnoted<Q: Operator>(made: Result<Expr<Q>, AllocError>) -> Result<(Expr<Q>, ()), AllocError>
+    ensures { IfOk result (λ r. IsOkAnd made (λ e. pair r ≡ (tree e, tt))) }
 {
-    let name = Text::copy_of(alloc, x)?;
-    map.rebuild(alloc, Shape::Name(at, name))
-}
-
-/// A node rebuilt over its rebuilt operand.
-fn rebuilt_one<O: Operator, Q: Operator, M: OpMap<O, Q>>(
-    alloc: Global,
-    map: &M,
-    at: usize,
-    o: O,
-    a: Result<Expr<Q>, AllocError>,
-) -> Result<Expr<Q>, AllocError>
-    ensures { IfOk result
-        (λ r. IsOkAnd a (λ x. tree r ≡ M.rebuilt map.now (OneNode at o (tree x)))) }
-{
-    let first = boxed(alloc, a)?;
-    map.rebuild(alloc, Shape::One(at, o, first))
-}
-
-/// A node rebuilt over its two rebuilt operands.
-fn rebuilt_two<O: Operator, Q: Operator, M: OpMap<O, Q>>(
-    alloc: Global,
-    map: &M,
-    at: usize,
-    o: O,
-    a: Result<Expr<Q>, AllocError>,
-    b: Result<Expr<Q>, AllocError>,
-) -> Result<Expr<Q>, AllocError>
-    ensures { IfOk result (λ r. IsOkAnd a (λ x. IsOkAnd b
-        (λ y. tree r ≡ M.rebuilt map.now (TwoNode at o (tree x) (tree y))))) }
-{
-    let (first, second) = together(boxed(alloc, a), boxed(alloc, b))?;
-    map.rebuild(alloc, Shape::Two(at, o, first, second))
-}
-
-/// A node rebuilt over its three rebuilt operands.
-fn rebuilt_three<O: Operator, Q: Operator, M: OpMap<O, Q>>(
-    alloc: Global,
-    map: &M,
-    at: usize,
-    o: O,
-    a: Result<Expr<Q>, AllocError>,
-    b: Result<Expr<Q>, AllocError>,
-    c: Result<Expr<Q>, AllocError>,
-) -> Result<Expr<Q>, AllocError>
-    ensures { IfOk result (λ r. IsOkAnd a (λ x. IsOkAnd b (λ y. IsOkAnd c
-        (λ z. tree r ≡ M.rebuilt map.now (ThreeNode at o (tree x) (tree y) (tree z)))))) }
-{
-    let pair = together(boxed(alloc, a), boxed(alloc, b));
-    let ((first, second), third) = together(pair, boxed(alloc, c))?;
-    map.rebuild(alloc, Shape::Three(at, o, first, second, third))
+    Ok((made?, ()))
 }

@@ -7,7 +7,7 @@ use Rattle.op_trees.specs.declared.tree.Ty.TheVariants as T
 use Rattle.op_trees.specs.declared.tree.Value.{Value}
 use Rattle.op_trees.specs.declared.tree.Value.TheVariants as V
 use Rattle.op_trees.specs.Tree.{Tree, Truth, Number, Name, One, Two, Three}
-use Rattle.op_trees.specs.Rebuilt.{Node, TruthNode, NumberNode, NameNode, OneNode, TwoNode, ThreeNode}
+use Rattle.op_trees.specs.Walk.{Node, TruthNode, NumberNode, NameNode, OneNode, TwoNode, ThreeNode}
 use Rattle.prism_tree.specs.declared.operator.PrismOp.{PrismOp}
 use Rattle.prism_tree.specs.declared.operator.PrismOp.TheVariants.{Equal, Greater}
 
@@ -29,7 +29,7 @@ abbrev pub turned : PrismOp → PrismOp
 turned Greater = Equal
 turned o = o
 
-abbrev pub turned_node : Node PrismOp PrismOp → Tree PrismOp
+abbrev pub turned_node : Node PrismOp (Tree PrismOp) → Tree PrismOp
 turned_node (TruthNode at b) = Truth at b
 turned_node (NumberNode at d) = Number at d
 turned_node (NameNode at x) = Name at (121 ∷ [])

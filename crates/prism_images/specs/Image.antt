@@ -5,7 +5,7 @@
 use Rattle.std.specs.Prelude.{ℕ, List, pos, false}
 use Rattle.frac_core.specs.declared.decimal.Decimal.{Decimal}
 use Rattle.op_trees.specs.Tree.{Tree, Truth, Number, Name, One, Two, Three}
-use Rattle.op_trees.specs.Rebuilt.{Node, TruthNode, NumberNode, NameNode, OneNode, TwoNode, ThreeNode, mapped}
+use Rattle.op_trees.specs.Walk.{Node, TruthNode, NumberNode, NameNode, OneNode, TwoNode, ThreeNode, walked}
 use Rattle.prism_tree.specs.declared.operator.PrismOp.{PrismOp}
 use Rattle.prism_tree.specs.declared.operator.PrismOp.TheVariants as P
 use Rattle.jani_table.specs.declared.operator.JaniOp.{JaniOp}
@@ -46,7 +46,7 @@ image_one at P.Neg a = Two at J.Sub (Number at nought_literal) a
 image_one at o a = One at (jani_op o) a
 
 -- one node, over the images of its operands
-abbrev pub image_node : (List ℕ → List ℕ) → Node PrismOp JaniOp → Tree JaniOp
+abbrev pub image_node : (List ℕ → List ℕ) → Node PrismOp (Tree JaniOp) → Tree JaniOp
 image_node new (TruthNode at b) = Truth at b
 image_node new (NumberNode at d) = Number at d
 image_node new (NameNode at x) = Name at (new x)
@@ -56,4 +56,4 @@ image_node new (ThreeNode at o a b c) = Three at (jani_op o) a b c
 
 -- the image of an expression: each node's over its operands'
 abbrev pub image : (List ℕ → List ℕ) → Tree PrismOp → Tree JaniOp
-image new e = mapped (image_node new) e
+image new e = walked (image_node new) e

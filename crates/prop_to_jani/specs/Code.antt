@@ -4,7 +4,7 @@ use Rattle.std.specs.Borrow.{Bor}
 use Rattle.std.specs.Option.{option_map}
 use Rattle.std.specs.Str.{is_utf8}
 use Rattle.bridge_io.specs.declared.reason.Named.{Named}
-use Rattle.op_trees.specs.Rebuilt.{Node, TruthNode, NumberNode, NameNode, OneNode, TwoNode, ThreeNode}
+use Rattle.op_trees.specs.Walk.{Node, TruthNode, NumberNode, NameNode, OneNode, TwoNode, ThreeNode}
 use Rattle.op_trees.specs.Tree.{Truth, Number, Name as At, One, Two, Three, renamed, replaced, substituted}
 use Rattle.prism_tree.specs.declared.operator.PrismOp.{PrismOp}
 use Rattle.prism_tree.specs.Syntax.{Expression, File}
@@ -72,7 +72,7 @@ name_in n x = meant_in n x (meant x)
 -- ---- expressions
 
 -- one node, whose name is marked as one of the model
-abbrev pub marked_node : Node PrismOp PrismOp → Expression
+abbrev pub marked_node : Node PrismOp Expression → Expression
 marked_node (TruthNode at b) = Truth at b
 marked_node (NumberNode at d) = Number at d
 marked_node (NameNode at x) = At at (marked x)
@@ -91,7 +91,7 @@ abbrev pub marked_body_in : BodyTable → Name → Option Expression
 marked_body_in t x = body_meant_in t (meant x)
 
 -- one node, whose name is replaced by its body
-abbrev pub written_node : BodyTable → Node PrismOp PrismOp → Expression
+abbrev pub written_node : BodyTable → Node PrismOp Expression → Expression
 written_node t (TruthNode at b) = Truth at b
 written_node t (NumberNode at d) = Number at d
 written_node t (NameNode at x) = replaced (At at x) (marked_body_in t x)

@@ -1,6 +1,6 @@
 use Rattle.std.proofs.Common.{sym, subst}
 use Rattle.op_trees.specs.Tree.{Tree, tree}
-use Rattle.op_trees.specs.Rebuilt.{KeepsAnswers, seen-mapped}
+use Rattle.op_trees.specs.Rebuilt.{KeepsAnswers, seen-walked}
 use Rattle.op_trees.proofs.Made.{if_ok}
 use Rattle.op_trees.proofs.rebuild.map_ops.Goals as goal
 
@@ -14,6 +14,6 @@ returns g c =
       tree = c.rebuilt.ensures;
       answers =
           if_ok _ _
-          (λ r is. subst (λ (t : Tree _). KeepsAnswers m k new e t) (sym is) (λ old seen. seen-mapped m k new old seen e))
+          (λ r is. subst (λ (t : Tree _). KeepsAnswers m k (λ x. x) new e t) (sym is) (λ old seen. seen-walked m k (λ x. x) new old seen e))
           c.rebuilt.result c.rebuilt.ensures;
     }
