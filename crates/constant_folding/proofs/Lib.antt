@@ -1,4 +1,4 @@
-mod Called
+mod Unfit
 pub mod Kept
 pub mod Steps
 pub mod Fits

@@ -1,6 +1,6 @@
 -- Which given values the open constants of a model take. (PRISM manual, "The PRISM Language": "Constants"; jani-model specification, version 1: "Models".
 -- Which value is refused is this project's own rule.)
-use Rattle.std.specs.Prelude.{◌≡◌, ℕ, List, IsTrue, Option, Some, None, not, false, if◌then◌else◌}
+use Rattle.std.specs.Prelude.{◌≡◌, ℕ, List, IsTrue, Option, Some, None, not, false, nat_lt, if◌then◌else◌}
 use Rattle.std.specs.List.{list_any, position_or_len}
 use Rattle.op_trees.specs.declared.tree.Value.{Value}
 use Rattle.op_trees.specs.Meaning.{is_wide_value}
@@ -17,6 +17,11 @@ use Rattle.constant_folding.specs.declared.given.SpecFail.TheVariants.{Memory, W
 -- the first given value that no open constant takes; constants may be left open
 abbrev pub unfit : List Constant → List Given → Option ℕ
 unfit cs given = if list_any (λ g. not (fits cs g)) given then Some (position_or_len (λ g. not (fits cs g)) given) else None
+
+-- a place, unless it is behind the last of so many
+abbrev pub place_within : Option ℕ → ℕ → Option ℕ
+place_within None count = None
+place_within (Some i) count = if nat_lt i count then Some i else None
 
 -- want of memory, or the first given value that doesn't fit
 abbrev pub Fails : List Constant → List Given → SpecFail → Type 0

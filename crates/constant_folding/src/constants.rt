@@ -27,7 +27,7 @@ use process_core::Given;
 use std::alloc::{AllocError, Global};
 
 /// A constant of a model, in whichever language that is: its name, its type, and its expression, where it has one.
-#[derive(Clone, Copy)]
+#[derive(Drop)]
 pub struct AnyConst<'a, O> {
     pub name: &'a Named,
     pub ty: Ty,
@@ -100,7 +100,7 @@ fn declarations<'a, O: Operator>(
 {
     let mut all = Vec::with_capacity(alloc, constants.len())?;
     for constant in constants {
-        all.push(declaration(alloc, *constant)?)?;
+        all.push(declaration(alloc, constant)?)?;
     }
     Ok(all)
 }
@@ -108,9 +108,9 @@ fn declarations<'a, O: Operator>(
 /// A constant with the names that it uses.
 fn declaration<'a, O: Operator>(
     alloc: Global,
-    constant: AnyConst<'a, O>,
+    constant: &AnyConst<'a, O>,
 ) -> Result<Declaration<'a>, AllocError>
-    ensures { IfOk result (λ d. declared_by d ≡ declared (const_of constant.entry)) }
+    ensures { IfOk result (λ d. declared_by d ≡ declared (const_of constant.now)) }
 {
     let uses = uses_of(alloc, constant.value)?;
     Ok(Declaration {
@@ -153,7 +153,7 @@ fn known_in_turn<'t, O: Operator, N: Copy + Numerals<O>>(
         numerals,
     };
     for turn in order {
-        take_turn(alloc, constants[*turn], &mut table)?;
+        take_turn(alloc, &constants[*turn], &mut table)?;
     }
     Ok(table)
 }
@@ -161,15 +161,15 @@ fn known_in_turn<'t, O: Operator, N: Copy + Numerals<O>>(
 /// Puts what is known of a constant into the table, by what is known of those before it.
 fn take_turn<'t, O: Operator, N: Copy + Numerals<O>>(
     alloc: Global,
-    constant: AnyConst<'t, O>,
+    constant: &AnyConst<'t, O>,
     table: &mut KnownTable<'t, N>,
 ) -> Result<(), AllocError>
-    ensures known { let c = const_of constant.entry in
+    ensures known { let c = const_of constant.now in
         OnOk result ((x : List ℕ) → known_in table.new x
         ≡ (if bytes_eq c.name.name x then known_by O.meaning (given_in table.old c.name.name) (known_in table.old) c.ty c.value else known_in table.old x)) }
     ensures given { OnOk result (given_in table.new ≡ given_in table.old) }
 {
-    let known = known_constant(alloc, &constant, table)?;
+    let known = known_constant(alloc, constant, table)?;
     table.constants.put(constant.name.name.as_str(), known)?;
     Ok(())
 }

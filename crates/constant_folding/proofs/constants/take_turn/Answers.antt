@@ -12,4 +12,4 @@ returns-clause-known g c = λ x.
     ap (λ (f : Name → Option (Option Fixed)). unwrap_or (f x) None) c.in_ok-put.ensures
     ∙ entry_put (under c.args.table.now.constants) c.as_str.result.now x c.in_ok-known.known
     ∙ ap (λ n. if bytes_eq n x then c.in_ok-known.known else old x) c.as_str.ensures
-    ∙ ap (λ v. if bytes_eq c.args.constant.name.now.name x then v else old x) c.in_ok-known.ensures
+    ∙ ap (λ v. if bytes_eq c.args.constant.now.name.now.name x then v else old x) c.in_ok-known.ensures
