@@ -24,4 +24,4 @@ mod vectors;
 
 pub use instance::JaniInstance;
 pub use laws::one_process_law;
-pub use start::start_jani;
+pub use start::{open_constants, start_jani};

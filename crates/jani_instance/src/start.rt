@@ -157,8 +157,8 @@ fn instance_of<'a>(
     }
 }
 
-/// The constants, each with its type, and whether it is left open.
-fn open_constants(alloc: Global, constants: &[JaniConst]) -> Result<Vec<Constant>, AllocError>
+/// The constants, each with its type, and whether it is left open. `Err` is want of memory.
+pub fn open_constants(alloc: Global, constants: &[JaniConst]) -> Result<Vec<Constant>, AllocError>
     ensures { IfOk result (λ cs. map constant_of cs.items ≡ map opened (map const_of constants.now)) }
 {
     let mut all = Vec::with_capacity(alloc, constants.len())?;

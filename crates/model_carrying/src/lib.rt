@@ -3,7 +3,6 @@
 #![tactic(auto)]
 
 mod carrying;
-mod constants;
 mod ending;
 mod from_jani;
 mod from_prism;

@@ -21,4 +21,4 @@ mod variables;
 
 pub use instance::PrismInstance;
 pub use laws::{described_law, one_process_law};
-pub use start::start_prism;
+pub use start::{open_constants, start_prism};
