@@ -1,6 +1,6 @@
 // A file with its parts folded.
 
-ghost use Rattle.std.specs.Prelude.{◌≡◌, IfOk, OnOk, [], map};
+ghost use Rattle.std.specs.Prelude.{◌≡◌, IfOk, [], map};
 ghost use Rattle.prism_tree.specs.Syntax.{file_of, module_of, plain, command_of, var_of};
 ghost use Rattle.prism_rewriter.specs.Rewritten.{rewritten_body};
 ghost use Rattle.constant_folding.specs.Tables.{given_in, known_in};
@@ -14,7 +14,7 @@ use prism_rewriter::named;
 use prism_tree::{PlainModule, PrismFile, PrismModule};
 use std::alloc::{AllocError, Global};
 
-/// The file with all its parts folded. `Err` is want of memory.
+/// A file without formulas with all its parts folded. `Err` is want of memory.
 pub(crate) fn folded_file(
     alloc: Global,
     file: &PrismFile,
@@ -23,46 +23,27 @@ pub(crate) fn folded_file(
     requires { file.now.formulas ≡ [] }
     ensures { IfOk result (λ f. file_of f ≡ specialised_by (given_in table.now) (known_in table.now) (file_of file.now)) }
 {
-    let mut written = PrismFile {
-        constants: List::new(alloc),
-        globals: List::new(alloc),
-        formulas: List::new(alloc),
-        modules: List::new(alloc),
-        labels: List::new(alloc),
-        rewards: List::new(alloc),
-        init: None,
-        end: file.end,
-    };
-    write_parts(alloc, file, table, &mut written)?;
-    Ok(written)
-}
-
-/// Puts the folded parts of a file into a file of its length that has no formulas, as it has none.
-fn write_parts(
-    alloc: Global,
-    file: &PrismFile,
-    table: &KnownTable<PrismNumerals>,
-    written: &mut PrismFile,
-) -> Result<(), AllocError>
-    requires none { file.now.formulas ≡ [] }
-    requires formulas { written.old.formulas ≡ [] }
-    requires end { written.old.end ≡ file.now.end }
-    ensures { OnOk result (file_of written.new ≡ specialised_by (given_in table.now) (known_in table.now) (file_of file.now)) }
-{
     let constants = all_folded(alloc, file.constants.as_slice(), table);
-    let (constants, globals) = together(
-        constants,
-        all_folded(alloc, file.globals.as_slice(), table),
-    )?;
-    written.constants = constants;
-    written.globals = globals;
-    written.modules = folded_modules(alloc, file.modules.as_slice(), table)?;
+    let globals = all_folded(alloc, file.globals.as_slice(), table);
+    let modules = folded_modules(alloc, file.modules.as_slice(), table);
     let labels = all_folded(alloc, file.labels.as_slice(), table);
-    let (labels, rewards) = together(labels, all_folded(alloc, file.rewards.as_slice(), table))?;
-    written.labels = labels;
-    written.rewards = rewards;
-    written.init = optional(alloc, &file.init, table)?;
-    Ok(())
+    let rewards = all_folded(alloc, file.rewards.as_slice(), table);
+    let init = optional(alloc, &file.init, table);
+    let values = together(constants, globals);
+    let marks = together(labels, rewards);
+    let outer = together(values, marks);
+    let inner = together(modules, init);
+    let (((constants, globals), (labels, rewards)), (modules, init)) = together(outer, inner)?;
+    Ok(PrismFile {
+        constants,
+        globals,
+        formulas: List::new(alloc),
+        modules,
+        labels,
+        rewards,
+        init,
+        end: file.end,
+    })
 }
 
 /// These modules folded, in order.
