@@ -20,9 +20,13 @@ pub const EVALUATED: usize = 2_048;
 /// How many it may stand for where its guard is counted at most, and written only if it is short.
 pub const COUNTED: usize = 32_768;
 
+/// How many loops a file may have. They are actions times locations, so a short file could have any number of them.
+const LOOPS: usize = 2_097_152;
+
 /// The elements of a file as automata with loops, if some element accepts an action everywhere. Where none does, each element is
-/// its automaton as it stands in the file. `Err` is want of memory, which a loop is answered with, too, that stands for more edges
-/// than `most`: its guard is as high as they are many, and whatever goes through an expression needs stack for each level.
+/// its automaton as it stands in the file. `Err` is want of memory, which more loops than `LOOPS` are answered with, too, and a loop
+/// that stands for more edges than `most`: its guard is as high as they are many, and whatever goes through an expression needs stack
+/// for each level.
 pub fn looped(
     alloc: Global,
     file: &JaniFile,
@@ -34,6 +38,9 @@ pub fn looped(
         return Ok(None);
     }
     let automata = automata_by_name(alloc, file.automata.as_slice())?;
+    if loop_count(&automata, file.elements.as_slice()) > LOOPS {
+        return Err(AllocError);
+    }
     Ok(Some(each_looped(alloc, &automata, file.elements.as_slice(), most)?))
 }
 
@@ -42,6 +49,17 @@ fn some_accepts(elements: &[JaniElement]) -> bool
     ensures { result ≡ list_any (λ e. accepts (element_of e)) elements.now }
 {
     elements.iter().any(|e| e.enable.len() != 0)
+}
+
+/// How many loops the elements have: one for each action that an element accepts everywhere and each location of its automaton.
+fn loop_count(automata: &NameMap<&JaniAutomaton>, elements: &[JaniElement]) -> usize {
+    let mut count: usize = 0;
+    for e in elements {
+        if let Some(a) = automata.get(e.name.name.as_str()) {
+            count = count.saturating_add(a.locations.len().saturating_mul(e.enable.len()));
+        }
+    }
+    count
 }
 
 /// The elements as automata with loops, where these are the automata by their names.

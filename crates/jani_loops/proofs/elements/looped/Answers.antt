@@ -18,5 +18,5 @@ returns c =
     let file = file_of c.args.file.now in
     let t = c.in_ok-automata.automata in
     c.in_ok-each_looped.ensures
-    ∙ ap (λ (es : List JaniElement). map (element_under t) (map element_of es)) c.as_slice-3.ensures
+    ∙ ap (λ (es : List JaniElement). map (element_under t) (map element_of es)) c.as_slice-4.ensures
     ∙ same_elements file t (λ x. c.in_ok-automata.ensures x ∙ ap (λ l. automaton_in (map automaton_of l) x) c.as_slice-2.ensures) file.elements
