@@ -20,8 +20,9 @@ pub const EVALUATED: usize = 2_048;
 /// How many it may stand for where its guard is counted at most, and written only if it is short.
 pub const COUNTED: usize = 32_768;
 
-/// How many loops a file may have. They are actions times locations, so a short file could have any number of them.
-const LOOPS: usize = 2_097_152;
+/// How many loops a file may have. They are actions times locations, so a short file could have any number of them. Elements with
+/// one such action each, or with one location, can't have more in a file that is read: each takes four bytes at least.
+const LOOPS: usize = 4_194_304;
 
 /// The elements of a file as automata with loops, if some element accepts an action everywhere. Where none does, each element is
 /// its automaton as it stands in the file. `Err` is want of memory, which more loops than `LOOPS` are answered with, too, and a loop
