@@ -86,7 +86,8 @@ with_digit Power d r = made r.real r.negative r.digits r.places r.less (r.power 
 
 abbrev pub with_minus : Section → Reading → Reading
 with_minus Power r = made r.real r.negative r.digits r.places true r.power
-with_minus _ r = made r.real true r.digits r.places r.less r.power
+with_minus Whole r = made r.real true r.digits r.places r.less r.power
+with_minus Part r = made r.real true r.digits r.places r.less r.power
 
 -- what a byte adds, by where it stands
 abbrev pub with_byte : Section → ℕ → Reading → Reading

@@ -45,11 +45,21 @@ has k ms = is_some (member k ms)
 
 abbrev pub is_true : Option Node → Bool
 is_true (Some (truth at b)) = b
-is_true _ = false
+is_true (Some (null _)) = false
+is_true (Some (number _ _)) = false
+is_true (Some (text _ _)) = false
+is_true (Some (array _ _)) = false
+is_true (Some (object _ _ _)) = false
+is_true None = false
 
 abbrev pub is_word : List ℕ → Option Node → Bool
 is_word s (Some (text at t)) = bytes_eq s t
-is_word s _ = false
+is_word s (Some (null _)) = false
+is_word s (Some (truth _ _)) = false
+is_word s (Some (number _ _)) = false
+is_word s (Some (array _ _)) = false
+is_word s (Some (object _ _ _)) = false
+is_word s None = false
 
 -- ---- which table of members an object has
 
@@ -73,7 +83,12 @@ op_kind o = operands_kind (operand_count o)
 -- the operator that this member names
 abbrev pub op_in : Option Node → Option JaniOp
 op_in (Some (text at s)) = op_of s
-op_in _ = None
+op_in (Some (null _)) = None
+op_in (Some (truth _ _)) = None
+op_in (Some (number _ _)) = None
+op_in (Some (array _ _)) = None
+op_in (Some (object _ _ _)) = None
+op_in None = None
 
 abbrev pub or_unclear : Option JaniOp → Kind
 or_unclear None = O.Unclear
@@ -177,16 +192,28 @@ abbrev mutual
 -- all faults of an object with this table of members
 abbrev pub object_faults : Kind → Node → List Fault
 object_faults k (object at ms close) = members_faults k ms ++ own_faults k ms at close
-object_faults k v = fault (at_of v) WrongShape
+object_faults k (null at) = fault (at_of (null at)) WrongShape
+object_faults k (truth at b) = fault (at_of (truth at b)) WrongShape
+object_faults k (number at d) = fault (at_of (number at d)) WrongShape
+object_faults k (text at s) = fault (at_of (text at s)) WrongShape
+object_faults k (array at vs) = fault (at_of (array at vs)) WrongShape
 
 -- all faults of the items of a list
 abbrev pub list_items_faults : Form → Node → List Fault
 list_items_faults f (array at vs) = items_faults f vs
-list_items_faults f v = fault (at_of v) WrongShape
+list_items_faults f (null at) = fault (at_of (null at)) WrongShape
+list_items_faults f (truth at b) = fault (at_of (truth at b)) WrongShape
+list_items_faults f (number at d) = fault (at_of (number at d)) WrongShape
+list_items_faults f (text at s) = fault (at_of (text at s)) WrongShape
+list_items_faults f (object at ms close) = fault (at_of (object at ms close)) WrongShape
 
 abbrev pub members_in : Node → Fields
 members_in (object at ms close) = ms
-members_in _ = no_fields
+members_in (null _) = no_fields
+members_in (truth _ _) = no_fields
+members_in (number _ _) = no_fields
+members_in (text _ _) = no_fields
+members_in (array _ _) = no_fields
 
 -- the value of a member of an object
 abbrev pub part : Key → Node → Option Node
@@ -194,7 +221,11 @@ part k v = member k (members_in v)
 
 abbrev pub items_in : Node → Nodes
 items_in (array at vs) = vs
-items_in _ = no_nodes
+items_in (null _) = no_nodes
+items_in (truth _ _) = no_nodes
+items_in (number _ _) = no_nodes
+items_in (text _ _) = no_nodes
+items_in (object _ _ _) = no_nodes
 
 abbrev pub or_left_out : Option Form → Form
 or_left_out None = F.LeftOut
@@ -212,8 +243,16 @@ is_needed kind key = list_any (λ r. is_required r.1 && bytes_eq (spelled r.0) (
 
 abbrev pub is_text : Node → Bool
 is_text (text at s) = true
-is_text _ = false
+is_text (null _) = false
+is_text (truth _ _) = false
+is_text (number _ _) = false
+is_text (array _ _) = false
+is_text (object _ _ _) = false
 
 abbrev pub is_array : Node → Bool
 is_array (array at vs) = true
-is_array _ = false
+is_array (null _) = false
+is_array (truth _ _) = false
+is_array (number _ _) = false
+is_array (text _ _) = false
+is_array (object _ _ _) = false

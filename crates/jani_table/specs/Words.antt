@@ -31,7 +31,8 @@ ty_of s = find (λ t. bytes_eq (ty_text t) s) (T.Bool ∷ T.Int ∷ T.Real ∷ [
 abbrev pub is_base : Option Ty → Bool
 is_base (Some T.Int) = true
 is_base (Some T.Real) = true
-is_base _ = false
+is_base (Some T.Bool) = false
+is_base None = false
 
 -- ---- features that may be asked for
 

@@ -40,22 +40,34 @@ is_number T.Real = Some T.Real
 -- of two numbers: int where both are, else real
 abbrev pub joined : Ty → Ty → Option Ty
 joined T.Bool b = None
-joined a T.Bool = None
+joined T.Int T.Bool = None
+joined T.Real T.Bool = None
 joined T.Int T.Int = Some T.Int
-joined a b = Some T.Real
+joined T.Int T.Real = Some T.Real
+joined T.Real T.Int = Some T.Real
+joined T.Real T.Real = Some T.Real
 
 -- of two numbers, or of two bools
 abbrev pub alike : Ty → Ty → Option Ty
 alike T.Bool T.Bool = Some T.Bool
-alike a b = joined a b
+alike T.Bool T.Int = joined T.Bool T.Int
+alike T.Bool T.Real = joined T.Bool T.Real
+alike T.Int b = joined T.Int b
+alike T.Real b = joined T.Real b
 
 abbrev pub both_bool : Ty → Ty → Option Ty
 both_bool T.Bool T.Bool = Some T.Bool
-both_bool a b = None
+both_bool T.Bool T.Int = None
+both_bool T.Bool T.Real = None
+both_bool T.Int b = None
+both_bool T.Real b = None
 
 abbrev pub both_int : Ty → Ty → Option Ty
 both_int T.Int T.Int = Some T.Int
-both_int a b = None
+both_int T.Bool b = None
+both_int T.Int T.Bool = None
+both_int T.Int T.Real = None
+both_int T.Real b = None
 
 -- this type, where there is one
 abbrev pub with_type : Ty → Option Ty → Option Ty
@@ -111,22 +123,26 @@ strict o = true
 -- false settles `and`, else it is its second operand
 abbrev pub after_and : Value → Next
 after_and (Truth false) = Done (Truth false)
-after_and x = Second
+after_and (Truth _) = Second
+after_and (Number _) = Second
 
 -- true settles `or`
 abbrev pub after_or : Value → Next
 after_or (Truth true) = Done (Truth true)
-after_or x = Second
+after_or (Truth _) = Second
+after_or (Number _) = Second
 
 -- false settles an implication
 abbrev pub after_implies : Value → Next
 after_implies (Truth false) = Done (Truth true)
-after_implies x = Second
+after_implies (Truth _) = Second
+after_implies (Number _) = Second
 
 -- true chooses the first branch
 abbrev pub after_test : Value → Next
 after_test (Truth true) = Second
-after_test x = Third
+after_test (Truth _) = Third
+after_test (Number _) = Third
 
 abbrev pub first : StandardOp → Value → Next
 first And x = after_and x
@@ -180,7 +196,8 @@ of_truths o p q = None
 abbrev pub of_two : StandardOp → Value → Value → Option Value
 of_two o (Number x) (Number y) = of_numbers o x y
 of_two o (Truth p) (Truth q) = of_truths o p q
-of_two o x y = None
+of_two o (Truth _) (Number _) = None
+of_two o (Number _) (Truth _) = None
 
 abbrev pub value : StandardOp → Value → Option Value → Option Value
 value o x None = of_one o x

@@ -17,14 +17,20 @@ fits T.Bool T.Bool = true
 fits T.Int T.Int = true
 fits T.Int T.Real = true
 fits T.Real T.Real = true
-fits given wanted = false
+fits T.Bool T.Int = false
+fits T.Bool T.Real = false
+fits T.Int T.Bool = false
+fits T.Real T.Bool = false
+fits T.Real T.Int = false
 
 -- a truth value is a bool, a whole number an int and a real, any number a real
 abbrev pub has_type : Ty → Value → Bool
 has_type T.Bool (V.Truth b) = true
 has_type T.Int (V.Number q) = nat_eq q.den 1
 has_type T.Real (V.Number q) = true
-has_type t v = false
+has_type T.Bool (V.Number _) = false
+has_type T.Int (V.Truth _) = false
+has_type T.Real (V.Truth _) = false
 
 -- the types of names, None where there is none
 abbrev pub Types : Type 0

@@ -22,7 +22,11 @@ is_wanted W.Bool T.Bool = true
 is_wanted W.Int T.Int = true
 is_wanted W.Number T.Int = true
 is_wanted W.Number T.Real = true
-is_wanted w t = false
+is_wanted W.Bool T.Int = false
+is_wanted W.Bool T.Real = false
+is_wanted W.Int T.Bool = false
+is_wanted W.Int T.Real = false
+is_wanted W.Number T.Bool = false
 
 -- an expression without a type has its fault at a node
 abbrev pub is_unwanted : Wanted → Option Ty → Bool

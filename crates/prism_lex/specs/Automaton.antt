@@ -34,7 +34,13 @@ accepts Whole = true
 accepts Part = true
 accepts Power = true
 accepts Closed = true
-accepts _ = false
+accepts Start = false
+accepts Point = false
+accepts Mark = false
+accepts Sign = false
+accepts Quote = false
+accepts Inside = false
+accepts Dead = false
 
 -- where a text leads
 abbrev pub after : State → List ℕ → State

@@ -18,7 +18,8 @@ gap_step Other b = Other
 abbrev pub may_end : Gap → Bool
 may_end Between = true
 may_end Comment = true
-may_end _ = false
+may_end FirstSlash = false
+may_end Other = false
 
 abbrev pub gap_after : Gap → List ℕ → Gap
 gap_after s [] = s

@@ -4,7 +4,7 @@ use Rattle.std.specs.Str.Parse.{AllDigits, IsNumeral, digits_value}
 use Rattle.frac_core.specs.declared.decimal.Decimal.{Decimal}
 use Rattle.frac_core.specs.Numeral.{Numeral, IsExponent, numeral_text, numeral_reading, reading_of, worth}
 use Rattle.prism_lex.specs.declared.automaton.State.{State}
-use Rattle.prism_lex.specs.declared.automaton.State.TheVariants.{Start, Whole, Part, Power}
+use Rattle.prism_lex.specs.declared.automaton.State.TheVariants.{Start, Letters, Whole, Point, Part, Mark, Sign, Power, Quote, Inside, Closed, Dead}
 use Rattle.prism_lex.specs.Automaton.{after}
 
 -- Only a digit of a number leads here.
@@ -12,7 +12,15 @@ abbrev pub is_at_digit : State → Bool
 is_at_digit Whole = true
 is_at_digit Part = true
 is_at_digit Power = true
-is_at_digit _ = false
+is_at_digit Start = false
+is_at_digit Letters = false
+is_at_digit Point = false
+is_at_digit Mark = false
+is_at_digit Sign = false
+is_at_digit Quote = false
+is_at_digit Inside = false
+is_at_digit Closed = false
+is_at_digit Dead = false
 
 abbrev pub is_number : List ℕ → Bool
 is_number w = is_at_digit (after Start w)

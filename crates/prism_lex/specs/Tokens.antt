@@ -95,7 +95,9 @@ abbrev pub refusal : TokenKind → List ℕ → Option Reason
 refusal Ident w = if nat_lt 255 (length w) then Some TooLong else None
 refusal Quoted w = if nat_lt 257 (length w) then Some TooLong else None
 refusal (Number d) w = if is_beyond w then Some BadNumber else None
-refusal _ w = None
+refusal (Word _) w = None
+refusal (Symbol _) w = None
+refusal End w = None
 
 abbrev pub refusal_of : Lexeme → Option Reason
 refusal_of l = refusal l.kind l.text

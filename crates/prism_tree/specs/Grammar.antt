@@ -73,7 +73,11 @@ infix_at s = None
 
 abbrev pub infix_of : TokenKind → Option (ℕ × PrismOp)
 infix_of (K.Symbol s) = infix_at s
-infix_of k = None
+infix_of (K.Word _) = None
+infix_of K.Ident = None
+infix_of K.Quoted = None
+infix_of (K.Number _) = None
+infix_of K.End = None
 
 abbrev pub at_level : ℕ → Option (ℕ × PrismOp) → Option PrismOp
 at_level n None = None
@@ -124,7 +128,11 @@ function_of x = lookup x ((codes "floor", O.Floor) ∷ (codes "ceil", O.Ceil) �
 
 abbrev pub number_of : Lexeme → TokenKind → Option Expression
 number_of t (K.Number d) = Some (Number t.at d)
-number_of t k = None
+number_of t (K.Word _) = None
+number_of t K.Ident = None
+number_of t K.Quoted = None
+number_of t (K.Symbol _) = None
+number_of t K.End = None
 
 abbrev pub number_at : Lexeme → Option Expression
 number_at t = number_of t t.kind
