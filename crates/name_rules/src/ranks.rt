@@ -1,6 +1,6 @@
 // Ranks of names, by which it is seen that most declarations are in no circle.
 
-ghost use Rattle.std.specs.Prelude.{◌≡◌, true, false, map, nat_le, IfOk, IfSome};
+ghost use Rattle.std.specs.Prelude.{◌≡◌, List, ℕ, true, false, map, nat_le, bytes_eq, if◌then◌else◌, IfOk, IfSome, OnOk};
 ghost use Rattle.name_rules.specs.Circles.{declared_by};
 ghost use Rattle.name_rules.specs.Rounds.{rank_in, some_use, AreFalling, UsesLower};
 
@@ -27,7 +27,9 @@ impl<'a> Ranks<'a> {
         }
     }
 
-    fn put(&mut self, name: &'a str, rank: usize) -> Result<(), AllocError> {
+    fn put(&mut self, name: &'a str, rank: usize) -> Result<(), AllocError>
+        ensures { OnOk result ((x : List ℕ) → rank_in self.new x ≡ (if bytes_eq name.now x then rank else rank_in self.old x)) }
+    {
         self.numbers.put(name, rank)
     }
 }
@@ -107,7 +109,8 @@ fn uses_lower(ranks: &Ranks, declaration: &Declaration) -> bool
 
 // From what is left last by a search by depth, one rank to each name that has no place together with all that leads to it
 // and has none, and a lower one to the next. So names that lead to each other have one rank, and others a higher one than all
-// that they lead to. Nothing but time rests on these numbers.
+// that they lead to. Nothing but time rests on these numbers, so that no contract is needed: whatever they are, `falling_ranks`
+// answers them only if `are_falling` says that no declaration uses a name above its own.
 fn circle_ranks<'a>(
     alloc: Global,
     all: &[Declaration<'a>],
@@ -130,6 +133,7 @@ fn circle_ranks<'a>(
 }
 
 // Whether the name declared at this place has neither a place nor a rank.
+// No contract is needed: nothing but the numbers that `circle_ranks` gives rests on it.
 fn lacks_rank(all: &[Declaration], placed: &[bool], ranks: &Ranks, i: usize) -> bool {
     match (all.get(i), placed.get(i).copied()) {
         (Some(declaration), Some(false)) => ranks.rank(declaration.name) == 0,
@@ -138,7 +142,7 @@ fn lacks_rank(all: &[Declaration], placed: &[bool], ranks: &Ranks, i: usize) -> 
 }
 
 // Gives a rank to the name declared at this place, and to those that lead to it, where they have none. Nothing is left to do
-// before and after.
+// before and after. No contract is needed: nothing but the numbers that `circle_ranks` gives rests on it.
 fn give_rank<'a>(
     all: &[Declaration<'a>],
     users: &Users<'a>,

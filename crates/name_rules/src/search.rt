@@ -1,4 +1,5 @@
-// An order of declarations in which most come after what they use. Nothing but time rests on it.
+// An order of declarations in which most come after what they use. Nothing but time rests on it: `place_all` places them in whatever
+// order it is given, and says of its own turns that each stands behind what it uses. So nothing here has a contract.
 
 use crate::declarations::Declaration;
 use crate::map::NameMap;
@@ -21,14 +22,14 @@ struct Search {
 }
 
 /// The places of these declarations as a search by depth leaves them, those of one name together: what leads round in no
-/// circle is left after all that it leads to.
+/// circle is left after all that it leads to. No contract is needed: `place_all` and `are_falling` hold for any places.
 pub(crate) fn by_depth(alloc: Global, all: &[Declaration]) -> Result<Vec<usize>, AllocError> {
     let (search, places) = together(Search::of(alloc, all.len()), Places::of(alloc, all))?;
     search.left_of(all, &places)
 }
 
 impl Search {
-    // Nothing to do, and nothing done, with room for so many places.
+    // Nothing to do, and nothing done, with room for so many places. No contract is needed: only the order rests on it.
     fn of(alloc: Global, count: usize) -> Result<Search, AllocError> {
         let visits = Vec::with_capacity(alloc, count);
         let left = Vec::with_capacity(alloc, count);
@@ -41,13 +42,13 @@ impl Search {
         })
     }
 
-    // The places that are left once all names were gone into.
+    // The places that are left once all names were gone into. No contract is needed: they are the order itself.
     fn left_of(mut self, all: &[Declaration], places: &Places) -> Result<Vec<usize>, AllocError> {
         let visited = self.visit_all(all, places);
         visited.and(Ok(self.left))
     }
 
-    // Goes into all names.
+    // Goes into all names. No contract is needed: only the order rests on it.
     fn visit_all(&mut self, all: &[Declaration], places: &Places) -> Result<(), AllocError> {
         for i in (0..all.len()).rev() {
             if places.first.get(all[i].name) == Some(i) {
@@ -57,7 +58,7 @@ impl Search {
         self.run(all, places)
     }
 
-    // Goes on until nothing is left to do.
+    // Goes on until nothing is left to do. No contract is needed: only the order rests on it.
     fn run(&mut self, all: &[Declaration], places: &Places) -> Result<(), AllocError> {
         for _ in 0..usize::MAX {
             let Some(visit) = self.visits.pop() else {
@@ -68,6 +69,7 @@ impl Search {
         Ok(())
     }
 
+    // One step more. No contract is needed: only the order rests on it.
     fn go_on(
         &mut self,
         all: &[Declaration],
@@ -80,7 +82,7 @@ impl Search {
         }
     }
 
-    // What is entered the first time is left later, after all that it uses.
+    // What is entered the first time is left later, after all that it uses. No contract is needed: only the order rests on it.
     fn enter(
         &mut self,
         all: &[Declaration],
@@ -103,6 +105,7 @@ impl Search {
         Ok(())
     }
 
+    // Leaves the places of a name. No contract is needed: only the order rests on it.
     fn leave(&mut self, places: &Places, first: usize) -> Result<(), AllocError> {
         let mut next = Some(first);
         for _ in 0..self.entered.len() {
@@ -115,6 +118,7 @@ impl Search {
         Ok(())
     }
 
+    // The names that the declaration at a place uses are to be gone into. No contract is needed: only the order rests on it.
     fn push_uses(
         &mut self,
         all: &[Declaration],
@@ -140,6 +144,7 @@ struct Places<'a> {
 }
 
 impl<'a> Places<'a> {
+    // Those of these declarations. No contract is needed: only the order rests on them.
     fn of(alloc: Global, all: &[Declaration<'a>]) -> Result<Places<'a>, AllocError> {
         let mut places = Places {
             first: NameMap::new(alloc),
@@ -149,7 +154,7 @@ impl<'a> Places<'a> {
         noted.and(Ok(places))
     }
 
-    // Notes all, from the last on.
+    // Notes all, from the last on. No contract is needed: only the order rests on it.
     fn note_all(&mut self, all: &[Declaration<'a>]) -> Result<(), AllocError> {
         for i in (0..all.len()).rev() {
             let after = self.first.get(all[i].name);
@@ -161,6 +166,7 @@ impl<'a> Places<'a> {
         Ok(())
     }
 
+    // The next place of the same name. No contract is needed: only the order rests on it.
     fn after(&self, i: usize) -> Option<usize> {
         self.next.get(i).copied().flatten()
     }

@@ -1,4 +1,5 @@
-// Which declarations use a name. Nothing but time rests on it.
+// Which declarations use a name. Nothing but time rests on it: what is looked at by these places first is looked at once more until
+// nothing is added, and ranks that are given by them are looked at too. So nothing here has a contract.
 
 use crate::declarations::Declaration;
 use crate::map::NameMap;
@@ -19,7 +20,7 @@ struct Use {
 }
 
 impl<'a> Users<'a> {
-    /// Those of these that are not placed.
+    /// Those of these that are not placed. No contract is needed: nothing but time rests on them.
     pub(crate) fn of(
         alloc: Global,
         all: &[Declaration<'a>],
@@ -37,6 +38,7 @@ impl<'a> Users<'a> {
         Ok(users)
     }
 
+    // Adds the declaration at a place to the users of all that it uses. No contract is needed: nothing but time rests on it.
     fn add_uses(&mut self, declaration: &Declaration<'a>, place: usize) -> Result<(), AllocError> {
         for name in &declaration.uses {
             self.add(*name, place)?;
@@ -44,6 +46,7 @@ impl<'a> Users<'a> {
         Ok(())
     }
 
+    // Adds the declaration at a place to the users of a name. No contract is needed: nothing but time rests on it.
     fn add(&mut self, name: &'a str, place: usize) -> Result<(), AllocError> {
         let number = self.uses.len();
         let before = self.last.get(name);
@@ -52,7 +55,7 @@ impl<'a> Users<'a> {
         Ok(())
     }
 
-    /// Adds the places of those that use a name.
+    /// Adds the places of those that use a name. No contract is needed: `add_found` tries each place by itself, and `add_some` all.
     pub(crate) fn push_users(&self, name: &str, places: &mut Vec<usize>) -> Result<(), AllocError> {
         let mut next = self.last.get(name);
         for _ in 0..self.uses.len() {
