@@ -43,7 +43,9 @@ abbrev pub is_first : Ty → Expression → Bool
 is_first T.Bool (Truth at b) = true
 is_first T.Int (Number at d) = nat_eq d.digits 0
 is_first T.Real (Number at d) = nat_eq d.digits 0
-is_first t e = false
+is_first T.Bool e = false
+is_first T.Int e = false
+is_first T.Real e = false
 
 abbrev pub first_fault : Ty → Expression → List Fault
 first_fault t e = fault_if (not (is_first t e)) (offset_of e) TransientInitial
@@ -82,7 +84,12 @@ same_tree (One at o a) (One from p d) = bytes_eq (op_text o) (op_text p) && same
 same_tree (Two at o a b) (Two from p d e) = bytes_eq (op_text o) (op_text p) && (same_tree a d && same_tree b e)
 same_tree (Three at o a b c) (Three from p d e f) =
     bytes_eq (op_text o) (op_text p) && (same_tree a d && (same_tree b e && same_tree c f))
-same_tree e f = false
+same_tree (Truth _ _) f = false
+same_tree (Number _ _) f = false
+same_tree (At _ _) f = false
+same_tree (One _ _ _) f = false
+same_tree (Two _ _ _ _) f = false
+same_tree (Three _ _ _ _ _) f = false
 
 -- what is assigned to a name
 abbrev pub value_for : List Write → Name → Option Expression

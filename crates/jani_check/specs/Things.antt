@@ -1,6 +1,6 @@
 -- What the names of a JANI file stand for (jani-model specification, version 1: "Constants", "Variables", "Types",
 -- "Automata").
-use Rattle.std.specs.Prelude.{List, Bool, true, false, Option, Some, if◌then◌else◌}
+use Rattle.std.specs.Prelude.{List, Bool, true, false, Option, Some, None, if◌then◌else◌}
 use Rattle.std.specs.List.{find}
 use Rattle.std.specs.Option.{option_map, option_or as or_else}
 pub use Rattle.op_trees.specs.Names.{is_called}
@@ -56,24 +56,37 @@ types_by things x = option_map thing_type (things x)
 -- ---- which things they are
 abbrev pub is_constant : Option Thing → Bool
 is_constant (Some (Constant t)) = true
-is_constant _ = false
+is_constant (Some (Variable _)) = false
+is_constant (Some (Transient _)) = false
+is_constant None = false
 
 -- a variable that is not transient
 abbrev pub is_lasting : Option Thing → Bool
 is_lasting (Some (Variable t)) = true
-is_lasting _ = false
+is_lasting (Some (Constant _)) = false
+is_lasting (Some (Transient _)) = false
+is_lasting None = false
 
 abbrev pub is_transient : Option Thing → Bool
 is_transient (Some (Transient t)) = true
-is_transient _ = false
+is_transient (Some (Constant _)) = false
+is_transient (Some (Variable _)) = false
+is_transient None = false
 
 -- a transient variable that is a truth value: a label
 abbrev pub is_label : Option Thing → Bool
 is_label (Some (Transient T.Bool)) = true
-is_label _ = false
+is_label (Some (Constant _)) = false
+is_label (Some (Variable _)) = false
+is_label (Some (Transient T.Int)) = false
+is_label (Some (Transient T.Real)) = false
+is_label None = false
 
 -- a transient variable that is a number: a reward
 abbrev pub is_reward : Option Thing → Bool
 is_reward (Some (Transient T.Int)) = true
 is_reward (Some (Transient T.Real)) = true
-is_reward _ = false
+is_reward (Some (Constant _)) = false
+is_reward (Some (Variable _)) = false
+is_reward (Some (Transient T.Bool)) = false
+is_reward None = false

@@ -9,7 +9,7 @@ use Rattle.bridge_io.specs.declared.reason.Fault.{Fault}
 use Rattle.op_trees.specs.Types.{Types, type_in, misfits}
 use Rattle.op_trees.specs.Names.{some_name, offset_of, is_called}
 use Rattle.jani_table.specs.Operators.{jani_meaning}
-use Rattle.jani_tree.specs.Syntax.{Expression, VarKind, integer, number, real_bounded, one_sided, bounded, Var, Write, Edge, Automaton, Vector, File, element_names}
+use Rattle.jani_tree.specs.Syntax.{Expression, VarKind, boolean, integer, number, real_bounded, one_sided, bounded, Var, Write, Edge, Automaton, Vector, File, element_names}
 use Rattle.name_rules.specs.Least.{fault, fault_if}
 use Rattle.jani_check.specs.Things.{automaton_called, global_thing, beside, thing_type, types_by, is_constant, is_lasting, is_transient}
 use Rattle.name_rules.specs.Names.{Name}
@@ -25,14 +25,18 @@ use Rattle.name_rules.specs.Doubled.{doubled}
 -- bounds
 
 abbrev pub kind_fault : Bool → VarKind → Option Reason
+kind_fault true boolean = None
+kind_fault true integer = None
+kind_fault true number = None
 kind_fault true real_bounded = Some LeftOut
 kind_fault true one_sided = Some LeftOut
 kind_fault true (bounded low high) = Some LeftOut
+kind_fault false boolean = None
 kind_fault false integer = Some UnboundedVariable
-kind_fault false one_sided = Some UnboundedVariable
 kind_fault false number = Some RealVariable
 kind_fault false real_bounded = Some RealVariable
-kind_fault transient kind = None
+kind_fault false one_sided = Some UnboundedVariable
+kind_fault false (bounded low high) = None
 
 abbrev pub var_faults : Var → List Fault
 var_faults x = map (fault x.kind_at) (if_some (kind_fault x.transient x.kind))

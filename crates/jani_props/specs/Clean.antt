@@ -3,7 +3,7 @@ use Rattle.std.specs.Prelude.{◌≡◌, ℕ, List, [], ◌++◌, Bool, bytes_eq
 use Rattle.std.specs.List.{list_any}
 use Rattle.bridge_io.specs.declared.reason.Fault.{Fault}
 use Rattle.bridge_io.specs.declared.reason.Reason.TheVariants.{WrongShape}
-use Rattle.jani_table.specs.Node.{Node, object, Nodes, at_of}
+use Rattle.jani_table.specs.Node.{Node, null, truth, number, text, array, object, Nodes, at_of}
 use Rattle.jani_table.specs.Table.{is_required}
 use Rattle.jani_table.specs.Faults.{fault}
 use Rattle.jani_props.specs.declared.table.PropKey.{PropKey}
@@ -16,7 +16,11 @@ use Rattle.jani_props.specs.Shape.{faults, items_faults, members_faults, own_fau
 -- all faults of an object with this table of members, where these names are given values
 abbrev pub object_faults : (List ℕ → Bool) → PropKind → Node → List Fault
 object_faults given k (object at ms close) = members_faults given k ms ++ own_faults given k ms at close
-object_faults given k v = fault (at_of v) WrongShape
+object_faults given k (null at) = fault (at_of (null at)) WrongShape
+object_faults given k (truth at b) = fault (at_of (truth at b)) WrongShape
+object_faults given k (number at d) = fault (at_of (number at d)) WrongShape
+object_faults given k (text at s) = fault (at_of (text at s)) WrongShape
+object_faults given k (array at vs) = fault (at_of (array at vs)) WrongShape
 
 -- The value has no fault for this form, where some names are given values.
 pub record IsClean (f : PropForm) (v : Node) : Type 0 where

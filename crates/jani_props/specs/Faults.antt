@@ -20,7 +20,7 @@ use Rattle.jani_check.specs.declared.things.Thing.{Thing}
 use Rattle.jani_check.specs.Things.{global_thing, thing_type, is_constant, is_lasting, is_label, is_reward, var_thing}
 use Rattle.jani_check.specs.TypeFaults.{type_faults_of}
 use Rattle.prop_trees.specs.Trees.{Name, Role, state, steps, probability, parts, structure_of, ask_with, JaniProperty}
-use Rattle.prop_trees.specs.Names.{Meant, of_model, is_initial, is_deadlock, meant}
+use Rattle.prop_trees.specs.Names.{Meant, of_model, is_initial, is_deadlock, nothing, meant}
 use Rattle.prop_trees.specs.PrismFaults.{wanted_of}
 use Rattle.jani_props.specs.declared.model.Meaning.{Meaning}
 use Rattle.jani_props.specs.declared.model.Meaning.TheVariants.{OfModel, BuiltIn, Nothing}
@@ -60,16 +60,20 @@ structure_number file x = number_among file.variables x
 abbrev pub built_in_by : Meant → Meaning
 built_in_by is_initial = BuiltIn
 built_in_by is_deadlock = BuiltIn
-built_in_by m = Nothing
+built_in_by (of_model _) = Nothing
+built_in_by nothing = Nothing
 
 abbrev pub meaning_by : (Name → Option Thing) → Meant → Meaning
 meaning_by things (of_model x) = OfModel (things x)
-meaning_by things m = built_in_by m
+meaning_by things is_initial = built_in_by is_initial
+meaning_by things is_deadlock = built_in_by is_deadlock
+meaning_by things nothing = built_in_by nothing
 
 -- a property reads constants, global variables that are not transient, and global labels
 abbrev pub is_read : Meaning → Bool
 is_read (OfModel t) = is_constant t || (is_lasting t || is_label t)
-is_read m = true
+is_read BuiltIn = true
+is_read Nothing = true
 
 abbrev pub type_of : Meaning → Option Ty
 type_of (OfModel t) = option_map thing_type t
@@ -79,7 +83,8 @@ type_of Nothing = None
 -- a constant alone does not vary
 abbrev pub may_vary : Meaning → Bool
 may_vary (OfModel t) = not (is_constant t)
-may_vary m = true
+may_vary BuiltIn = true
+may_vary Nothing = true
 
 module _ (things : Name → Option Thing) where
   abbrev pub meaning : Name → Meaning

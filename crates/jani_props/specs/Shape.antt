@@ -39,7 +39,12 @@ has k ms = is_some (prop_member k ms)
 
 abbrev pub op_word_in : Option Node → OpWord
 op_word_in (Some (text at s)) = op_word_of s
-op_word_in v = Other
+op_word_in (Some (null _)) = Other
+op_word_in (Some (truth _ _)) = Other
+op_word_in (Some (number _ _)) = Other
+op_word_in (Some (array _ _)) = Other
+op_word_in (Some (object _ _ _)) = Other
+op_word_in None = Other
 
 -- what the op of an object is
 abbrev pub op_word : Fields → OpWord
@@ -48,19 +53,26 @@ op_word ms = op_word_in (member Key.Op ms)
 -- what the op of this value is
 abbrev pub op_word_at : Option Node → OpWord
 op_word_at (Some (object at ms close)) = op_word ms
-op_word_at v = Other
+op_word_at (Some (null _)) = Other
+op_word_at (Some (truth _ _)) = Other
+op_word_at (Some (number _ _)) = Other
+op_word_at (Some (text _ _)) = Other
+op_word_at (Some (array _ _)) = Other
+op_word_at None = Other
 
 -- ---- what an object is read as, by its form and its op
 
 -- Where its op has no meaning, it is judged as an expression with that op; else it is another form.
 abbrev pub or_another : OpWord → Reading
 or_another Other = As (O.Operation Kind.Unclear)
-or_another w = Another
+or_another (Property _) = Another
+or_another (Operator _) = Another
 
 -- of the left side of a comparison the comparison tells that it is another form
 abbrev pub or_told : OpWord → Reading
 or_told Other = As (O.Operation Kind.Unclear)
-or_told w = Told
+or_told (Property _) = Told
+or_told (Operator _) = Told
 
 abbrev pub comparison_by : Option Side → Reading
 comparison_by (Some side) = As (O.Comparison side)
@@ -68,7 +80,9 @@ comparison_by None = Another
 
 abbrev pub filter_reading : OpWord → Reading
 filter_reading (Property P.Filter) = As O.Filter
-filter_reading w = or_another w
+filter_reading (Property p) = or_another (Property p)
+filter_reading (Operator o) = or_another (Operator o)
+filter_reading Other = or_another Other
 
 abbrev pub values_reading : OpWord → Reading
 values_reading (Property P.PMax) = As O.Probability
@@ -76,29 +90,40 @@ values_reading (Property P.PMin) = As O.Probability
 values_reading (Property P.EMax) = As O.Reward
 values_reading (Property P.EMin) = As O.Reward
 values_reading (Operator o) = comparison_by (bound_side o)
-values_reading w = or_another w
+values_reading (Property p) = or_another (Property p)
+values_reading Other = or_another Other
 
 abbrev pub side_reading : Side → OpWord → Reading
 side_reading Least (Property P.PMin) = As O.Probability
 side_reading Greatest (Property P.PMax) = As O.Probability
-side_reading side w = or_told w
+side_reading Least (Property p) = or_told (Property p)
+side_reading Least (Operator o) = or_told (Operator o)
+side_reading Least Other = or_told Other
+side_reading Greatest (Property p) = or_told (Property p)
+side_reading Greatest (Operator o) = or_told (Operator o)
+side_reading Greatest Other = or_told Other
 
 abbrev pub path_reading : OpWord → Reading
 path_reading (Property P.Finally) = As O.OnePath
 path_reading (Property P.Globally) = As O.OnePath
 path_reading (Property P.Until) = As O.TwoPaths
 path_reading (Property P.WeakUntil) = As O.TwoPaths
-path_reading w = or_another w
+path_reading (Property p) = or_another (Property p)
+path_reading (Operator o) = or_another (Operator o)
+path_reading Other = or_another Other
 
 abbrev pub states_reading : OpWord → Reading
 states_reading (Property P.Initial) = As O.Label
-states_reading w = or_another w
+states_reading (Property p) = or_another (Property p)
+states_reading (Operator o) = or_another (Operator o)
+states_reading Other = or_another Other
 
 abbrev pub expression_reading : OpWord → Reading
 expression_reading (Property P.Initial) = As O.Label
 expression_reading (Property P.Deadlock) = As O.Label
 expression_reading (Operator o) = As (O.Operation (op_kind o))
-expression_reading w = or_another w
+expression_reading (Property p) = or_another (Property p)
+expression_reading Other = or_another Other
 
 abbrev pub reading : PropForm → OpWord → Reading
 reading F.Property w = As O.Property
@@ -128,29 +153,45 @@ fun_goes_with w (Some f) = goes_with w f
 -- the "fun" of a filter goes with its "values"
 abbrev pub is_fitting : Option Node → Option Node → Bool
 is_fitting (Some (text at s)) values = fun_goes_with (op_word_at values) (fun_of s)
-is_fitting f values = true
+is_fitting (Some (null _)) values = true
+is_fitting (Some (truth _ _)) values = true
+is_fitting (Some (number _ _)) values = true
+is_fitting (Some (array _ _)) values = true
+is_fitting (Some (object _ _ _)) values = true
+is_fitting None values = true
 
 abbrev pub are_texts : Nodes → Bool
 are_texts no_nodes = true
 are_texts (more_nodes (text at s) vs) = are_texts vs
-are_texts (more_nodes v vs) = false
+are_texts (more_nodes (null _) vs) = false
+are_texts (more_nodes (truth _ _) vs) = false
+are_texts (more_nodes (number _ _) vs) = false
+are_texts (more_nodes (array _ _) vs) = false
+are_texts (more_nodes (object _ _ _) vs) = false
 
 abbrev pub is_steps : Nodes → Bool
 is_steps (more_nodes v no_nodes) = is_word (codes "steps") (Some v)
-is_steps vs = false
+is_steps no_nodes = false
+is_steps (more_nodes _ (more_nodes _ _)) = false
 
 -- steps and exit, in any order
 abbrev pub is_steps_and_exit : Nodes → Bool
 is_steps_and_exit (more_nodes v (more_nodes w no_nodes)) =
     is_word (codes "steps") (Some v) && is_word (codes "exit") (Some w) || is_word (codes "exit") (Some v) && is_word (codes "steps") (Some w)
-is_steps_and_exit vs = false
+is_steps_and_exit no_nodes = false
+is_steps_and_exit (more_nodes _ no_nodes) = false
+is_steps_and_exit (more_nodes _ (more_nodes _ (more_nodes _ _))) = false
 
 -- an op is that of this probability, or has no meaning, which is a fault of its own
 abbrev pub is_side : Side → OpWord → Bool
 is_side Least (Property P.PMin) = true
 is_side Greatest (Property P.PMax) = true
-is_side side Other = true
-is_side side w = false
+is_side Least Other = true
+is_side Greatest Other = true
+is_side Least (Property _) = false
+is_side Least (Operator _) = false
+is_side Greatest (Property _) = false
+is_side Greatest (Operator _) = false
 
 -- the left side of a comparison is this probability, or has a fault of its own
 abbrev pub is_compared : Side → Option Node → Bool
@@ -158,13 +199,17 @@ is_compared side (Some (object at ms close)) = is_side side (op_word ms)
 is_compared side (Some (text at s)) = false
 is_compared side (Some (number at d)) = false
 is_compared side (Some (truth at b)) = false
-is_compared side v = true
+is_compared side (Some (null _)) = true
+is_compared side (Some (array _ _)) = true
+is_compared side None = true
 
 -- F and U may have a bound of steps
 abbrev pub takes_steps : OpWord → Bool
 takes_steps (Property P.Finally) = true
 takes_steps (Property P.Until) = true
-takes_steps w = false
+takes_steps (Property _) = false
+takes_steps (Operator _) = false
+takes_steps Other = false
 
 abbrev pub by_form : Option PropForm → List Fault → (PropForm → List Fault) → List Fault
 by_form None wrong inner = wrong
@@ -182,13 +227,23 @@ by_reading f Wrong at inner = fault_if at (kind_fault f)
 module _ (given : List ℕ → Bool) where
   abbrev pub is_given : Option Node → Bool
   is_given (Some (text at s)) = given s
-  is_given v = false
+  is_given (Some (null _)) = false
+  is_given (Some (truth _ _)) = false
+  is_given (Some (number _ _)) = false
+  is_given (Some (array _ _)) = false
+  is_given (Some (object _ _ _)) = false
+  is_given None = false
 
   -- Rewards of steps and of exits are added up, or of steps alone where no location gives the transient a value. What has its own fault
   -- is passed over.
   abbrev pub is_summed : Option Node → Option Node → Bool
   is_summed r (Some (array at vs)) = not (are_texts vs) || (is_steps_and_exit vs || is_steps vs && not (is_given r))
-  is_summed r v = true
+  is_summed r (Some (null _)) = true
+  is_summed r (Some (truth _ _)) = true
+  is_summed r (Some (number _ _)) = true
+  is_summed r (Some (text _ _)) = true
+  is_summed r (Some (object _ _ _)) = true
+  is_summed r None = true
 
   -- an object is none of the forms that are left out, beside what its members have to be
   abbrev pub is_in : PropKind → Fields → Bool
@@ -197,7 +252,11 @@ module _ (given : List ℕ → Bool) where
   is_in (O.Comparison side) ms = is_compared side (prop_member (K.Of Key.Left) ms)
   is_in O.OnePath ms = not (has K.StepBounds ms) || takes_steps (op_word ms)
   is_in O.TwoPaths ms = not (has K.StepBounds ms) || takes_steps (op_word ms)
-  is_in kind ms = true
+  is_in O.Property ms = true
+  is_in O.Probability ms = true
+  is_in O.StepBound ms = true
+  is_in O.Label ms = true
+  is_in (O.Operation _) ms = true
 
   abbrev pub own_faults : PropKind → Fields → ℕ → ℕ → List Fault
   own_faults kind ms at close = missing_faults ms close (rows_of kind) ++ fault_unless (is_in kind ms) at PropertyLeftOut

@@ -58,7 +58,15 @@ operand_row r = (K.Of r.0, r.1, operand_form r.2)
 
 abbrev pub rows_of : PropKind → List Row
 rows_of (O.Operation k) = map operand_row (table.rows_of k)
-rows_of kind = own_rows kind
+rows_of O.Property = own_rows O.Property
+rows_of O.Filter = own_rows O.Filter
+rows_of O.Probability = own_rows O.Probability
+rows_of O.Reward = own_rows O.Reward
+rows_of (O.Comparison side) = own_rows (O.Comparison side)
+rows_of O.OnePath = own_rows O.OnePath
+rows_of O.TwoPaths = own_rows O.TwoPaths
+rows_of O.StepBound = own_rows O.StepBound
+rows_of O.Label = own_rows O.Label
 
 abbrev pub own_row_of : PropKind → List ℕ → Option Row
 own_row_of kind s = find (λ r. bytes_eq (spelled_key r.0) s) (own_rows kind)
@@ -69,7 +77,15 @@ form_in r = option_map (λ r. r.2) r
 -- what the value of a member with this key has to be; none where an object of this kind has no such member
 abbrev pub known_form : PropKind → List ℕ → Option PropForm
 known_form (O.Operation k) s = option_map operand_form (table.known_form k s)
-known_form kind s = form_in (own_row_of kind s)
+known_form O.Property s = form_in (own_row_of O.Property s)
+known_form O.Filter s = form_in (own_row_of O.Filter s)
+known_form O.Probability s = form_in (own_row_of O.Probability s)
+known_form O.Reward s = form_in (own_row_of O.Reward s)
+known_form (O.Comparison side) s = form_in (own_row_of (O.Comparison side) s)
+known_form O.OnePath s = form_in (own_row_of O.OnePath s)
+known_form O.TwoPaths s = form_in (own_row_of O.TwoPaths s)
+known_form O.StepBound s = form_in (own_row_of O.StepBound s)
+known_form O.Label s = form_in (own_row_of O.Label s)
 
 -- what the items of a list have to be; none where no list may stand
 abbrev pub item_form : PropForm → Option PropForm

@@ -119,7 +119,9 @@ is_extreme o = false
 
 abbrev pub is_for_all : Fun → Bool
 is_for_all N.ForAll = true
-is_for_all w = false
+is_for_all N.Max = false
+is_for_all N.Min = false
+is_for_all N.Values = false
 
 -- a filter of one value takes the greatest, the least or the only one, a filter of a comparison takes all of them
 abbrev pub goes_with : OpWord → Fun → Bool

@@ -10,7 +10,7 @@ use Rattle.jani_table.specs.declared.key.Key.TheVariants as K
 use Rattle.jani_table.specs.declared.table.Kind.{Kind}
 use Rattle.jani_table.specs.declared.table.Kind.TheVariants as O
 use Rattle.jani_table.specs.declared.operator.JaniOp.{JaniOp}
-use Rattle.jani_table.specs.Node.{Node, null, truth, number, text, array, Nodes, no_nodes, more_nodes, at_of}
+use Rattle.jani_table.specs.Node.{Node, null, truth, number, text, array, object, Nodes, no_nodes, more_nodes, at_of}
 use Rattle.jani_table.specs.Words.{ty_of}
 use Rattle.jani_table.specs.Faults.{part, op_in, op_kind, is_array, is_true, items_in}
 use Rattle.jani_tree.specs.Syntax.{Expression, Const, VarKind, boolean, integer, number as real, real_bounded, one_sided, bounded, Var, Write, Location, Destination, Edge, Automaton, Element, Vector, File}
@@ -27,7 +27,8 @@ Optional P _ _ = ⊥
 abbrev pub Each : {A : Type 0} → (Node → A → Type 0) → Nodes → List A → Type 0
 Each P no_nodes [] = Unit {0}
 Each P (more_nodes v vs) (x ∷ xs) = P v x × Each P vs xs
-Each P _ _ = ⊥
+Each P no_nodes (x ∷ xs) = ⊥
+Each P (more_nodes v vs) [] = ⊥
 
 pub record IsItems {A : Type 0} (P : Node → A → Type 0) (v : Node) (xs : List A) : Type 0 where
   pub list : IsTrue (is_array v)
@@ -45,7 +46,11 @@ pub record IsListAt {A : Type 0} (P : Node → A → Type 0) (v : Node) (xs : Li
 
 abbrev pub IsText : Node → List ℕ → Type 0
 IsText (text at s) t = s ≡ t
-IsText _ t = ⊥
+IsText (null _) t = ⊥
+IsText (truth _ _) t = ⊥
+IsText (number _ _) t = ⊥
+IsText (array _ _) t = ⊥
+IsText (object _ _ _) t = ⊥
 
 abbrev pub IsNamed : Node → Named → Type 0
 IsNamed v n = v ≡ text n.at n.name
@@ -87,7 +92,12 @@ unless_always (Some v) = if is_true (part K.Exp v) then None else Some v
 -- the type that this member names
 abbrev pub ty_in : Option Node → Option Ty
 ty_in (Some (text at s)) = ty_of s
-ty_in _ = None
+ty_in (Some (null _)) = None
+ty_in (Some (truth _ _)) = None
+ty_in (Some (number _ _)) = None
+ty_in (Some (array _ _)) = None
+ty_in (Some (object _ _ _)) = None
+ty_in None = None
 
 -- the bounds of a bounded type: those of a real are not kept, nor is a bound without the other
 pub data Range : Type 0 where
@@ -99,7 +109,8 @@ abbrev pub range_of : Option Ty → Option Node → Option Node → Option Range
 range_of (Some T.Real) low high = Some real_range
 range_of (Some T.Int) (Some low) (Some high) = Some (whole_range low high)
 range_of (Some T.Int) low high = Some half_range
-range_of _ low high = None
+range_of (Some T.Bool) low high = None
+range_of None low high = None
 
 abbrev pub IsWord : Option Ty → VarKind → Type 0
 IsWord None k = ⊥
@@ -125,7 +136,11 @@ range_in v = range_of (ty_in (part K.Base v)) (part K.LowerBound v) (part K.Uppe
 
 abbrev pub IsKind : Node → VarKind → Type 0
 IsKind (text at s) k = IsWord (ty_of s) k
-IsKind v k = IsRange (range_in v) k
+IsKind (null at) k = IsRange (range_in (null at)) k
+IsKind (truth at b) k = IsRange (range_in (truth at b)) k
+IsKind (number at d) k = IsRange (range_in (number at d)) k
+IsKind (array at vs) k = IsRange (range_in (array at vs)) k
+IsKind (object at ms close) k = IsRange (range_in (object at ms close)) k
 
 -- ---- objects
 

@@ -7,7 +7,7 @@ use Rattle.decimal_json.specs.Proper.{SameValue}
 use Rattle.op_trees.specs.Tree.{bare}
 use Rattle.op_trees.specs.Names.{bare_name}
 use Rattle.jani_table.specs.Node.{Node, node, null, truth, number, text, array, object, Nodes, no_nodes, more_nodes, Fields, no_fields, field}
-use Rattle.jani_tree.specs.Syntax.{Const, VarKind, bounded, Var, Write, Location, Destination, Edge, Automaton, Element, Vector, File}
+use Rattle.jani_tree.specs.Syntax.{Const, VarKind, boolean, integer, number as real, real_bounded, one_sided, bounded, Var, Write, Location, Destination, Edge, Automaton, Element, Vector, File}
 use Rattle.jani_tree.specs.Jani.{IsFile}
 
 -- a value with every offset 0
@@ -35,7 +35,11 @@ bare_const c = record { name = bare_name c.name; ty = c.ty; value = option_map b
 
 abbrev pub bare_kind : VarKind → VarKind
 bare_kind (bounded low high) = bounded (bare low) (bare high)
-bare_kind k = k
+bare_kind boolean = boolean
+bare_kind integer = integer
+bare_kind real = real
+bare_kind real_bounded = real_bounded
+bare_kind one_sided = one_sided
 
 abbrev pub bare_var : Var → Var
 bare_var x = record { name = bare_name x.name; kind = bare_kind x.kind; kind_at = 0; transient = x.transient; start = option_map bare x.start; note = x.note }

@@ -4,7 +4,7 @@ use Rattle.std.specs.Prelude.{ℕ, List, [], map, Bool, false, Option}
 use Rattle.std.specs.Option.{option_map}
 use Rattle.bridge_io.specs.declared.reason.Named.{Named}
 use Rattle.op_trees.specs.declared.tree.Ty.{Ty}
-use Rattle.op_trees.specs.Tree.{Tree, Truth, tree}
+use Rattle.op_trees.specs.Tree.{Tree, Truth, Number, Name, One, Two, Three, tree}
 use Rattle.jani_table.specs.declared.operator.JaniOp.{JaniOp}
 use Rattle.jani_table.specs.Node.{Node, node}
 use Rattle.jani_tree.specs.declared.syntax.JaniFile.{JaniFile}
@@ -26,7 +26,11 @@ Expression = Tree JaniOp
 -- the literal true
 abbrev pub is_always : Expression → Bool
 is_always (Truth at b) = b
-is_always e = false
+is_always (Number _ _) = false
+is_always (Name _ _) = false
+is_always (One _ _ _) = false
+is_always (Two _ _ _ _) = false
+is_always (Three _ _ _ _ _) = false
 
 pub record Const : Type 0 where
   pub name : Named

@@ -72,7 +72,13 @@ is_given_label x = bytes_eq x (codes "init") || bytes_eq x (codes "deadlock")
 
 abbrev pub may_be_called : NameClass → List ℕ → Bool
 may_be_called Label x = not (is_given_label x)
-may_be_called _ x = true
+may_be_called Constant x = true
+may_be_called Variable x = true
+may_be_called Location x = true
+may_be_called Module x = true
+may_be_called Action x = true
+may_be_called Reward x = true
+may_be_called Property x = true
 
 -- the name is valid for the class: in PRISM an identifier, for a label none that every model has; in JANI any but the
 -- empty one
@@ -104,4 +110,10 @@ made_name c n = prefix c ++ digits n
 -- a location is never called by its old name
 abbrev pub may_keep : NameClass → Bool
 may_keep Location = false
-may_keep _ = true
+may_keep Constant = true
+may_keep Variable = true
+may_keep Module = true
+may_keep Action = true
+may_keep Label = true
+may_keep Reward = true
+may_keep Property = true

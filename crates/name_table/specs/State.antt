@@ -3,7 +3,7 @@ use Rattle.std.specs.Prelude.{◌≡◌, ℕ, Bool, true, false, ◌&&◌, nat_e
 use Rattle.std.specs.BTreeSet.{contains_text}
 use Rattle.prism_lex.specs.declared.token.Token.{Token}
 use Rattle.prism_lex.specs.declared.token.TokenKind.{TokenKind}
-use Rattle.prism_lex.specs.declared.token.TokenKind.TheVariants.{Ident}
+use Rattle.prism_lex.specs.declared.token.TokenKind.TheVariants.{Word, Ident, Quoted, Number, Symbol, End}
 use Rattle.name_table.specs.declared.class.NameClass.{NameClass}
 use Rattle.name_table.specs.declared.class.Target.{Target}
 use Rattle.name_table.specs.declared.class.Space.{Space}
@@ -16,7 +16,11 @@ use Rattle.name_table.specs.Entries.{count_of, is_taken, entries_of, asks_of}
 
 abbrev pub is_ident : TokenKind → Bool
 is_ident Ident = true
-is_ident _ = false
+is_ident (Word _) = false
+is_ident Quoted = false
+is_ident (Number _) = false
+is_ident (Symbol _) = false
+is_ident End = false
 
 -- the token is an identifier and all of a text of this length
 abbrev pub is_whole : Token → ℕ → Bool

@@ -56,12 +56,21 @@ seen t = map (lexeme_at t.source.now.bytes.now t.source.now.literals.now) t.foun
 
 abbrev pub kept_symbol : Kept → PrismSymbol → Bool
 kept_symbol (Symbol a) b = sameb symbols a b
-kept_symbol k b = false
+kept_symbol (Word _) b = false
+kept_symbol Ident b = false
+kept_symbol Quoted b = false
+kept_symbol (Number _) b = false
 
 abbrev pub kept_word : Kept → Reserved → Bool
 kept_word (Word a) b = sameb words a b
-kept_word k b = false
+kept_word (Symbol _) b = false
+kept_word Ident b = false
+kept_word Quoted b = false
+kept_word (Number _) b = false
 
 abbrev pub kept_infix : Kept → Option (ℕ × PrismOp)
 kept_infix (Symbol s) = infix_at s
-kept_infix k = None
+kept_infix (Word _) = None
+kept_infix Ident = None
+kept_infix Quoted = None
+kept_infix (Number _) = None

@@ -13,7 +13,7 @@ use Rattle.prism_tree.specs.Lang.{Lang, gives, ◌>>=◌, ◌>>◌, folding}
 use Rattle.prism_exprs.specs.Reading.{Ends, is_kind}
 use Rattle.prism_exprs.specs.Kept.{lexeme_at, kept_symbol, kept_infix}
 use Rattle.prism_exprs.specs.declared.tokens.Kept.{Kept}
-use Rattle.prism_exprs.specs.declared.tokens.Kept.TheVariants.{Ident, Number}
+use Rattle.prism_exprs.specs.declared.tokens.Kept.TheVariants as H
 use Rattle.prism_exprs.specs.declared.tokens.Found.{Found}
 use Rattle.prism_exprs.specs.declared.tokens.Tokens.{Tokens}
 use Rattle.prism_tree.specs.Grammar.{symbol, infix_of, joined_by, operand, argument, level, expr, at_level}
@@ -74,7 +74,10 @@ begins_prim (K.Word W.Max) = true
 begins_prim (K.Number d) = true
 begins_prim K.Ident = true
 begins_prim (K.Symbol S.LeftParenthesis) = true
-begins_prim k = false
+begins_prim (K.Word _) = false
+begins_prim K.Quoted = false
+begins_prim (K.Symbol _) = false
+begins_prim K.End = false
 
 -- the tokens that begin what a level reads
 pub data CanBegin (n : ℕ) (k : TokenKind) : Type 0 where
@@ -126,9 +129,11 @@ listed o at = do
 
 -- a number or an identifier
 abbrev pub kept_plain : Kept → Bool
-kept_plain (Number row) = true
-kept_plain Ident = true
-kept_plain k = false
+kept_plain (H.Number row) = true
+kept_plain H.Ident = true
+kept_plain (H.Word w) = false
+kept_plain (H.Symbol s) = false
+kept_plain H.Quoted = false
 
 -- the kept tokens that go on with an expression
 abbrev pub kept_goes_on : Kept → Bool

@@ -59,7 +59,12 @@ same_kind (K.Word a) (K.Word b) = sameb words a b
 same_kind (K.Symbol a) (K.Symbol b) = sameb symbols a b
 same_kind K.Ident K.Ident = true
 same_kind K.Quoted K.Quoted = true
-same_kind j k = false
+same_kind (K.Word _) k = false
+same_kind K.Ident k = false
+same_kind K.Quoted k = false
+same_kind (K.Number _) k = false
+same_kind (K.Symbol _) k = false
+same_kind K.End k = false
 
 -- whether a kind, which is no number, is this one
 abbrev pub is_kind : TokenKind → TokenKind → Bool

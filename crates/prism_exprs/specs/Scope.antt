@@ -91,7 +91,8 @@ abbrev pub IsPlainStop : Stop → Type 0
 IsPlainStop Memory = Unit {0}
 IsPlainStop (At r C.Form) = Unit {0}
 IsPlainStop (At r C.Deep) = Unit {0}
-IsPlainStop (At r c) = ⊥
+IsPlainStop (At r C.Item) = ⊥
+IsPlainStop (At r C.Type) = ⊥
 
 -- These are the tokens behind the first few, and those are no more than 1,024.
 abbrev pub IsWithin : ℕ → List Lexeme → List Lexeme → Type 0

@@ -35,7 +35,8 @@ IsNoNumber (Some (V.Number q)) = ⊥
 -- not both are numbers
 abbrev pub AreNotNumbers : Option Value → Option Value → Type 0
 AreNotNumbers (Some (V.Number x)) b = IsNoNumber b
-AreNotNumbers a b = Unit {0}
+AreNotNumbers (Some (V.Truth _)) b = Unit {0}
+AreNotNumbers None b = Unit {0}
 
 -- `<=>` has no value over two numbers, which `=` compares
 abbrev pub ComparesNoNumbers : PrismOp → Option Value → Option Value → Type 0
@@ -56,7 +57,9 @@ ComparesTruths old (Three at o a b c) = ComparesTruths old a × ComparesTruths o
 -- a name of the type bool has no number for its value
 abbrev pub IsNoNumberOf : Option Ty → Option Value → Type 0
 IsNoNumberOf (Some T.Bool) v = IsNoNumber v
-IsNoNumberOf t v = Unit {0}
+IsNoNumberOf (Some T.Int) v = Unit {0}
+IsNoNumberOf (Some T.Real) v = Unit {0}
+IsNoNumberOf None v = Unit {0}
 
 -- ---- values
 

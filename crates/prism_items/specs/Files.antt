@@ -34,7 +34,9 @@ TakesItem L u = (t : Lexeme) → t.kind ≡ K.Word W.Module → Begins L (u ++ t
 -- an item can stand there just where this is the cause
 abbrev pub ItemIsCause : Cause → ℕ → List Lexeme → Type 0
 ItemIsCause C.Item end u = TakesItem (file_in end plain) u
-ItemIsCause c end u = TakesItem (file_in end plain) u → ⊥
+ItemIsCause C.Form end u = TakesItem (file_in end plain) u → ⊥
+ItemIsCause C.Deep end u = TakesItem (file_in end plain) u → ⊥
+ItemIsCause C.Type end u = TakesItem (file_in end plain) u → ⊥
 
 -- The tokens before the rest begin a file in each scope; with one token more, or where none is left, they begin or are none
 -- where the scope is stopped by the cause, and they begin one where it passes.

@@ -153,13 +153,22 @@ abbrev pub type_of : TokenKind → Option Ty
 type_of (K.Word W.Int) = Some T.Int
 type_of (K.Word W.Double) = Some T.Real
 type_of (K.Word W.BoolWord) = Some T.Bool
-type_of k = None
+type_of (K.Word _) = None
+type_of K.Ident = None
+type_of K.Quoted = None
+type_of (K.Number _) = None
+type_of (K.Symbol _) = None
+type_of K.End = None
 
 abbrev pub kept_type : Kept → Option Ty
 kept_type (H.Word W.Int) = Some T.Int
 kept_type (H.Word W.Double) = Some T.Real
 kept_type (H.Word W.BoolWord) = Some T.Bool
-kept_type k = None
+kept_type (H.Word _) = None
+kept_type (H.Symbol _) = None
+kept_type H.Ident = None
+kept_type H.Quoted = None
+kept_type (H.Number _) = None
 
 abbrev pub behind_type : Option Ty → Lexeme → List Lexeme → Ty × List Lexeme
 behind_type None t ts = (T.Int, t ∷ ts)

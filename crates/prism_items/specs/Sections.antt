@@ -59,7 +59,9 @@ is_item_or_init k = is_kind (K.Word W.Init) k || is_item k
 -- where reading stops inside an item
 abbrev pub inside_cause : Cause → Cause
 inside_cause C.Item = C.Form
-inside_cause c = c
+inside_cause C.Form = C.Form
+inside_cause C.Deep = C.Deep
+inside_cause C.Type = C.Type
 
 abbrev pub inside : Stop → Stop
 inside Memory = Memory
@@ -82,7 +84,9 @@ pub record IsBehind (L : Lang File) (ts rest : List Lexeme) : Type 0 where
 -- where reading stops for a cause
 abbrev pub IsPlaced : Cause → Lang File → (TokenKind → Bool) → List Lexeme → List Lexeme → Type 0
 IsPlaced C.Item L more ts rest = IsBehind L ts rest
-IsPlaced c L more ts rest = IsBlocked L more ts rest
+IsPlaced C.Form L more ts rest = IsBlocked L more ts rest
+IsPlaced C.Deep L more ts rest = IsBlocked L more ts rest
+IsPlaced C.Type L more ts rest = IsBlocked L more ts rest
 
 abbrev pub Blocks : Lang File → (TokenKind → Bool) → List Lexeme → Result (PrismFile × Tokens) Stop → Type 0
 Blocks L more ts (Ok y) = Unit {0}

@@ -36,7 +36,11 @@ IsInRows place k size = (row : ℕ) × (k ≡ Number row) × (row * 65536 + size
 -- what a token of this kind and length is kept as, a number by its literal
 abbrev pub IsKeptAs : List Literal → TokenKind → ℕ → Kept → ℕ → Type 0
 IsKeptAs ls (K.Number d) n k size = (row : ℕ) × (k ≡ Number row) × (in_row ls row size ≡ Some (record { value = d; length = n }))
-IsKeptAs ls kind n k size = (kept_kind kind ≡ Some k) × (size ≡ n)
+IsKeptAs ls (K.Word w) n k size = (kept_kind (K.Word w) ≡ Some k) × (size ≡ n)
+IsKeptAs ls K.Ident n k size = (kept_kind K.Ident ≡ Some k) × (size ≡ n)
+IsKeptAs ls K.Quoted n k size = (kept_kind K.Quoted ≡ Some k) × (size ≡ n)
+IsKeptAs ls (K.Symbol s) n k size = (kept_kind (K.Symbol s) ≡ Some k) × (size ≡ n)
+IsKeptAs ls K.End n k size = (kept_kind K.End ≡ Some k) × (size ≡ n)
 
 -- what is kept of a token; none of the end
 abbrev pub IsKept : List Literal → Token → Option Found → Type 0

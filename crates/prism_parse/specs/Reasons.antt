@@ -48,7 +48,8 @@ left_out_reason out = if out then LeftOut else Syntax
 abbrev pub word_reason : Cause → Reserved → Reason
 word_reason C.Item w = if is_kind_word w then OtherKind else left_out_reason (is_left_out w)
 word_reason C.Type w = if is_int w then LeftOut else left_out_reason (is_left_out w)
-word_reason c w = left_out_reason (is_left_out w)
+word_reason C.Form w = left_out_reason (is_left_out w)
+word_reason C.Deep w = left_out_reason (is_left_out w)
 
 abbrev pub is_open : PrismSymbol → Bool
 is_open S.LeftParenthesis = true
@@ -58,17 +59,24 @@ is_open s = false
 abbrev pub form_reason : Cause → TokenKind → Bool → Reason
 form_reason c (K.Word w) called = word_reason c w
 form_reason c (K.Symbol s) called = left_out_reason (is_open s && called)
-form_reason c k called = Syntax
+form_reason c K.Ident called = Syntax
+form_reason c K.Quoted called = Syntax
+form_reason c (K.Number _) called = Syntax
+form_reason c K.End called = Syntax
 
 -- the same of a token as it is kept
 abbrev pub kept_reason : Cause → Kept → Bool → Reason
 kept_reason c (H.Word w) called = word_reason c w
 kept_reason c (H.Symbol s) called = left_out_reason (is_open s && called)
-kept_reason c k called = Syntax
+kept_reason c H.Ident called = Syntax
+kept_reason c H.Quoted called = Syntax
+kept_reason c (H.Number _) called = Syntax
 
 abbrev pub unless_deep : Cause → Reason → Reason
 unless_deep C.Deep r = TooDeep
-unless_deep c r = r
+unless_deep C.Form r = r
+unless_deep C.Item r = r
+unless_deep C.Type r = r
 
 -- the names of functions that are left out
 abbrev pub is_left_out_text : List ℕ → Bool
@@ -76,7 +84,11 @@ is_left_out_text w = bytes_eq w (codes "pow") || (bytes_eq w (codes "log") || (b
 
 abbrev pub is_ident : TokenKind → Bool
 is_ident K.Ident = true
-is_ident k = false
+is_ident (K.Word _) = false
+is_ident K.Quoted = false
+is_ident (K.Number _) = false
+is_ident (K.Symbol _) = false
+is_ident K.End = false
 
 abbrev pub is_left_out_name : Lexeme → Bool
 is_left_out_name l = is_ident l.kind && is_left_out_text l.text

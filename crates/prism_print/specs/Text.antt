@@ -53,7 +53,9 @@ abbrev pub is_node : Expression → Bool
 is_node (One at o a) = not (is_function o)
 is_node (Two at o a b) = not (is_function o)
 is_node (Three at o a b c) = true
-is_node e = false
+is_node (Truth _ _) = false
+is_node (Number _ _) = false
+is_node (Name _ _) = false
 
 abbrev pub enclosed : Bool → List ℕ → List ℕ
 enclosed true t = codes "(" ++ (t ++ codes ")")

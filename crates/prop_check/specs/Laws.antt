@@ -4,7 +4,7 @@ use Rattle.std.specs.List.{AllByRecursion as Each}
 use Rattle.bridge_io.specs.declared.reason.Fault.{Fault}
 use Rattle.prism_tree.specs.Operators.{arity}
 use Rattle.prism_tree.specs.Syntax.{File}
-use Rattle.prop_grammar.specs.Property.{Ask, greatest_reward, least_reward, Path}
+use Rattle.prop_grammar.specs.Property.{Ask, greatest, least, bounded, greatest_reward, least_reward, Path}
 use Rattle.prop_grammar.specs.Syntax.{WrittenProperty}
 use Rattle.prop_grammar.specs.Faults.{Spells}
 use Rattle.prop_trees.specs.Form.{HasForm, IsFinally}
@@ -19,7 +19,9 @@ OneListOfFaults = (bytes : List ℕ) (file : File) (fs gs : List Fault) → Faul
 abbrev pub AsksFinally : {E F R : Type 0} → Ask E R → Path F → Type 0
 AsksFinally (greatest_reward r) p = IsFinally p
 AsksFinally (least_reward r) p = IsFinally p
-AsksFinally a p = Unit {0}
+AsksFinally greatest p = Unit {0}
+AsksFinally least p = Unit {0}
+AsksFinally (bounded _ _) p = Unit {0}
 
 -- Literals are in normal form, operators have their operands, and rewards are asked of paths F e.
 pub record IsWritten (p : WrittenProperty) : Type 0 where

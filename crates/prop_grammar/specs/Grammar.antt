@@ -33,7 +33,11 @@ use Rattle.prop_grammar.specs.Syntax.{WrittenProperty}
 -- A quoted name is read as a name.
 abbrev pub name_kind : TokenKind → TokenKind
 name_kind K.Quoted = K.Ident
-name_kind k = k
+name_kind (K.Word w) = K.Word w
+name_kind K.Ident = K.Ident
+name_kind (K.Number d) = K.Number d
+name_kind (K.Symbol s) = K.Symbol s
+name_kind K.End = K.End
 
 abbrev pub as_name : Lexeme → Lexeme
 as_name t = record { kind = name_kind t.kind; text = t.text; at = t.at }
@@ -45,7 +49,11 @@ has_quotes (b ∷ bs) = nat_eq b 34
 
 abbrev pub is_name : TokenKind → Bool
 is_name K.Ident = true
-is_name k = false
+is_name (K.Word _) = false
+is_name K.Quoted = false
+is_name (K.Number _) = false
+is_name (K.Symbol _) = false
+is_name K.End = false
 
 -- the text of a token, if it has quotes
 abbrev pub title_text : Lexeme → Option (List ℕ)
@@ -66,7 +74,12 @@ compared (K.Symbol S.Less) = Some C.Less
 compared (K.Symbol S.AtMost) = Some C.AtMost
 compared (K.Symbol S.AtLeast) = Some C.AtLeast
 compared (K.Symbol S.Greater) = Some C.Greater
-compared k = None
+compared (K.Word _) = None
+compared K.Ident = None
+compared K.Quoted = None
+compared (K.Number _) = None
+compared (K.Symbol _) = None
+compared K.End = None
 
 -- >= | > | <= | <
 abbrev pub comparison : Lang Compare

@@ -81,7 +81,11 @@ kept_comparison (H.Symbol S.Less) = Some C.Less
 kept_comparison (H.Symbol S.AtMost) = Some C.AtMost
 kept_comparison (H.Symbol S.AtLeast) = Some C.AtLeast
 kept_comparison (H.Symbol S.Greater) = Some C.Greater
-kept_comparison k = None
+kept_comparison (H.Word _) = None
+kept_comparison (H.Symbol _) = None
+kept_comparison H.Ident = None
+kept_comparison H.Quoted = None
+kept_comparison (H.Number _) = None
 
 -- whether there is a first token, and it means something
 abbrev pub means : {A : Type 0} → (Lexeme → Option A) → List Lexeme → Bool

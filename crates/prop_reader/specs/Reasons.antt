@@ -44,13 +44,23 @@ is_query w = false
 abbrev pub is_unbounded : TokenKind → Bool
 is_unbounded (K.Word W.GWord) = true
 is_unbounded (K.Word W.WWord) = true
-is_unbounded k = false
+is_unbounded (K.Word _) = false
+is_unbounded K.Ident = false
+is_unbounded K.Quoted = false
+is_unbounded (K.Number _) = false
+is_unbounded (K.Symbol _) = false
+is_unbounded K.End = false
 
 -- whether the last bracket is a left one
 abbrev pub bracketed : Bool → TokenKind → Bool
 bracketed b (K.Symbol S.LeftBracket) = true
 bracketed b (K.Symbol S.RightBracket) = false
-bracketed b k = b
+bracketed b (K.Word _) = b
+bracketed b K.Ident = b
+bracketed b K.Quoted = b
+bracketed b (K.Number _) = b
+bracketed b (K.Symbol _) = b
+bracketed b K.End = b
 
 abbrev pub in_query_from : Bool → List Lexeme → Bool
 in_query_from b [] = b
@@ -77,23 +87,36 @@ is_at_most s = false
 abbrev pub form_reason : TokenKind → Bool → Bool → Reason
 form_reason (K.Word w) inside unbounded = word_reason w inside
 form_reason (K.Symbol s) inside unbounded = left_out_if (is_at_most s && unbounded)
-form_reason k inside unbounded = Syntax
+form_reason K.Ident inside unbounded = Syntax
+form_reason K.Quoted inside unbounded = Syntax
+form_reason (K.Number _) inside unbounded = Syntax
+form_reason K.End inside unbounded = Syntax
 
 -- the same of tokens as they are kept
 abbrev pub kept_reason : Kept → Bool → Bool → Reason
 kept_reason (H.Word w) inside unbounded = word_reason w inside
 kept_reason (H.Symbol s) inside unbounded = left_out_if (is_at_most s && unbounded)
-kept_reason k inside unbounded = Syntax
+kept_reason H.Ident inside unbounded = Syntax
+kept_reason H.Quoted inside unbounded = Syntax
+kept_reason (H.Number _) inside unbounded = Syntax
 
 abbrev pub kept_unbounded : Kept → Bool
 kept_unbounded (H.Word W.GWord) = true
 kept_unbounded (H.Word W.WWord) = true
-kept_unbounded k = false
+kept_unbounded (H.Word _) = false
+kept_unbounded (H.Symbol _) = false
+kept_unbounded H.Ident = false
+kept_unbounded H.Quoted = false
+kept_unbounded (H.Number _) = false
 
 abbrev pub kept_bracketed : Bool → Kept → Bool
 kept_bracketed b (H.Symbol S.LeftBracket) = true
 kept_bracketed b (H.Symbol S.RightBracket) = false
-kept_bracketed b k = b
+kept_bracketed b (H.Word _) = b
+kept_bracketed b (H.Symbol _) = b
+kept_bracketed b H.Ident = b
+kept_bracketed b H.Quoted = b
+kept_bracketed b (H.Number _) = b
 
 abbrev pub reason_at : Cause → List Lexeme → Lexeme → Reason
 reason_at c us t = unless_deep c (form_reason t.kind (in_query us) (behind_unbounded us))

@@ -59,7 +59,9 @@ reward_names file = map (λ e. e.name) (new_names file).rewards
 -- the body of a formula, its names marked as those of the model
 abbrev pub body_meant : File → Meant → Option Expression
 body_meant file (of_model x) = option_map (renamed marked) (formula_body file x)
-body_meant file m = None
+body_meant file is_initial = None
+body_meant file is_deadlock = None
+body_meant file nothing = None
 
 abbrev pub body_of : File → Name → Option Expression
 body_of file x = body_meant file (meant x)

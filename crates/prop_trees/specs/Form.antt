@@ -9,7 +9,7 @@ use Rattle.prism_tree.specs.Operators as prism_operators
 use Rattle.prism_tree.specs.Syntax.{File}
 use Rattle.jani_table.specs.Operators as jani_operators
 use Rattle.jani_tree.specs.Form.{IsNormal}
-use Rattle.prop_grammar.specs.Property.{Ask, greatest, least, bounded, greatest_reward, least_reward, Path, finally}
+use Rattle.prop_grammar.specs.Property.{Ask, greatest, least, bounded, greatest_reward, least_reward, Path, finally, globally, until, weak_until, finally_within, until_within}
 use Rattle.prop_trees.specs.Trees.{Of, PrismProperty, JaniProperty, parts}
 use Rattle.prop_trees.specs.PrismFaults.{AreSound}
 
@@ -20,7 +20,11 @@ pub record HasForm {O : Type 0} (arity : O → ℕ) (e : Tree O) : Type 0 where
 
 abbrev pub IsFinally : {E : Type 0} → Path E → Type 0
 IsFinally (finally e) = Unit {0}
-IsFinally p = ⊥
+IsFinally (globally _) = ⊥
+IsFinally (until _ _) = ⊥
+IsFinally (weak_until _ _) = ⊥
+IsFinally (finally_within _ _) = ⊥
+IsFinally (until_within _ _ _) = ⊥
 
 -- a query of rewards is of a structure that there is, of which there are so many, and of paths F e
 abbrev pub AsksWell : {E F : Type 0} → ℕ → Ask E ℕ → Path F → Type 0

@@ -94,7 +94,11 @@ probability_node op p = object_at 0 (op_word op ∷ (codes "exp", path_node p) �
 -- what a query of rewards reaches; its path is of the form F e
 abbrev pub reached : Path Expression → Node
 reached (finally e) = expression_node e
-reached p = null 0
+reached (globally _) = null 0
+reached (until _ _) = null 0
+reached (weak_until _ _) = null 0
+reached (finally_within _ _) = null 0
+reached (until_within _ _ _) = null 0
 
 -- rewards of steps, and of the states that are left
 abbrev pub sums_node : Node
@@ -183,7 +187,11 @@ IsPath v (until_within k a b) = IsTwoPaths (codes "U") v a b (Some k)
 
 abbrev pub IsReached : Node → Path Expression → Type 0
 IsReached v (finally e) = IsExpression v e
-IsReached v p = ⊥
+IsReached v (globally _) = ⊥
+IsReached v (until _ _) = ⊥
+IsReached v (weak_until _ _) = ⊥
+IsReached v (finally_within _ _) = ⊥
+IsReached v (until_within _ _ _) = ⊥
 
 abbrev pub IsProbability : Name → Node → Path Expression → Type 0
 IsProbability op v p = HasOp op v × Is (codes "exp") v (λ w. IsPath w p)

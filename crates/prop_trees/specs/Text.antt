@@ -3,7 +3,7 @@
 -- follow. An operand of F, G, U and W stands in parentheses where it is a choice. (Where parentheses stand is this project's own rule.)
 use Rattle.std.specs.Prelude.{ℕ, zero, suc, List, [], ◌∷◌, ◌++◌, Option, Some, None, Bool, true, false, ◌||◌, is_some, codes}
 use Rattle.std.specs.List.{flat_map}
-use Rattle.op_trees.specs.Tree.{renamed, Name as At, Three}
+use Rattle.op_trees.specs.Tree.{renamed, Truth, Number, Name as At, One, Two, Three}
 use Rattle.prism_tree.specs.Syntax.{Expression}
 use Rattle.prism_tree.specs.Grammar.{function_of}
 use Rattle.prism_print.specs.Text.{is_node, enclosed, expression_text}
@@ -29,11 +29,19 @@ plain e = renamed plain_name e
 -- ---- expressions in a property
 abbrev pub is_choice : Expression → Bool
 is_choice (Three at o a b c) = true
-is_choice e = false
+is_choice (Truth _ _) = false
+is_choice (Number _ _) = false
+is_choice (At _ _) = false
+is_choice (One _ _ _) = false
+is_choice (Two _ _ _ _) = false
 
 abbrev pub is_function_name : Expression → Bool
 is_function_name (At at x) = is_some (function_of x)
-is_function_name e = false
+is_function_name (Truth _ _) = false
+is_function_name (Number _ _) = false
+is_function_name (One _ _ _) = false
+is_function_name (Two _ _ _ _) = false
+is_function_name (Three _ _ _ _ _) = false
 
 abbrev pub operand_text : Expression → List ℕ
 operand_text e = enclosed (is_choice e) (expression_text e)

@@ -79,7 +79,11 @@ module _ {E F : Type 0} (Same : E → F → Type 0) where
   SameAsk (bounded c e) (bounded d f) = (c ≡ d) × Same e f
   SameAsk (greatest_reward r) (greatest_reward s) = r ≡ s
   SameAsk (least_reward r) (least_reward s) = r ≡ s
-  SameAsk a b = ⊥
+  SameAsk greatest b = ⊥
+  SameAsk least b = ⊥
+  SameAsk (bounded _ _) b = ⊥
+  SameAsk (greatest_reward _) b = ⊥
+  SameAsk (least_reward _) b = ⊥
 
   abbrev pub SamePath : Path E → Path F → Type 0
   SamePath (finally e) (finally f) = Same e f
@@ -88,4 +92,9 @@ module _ {E F : Type 0} (Same : E → F → Type 0) where
   SamePath (weak_until a b) (weak_until c d) = Same a c × Same b d
   SamePath (finally_within k e) (finally_within m f) = Same k m × Same e f
   SamePath (until_within k a b) (until_within m c d) = Same k m × Same a c × Same b d
-  SamePath p q = ⊥
+  SamePath (finally _) q = ⊥
+  SamePath (globally _) q = ⊥
+  SamePath (until _ _) q = ⊥
+  SamePath (weak_until _ _) q = ⊥
+  SamePath (finally_within _ _) q = ⊥
+  SamePath (until_within _ _ _) q = ⊥
