@@ -26,8 +26,8 @@ pub(crate) fn judge_constants(
     Ok(circles.best)
 }
 
-// The constants with the names that each uses.
-fn declarations<'a>(
+/// The constants with the names that each uses. `Err` is want of memory.
+pub fn declarations<'a>(
     alloc: Global,
     constants: &'a [JaniConst],
 ) -> Result<Vec<Declaration<'a>>, AllocError>

@@ -149,7 +149,8 @@ fn takes_nothing<'a>(lists: &NameLists<'a, &'a str>, part: &Option<Named>) -> bo
     }
 }
 
-// For each vector the place of one before it that may take the same, or its own. Nothing but time rests on it.
+// For each vector the place of one before it that may take the same, or its own. Nothing but time rests on it, so that no contract is
+// needed: `known_alike` answers only where `take_alike` says that the two take the same.
 fn first_alike<'a>(
     alloc: Global,
     elements: &[NameLists<'a, &'a str>],
@@ -162,7 +163,7 @@ fn first_alike<'a>(
     first_places(alloc, keys.as_slice())
 }
 
-// The first places of equal texts.
+// The first places of equal texts. No contract is needed: they are the places that `first_alike` answers.
 fn first_places(alloc: Global, keys: &[String]) -> Result<Vec<usize>, AllocError> {
     let mut places = NameMap::new(alloc);
     let mut all = Vec::with_capacity(alloc, keys.len())?;
@@ -173,7 +174,8 @@ fn first_places(alloc: Global, keys: &[String]) -> Result<Vec<usize>, AllocError
     Ok(all)
 }
 
-// The actions with which elements assign something in a vector, with as many commas between them as elements.
+// The actions with which elements assign something in a vector, with as many commas between them as elements. No contract is needed:
+// `take_alike` compares the vectors themselves.
 fn key_of<'a>(
     alloc: Global,
     elements: &[NameLists<'a, &'a str>],

@@ -28,6 +28,7 @@ mod writers;
 mod writes;
 
 pub use check::{CheckedJani, check_jani};
+pub use circles::declarations;
 pub use elements::automata_by_name;
 pub use laws::{places_law, writable_law};
 pub use reads::is_label;

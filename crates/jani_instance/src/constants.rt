@@ -1,21 +1,24 @@
 //! The values of the constants.
-ghost use Rattle.std.specs.Prelude.{◌≡◌, ◌+◌, ℕ, List, IfOk, IsTrue, Some, length, map};
+ghost use Rattle.std.specs.Prelude.{◌≡◌, ◌+◌, ℕ, List, [], IfOk, IsTrue, Some, length, map};
 ghost use Rattle.std.specs.List.{list_any};
 ghost use Rattle.std.specs.Option.{option_map};
 ghost use Rattle.op_trees.specs.Seen.{known, known_names};
 ghost use Rattle.op_trees.specs.Tree.{tree};
+ghost use Rattle.name_rules.specs.Circles.{AreTurns, circles};
 ghost use Rattle.name_rules.specs.Names.{under};
 ghost use Rattle.state_choices.specs.Trimmed.{computed};
 ghost use Rattle.state_choices.specs.Views.{seen_of};
 ghost use Rattle.jani_tree.specs.Syntax.{const_of, file_of};
+ghost use Rattle.jani_check.specs.Circles.{const_declared};
 ghost use Rattle.jani_meaning.specs.Scene.{constant_seen};
 ghost use Rattle.jani_instance.specs.Constants.{AreWithin, Tabled, constant_place, first_table, round_of};
 ghost use Rattle.jani_instance.specs.Views.{seen_in, values_by};
 
 use crate::run::{Run, constants_alone, value_of};
 use instance_start::{Place, equal_values, is_wide};
+use jani_check::declarations;
 use jani_tree::{JaniConst, JaniFile};
-use name_rules::{Declaration, NameMap, add_names, judge_circles};
+use name_rules::{NameMap, judge_circles};
 use op_trees::{EvalFail, Value};
 use std::alloc::{AllocError, Global};
 
@@ -44,36 +47,13 @@ pub(crate) fn constant_table(
     table_in_turns(alloc, file, given, places)
 }
 
-/// Places of the constants, each behind those that it uses. Nothing but time rests on it.
-fn constant_order(alloc: Global, constants: &[JaniConst]) -> Result<Vec<usize>, AllocError> {
+/// Places of the constants, each behind those that it uses, where none depends on itself. Nothing but time rests on it.
+fn constant_order(alloc: Global, constants: &[JaniConst]) -> Result<Vec<usize>, AllocError>
+    ensures { let ds = map const_declared (map const_of constants.now) in IfOk result (λ order. circles ds ≡ [] → AreTurns ds order.items) }
+{
     let all = declarations(alloc, constants)?;
     let circles = judge_circles(alloc, &all, None)?;
     Ok(circles.turns)
-}
-
-/// The constants with the names that they use.
-fn declarations<'a>(
-    alloc: Global,
-    constants: &'a [JaniConst],
-) -> Result<Vec<Declaration<'a>>, AllocError> {
-    let mut all = Vec::with_capacity(alloc, constants.len())?;
-    for constant in constants {
-        let uses = uses_of(alloc, constant)?;
-        all.push(Declaration {
-            name: constant.name.name.as_str(),
-            at: constant.name.at,
-            uses,
-        })?;
-    }
-    Ok(all)
-}
-
-fn uses_of<'a>(alloc: Global, constant: &'a JaniConst) -> Result<Vec<&'a str>, AllocError> {
-    let mut uses = Vec::new(alloc);
-    if let Some(value) = &constant.value {
-        add_names(value, &mut uses)?;
-    }
-    Ok(uses)
 }
 
 /// Values of constants, of those that are taken one after another in an order.

@@ -238,7 +238,8 @@ pub(crate) fn contents_demands<'a>(
     Ok(list)
 }
 
-// How many demands these commands have at most, so that the list takes its memory at once.
+// How many demands these commands have at most, so that the list takes its memory at once. No contract is needed: only room rests on
+// it, and a list that has more demands takes more.
 fn room_for(commands: &[PrismCommand]) -> usize {
     let mut room: usize = 0;
     for command in commands {
@@ -247,6 +248,7 @@ fn room_for(commands: &[PrismCommand]) -> usize {
     room
 }
 
+// The same of one command with these branches. No contract is needed: only room rests on it.
 fn room_for_branches(branches: &[PrismBranch]) -> usize {
     let mut room: usize = 1;
     for branch in branches {

@@ -1,6 +1,6 @@
 // Names that are not declared, of a whole file.
 
-ghost use Rattle.std.specs.Prelude.{◌≡◌, ◌++◌, [], List, ℕ, map, length, not, is_some, true, None, IfOk};
+ghost use Rattle.std.specs.Prelude.{◌≡◌, ◌++◌, [], List, ℕ, map, length, not, is_some, true, None, Some, IfOk};
 ghost use Rattle.std.specs.List.{flat_map, list_any};
 ghost use Rattle.std.specs.Option.{option_map};
 ghost use Rattle.op_trees.specs.Tree.{written_out};
@@ -12,7 +12,7 @@ ghost use Rattle.prism_check.specs.Levels.{lost_in};
 ghost use Rattle.prism_check.specs.Views.{demand_by};
 ghost use Rattle.name_rules.specs.Least.{soonest};
 ghost use Rattle.name_rules.specs.Names.{has_name};
-ghost use Rattle.prism_check.specs.NameFaults.{loses_name, some_used, unknown_in, unknown_names};
+ghost use Rattle.prism_check.specs.NameFaults.{is_copy, loses_name, some_used, unknown_in, unknown_names};
 ghost use Rattle.prism_check.specs.Tables.{IsScope, body_in, body_under, commands_in, module_under, vars_in};
 
 use crate::demands::{Demand, add_all, contents_demands, outer_demands};
@@ -73,13 +73,25 @@ fn are_known(alloc: Global, file: &PrismFile, scope: &Scope) -> Result<bool, All
     contents_known(alloc, file.modules.as_slice(), &scope.known)
 }
 
-fn has_copy(all: &[PrismModule]) -> bool {
+// Whether one of these modules is a copy.
+pub(crate) fn has_copy(all: &[PrismModule]) -> bool
+    ensures { result ≡ list_any (λ m. is_copy (Some m)) (map module_of all.now) }
+{
     for entry in all {
-        if matches!(entry, PrismModule::Copied(_)) {
+        if is_copy(entry) {
             return true;
         }
     }
     false
+}
+
+fn is_copy(entry: &PrismModule) -> bool
+    ensures { result ≡ is_copy (Some (module_of entry.now)) }
+{
+    match entry {
+        PrismModule::Plain(_) => false,
+        PrismModule::Copied(_) => true,
+    }
 }
 
 // Whether each name in what these modules contain is known.

@@ -6,6 +6,7 @@ ghost use Rattle.prism_flat.specs.Flat.{flat_module};
 ghost use Rattle.prism_flat.specs.Places.{IsPlaceOrder};
 ghost use Rattle.prism_check.specs.Writings.{IsWriting};
 
+use crate::scope::has_copy;
 use prism_flat::Writer;
 use prism_tree::{PrismFile, PrismModule};
 use std::alloc::{AllocError, Global};
@@ -28,7 +29,7 @@ impl<'t, 'o> Writing<'t, 'o> {
         requires { IsPlaceOrder (file_of file.now) order.now }
         ensures { IfOk result (λ w. IsWriting w (file_of file.now)) }
     {
-        if !has_copy(file) {
+        if !has_copy(file.modules.as_slice()) {
             return Ok(Writing {
                 order,
                 writer: None,
@@ -61,14 +62,4 @@ impl<'t, 'o> Writing<'t, 'o> {
             }
         }
     }
-}
-
-// Whether a file has a copy of a module.
-fn has_copy(file: &PrismFile) -> bool {
-    for entry in file.modules.as_slice() {
-        if let PrismModule::Copied(_) = entry {
-            return true;
-        }
-    }
-    false
 }

@@ -91,7 +91,7 @@ fn all_commands(
     Ok(all)
 }
 
-/// How many commands the lists have, so that there is room for them.
+/// How many commands the lists have, so that there is room for them. No contract is needed: only room rests on it.
 fn command_count(lists: &[Vec<PreparedCommand>]) -> usize {
     let mut count: usize = 0;
     for list in lists {
