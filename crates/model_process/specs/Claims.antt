@@ -40,7 +40,9 @@ HasVerdict p (of_path path) (file ∷ []) (Judged v) = ChecksPath p file (Ok v)
 HasVerdict p (of_rows states rows) (first ∷ second ∷ []) (Judged v) = ChecksRows p first second (Ok v)
 HasVerdict p (of_bounds states rows name bounds) (first ∷ second ∷ third ∷ []) (Bounds v) = HasBoundVerdict p name first second third v
 HasVerdict p (of_bounds states rows name bounds) (first ∷ second ∷ third ∷ []) NoLabel = label_named p name ≡ None
-HasVerdict p claim files v = ⊥
+HasVerdict p (of_path path) files found = ⊥
+HasVerdict p (of_rows states rows) files found = ⊥
+HasVerdict p (of_bounds states rows name bounds) files found = ⊥
 
 -- the other file of this place, from 0, breaks its form, and those before it don't
 abbrev pub BreaksForm : Process → Claim → List (List ℕ) → ℕ → Fault → Type 0
@@ -50,7 +52,9 @@ BreaksForm p (of_rows states rows) (first ∷ second ∷ []) (suc zero) f = Chec
 BreaksForm p (of_bounds states rows name bounds) (first ∷ second ∷ third ∷ []) zero f = BreaksBounds p name first second third (B.States f)
 BreaksForm p (of_bounds states rows name bounds) (first ∷ second ∷ third ∷ []) (suc zero) f = BreaksBounds p name first second third (B.Rows f)
 BreaksForm p (of_bounds states rows name bounds) (first ∷ second ∷ third ∷ []) (suc (suc zero)) f = BreaksBounds p name first second third (B.Bounds f)
-BreaksForm p claim files i f = ⊥
+BreaksForm p (of_path path) files i f = ⊥
+BreaksForm p (of_rows states rows) files i f = ⊥
+BreaksForm p (of_bounds states rows name bounds) files i f = ⊥
 
 -- how it ends on a model: before it is started; or with the verdict
 pub data EndsOnClaim (d : Description) (c : Checking) (others : List (List ℕ)) (e : Ending) : Type 0 where

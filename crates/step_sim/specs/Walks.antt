@@ -146,10 +146,19 @@ IsDrawnWalk p s (suc n) (d ∷ ds) (t ∷ ts) stop = (bar p s ≡ None) × (step
 -- never along given numbers
 abbrev pub IsGivenStop : Stop → Type 0
 IsGivenStop Deadlock = ⊥
-IsGivenStop _ = Unit {0}
+IsGivenStop Done = Unit {0}
+IsGivenStop (NoChoice _) = Unit {0}
+IsGivenStop (NoBranch _) = Unit {0}
+IsGivenStop (Faulty _) = Unit {0}
+IsGivenStop Wide = Unit {0}
+IsGivenStop TooMany = Unit {0}
 
 -- never along words
 abbrev pub IsDrawnStop : Stop → Type 0
 IsDrawnStop (NoChoice i) = ⊥
 IsDrawnStop (NoBranch j) = ⊥
-IsDrawnStop _ = Unit {0}
+IsDrawnStop Done = Unit {0}
+IsDrawnStop Deadlock = Unit {0}
+IsDrawnStop (Faulty _) = Unit {0}
+IsDrawnStop Wide = Unit {0}
+IsDrawnStop TooMany = Unit {0}
