@@ -1,4 +1,5 @@
-//! Where a node is sought, so that an equal one is found. Whatever these answer, a node that is found is compared.
+//! Where a node is sought, so that an equal one is found. Whatever these answer, a node that is found is compared. So nothing here has a
+//! contract: time and room alone rest on it.
 
 use crate::node::Node;
 use frac_core::Decimal;
@@ -29,7 +30,7 @@ enum Kind {
     Three,
 }
 
-/// The bucket of a node.
+/// The bucket of a node. No contract is needed: a node that is found in it is compared.
 pub(crate) fn bucket_of<O: Operator>(node: &Node<O>) -> Bucket {
     match node {
         Node::Fixed(value) => bucket_of_value(*value),
@@ -41,6 +42,7 @@ pub(crate) fn bucket_of<O: Operator>(node: &Node<O>) -> Bucket {
     }
 }
 
+// The bucket of a value. No contract is needed: a node that is found in it is compared.
 fn bucket_of_value(value: Value) -> Bucket {
     match value {
         Value::Truth(b) => bucket_under(Kind::Truth, usize::from(b), 0, 0),
@@ -53,12 +55,14 @@ fn bucket_of_value(value: Value) -> Bucket {
     }
 }
 
+// The bucket of a number as it is written. No contract is needed: a node that is found in it is compared.
 fn bucket_of_literal(d: Decimal) -> Bucket {
     let low = d.digits % (1 << 64);
     let high = d.digits / (1 << 64);
     bucket_under(Kind::Literal(d.exponent), low as usize, high as usize, 0)
 }
 
+// The bucket of a name by what it stands for. No contract is needed: a node that is found in it is compared.
 fn bucket_of_place(place: Option<Place>) -> Bucket {
     match place {
         None => bucket_under(Kind::Unknown, 0, 0, 0),
@@ -67,6 +71,7 @@ fn bucket_of_place(place: Option<Place>) -> Bucket {
     }
 }
 
+// No contract is needed: a node that is found in a bucket is compared.
 fn bucket_under(kind: Kind, first: usize, second: usize, third: usize) -> Bucket {
     Bucket {
         kind,

@@ -82,7 +82,7 @@ impl<O: Operator> ExprStore<O> {
         }
     }
 
-    /// Whether the result of a node is to be kept while a state is evaluated.
+    /// Whether the result of a node is to be kept while a state is evaluated. No contract is needed: kept or not, it is the same result.
     pub(crate) fn is_kept(&self, i: usize) -> bool {
         match self.notes.as_slice().get(i) {
             None => false,
@@ -200,7 +200,7 @@ impl<O: Operator> ExprStore<O> {
         }
     }
 
-    /// How many nodes are evaluated for the value of a node.
+    /// How many nodes are evaluated for the value of a node. No contract is needed: only which results are kept rests on it, and so time.
     fn cost(&self, node: &Node<O>) -> usize {
         match node {
             Node::One(_, a) => self.cost_of(*a).saturating_add(1),
@@ -217,6 +217,7 @@ impl<O: Operator> ExprStore<O> {
         }
     }
 
+    // The same of the node of this number, where it is an operand. No contract is needed: only time rests on it.
     fn cost_of(&self, i: usize) -> usize {
         if self.is_kept(i) {
             return 1;

@@ -56,6 +56,7 @@ pub(crate) fn held(model: &CheckedJani)
 }
 
 /// How many bytes the text of a file takes at most, by and large, where what it is translated from takes so many.
+/// No contract is needed: only how much memory is set aside at first rests on it.
 pub(crate) fn room_for(length: usize) -> usize {
     length.saturating_mul(6)
 }
