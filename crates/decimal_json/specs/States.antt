@@ -1,5 +1,5 @@
 -- What may follow in each state of the reader, as a language; and what a step and the end give.
-use Rattle.std.specs.Prelude.{◌≡◌, ◌⊎◌, ℕ, suc, ◌+◌, ◌<◌, ◌≤◌, List, [], ◌∷◌, ◌++◌, reverse, Result, Ok, Err, length, Option, None, Some}
+use Rattle.std.specs.Prelude.{◌≡◌, ◌⊎◌, ℕ, suc, ◌+◌, ◌<◌, ◌≤◌, List, [], ◌∷◌, ◌++◌, reverse, Result, Ok, Err, length, take, Option, None, Some}
 use Rattle.bridge_io.specs.declared.reason.Reason.{Reason}
 use Rattle.decimal_json.specs.declared.tree.Json.{Json}
 use Rattle.decimal_json.specs.declared.tree.Json.TheVariants.{Str, Array, Object}
@@ -234,6 +234,13 @@ Finishes s (Err from) = TooFarEnd s.mode from
 
 -- ---- several bytes
 
+-- what a step of this language over c gives is what it gives from the state; the same of a value's end
+abbrev pub Begins : ℕ → ℕ → State → Lang Json → Type 0
+Begins at c u L = (answer : Result State Stop) → Goes at c L answer → Steps at c u answer
+
+abbrev pub Ends : ℕ → ℕ → State → Lang Json → Type 0
+Ends at c u L = (answer : Result State Stop) → Goes at c L answer → Quiet answer → Steps at c u answer
+
 -- spaces change nothing here
 abbrev pub waits : Mode → Bool
 waits modes.Value = true
@@ -261,6 +268,21 @@ abbrev pub Advances : ℕ → List ℕ → State → Result (ℕ × State) (ℕ 
 Advances at w s (Ok r) = (a b : List ℕ) × (w ≡ a ++ b) × (length a ≡ r.0) × (0 < r.0) × Along at a s r.1
 Advances at w s (Err r) = (a b : List ℕ) × (c : ℕ) × (w ≡ a ++ c ∷ b) × (length a ≡ r.0) × (u : State) × Along at a s u × Halts (at + r.0) c u r.1
 
--- what a step behind a front of the bytes gives
-abbrev pub Behind : ℕ → Result State Stop → Result (ℕ × State) (ℕ × Stop) → Type 0
-Behind n answer result = (at : ℕ) (a b : List ℕ) (c : ℕ) (s u : State) → length a ≡ n → Along at a s u → Steps (at + n) c u answer → Advances at (a ++ c ∷ b) s result
+-- what several steps in the place of a state give
+abbrev pub leaving : Result ℕ (ℕ × Stop) → State → Result (ℕ × State) (ℕ × Stop)
+leaving (Ok n) s = Ok (n, s)
+leaving (Err e) s = Err e
+
+-- what several steps give from each state on that the first n of the bytes lead to u from
+abbrev pub From : ℕ → List ℕ → ℕ → State → Result (ℕ × State) (ℕ × Stop) → Type 0
+From at w n u result = (s : State) → Along at (take n w) s u → Advances at w s result
+
+-- what a step in the place of a state gives
+abbrev pub stepping : {A : Type 0} → Result A Stop → State → Result State Stop
+stepping (Ok a) s = Ok s
+stepping (Err e) s = Err e
+
+-- how many bytes are taken by a step behind so many
+abbrev pub took : {A : Type 0} → ℕ → Result A Stop → Result ℕ (ℕ × Stop)
+took n (Ok a) = Ok (n + 1)
+took n (Err e) = Err (n, e)

@@ -1,19 +1,41 @@
-// The reader over several bytes at once.
+// The reader over several bytes at once, its state changed in its place.
 
-ghost use Rattle.std.specs.Prelude.{◌≡◌, ℕ, ◌+◌, ◌<◌, length};
-ghost use Rattle.decimal_json.specs.declared.machine.Mode.TheVariants.{Value, FirstKey, Key, InString, InKey};
-ghost use Rattle.decimal_json.specs.States.{waits, Advances};
+ghost use Rattle.std.specs.Prelude.{◌≡◌, ◌⊎◌, ℕ, ◌+◌, ◌<◌, ◌≤◌, List, length, take, slice_index, reverse, None, true, false, IfSome};
+ghost use Rattle.decimal_json.specs.declared.machine.Mode.TheVariants.{Value, First, FirstKey, InString, InKey, Key, Colon};
+ghost use Rattle.decimal_json.specs.declared.machine.State.{State};
+ghost use Rattle.decimal_json.specs.Grammar.{is_space};
+ghost use Rattle.decimal_json.specs.Number.{onward, RunsOn};
+ghost use Rattle.decimal_json.specs.States.{waits, AllSpaces, From, leaving, took, Begins, Ends, begin_now, closes};
 
-use crate::ahead::spaces;
-use crate::brackets::{Brackets, Frame};
-use crate::chars::Within;
+use crate::brackets::Frame;
+use crate::chars::{Within, closes};
 use crate::letters::Letters;
 use crate::machine::{
-    Mode, State, Stop, in_first_key, in_key, in_next_key, in_text, in_value, step,
+    Mode, State, Stop, begin, in_after, in_array, in_colon, in_first, in_first_key, in_next_key,
+    in_number, in_value, in_word, is_space,
 };
-use crate::members::Members;
-use crate::series::{Stride, behind, framed, items_along, members_along};
+use crate::members::{Members, Pending};
+use crate::number::{Stage, first, is_end, onward};
+use crate::tree::Json;
+use bridge_io::{List, Reason};
+use frac_core::decimal_of;
 use std::alloc::Global;
+use std::mem;
+
+/// How many bytes are taken; or how many are taken before the one that is not.
+pub type Taken = Result<usize, (usize, Stop)>;
+
+/// How many of the first bytes are spaces.
+fn spaces(bytes: &[u8]) -> usize
+    ensures all { (result ≤ length bytes.now) × AllSpaces (take result bytes.now) }
+    ensures stops { result < length bytes.now → is_space (slice_index bytes.now result) ≡ false }
+{
+    let mut n = 0usize;
+    while n < bytes.len() && is_space(bytes[n]) {
+        n += 1;
+    }
+    n
+}
 
 /// Spaces change nothing here.
 fn waits(mode: &Mode) -> bool
@@ -28,131 +50,347 @@ fn waits(mode: &Mode) -> bool
     }
 }
 
-/// Inside a string that is a value.
-fn text_along(
-    at: usize,
-    start: usize,
-    within: Within,
-    text: Letters,
-    frames: Brackets,
-    bytes: &[u8],
-) -> Stride
-    requires some { 0 < length bytes.now }
-    requires room { at + length bytes.now < 9223372036854775808 }
-    ensures { Advances at bytes.now (record { mode = InString start within text; frames = frames }) result }
+/// What a step behind so many bytes comes to.
+fn taken(n: usize, answer: Result<(), Stop>) -> Taken
+    requires { n < 9223372036854775808 }
+    ensures { result ≡ took n answer }
 {
-    match text.along(within, bytes) {
-        Err(_) => Err((0, Stop::Memory)),
-        Ok((n, now, longer)) => {
-            if n == bytes.len() {
-                let mode = Mode::InString(start, now, longer);
-                return Ok((n, State { mode, frames }));
-            }
-            behind(n, in_text(start, now, longer, frames, bytes[n]))
-        }
+    match answer {
+        Ok(()) => Ok(n + 1),
+        Err(stop) => Err((n, stop)),
     }
 }
 
-/// Inside a key.
-fn key_along(
+/// A value is to begin.
+fn is_value(mode: &Mode) -> bool
+    ensures { result ≡ true → mode.now ≡ Value }
+{
+    matches!(mode, Mode::Value)
+}
+
+/// How many bytes a number goes on with, and the stage behind them.
+fn number_front(stage: Stage, bytes: &[u8]) -> (usize, Stage)
+    ensures within { result.0 ≤ length bytes.now }
+    ensures runs { RunsOn stage (take result.0 bytes.now) result.1 }
+    ensures stops { result.0 < length bytes.now → onward result.1 (slice_index bytes.now result.0) ≡ None }
+{
+    let mut now = stage;
+    let mut n = 0usize;
+    while n < bytes.len() {
+        match onward(now, bytes[n]) {
+            None => break,
+            Some(next) => now = next,
+        }
+        n += 1;
+    }
+    (n, now)
+}
+
+/// Behind a key.
+fn colon_at(
     at: usize,
+    n: usize,
+    start: usize,
+    pending: Pending,
+    state: &mut State,
+    bytes: &[u8],
+) -> Taken
+    requires some { 0 < length bytes.now }
+    requires front { n ≤ length bytes.now }
+    requires room { at + length bytes.now < 9223372036854775808 }
+    ensures { From at bytes.now n (record { mode = Colon start pending; frames = state.old.frames }) (leaving result state.new) }
+{
+    if n == bytes.len() {
+        state.mode = Mode::Colon(start, pending);
+        return Ok(n);
+    }
+    taken(n, in_colon(at + n, start, pending, state, bytes[n]))
+}
+
+/// Behind so many bytes, inside a key.
+fn key_from(
+    at: usize,
+    n: usize,
     start: usize,
     members: Members,
     from: usize,
     within: Within,
     text: Letters,
-    frames: Brackets,
+    state: &mut State,
     bytes: &[u8],
-) -> Stride
+) -> Taken
     requires some { 0 < length bytes.now }
+    requires front { n ≤ length bytes.now }
     requires room { at + length bytes.now < 9223372036854775808 }
-    ensures { Advances at bytes.now (record { mode = InKey start members from within text; frames = frames }) result }
+    ensures { From at bytes.now n (record { mode = InKey start members from within text; frames = state.old.frames }) (leaving result state.new) }
 {
-    match text.along(within, bytes) {
-        Err(_) => Err((0, Stop::Memory)),
-        Ok((n, now, longer)) => {
-            if n == bytes.len() {
-                let mode = Mode::InKey(start, members, from, now, longer);
-                return Ok((n, State { mode, frames }));
-            }
-            let c = bytes[n];
-            behind(
-                n,
-                in_key(at + n, start, members, from, now, longer, frames, c),
-            )
+    match text.along(within, &bytes[n..]) {
+        Err(_) => {
+            drop(members);
+            Err((0, Stop::Memory))
         }
-    }
-}
-
-/// A value is to begin, in an array or elsewhere.
-fn value_along(alloc: Global, at: usize, mut frames: Brackets, bytes: &[u8]) -> Stride
-    requires some { 0 < length bytes.now }
-    requires room { at + length bytes.now < 9223372036854775808 }
-    ensures { Advances at bytes.now (record { mode = Value; frames = frames }) result }
-{
-    match frames.pop() {
-        Some(Frame::InArray(start, items)) => items_along(alloc, at, start, items, frames, bytes),
-        Some(frame) => match framed(frames, frame) {
-            Err(_) => Err((0, Stop::Memory)),
-            Ok(more) => behind(0, in_value(alloc, at, more, bytes[0])),
-        },
-        None => behind(0, in_value(alloc, at, frames, bytes[0])),
+        Ok((more, now, longer)) => {
+            let end = n + more;
+            if end == bytes.len() {
+                state.mode = Mode::InKey(start, members, from, now, longer);
+                return Ok(end);
+            }
+            if !closes(now, bytes[end]) {
+                drop(members);
+                drop(longer);
+                return Err((end, Stop::Here));
+            }
+            if members.has(longer.as_str()) {
+                drop(members);
+                drop(longer);
+                return Err((end, Stop::At(from, Reason::TwiceMember)));
+            }
+            let pending = Pending::new(members, longer, from);
+            colon_at(at, end + 1, start, pending, state, bytes)
+        }
     }
 }
 
 /// A further key is to come.
-fn next_key_along(
+fn key_at(
     alloc: Global,
     at: usize,
+    n: usize,
     start: usize,
     members: Members,
-    frames: Brackets,
+    state: &mut State,
     bytes: &[u8],
-) -> Stride
+) -> Taken
     requires some { 0 < length bytes.now }
+    requires front { n ≤ length bytes.now }
     requires room { at + length bytes.now < 9223372036854775808 }
-    ensures { Advances at bytes.now (record { mode = Key start members; frames = frames }) result }
+    ensures { From at bytes.now n (record { mode = Key start members; frames = state.old.frames }) (leaving result state.new) }
 {
-    if bytes[0] == b'"' {
-        return members_along(alloc, at, start, members, frames, bytes);
+    if n == bytes.len() {
+        state.mode = Mode::Key(start, members);
+        return Ok(n);
     }
-    behind(0, in_next_key(alloc, at, start, members, frames, bytes[0]))
+    let here = at + n;
+    if bytes[n] != b'"' {
+        return taken(n, in_next_key(alloc, here, start, members, state, bytes[n]));
+    }
+    let text = Letters::new(alloc);
+    let within = Within::Between;
+    key_from(at, n + 1, start, members, here, within, text, state, bytes)
 }
 
 /// A first key or the end of the object is to come.
-fn first_key_along(alloc: Global, at: usize, start: usize, frames: Brackets, bytes: &[u8]) -> Stride
+fn first_key_at(
+    alloc: Global,
+    at: usize,
+    n: usize,
+    start: usize,
+    state: &mut State,
+    bytes: &[u8],
+) -> Taken
     requires some { 0 < length bytes.now }
+    requires front { n ≤ length bytes.now }
     requires room { at + length bytes.now < 9223372036854775808 }
-    ensures { Advances at bytes.now (record { mode = FirstKey start; frames = frames }) result }
+    ensures { From at bytes.now n (record { mode = FirstKey start; frames = state.old.frames }) (leaving result state.new) }
 {
-    if bytes[0] == b'"' {
-        return members_along(alloc, at, start, Members::new(alloc), frames, bytes);
+    if n == bytes.len() {
+        state.mode = Mode::FirstKey(start);
+        return Ok(n);
     }
-    behind(0, in_first_key(alloc, at, start, frames, bytes[0]))
+    let here = at + n;
+    if bytes[n] != b'"' {
+        return taken(n, in_first_key(alloc, here, start, state, bytes[n]));
+    }
+    let (members, text) = (Members::new(alloc), Letters::new(alloc));
+    let within = Within::Between;
+    key_from(at, n + 1, start, members, here, within, text, state, bytes)
+}
+
+/// Behind a value, over the next byte, which ends it.
+fn after_at(
+    alloc: Global,
+    at: usize,
+    n: usize,
+    value: Json,
+    state: &mut State,
+    bytes: &[u8],
+) -> Taken
+    requires some { n < length bytes.now }
+    requires room { at + length bytes.now < 9223372036854775808 }
+    ensures { (u : State) → Ends (at + n) (slice_index bytes.now n) u (closes (reverse state.old.frames) value) → From at bytes.now n u (leaving result state.new) }
+{
+    let here = at + n;
+    let c = bytes[n];
+    if c != b',' {
+        return taken(n, in_after(alloc, here, value, state, c));
+    }
+    match state.frames.pop() {
+        None => {
+            drop(value);
+            Err((n, Stop::Here))
+        }
+        Some(Frame::InArray(start, items)) => taken(n, in_array(start, items, value, state, c)),
+        Some(Frame::InObject(start, pending)) => match pending.with(alloc, value) {
+            Err(_) => Err((0, Stop::Memory)),
+            Ok(members) => key_at(alloc, at, n + 1, start, members, state, bytes),
+        },
+    }
+}
+
+/// Behind so many bytes, inside a string that is a value.
+fn text_from(
+    alloc: Global,
+    at: usize,
+    n: usize,
+    start: usize,
+    within: Within,
+    text: Letters,
+    state: &mut State,
+    bytes: &[u8],
+) -> Taken
+    requires some { 0 < length bytes.now }
+    requires front { n ≤ length bytes.now }
+    requires room { at + length bytes.now < 9223372036854775808 }
+    ensures { From at bytes.now n (record { mode = InString start within text; frames = state.old.frames }) (leaving result state.new) }
+{
+    match text.along(within, &bytes[n..]) {
+        Err(_) => Err((0, Stop::Memory)),
+        Ok((more, now, longer)) => {
+            let end = n + more;
+            if end == bytes.len() {
+                state.mode = Mode::InString(start, now, longer);
+                return Ok(end);
+            }
+            if !closes(now, bytes[end]) {
+                drop(longer);
+                return Err((end, Stop::Here));
+            }
+            match longer.into_text() {
+                Err(_) => Err((0, Stop::Memory)),
+                Ok(whole) => {
+                    let value = Json::Str(start, whole);
+                    if end + 1 == bytes.len() {
+                        state.mode = Mode::After(value);
+                        return Ok(end + 1);
+                    }
+                    after_at(alloc, at, end + 1, value, state, bytes)
+                }
+            }
+        }
+    }
+}
+
+/// A number or a byte that begins no value, and what is behind the number where that is seen.
+fn number_at(alloc: Global, at: usize, n: usize, state: &mut State, bytes: &[u8]) -> Taken
+    requires some { n < length bytes.now }
+    requires room { at + length bytes.now < 9223372036854775808 }
+    ensures { (u : State) → Begins (at + n) (slice_index bytes.now n) u (begin_now (reverse state.old.frames)) → From at bytes.now n u (leaving result state.new) }
+{
+    let here = at + n;
+    match first(bytes[n]) {
+        None => taken(n, begin(alloc, here, state, bytes[n])),
+        Some(stage) => {
+            let (more, last) = number_front(stage, &bytes[n + 1..]);
+            let end = n + 1 + more;
+            if end == bytes.len() {
+                return taken(n, begin(alloc, here, state, bytes[n]));
+            }
+            if !is_end(last) {
+                return taken(n, begin(alloc, here, state, bytes[n]));
+            }
+            match decimal_of(&bytes[n..end]) {
+                None => taken(n, begin(alloc, here, state, bytes[n])),
+                Some(value) => { after_at(alloc, at, end, Json::Number(here, value), state, bytes) }
+            }
+        }
+    }
+}
+
+/// A value begins.
+fn value_at(alloc: Global, at: usize, n: usize, state: &mut State, bytes: &[u8]) -> Taken
+    requires some { n < length bytes.now }
+    requires room { at + length bytes.now < 9223372036854775808 }
+    ensures { (u : State) → Begins (at + n) (slice_index bytes.now n) u (begin_now (reverse state.old.frames)) → From at bytes.now n u (leaving result state.new) }
+{
+    let here = at + n;
+    let c = bytes[n];
+    if c == b'"' {
+        let (within, text) = (Within::Between, Letters::new(alloc));
+        return text_from(alloc, at, n + 1, here, within, text, state, bytes);
+    }
+    if c == b'{' && state.frames.len() < 1024 {
+        return first_key_at(alloc, at, n + 1, here, state, bytes);
+    }
+    number_at(alloc, at, n, state, bytes)
+}
+
+/// A first item or the end of the array is to come.
+fn first_at(
+    alloc: Global,
+    at: usize,
+    n: usize,
+    start: usize,
+    state: &mut State,
+    bytes: &[u8],
+) -> Taken
+    requires some { n < length bytes.now }
+    requires room { at + length bytes.now < 9223372036854775808 }
+    ensures { From at bytes.now n (record { mode = First start; frames = state.old.frames }) (leaving result state.new) }
+{
+    let c = bytes[n];
+    if is_space(c) {
+        return taken(n, in_first(alloc, at + n, start, state, c));
+    }
+    if c == b']' {
+        return taken(n, in_first(alloc, at + n, start, state, c));
+    }
+    match state.frames.push(Frame::InArray(start, List::new(alloc))) {
+        Err(_) => Err((0, Stop::Memory)),
+        Ok(()) => value_at(alloc, at, n, state, bytes),
+    }
+}
+
+/// Behind so many bytes, over some more.
+fn token(alloc: Global, at: usize, n: usize, state: &mut State, bytes: &[u8]) -> Taken
+    requires some { n < length bytes.now }
+    requires room { at + length bytes.now < 9223372036854775808 }
+    ensures { From at bytes.now n state.old (leaving result state.new) }
+{
+    let here = at + n;
+    let c = bytes[n];
+    match mem::replace(&mut state.mode, Mode::Value) {
+        Mode::Value => taken(n, in_value(alloc, here, state, c)),
+        Mode::First(start) => first_at(alloc, at, n, start, state, bytes),
+        Mode::FirstKey(start) => first_key_at(alloc, at, n, start, state, bytes),
+        Mode::Key(start, members) => key_at(alloc, at, n, start, members, state, bytes),
+        Mode::Colon(start, pending) => colon_at(at, n, start, pending, state, bytes),
+        Mode::InKey(start, members, from, within, text) => {
+            key_from(at, n, start, members, from, within, text, state, bytes)
+        }
+        Mode::InString(start, within, text) => {
+            text_from(alloc, at, n, start, within, text, state, bytes)
+        }
+        Mode::Word(word, value) => taken(n, in_word(alloc, here, word, value, state, c)),
+        Mode::InNumber(start, digits) => taken(n, in_number(alloc, here, start, digits, state, c)),
+        Mode::After(value) => after_at(alloc, at, n, value, state, bytes),
+    }
 }
 
 /// Over some of the bytes at once, at least one.
-pub(crate) fn advance(alloc: Global, at: usize, state: State, bytes: &[u8]) -> Stride
+pub(crate) fn advance(alloc: Global, at: usize, state: &mut State, bytes: &[u8]) -> Taken
     requires some { 0 < length bytes.now }
     requires room { at + length bytes.now < 9223372036854775808 }
-    ensures { Advances at bytes.now state result }
+    ensures { From at bytes.now 0 state.old (leaving result state.new) }
 {
-    let c = bytes[0];
-    if waits(&state.mode) {
-        let n = spaces(bytes);
-        if n > 0 {
-            return Ok((n, state));
-        }
+    if !waits(&state.mode) {
+        return token(alloc, at, 0, state, bytes);
     }
-    let State { mode, frames } = state;
-    match mode {
-        Mode::InString(start, within, text) => text_along(at, start, within, text, frames, bytes),
-        Mode::InKey(start, members, from, within, text) => key_along(
-            at, start, members, from, within, text, frames, bytes,
-        ),
-        Mode::Value => value_along(alloc, at, frames, bytes),
-        Mode::FirstKey(start) => first_key_along(alloc, at, start, frames, bytes),
-        Mode::Key(start, members) => next_key_along(alloc, at, start, members, frames, bytes),
-        mode => behind(0, step(alloc, at, State { mode, frames }, c)),
+    let n = spaces(bytes);
+    if n == bytes.len() {
+        return Ok(n);
     }
+    if is_value(&state.mode) {
+        return value_at(alloc, at, n, state, bytes);
+    }
+    token(alloc, at, n, state, bytes)
 }
