@@ -28,9 +28,9 @@ use Rattle.decimal_json.specs.Lang.{Lang}
 use Rattle.decimal_json.specs.Grammar.{is_space}
 use Rattle.decimal_json.specs.Number as num
 use Rattle.decimal_json.specs.Number.{RunsOn}
-use Rattle.decimal_json.specs.States.{Goes, goes_on, Steps, Settles, Quiet, Numbers, Halts, Along, From, leaving, stepping, took, waits, AllSpaces, Begins, Ends, closes, begin_now, begin_value, begin_items, begin_members, begin_key, in_string}
+use Rattle.decimal_json.specs.States.{Goes, goes_on, Steps, Settles, Quiet, Numbers, Halts, Along, From, leaving, stepping, took, waits, AllSpaces, Begins, Ends, closes, begin_now, begin_value, begin_items, begin_members, begin_key, in_string, in_word}
 use Rattle.decimal_json.proofs.Steps as s
-use Rattle.decimal_json.proofs.StepLemmas.{plain, with_mark, pushed, popped, goes_by, bracket_fine, by_mode, number_steps, number_begins, number_over, verdict_end, after_none, open_object_comma, closes_is, closes_not, key_breaks}
+use Rattle.decimal_json.proofs.StepLemmas.{plain, with_mark, pushed, popped, goes_by, bracket_fine, by_mode, number_steps, number_begins, number_over, verdict_end, after_none, open_object_comma, closes_is, closes_not, key_breaks, word_from, word_over}
 use Rattle.decimal_json.proofs.Chains.{along_join, one, tail_is, advances_front, advances_memory, spaces_on, key_opens, first_opens, spelling, digits_along}
 
 -- ---- along the bytes
@@ -181,6 +181,10 @@ begins_first at c start fs gs items k l i e answer g =
 pub from_begins : {A : Type 0} (at n : ℕ) (w : List ℕ) (L : Lang Json) (u v : State) (answer : Result A Stop) (result : Result ℕ (ℕ × Stop)) → n < length w → result ≡ took n answer → Goes (at + n) (get_or w n 0) L (stepping answer v) → Begins (at + n) (get_or w n 0) u L → From at w n u (leaving result v)
 from_begins at n w L u v answer result l e g b = from_took at n w u v answer result l e (b (stepping answer v) g)
 
+-- a byte that opens a value, and what is behind it
+pub from_opens : (at n : ℕ) (w : List ℕ) (L : Lang Json) (u v : State) (result : Result (ℕ × State) (ℕ × Stop)) → n < length w → From at w (n + 1) v result → Begins (at + n) (get_or w n 0) u L → Goes (at + n) (get_or w n 0) L (Ok v) → From at w n u result
+from_opens at n w L u v result l f b g = from_then at n w u v result l (b (Ok v) g) f
+
 -- the quotation mark of a string
 pub from_quote : (at n : ℕ) (w : List ℕ) (fs : List Frame) (u : State) (text : List ℕ) (result : Result (ℕ × State) (ℕ × Stop)) → n < length w → get_or w n 0 ≡ 34 → text ≡ [] → Begins (at + n) (get_or w n 0) u (begin_now (reverse fs)) → From at w (n + 1) (record { mode = modes.InString (at + n) Between text; frames = fs }) result → From at w n u result
 from_quote at n w fs u text result l q e b f =
@@ -216,6 +220,16 @@ from_comma at n start w fs gs f o x more u result l q e i m b k =
     from_then at n w u (record { mode = modes.Key start more; frames = gs }) result l
     (b r (pushed (λ v. Goes (at + n) (get_or w n 0) (closes v x) r) gs fs (InObject start o) (e ∙ ap (λ (y : Frame). gs ++ y ∷ []) i)
     (λ p j. plain p (at + n) _ 0x2c (closes (InObject start o ∷ reverse gs) x) (λ h. begin_key start more (reverse gs)) j q (open_object_comma gs x p start o more m))) tt) k
+
+-- ---- a word that is seen to its end
+
+-- the state behind the bytes of a word, where its value ends
+pub word_passes : (bs : List ℕ) (r : _) (x : Json) (fs : List Frame) (s : State) → s ≡ record { mode = modes.Word r x; frames = fs } → r.now ≡ bs → (at : ℕ) → (v : State) × Along at bs (record { mode = modes.Word r x; frames = fs }) v × ((i c : ℕ) → Ends i c v (closes (reverse fs) x))
+word_passes [] r x fs s o e at = (record { mode = modes.Word r x; frames = fs }, refl, λ i c answer g q. by_mode i c (modes.Word r x) (modes.Word r x) fs answer refl tt (word_over i c r.now x (reverse fs) answer e g))
+word_passes (b ∷ bs) r x fs s o e at =
+    let m : Mode = modes.Word (record { ref_ptr = (0, 0); now = bs }) x in
+    let t = word_passes bs (record { ref_ptr = (0, 0); now = bs }) x fs (record { mode = m; frames = fs }) refl refl (at + 1) in
+    (t.0, (record { mode = m; frames = fs }, by_mode at b (modes.Word r x) (modes.Word r x) fs (Ok (record { mode = m; frames = fs })) refl tt (λ p f. plain p at b b (in_word r.now x (reverse fs)) (λ k. in_word bs x (reverse fs)) f refl (word_from p b b r.now bs x (reverse fs) e refl)), t.1), t.2)
 
 -- ---- a number that is seen to its end
 

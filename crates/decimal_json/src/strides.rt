@@ -1,7 +1,7 @@
 // The reader over several bytes at once, its state changed in its place.
 
 ghost use Rattle.std.specs.Prelude.{◌≡◌, ◌⊎◌, ℕ, ◌+◌, ◌<◌, ◌≤◌, List, length, take, slice_index, reverse, None, true, false, IfSome};
-ghost use Rattle.decimal_json.specs.declared.machine.Mode.TheVariants.{Value, First, FirstKey, InString, InKey, Key, Colon};
+ghost use Rattle.decimal_json.specs.declared.machine.Mode.TheVariants.{Value, First, FirstKey, InString, InKey, Key, Colon, Word};
 ghost use Rattle.decimal_json.specs.declared.machine.State.{State};
 ghost use Rattle.decimal_json.specs.Grammar.{is_space};
 ghost use Rattle.decimal_json.specs.Number.{onward, RunsOn};
@@ -11,8 +11,8 @@ use crate::brackets::Frame;
 use crate::chars::{Within, closes};
 use crate::letters::Letters;
 use crate::machine::{
-    Mode, State, Stop, begin, in_after, in_array, in_colon, in_first, in_first_key, in_next_key,
-    in_number, in_value, in_word, is_space,
+    KeptMode, Mode, State, Stop, begin, in_after, in_array, in_colon, in_first, in_first_key,
+    in_next_key, in_number, in_value, in_word, is_space,
 };
 use crate::members::{Members, Pending};
 use crate::number::{Stage, first, is_end, onward};
@@ -101,7 +101,9 @@ fn colon_at(
     ensures { From at bytes.now n (record { mode = Colon start pending; frames = state.old.frames }) (leaving result state.new) }
 {
     if n == bytes.len() {
-        state.mode = Mode::Colon(start, pending);
+        state.mode = KeptMode {
+            mode: Mode::Colon(start, pending),
+        };
         return Ok(n);
     }
     taken(n, in_colon(at + n, start, pending, state, bytes[n]))
@@ -132,7 +134,9 @@ fn key_from(
         Ok((more, now, longer)) => {
             let end = n + more;
             if end == bytes.len() {
-                state.mode = Mode::InKey(start, members, from, now, longer);
+                state.mode = KeptMode {
+                    mode: Mode::InKey(start, members, from, now, longer),
+                };
                 return Ok(end);
             }
             if !closes(now, bytes[end]) {
@@ -167,7 +171,9 @@ fn key_at(
     ensures { From at bytes.now n (record { mode = Key start members; frames = state.old.frames }) (leaving result state.new) }
 {
     if n == bytes.len() {
-        state.mode = Mode::Key(start, members);
+        state.mode = KeptMode {
+            mode: Mode::Key(start, members),
+        };
         return Ok(n);
     }
     let here = at + n;
@@ -194,7 +200,9 @@ fn first_key_at(
     ensures { From at bytes.now n (record { mode = FirstKey start; frames = state.old.frames }) (leaving result state.new) }
 {
     if n == bytes.len() {
-        state.mode = Mode::FirstKey(start);
+        state.mode = KeptMode {
+            mode: Mode::FirstKey(start),
+        };
         return Ok(n);
     }
     let here = at + n;
@@ -258,7 +266,9 @@ fn text_from(
         Ok((more, now, longer)) => {
             let end = n + more;
             if end == bytes.len() {
-                state.mode = Mode::InString(start, now, longer);
+                state.mode = KeptMode {
+                    mode: Mode::InString(start, now, longer),
+                };
                 return Ok(end);
             }
             if !closes(now, bytes[end]) {
@@ -270,7 +280,9 @@ fn text_from(
                 Ok(whole) => {
                     let value = Json::Str(start, whole);
                     if end + 1 == bytes.len() {
-                        state.mode = Mode::After(value);
+                        state.mode = KeptMode {
+                            mode: Mode::After(value),
+                        };
                         return Ok(end + 1);
                     }
                     after_at(alloc, at, end + 1, value, state, bytes)
@@ -280,7 +292,73 @@ fn text_from(
     }
 }
 
-/// A number or a byte that begins no value, and what is behind the number where that is seen.
+/// Whether these bytes are a word and more behind it.
+fn begins_with(bytes: &[u8], word: &[u8]) -> bool
+    ensures within { result ≡ true → length word.now < length bytes.now }
+    ensures same { result ≡ true → take (length word.now) bytes.now ≡ word.now }
+{
+    bytes.len() > word.len() && &bytes[..word.len()] == word
+}
+
+/// Behind so many bytes, inside a word.
+fn word_from(
+    alloc: Global,
+    at: usize,
+    n: usize,
+    word: &'static [u8],
+    value: Json,
+    state: &mut State,
+    bytes: &[u8],
+) -> Taken
+    requires some { 0 < length bytes.now }
+    requires front { n ≤ length bytes.now }
+    requires room { at + length bytes.now < 9223372036854775808 }
+    ensures { From at bytes.now n (record { mode = Word word.entry value; frames = state.old.frames }) (leaving result state.new) }
+{
+    if n == bytes.len() {
+        state.mode = KeptMode {
+            mode: Mode::Word(word, value),
+        };
+        return Ok(n);
+    }
+    if !begins_with(&bytes[n..], word) {
+        return taken(n, in_word(alloc, at + n, word, value, state, bytes[n]));
+    }
+    after_at(alloc, at, n + word.len(), value, state, bytes)
+}
+
+/// A word or what else begins a value, and what is behind the word where that is seen.
+fn word_at(alloc: Global, at: usize, n: usize, state: &mut State, bytes: &[u8]) -> Taken
+    requires some { n < length bytes.now }
+    requires room { at + length bytes.now < 9223372036854775808 }
+    ensures { (u : State) → Begins (at + n) (slice_index bytes.now n) u (begin_now (reverse state.old.frames)) → From at bytes.now n u (leaving result state.new) }
+{
+    let here = at + n;
+    match bytes[n] {
+        b'n' => word_from(alloc, at, n + 1, b"ull", Json::Null(here), state, bytes),
+        b't' => word_from(
+            alloc,
+            at,
+            n + 1,
+            b"rue",
+            Json::Truth(here, true),
+            state,
+            bytes,
+        ),
+        b'f' => word_from(
+            alloc,
+            at,
+            n + 1,
+            b"alse",
+            Json::Truth(here, false),
+            state,
+            bytes,
+        ),
+        _ => taken(n, begin(alloc, here, state, bytes[n])),
+    }
+}
+
+/// A number or what else begins a value, and what is behind the number where that is seen.
 fn number_at(alloc: Global, at: usize, n: usize, state: &mut State, bytes: &[u8]) -> Taken
     requires some { n < length bytes.now }
     requires room { at + length bytes.now < 9223372036854775808 }
@@ -288,7 +366,7 @@ fn number_at(alloc: Global, at: usize, n: usize, state: &mut State, bytes: &[u8]
 {
     let here = at + n;
     match first(bytes[n]) {
-        None => taken(n, begin(alloc, here, state, bytes[n])),
+        None => word_at(alloc, at, n, state, bytes),
         Some(stage) => {
             let (more, last) = number_front(stage, &bytes[n + 1..]);
             let end = n + 1 + more;
@@ -358,7 +436,7 @@ fn token(alloc: Global, at: usize, n: usize, state: &mut State, bytes: &[u8]) ->
 {
     let here = at + n;
     let c = bytes[n];
-    match mem::replace(&mut state.mode, Mode::Value) {
+    match mem::replace(&mut state.mode, KeptMode { mode: Mode::Value }).into_mode() {
         Mode::Value => taken(n, in_value(alloc, here, state, c)),
         Mode::First(start) => first_at(alloc, at, n, start, state, bytes),
         Mode::FirstKey(start) => first_key_at(alloc, at, n, start, state, bytes),
@@ -370,7 +448,7 @@ fn token(alloc: Global, at: usize, n: usize, state: &mut State, bytes: &[u8]) ->
         Mode::InString(start, within, text) => {
             text_from(alloc, at, n, start, within, text, state, bytes)
         }
-        Mode::Word(word, value) => taken(n, in_word(alloc, here, word, value, state, c)),
+        Mode::Word(word, value) => word_from(alloc, at, n, word, value, state, bytes),
         Mode::InNumber(start, digits) => taken(n, in_number(alloc, here, start, digits, state, c)),
         Mode::After(value) => after_at(alloc, at, n, value, state, bytes),
     }
@@ -382,14 +460,14 @@ pub(crate) fn advance(alloc: Global, at: usize, state: &mut State, bytes: &[u8])
     requires room { at + length bytes.now < 9223372036854775808 }
     ensures { From at bytes.now 0 state.old (leaving result state.new) }
 {
-    if !waits(&state.mode) {
+    if !waits(state.mode.as_mode()) {
         return token(alloc, at, 0, state, bytes);
     }
     let n = spaces(bytes);
     if n == bytes.len() {
         return Ok(n);
     }
-    if is_value(&state.mode) {
+    if is_value(state.mode.as_mode()) {
         return value_at(alloc, at, n, state, bytes);
     }
     token(alloc, at, n, state, bytes)

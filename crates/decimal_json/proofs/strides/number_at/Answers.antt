@@ -5,7 +5,7 @@ use Rattle.decimal_json.proofs.strides.number_at.Goals as goal
 
 pub returns-then-end-bytes : goal.returns-then-end-bytes
 returns-then-end-bytes c u b =
-    from_begins c.args.at c.args.n c.args.bytes.now _ u c.begin-then-end-bytes.new.state c.begin-then-end-bytes.result c.taken-then-end-bytes.result c.requires.some c.taken-then-end-bytes.ensures c.begin-then-end-bytes.ensures b
+    from_begins c.args.at c.args.n c.args.bytes.now _ u c.begin.new.state c.begin.result c.taken.result c.requires.some c.taken.ensures c.begin.ensures b
 
 pub returns-then-not-is_end : goal.returns-then-not-is_end
 returns-then-not-is_end c u b =
@@ -13,7 +13,7 @@ returns-then-not-is_end c u b =
 
 pub returns-in-None : goal.returns-in-None
 returns-in-None c u b =
-    from_begins c.args.at c.args.n c.args.bytes.now _ u c.begin.new.state c.begin.result c.taken.result c.requires.some c.taken.ensures c.begin.ensures b
+    c.word_at.ensures u b
 
 pub returns-in-None-decimal_of : goal.returns-in-None-decimal_of
 returns-in-None-decimal_of c u b =
