@@ -206,6 +206,26 @@ ends_after at c u x e answer g q = by_mode at c u.mode (modes.After x) u.frames 
 pub from_ends : {A : Type 0} (at n : ℕ) (w : List ℕ) (L : Lang Json) (u v : State) (answer : Result A Stop) (result : Result ℕ (ℕ × Stop)) → n < length w → result ≡ took n answer → Goes (at + n) (get_or w n 0) L (stepping answer v) → Quiet (stepping answer v) → Ends (at + n) (get_or w n 0) u L → From at w n u (leaving result v)
 from_ends at n w L u v answer result l e g q b = from_took at n w u v answer result l e (b (stepping answer v) g q)
 
+-- whatever is right behind a value's end at i is right from n on
+abbrev pub Leads : ℕ → ℕ → List ℕ → Lang Json → ℕ → Lang Json → Type 0
+Leads at n w L i M = (r : Result (ℕ × State) (ℕ × Stop)) → ((v : State) → Ends (at + i) (get_or w i 0) v M → From at w i v r) → (u : State) → Ends (at + n) (get_or w n 0) u L → From at w n u r
+
+module _ (at n i : ℕ) (w : List ℕ) (L M : Lang Json) (l : i < length w) (h : Leads at n w L i M) where
+  pub leads_on : (k : ℕ) (fs : List Frame) (x : Json) → k ≡ i + 1 → Goes (at + i) (get_or w i 0) M (Ok (record { mode = modes.After x; frames = fs })) → Leads at n w L k (closes (reverse fs) x)
+  leads_on k fs x e g r f u b =
+      let s : State = record { mode = modes.After x; frames = fs } in
+      let G : ℕ → Type 0 = λ j. (v : State) → Ends (at + j) (get_or w j 0) v (closes (reverse fs) x) → From at w j v r in
+      h r (λ v o. from_then at i w v s r l (o (Ok s) g tt) (subst G e f s (ends_after _ _ s x refl))) u b
+
+  pub leads_end : (k : ℕ) (fs : List Frame) (x : Json) (u : State) → k ≡ i + 1 → k ≡ length w → Goes (at + i) (get_or w i 0) M (Ok (record { mode = modes.After x; frames = fs })) → Ends (at + n) (get_or w n 0) u L → From at w n u (Ok (k, record { mode = modes.After x; frames = fs }))
+  leads_end k fs x u e z g b =
+      let s : State = record { mode = modes.After x; frames = fs } in
+      let F : ℕ → Type 0 = λ j. From at w j s (Ok (k, s)) in
+      h (Ok (k, s)) (λ v o. from_then at i w v s (Ok (k, s)) l (o (Ok s) g tt) (subst F e (from_all at k w s (omega (arith, l)) z))) u b
+
+  pub leads_halt : (u : State) (e : Stop) → Goes (at + i) (get_or w i 0) M (Err e) → Quiet (Err e) → Ends (at + n) (get_or w n 0) u L → From at w n u (Err (i, e))
+  leads_halt u e g q b = h (Err (i, e)) (λ v o. from_stepped at i w v e l (o (Err e) g q)) u b
+
 pub comma_is_none : (c : ℕ) → c ≡ 44 → is_space c ≡ false
 comma_is_none c e = ap is_space e
 

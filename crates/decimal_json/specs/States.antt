@@ -13,7 +13,7 @@ use Rattle.decimal_json.specs.declared.machine.State.{State}
 use Rattle.decimal_json.specs.declared.machine.Stop.{Stop}
 use Rattle.decimal_json.specs.declared.machine.Stop.TheVariants.{Memory, Here, At, TooFar}
 use Rattle.decimal_json.specs.Lang.{Mark, Place, AllFine, Among, Lang, gives, here, note, ◌>>=◌, ◌>>◌, many_with, Turns, Barred, Stops, NoEmpty}
-use Rattle.std.specs.Prelude.{Bool, true, false, if◌then◌else◌}
+use Rattle.std.specs.Prelude.{Bool, true, false, ◌||◌, nat_eq, if◌then◌else◌}
 use Rattle.decimal_json.specs.declared.number.Stage.{Stage}
 use Rattle.decimal_json.specs.declared.number.Digits.{Digits}
 use Rattle.decimal_json.specs.declared.chars.Within.{Within}
@@ -281,6 +281,15 @@ From at w n u result = (s : State) → Along at (take n w) s u → Advances at w
 abbrev pub stepping : {A : Type 0} → Result A Stop → State → Result State Stop
 stepping (Ok a) s = Ok s
 stepping (Err e) s = Err e
+
+-- the state behind a bracket that closes
+abbrev pub shut : Result Json Stop → State → Result State Stop
+shut (Ok x) s = Ok (record { mode = modes.After x; frames = s.frames })
+shut (Err e) s = Err e
+
+-- a bracket that closes
+abbrev pub is_closing : ℕ → Bool
+is_closing c = nat_eq c 93 || nat_eq c 125
 
 -- how many bytes are taken by a step behind so many
 abbrev pub took : {A : Type 0} → ℕ → Result A Stop → Result ℕ (ℕ × Stop)

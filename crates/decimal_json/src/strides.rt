@@ -1,7 +1,7 @@
 // The reader over several bytes at once, its state changed in its place.
 
 ghost use Rattle.std.specs.Prelude.{◌≡◌, ◌⊎◌, ℕ, ◌+◌, ◌<◌, ◌≤◌, List, length, take, slice_index, reverse, None, true, false, IfSome};
-ghost use Rattle.decimal_json.specs.declared.machine.Mode.TheVariants.{Value, First, FirstKey, InString, InKey, Key, Colon, Word};
+ghost use Rattle.decimal_json.specs.declared.machine.Mode.TheVariants.{First, FirstKey, InString, InKey, Key, Colon, Word};
 ghost use Rattle.decimal_json.specs.declared.machine.State.{State};
 ghost use Rattle.decimal_json.specs.Grammar.{is_space};
 ghost use Rattle.decimal_json.specs.Number.{onward, RunsOn};
@@ -11,8 +11,8 @@ use crate::brackets::Frame;
 use crate::chars::{Within, closes};
 use crate::letters::Letters;
 use crate::machine::{
-    KeptMode, Mode, State, Stop, begin, in_after, in_array, in_colon, in_first, in_first_key,
-    in_next_key, in_number, in_value, in_word, is_space,
+    KeptMode, Mode, State, Stop, begin, closed, in_after, in_array, in_colon, in_first,
+    in_first_key, in_next_key, in_number, in_value, in_word, is_closing, is_space, is_value,
 };
 use crate::members::{Members, Pending};
 use crate::number::{Stage, first, is_end, onward};
@@ -59,13 +59,6 @@ fn taken(n: usize, answer: Result<(), Stop>) -> Taken
         Ok(()) => Ok(n + 1),
         Err(stop) => Err((n, stop)),
     }
-}
-
-/// A value is to begin.
-fn is_value(mode: &Mode) -> bool
-    ensures { result ≡ true → mode.now ≡ Value }
-{
-    matches!(mode, Mode::Value)
 }
 
 /// How many bytes a number goes on with, and the stage behind them.
@@ -214,8 +207,8 @@ fn first_key_at(
     key_from(at, n + 1, start, members, here, within, text, state, bytes)
 }
 
-/// Behind a value, over the next byte, which ends it.
-fn after_at(
+/// Behind a value, over the next byte, and over a key behind a comma.
+fn comma_at(
     alloc: Global,
     at: usize,
     n: usize,
@@ -243,6 +236,39 @@ fn after_at(
             Ok(members) => key_at(alloc, at, n + 1, start, members, state, bytes),
         },
     }
+}
+
+/// Behind a value, over the brackets that close behind it, and what is behind them.
+fn after_at(
+    alloc: Global,
+    at: usize,
+    n: usize,
+    value: Json,
+    state: &mut State,
+    bytes: &[u8],
+) -> Taken
+    requires some { n < length bytes.now }
+    requires room { at + length bytes.now < 9223372036854775808 }
+    ensures { (u : State) → Ends (at + n) (slice_index bytes.now n) u (closes (reverse state.old.frames) value) → From at bytes.now n u (leaving result state.new) }
+{
+    let mut end = n;
+    let mut whole = value;
+    while is_closing(bytes[end]) {
+        match closed(alloc, at + end, whole, state, bytes[end]) {
+            Err(stop) => return Err((end, stop)),
+            Ok(more) => {
+                end += 1;
+                if end == bytes.len() {
+                    state.mode = KeptMode {
+                        mode: Mode::After(more),
+                    };
+                    return Ok(end);
+                }
+                whole = more;
+            }
+        }
+    }
+    comma_at(alloc, at, end, whole, state, bytes)
 }
 
 /// Behind so many bytes, inside a string that is a value.

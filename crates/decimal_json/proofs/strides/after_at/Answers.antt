@@ -1,27 +1,21 @@
-use Rattle.std.proofs.Common.{◌+◌, ◌++◌, ◌∷◌, [], ap, ◌∙◌, arith}
-use Rattle.decimal_json.specs.declared.brackets.Frame.{Frame}
-use Rattle.decimal_json.proofs.Tokens.{from_ends, from_closed, from_comma, from_memory}
-use Rattle.decimal_json.specs.States.{Goes, closes, stepping}
-use Rattle.std.proofs.Math.ListN.{get_or}
-use Rattle.decimal_json.proofs.StepLemmas.{pushed}
+use Rattle.std.proofs.Common.{◌+◌, refl, arith}
+use Rattle.decimal_json.proofs.Tokens.{leads_on, leads_end, leads_halt}
 use Rattle.decimal_json.proofs.strides.after_at.Goals as goal
 
-pub returns-then-c-ne44 : goal.returns-then-c-ne44
-returns-then-c-ne44 c u b =
-    from_ends c.args.at c.args.n c.args.bytes.now _ u c.in_after.new.state c.in_after.result c.taken.result c.requires.some c.taken.ensures c.in_after.ensures.goes c.in_after.ensures.quiet b
+pub loop-whole-init : goal.loop-whole-init
+loop-whole-init c = (c.requires.some, λ r f u b. f u b)
 
-pub returns-in-None : goal.returns-in-None
-returns-in-None c u b =
-    from_closed c.args.at c.args.n c.args.bytes.now c.args.state.now.frames _ u c.requires.some (let e = c.if-c-ne44.false in omega (arith, e)) c.in-None.ensures.none.0 b
-
-pub returns-in-Some-InArray : goal.returns-in-Some-InArray
-returns-in-Some-InArray c u b =
-    from_ends c.args.at c.args.n c.args.bytes.now _ u c.in_array.new.state c.in_array.result c.taken-in-Some-InArray.result c.requires.some c.taken-in-Some-InArray.ensures (pushed (λ v. Goes (c.args.at + c.args.n) (get_or c.args.bytes.now c.args.n 0) (closes v c.args.value) (stepping c.in_array.result c.in_array.new.state)) c.pop.new.self c.args.state.now.frames _ (c.in-Some-InArray.ensures.some ∙ ap (λ (f : Frame). c.pop.new.self ++ f ∷ []) c.in-Some-InArray.field-0-is) (c.in_array.ensures.goes (c.args.at + c.args.n))) c.in_array.ensures.quiet b
+pub returns : goal.returns
+returns c u b = c.loop-whole.invariant.1 _ (λ v o. c.comma_at.ensures v o) u b
 
 pub returns-in-Err : goal.returns-in-Err
-returns-in-Err c u b =
-    from_memory c.args.at c.args.n c.args.bytes.now u (let e = c.requires.some in omega (arith, e))
+returns-in-Err c u b = leads_halt c.args.at c.args.n c.loop-whole.end c.args.bytes.now _ _ c.loop-whole.invariant.0 c.loop-whole.invariant.1 u c.in-Err.stop c.in-Err.ensures.goes c.in-Err.ensures.quiet b
 
-pub returns-in-Ok : goal.returns-in-Ok
-returns-in-Ok c u b =
-    from_comma c.args.at c.args.n _ c.args.bytes.now c.args.state.now.frames c.pop.new.self _ _ c.args.value _ u _ c.requires.some (let e = c.if-c-ne44.false in omega (arith, e)) c.in-Some-InObject.ensures.some c.in-Some-InObject.field-0-is c.in-Ok.ensures b c.key_at.ensures
+pub returns-then-end-bytes : goal.returns-then-end-bytes
+returns-then-end-bytes c u b = leads_end c.args.at c.args.n c.loop-whole.end c.args.bytes.now _ _ c.loop-whole.invariant.0 c.loop-whole.invariant.1 (c.loop-whole.end + 1) c.closed.new.state.frames c.in-Ok.more u refl c.if-end-bytes.true c.in-Ok.ensures.goes b
+
+pub loop-whole-preserved : goal.loop-whole-preserved
+loop-whole-preserved c = (
+  (let l = c.loop-whole.invariant.0 in let e = c.if-end-bytes.false in omega (arith, l, e)),
+  leads_on c.args.at c.args.n c.loop-whole.end c.args.bytes.now _ _ c.loop-whole.invariant.0 c.loop-whole.invariant.1 (c.loop-whole.end + 1) c.closed.new.state.frames c.in-Ok.more refl c.in-Ok.ensures.goes,
+)
