@@ -1,6 +1,7 @@
 pub mod Values
 pub mod Places
 pub mod Unowned
+pub mod Begins
 pub mod Whole
 pub mod Texts
 pub mod StateMarks

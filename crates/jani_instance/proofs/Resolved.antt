@@ -23,7 +23,7 @@ use Rattle.process_core.specs.Instance.{Valuation}
 use Rattle.process_core.specs.Ready.{Name}
 use Rattle.jani_instance.specs.Actions.{AreElementsOf, AreNamedElementsOf, actions_of}
 use Rattle.jani_instance.specs.Built.{IsElementOf, IsNamedElementOf, IsNamedTransientOf, IsTransientOf, IsVectorOf, given_from, global_place, place_in}
-use Rattle.jani_instance.specs.Initial.{initial_numbers, numbers_in}
+use Rattle.jani_instance.specs.Initial.{initial_table, table_in}
 use Rattle.jani_instance.specs.Knowing.{AreNamed, IsBuilt, IsPreparedOf}
 use Rattle.jani_instance.specs.Prepared.{places_at, places_of, own_or, placed_names, see_from}
 use Rattle.jani_instance.specs.Shapes.{Giver, Lent, Transient, giver_as, located_as, transient_as}
@@ -122,7 +122,7 @@ module _ (file : File) (ns : List (Node JaniOp)) (places : NameMap Place) (es : 
 -- ---- all of it
 pub built_is : (file : File) (v : Valuation) → IsChecked file → (places : NameMap Place) → ((x : Name) → under places x ≡ global_place file x) →
     (es : List NamedElement) (ts : List (code_transient.Transient Lent)) → AreNamedElementsOf file es → AreNamed file v ts → (b : Built) → IsPreparedOf places es ts b.prepared →
-    AllZip (IsVectorOf file actions_of) file.vectors b.vectors.items → b.labels ≡ length (labels file) → map numbers_in b.initial_locations.items ≡ map initial_numbers (elements file) → b.has_condition ≡ has_condition file →
+    AllZip (IsVectorOf file actions_of) file.vectors b.vectors.items → b.labels ≡ length (labels file) → map table_in b.initial_locations.items ≡ map initial_table (elements file) → b.has_condition ≡ has_condition file →
     IsBuilt file v b
 built_is file v checked places global es ts named given b made vectors count initial condition =
     let ns = nodes b.prepared.store in

@@ -37,7 +37,7 @@ use Rattle.instance_start.specs.declared.data.Column as code_column
 use Rattle.instance_start.specs.declared.data.Place.{Place}
 use Rattle.instance_start.specs.declared.data.Place.TheVariants.{Constant, Variable}
 use Rattle.jani_instance.specs.Built.{IsElementOf, IsTransientOf, IsVectorOf, acts_with, edges_from, given_from, global_place, links_from, member_from, place_in, value_from}
-use Rattle.jani_instance.specs.Initial.{all_begin, condition_from, initial_numbers, is_one_of}
+use Rattle.jani_instance.specs.Initial.{all_begin, condition_from, initial_table, may_begin, table_with}
 use Rattle.jani_instance.specs.Prepared.{placed_names}
 use Rattle.jani_instance.specs.Sound.{IsRight, no_rewards}
 use Rattle.jani_instance.specs.Views.{At, Member, Setting, count_in, first_else, groups_of, located_seen, location_at, look_at, member_seen, members_seen, part_at, part_of, silent_group, transient_value, values_at, vector_group}
@@ -45,6 +45,7 @@ use Rattle.jani_instance.specs.declared.data.Element as code
 use Rattle.jani_instance.specs.declared.data.Transient.{Transient}
 use Rattle.jani_instance.specs.declared.data.Vector as code_vector
 use Rattle.jani_instance.proofs.Places.{IsAt, at_place, same_count}
+use Rattle.jani_instance.proofs.Begins.{any_entered}
 use Rattle.jani_instance.proofs.Unowned.{none_left, unowned}
 
 -- ---- lists
@@ -280,21 +281,23 @@ module _ (file : File) (v : Valuation) (acts : Automaton → List Name) (store :
   among_is i a h [] = refl
   among_is i a h (n ∷ ns) = ap₂ (λ b c. b || c) (current i a h n.name ∙ ap (nat_eq (location_number a n.name)) (sym (number_at i a h))) (among_is i a h ns)
 
-  begins_are : (i : ℕ) (a : Automaton) → IsAt s i a → begins_here s i a ≡ is_one_of (location_at s i) (initial_numbers a)
+  begins_are : (i : ℕ) (a : Automaton) → IsAt s i a → begins_here s i a ≡ may_begin (location_at s i) (initial_table a)
   begins_are i a h = of_list a.initial
     where
-      of_list : (ns : List Named) → (not (is_several ns) || is_among s i a ns) ≡ is_one_of (location_at s i) (if is_several ns then map (λ n. location_number a n.name) ns else [])
+      of_list : (ns : List Named) → (not (is_several ns) || is_among s i a ns) ≡ may_begin (location_at s i) (if is_several ns then table_with (map (λ n. location_number a n.name) ns) [] else [])
       of_list [] = refl
       of_list (n ∷ []) = refl
-      of_list (n ∷ m ∷ ns) = among_is i a h (n ∷ m ∷ ns)
+      of_list (n ∷ m ∷ ns) =
+          among_is i a h (n ∷ m ∷ ns)
+          ∙ sym (any_entered (location_at s i) (location_number a n.name) (map (λ n. location_number a n.name) (m ∷ ns)))
 
-  begin_is : (i : ℕ) (as_ : List Automaton) → ((k : ℕ) → slice_get (elements file) (i + k) ≡ slice_get as_ k) → begin_here s i as_ ≡ all_begin (location_at s) i (map initial_numbers as_)
+  begin_is : (i : ℕ) (as_ : List Automaton) → ((k : ℕ) → slice_get (elements file) (i + k) ≡ slice_get as_ k) → begin_here s i as_ ≡ all_begin (location_at s) i (map initial_table as_)
   begin_is i [] h = refl
   begin_is i (a ∷ as_) h = ap₂ (λ b c. b && c) (begins_are i a (at i a (first_at (elements file) i a as_ h))) (begin_is (i + 1) as_ (later (elements file) i a as_ h))
 
-  pub condition_is : (places : NameMap Place) → ((x : Name) → under places x ≡ global_place file x) → (numbers : List (List ℕ)) → numbers ≡ map initial_numbers (elements file) →
-      condition_from file.restrict numbers (known_names (values_at s places table)) s ≡ (moment file v s).condition
-  condition_is places global numbers e =
+  pub condition_is : (places : NameMap Place) → ((x : Name) → under places x ≡ global_place file x) → (tables : List (List Bool)) → tables ≡ map initial_table (elements file) →
+      condition_from file.restrict tables (known_names (values_at s places table)) s ≡ (moment file v s).condition
+  condition_is places global tables e =
       ap₂ (λ b (names : Name → Seen). if b then restriction_seen names file.restrict else known (Some (V.Truth false)))
       (ap (all_begin (location_at s) 0) e ∙ sym (begin_is 0 (elements file) (λ n. ap (slice_get (elements file)) (let d : 0 + n ≡ n = omega arith in d))))
       (globals_are places global)

@@ -18,7 +18,7 @@ use Rattle.name_rules.specs.declared.map.NameMap.{NameMap}
 use Rattle.jani_instance.specs.Actions.{AreElementsOf, AreNamedElementsOf, actions_of}
 use Rattle.jani_instance.specs.Built.{IsTransientOf, IsVectorOf, global_place}
 use Rattle.jani_instance.specs.Described.{mark_names}
-use Rattle.jani_instance.specs.Initial.{initial_numbers, numbers_in}
+use Rattle.jani_instance.specs.Initial.{initial_table, table_in}
 use Rattle.jani_instance.specs.Prepared.{places_at, places_of, see_from}
 use Rattle.jani_instance.specs.Shapes.{Lent, located_as, transient_as, transient_at}
 use Rattle.jani_instance.specs.Views.{At, look_by}
@@ -65,7 +65,7 @@ pub record IsKnown (file : File) (v : Valuation) (k : Known) : Type 0 where
 pub record AreLinked (file : File) (l : Linked) : Type 0 where
   pub elements_are : AreNamedElementsOf file l.elements.items
   pub vectors_are : AllZip (IsVectorOf file actions_of) file.vectors l.vectors.items
-  pub initial_are : map numbers_in l.initial_locations.items ≡ map initial_numbers (elements file)
+  pub initial_are : map table_in l.initial_locations.items ≡ map initial_table (elements file)
 
 -- the labels and then the reward structures, before names are resolved
 abbrev pub AreNamed : File → Valuation → List (Transient Lent) → Type 0
@@ -88,7 +88,7 @@ pub record IsBuilt (file : File) (v : Valuation) (b : Built) : Type 0 where
   pub names_are : map (λ t. t.name.now) b.prepared.transients.items ≡ mark_names file
   pub labelling : AllZip (IsTransientOf file v (nodes b.prepared.store)) (meaning.labels file) (take b.labels b.prepared.transients.items)
   pub rewarding : AllZip (IsTransientOf file v (nodes b.prepared.store)) (meaning.structures file) (drop b.labels b.prepared.transients.items)
-  pub initial_are : map numbers_in b.initial_locations.items ≡ map initial_numbers (elements file)
+  pub initial_are : map table_in b.initial_locations.items ≡ map initial_table (elements file)
   pub condition_is : b.has_condition ≡ has_condition file
 
 -- a constant is wide, or memory is wanting

@@ -24,7 +24,7 @@ use Rattle.instance_start.specs.declared.data.Column.{Column}
 use Rattle.instance_start.specs.declared.data.Place.{Place}
 use Rattle.state_choices.specs.Codes.{one_answers, one_columns, one_faults, one_groups, one_names, one_number, one_truth}
 use Rattle.jani_instance.specs.Described.{mark_names}
-use Rattle.jani_instance.specs.Initial.{condition_from, numbers_in, one_seen}
+use Rattle.jani_instance.specs.Initial.{condition_from, table_in, one_seen}
 use Rattle.jani_instance.specs.Views.{Setting, members_seen, groups_of, transient_value, values_at}
 use Rattle.jani_instance.specs.declared.data.Element.{Element}
 use Rattle.jani_instance.specs.declared.data.InitialLocations.{InitialLocations}
@@ -65,7 +65,7 @@ module _ (file : File) (given : List Given) (store : ExprStore JaniOp) (constant
     pub names_are : map (λ t. t.name.now) transients ≡ mark_names file
     pub condition_is : conditional ≡ has_condition file
     pub condition : (s : Values) → IsTrue (is_state (columns_of file (given_by given)) s) →
-        condition_from file.restrict (map numbers_in initial) (known_names (values_at s places constants)) s ≡ (moment file (given_by given) s).condition
+        condition_from file.restrict (map table_in initial) (known_names (values_at s places constants)) s ≡ (moment file (given_by given) s).condition
     pub right : (s : Values) → IsTrue (is_state (columns_of file (given_by given)) s) → IsRight file (given_by given) (setting_in s) vectors n transients
 
   -- it can be told in one way only

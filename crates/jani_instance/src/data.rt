@@ -77,10 +77,11 @@ pub struct Vector<'a> {
     pub links: Vec<Link>,
 }
 
-/// The numbers of the initial locations of an element that has several.
+/// Whether an element that has several initial locations may begin in that of each number; past the end it may not. The table is empty
+/// for an element that has a single one.
 #[derive(Drop)]
 pub struct InitialLocations {
-    pub numbers: Vec<usize>,
+    pub table: Vec<bool>,
 }
 
 /// A value that a location of an element gives to a transient variable.

@@ -1,5 +1,5 @@
 //! Where a model begins: the initial locations of its elements, and the condition on initial states.
-ghost use Rattle.std.specs.Prelude.{◌≡◌, ◌||◌, Err, IfOk, Ok, if◌then◌else◌, map, nat_eq, unwrap_or};
+ghost use Rattle.std.specs.Prelude.{◌≡◌, ◌||◌, Err, IfOk, Ok, OnOk, [], if◌then◌else◌, map, unwrap_or};
 ghost use Rattle.std.specs.List.{list_any};
 ghost use Rattle.std.specs.Option.{option_map};
 ghost use Rattle.op_trees.specs.Seen.{Seen};
@@ -10,7 +10,7 @@ ghost use Rattle.state_choices.specs.Trimmed.{computed};
 ghost use Rattle.jani_tree.specs.Syntax.{file_of};
 ghost use Rattle.jani_meaning.specs.Elements.{elements, has_several_starts, lasting};
 ghost use Rattle.jani_meaning.specs.Scene.{begins_anywhere, has_condition};
-ghost use Rattle.jani_instance.specs.Initial.{all_begin, condition_from, initial_numbers, is_one_of, numbers_in};
+ghost use Rattle.jani_instance.specs.Initial.{all_begin, condition_from, entered, initial_table, may_begin, table_in, table_with};
 ghost use Rattle.jani_instance.specs.Parts.{automaton_at, owned_at};
 ghost use Rattle.jani_instance.specs.Views.{location_at, seen_in};
 
@@ -60,7 +60,7 @@ pub(crate) fn initial_locations(
     alloc: Global,
     parts: &[Part],
 ) -> Result<Vec<InitialLocations>, AllocError>
-    ensures { IfOk result (λ ls. map numbers_in ls.items ≡ map initial_numbers (map automaton_at parts.now)) }
+    ensures { IfOk result (λ ls. map table_in ls.items ≡ map initial_table (map automaton_at parts.now)) }
 {
     let mut all = Vec::with_capacity(alloc, parts.len())?;
     for part in parts {
@@ -70,30 +70,41 @@ pub(crate) fn initial_locations(
 }
 
 fn initial_of(alloc: Global, part: Part) -> Result<InitialLocations, AllocError>
-    ensures { IfOk result (λ l. numbers_in l ≡ initial_numbers (automaton_at part.entry)) }
+    ensures { IfOk result (λ l. table_in l ≡ initial_table (automaton_at part.entry)) }
 {
     if !has_several_starts(part) {
-        let numbers = Vec::new(alloc);
-        return Ok(InitialLocations { numbers });
+        let table = Vec::new(alloc);
+        return Ok(InitialLocations { table });
     }
     let by_name = location_numbers(alloc, locations(part))?;
-    let numbers = numbers_of(alloc, initial(part), &by_name)?;
-    Ok(InitialLocations { numbers })
+    let table = table_of(alloc, initial(part), &by_name)?;
+    Ok(InitialLocations { table })
 }
 
-/// The numbers of locations by their names.
-fn numbers_of(
+/// The table of the numbers of locations, by their names.
+fn table_of(
     alloc: Global,
     names: &[Named],
     by_name: &NameMap<usize>,
-) -> Result<Vec<usize>, AllocError>
-    ensures { IfOk result (λ ns. ns.items ≡ map (λ n. unwrap_or (under by_name.now n.name) 0) names.now) }
+) -> Result<Vec<bool>, AllocError>
+    ensures { IfOk result (λ t. t.items ≡ table_with (map (λ n. unwrap_or (under by_name.now n.name) 0) names.now) []) }
 {
-    let mut numbers = Vec::with_capacity(alloc, names.len())?;
+    let mut table = Vec::new(alloc);
     for name in names {
-        numbers.push(by_name.get(name.name.as_str()).unwrap_or(0))?;
+        enter(&mut table, by_name.get(name.name.as_str()).unwrap_or(0))?;
     }
-    Ok(numbers)
+    Ok(table)
+}
+
+/// Enters a number into a table, which grows where it is too short.
+fn enter(table: &mut Vec<bool>, number: usize) -> Result<(), AllocError>
+    ensures { OnOk result (table.new.items ≡ entered number table.old.items) }
+{
+    while table.len() <= number {
+        table.push(false)?;
+    }
+    table[number] = true;
+    Ok(())
 }
 
 /// What the condition on initial states comes out as in a state: false where an element is in none of its initial locations, else what
@@ -103,7 +114,7 @@ pub(crate) fn condition(
     locations: &[InitialLocations],
     run: &Run,
 ) -> Result<Value, EvalFail>
-    ensures { result ≡ computed (condition_from (option_map tree restrict.now) (map numbers_in locations.now) (seen_in run.now) run.now.values.now) }
+    ensures { result ≡ computed (condition_from (option_map tree restrict.now) (map table_in locations.now) (seen_in run.now) run.now.values.now) }
 {
     if !all_begin(locations, run.values) {
         return Ok(Value::Truth(false));
@@ -116,26 +127,25 @@ pub(crate) fn condition(
 
 /// Whether each element is in one of its initial locations.
 fn all_begin(locations: &[InitialLocations], values: &[Value]) -> bool
-    ensures { result ≡ all_begin (location_at values.now) 0 (map numbers_in locations.now) }
+    ensures { result ≡ all_begin (location_at values.now) 0 (map table_in locations.now) }
 {
     for (i, one) in locations.iter().enumerate() {
-        if !is_one_of(location_at(values, i), one.numbers.as_slice()) {
+        if !may_begin(location_at(values, i), one.table.as_slice()) {
             return false;
         }
     }
     true
 }
 
-fn is_one_of(location: usize, numbers: &[usize]) -> bool
-    ensures { result ≡ is_one_of location numbers.now }
+/// Whether an element with this table may begin in a location.
+fn may_begin(location: usize, table: &[bool]) -> bool
+    ensures { result ≡ may_begin location table.now }
 {
-    numbers.len() == 0 || is_among(location, numbers)
-}
-
-fn is_among(location: usize, numbers: &[usize]) -> bool
-    ensures { result ≡ list_any (λ n. nat_eq n location) numbers.now }
-{
-    numbers.iter().any(|n| *n == location)
+    if table.len() == 0 {
+        true
+    } else {
+        location < table.len() && table[location]
+    }
 }
 
 /// Whether a condition holds that comes out so, or that it is wide.

@@ -2,7 +2,7 @@ use Rattle.std.proofs.Common.{◌∙◌, map}
 use Rattle.instance_start.specs.Given.{given_by}
 use Rattle.jani_tree.specs.Syntax.{file_of}
 use Rattle.jani_instance.specs.Actions.{actions_of}
-use Rattle.jani_instance.specs.Initial.{numbers_in}
+use Rattle.jani_instance.specs.Initial.{table_in}
 use Rattle.jani_instance.proofs.Whole.{condition_is, right}
 use Rattle.jani_meaning.specs.LoopLaws.{element_count}
 use Rattle.jani_instance.proofs.start.instance_of.Goals as goal
@@ -26,7 +26,7 @@ invariant_of-result c =
         condition = λ s state.
             condition_is file v actions_of made.store c.args.known.constants.items c.args.known.columns.items made.elements.items
             known.columns_are.columns known.constants_are built.elements_are.count built.elements_are.built s state
-            c.args.known.places known.places_are (map numbers_in c.args.built.initial_locations.items) built.initial_are;
+            c.args.known.places known.places_are (map table_in c.args.built.initial_locations.items) built.initial_are;
         right = λ s state.
             right file v actions_of made.store c.args.known.constants.items c.args.known.columns.items made.elements.items
             known.columns_are.columns known.constants_are built.elements_are.count built.elements_are.built s state
