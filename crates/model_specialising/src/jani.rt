@@ -36,20 +36,20 @@ pub(crate) fn in_jani(
         Ok(checked) => checked,
         Err(refused) => return Err(refused),
     };
-    let ending = on_jani(alloc, next, values, &checked, bytes.len())?;
+    let ending = on_jani(alloc, next, values, checked, bytes.len())?;
     Ok(ending)
 }
 
-/// How it ends on a judged file, whose text takes so many bytes. `Err` is want of memory.
+/// How it ends on a judged file, whose text takes so many bytes; the file is let go before the new text is made. `Err` is want of memory.
 fn on_jani(
     alloc: Global,
     next: usize,
     values: &[Assignment],
-    checked: &CheckedJani,
+    checked: CheckedJani,
     room: usize,
 ) -> Result<Ending, AllocError>
     requires { IsBehind 3 (map assignment_of values.now) next }
-    ensures { IfOk result (EndsOnJani (file_of checked.now) (map assignment_of values.now)) }
+    ensures { IfOk result (EndsOnJani (file_of checked) (map assignment_of values.now)) }
 {
     let given = good_front(alloc, values)?;
     by_values(alloc, next, values, given.as_slice(), checked, room)
@@ -61,15 +61,16 @@ fn by_values(
     next: usize,
     values: &[Assignment],
     given: &[Given],
-    checked: &CheckedJani,
+    checked: CheckedJani,
     room: usize,
 ) -> Result<Ending, AllocError>
     requires behind { IsBehind 3 (map assignment_of values.now) next }
     requires front { given.now ≡ good_front (map assignment_of values.now) }
-    ensures { IfOk result (EndsOnJani (file_of checked.now) (map assignment_of values.now)) }
+    ensures { IfOk result (EndsOnJani (file_of checked) (map assignment_of values.now)) }
 {
-    match specialise_jani(alloc, checked, given) {
+    match specialise_jani(alloc, &checked, given) {
         Ok(file) => {
+            drop(checked);
             let text = text_of(alloc, room, file)?;
             Ok(finished(next, values, given.len(), text))
         }

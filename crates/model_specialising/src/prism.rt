@@ -37,19 +37,19 @@ pub(crate) fn in_prism(
         Ok(flat) => flat,
         Err(refused) => return Err(refused),
     };
-    let ending = on_prism(alloc, next, values, &flat)?;
+    let ending = on_prism(alloc, next, values, flat)?;
     Ok(ending)
 }
 
-/// How it ends on a file that is written out. `Err` is want of memory.
+/// How it ends on a file that is written out, which is let go before the text is made. `Err` is want of memory.
 fn on_prism(
     alloc: Global,
     next: usize,
     values: &[Assignment],
-    written: &FlatPrism,
+    written: FlatPrism,
 ) -> Result<Ending, AllocError>
     requires { IsBehind 3 (map assignment_of values.now) next }
-    ensures { IfOk result (λ e. (tree : File) → bare_file written.now ≡ bare_file (flat tree) → EndsOnPrism tree (map assignment_of values.now) e) }
+    ensures { IfOk result (λ e. (tree : File) → bare_file written ≡ bare_file (flat tree) → EndsOnPrism tree (map assignment_of values.now) e) }
 {
     let given = good_front(alloc, values)?;
     by_values(alloc, next, values, given.as_slice(), written)
@@ -61,16 +61,17 @@ fn by_values(
     next: usize,
     values: &[Assignment],
     given: &[Given],
-    written: &FlatPrism,
+    written: FlatPrism,
 ) -> Result<Ending, AllocError>
     requires behind { IsBehind 3 (map assignment_of values.now) next }
     requires front { given.now ≡ good_front (map assignment_of values.now) }
-    ensures { IfOk result (λ e. (tree : File) → bare_file written.now ≡ bare_file (flat tree) → EndsOnPrism tree (map assignment_of values.now) e) }
+    ensures { IfOk result (λ e. (tree : File) → bare_file written ≡ bare_file (flat tree) → EndsOnPrism tree (map assignment_of values.now) e) }
 {
     described_law();
     meaning_law();
-    match specialise_prism(alloc, written, given) {
+    match specialise_prism(alloc, &written, given) {
         Ok(file) => {
+            drop(written);
             let text = text_of(alloc, file)?;
             Ok(finished(next, values, given.len(), text))
         }

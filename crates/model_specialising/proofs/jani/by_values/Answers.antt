@@ -12,7 +12,7 @@ use Rattle.model_specialising.proofs.jani.by_values.Goals as goal
 
 pub returns-in_ok-text-in-Ok : goal.returns-in_ok-text-in-Ok
 returns-in_ok-text-in-Ok c =
-    let tree = file_of c.args.checked.now in
+    let tree = file_of c.args.checked in
     let given = map assignment_of c.args.values.now in
     let front = c.requires.front in
     let d = jani_description tree in
@@ -24,7 +24,7 @@ returns-in_ok-text-in-Ok c =
 
 pub returns-in-Err : goal.returns-in-Err
 returns-in-Err c =
-    let tree = file_of c.args.checked.now in
+    let tree = file_of c.args.checked in
     let given = map assignment_of c.args.values.now in
     let front = c.requires.front in
     let d = jani_description tree in

@@ -19,19 +19,19 @@ returns-in_ok-text-in-Ok c = λ tree same.
     let front = c.requires.front in
     let d = prism_description tree in
     let fits : unfit d.constants c.args.given.now ≡ None =
-    subst (λ cs. unfit cs c.args.given.now ≡ None) (prism_constants c.described_law.ensures c.args.written.now tree same) c.in-Ok.ensures.fits in
+    subst (λ cs. unfit cs c.args.given.now ≡ None) (prism_constants c.described_law.ensures c.args.written tree same) c.in-Ok.ensures.fits in
     of_finished d.constants given (SpecialisesPrism tree (given_by (givens given))) c.in_ok-text-in-Ok.text c.finished.result
     (c.finished.ensures d.constants (subst (λ gs. unfit d.constants gs ≡ None) front fits))
     (λ all. subst (λ gs. SpecialisesPrism tree (given_by gs) c.in_ok-text-in-Ok.text) (front ∙ all)
-    (prism_written c.meaning_law.ensures.meaning c.args.written.now tree (file_of c.in-Ok.file) (given_by c.args.given.now) c.in_ok-text-in-Ok.text same c.in-Ok.ensures.tree c.in-Ok.ensures.clean c.in-Ok.ensures.meaning
+    (prism_written c.meaning_law.ensures.meaning c.args.written tree (file_of c.in-Ok.file) (given_by c.args.given.now) c.in_ok-text-in-Ok.text same c.in-Ok.ensures.tree c.in-Ok.ensures.clean c.in-Ok.ensures.meaning
     c.in_ok-text-in-Ok.ensures.text c.in_ok-text-in-Ok.ensures.spells))
 
 pub returns-in-Err : goal.returns-in-Err
 returns-in-Err c =
     let given = map assignment_of c.args.values.now in
     let front = c.requires.front in
-    of_unfit_tree c.args.written.now given c.failed.result
+    of_unfit_tree c.args.written given c.failed.result
     (λ tree same.
     let d = prism_description tree in
     c.failed.ensures d.constants (subst (λ gs. Fails d.constants gs c.in-Err.fail) front
-    (subst (λ cs. Fails cs c.args.given.now c.in-Err.fail) (prism_constants c.described_law.ensures c.args.written.now tree same) c.in-Err.ensures.word)))
+    (subst (λ cs. Fails cs c.args.given.now c.in-Err.fail) (prism_constants c.described_law.ensures c.args.written tree same) c.in-Err.ensures.word)))
