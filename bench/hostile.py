@@ -192,6 +192,43 @@ def choices_beside_structures(n):
     return prism("", "module M x : [0..1];\n" + "[] true -> true;\n" * n + "endmodule\n" + "rewards endrewards\n" * n)
 
 
+@kind("check-rows prism f s r", most=480000, excepted="choices times columns")
+def rows_of_wide_states(n):
+    """Truth variables, and a command for every eight of them, all enabled: the rows of the two states that there are."""
+    s = "(%s)\n0:(false%s)\n1:(true%s)\n" % (listed(n, "v@"), ",false" * (n - 1), ",false" * (n - 1))
+    count = n // 8
+    r = "2 %d %d\n" % (2 * count, 2 * count) + each(count, "0 @ 1 1\n") + each(count, "1 @ 1 1\n")
+    return dict(choices_of_wide_states(n), s=s, r=r)
+
+
+@kind("check-rows prism f s r", most=480000, status=1, excepted="branches times columns")
+def branches_into_wide_states(n):
+    """The same with one command, which has a branch for every eight variables, each with a target of its own."""
+    count = n // 8
+    command = "+".join("1/%d : (v%d'=true)" % (count, k) for k in range(count))
+    f = prism("", "module M\n" + each(n, "v@ : bool;\n") + "[] !v0 -> %s;\nendmodule\n" % command)
+    return dict(f, s="(%s)\n0:(false%s)\n" % (listed(n, "v@"), ",false" * (n - 1)), r="1 1 1\n0 0 0 1\n")
+
+
+@kind("check-bound prism f s r l b", most=3000000)
+def bounds_of_many_states(n):
+    """Listed states without choices, and a bound for each."""
+    f = prism('label "l" = false;\n', "module M x : [0..%d]; endmodule\n" % (n - 1))
+    return dict(f, s="(x)\n" + each(n, "@:(@)\n"), r="%d 0 0\n" % n, b=each(n, "@:0\n"))
+
+
+@kind("specialise prism f c=1000000000000000003", most=490000)
+def literals_of_nineteen_digits(n):
+    """Comparisons with a constant, whose given value has nineteen digits; 250 of them in a label."""
+    return prism("const int c;\n" + "".join('label "l%d"=%s;\n' % (k, "|".join(["x<c"] * 250)) for k in range(max(1, n // 250))))
+
+
+@kind("specialise prism f c=1000000000000000003", most=960000)
+def products_of_nineteen_digits(n):
+    """Products whose value passes the bound of computed numbers, so that they stay; 250 factors in a label."""
+    return prism("const int c;\n" + "".join('label "l%d"=x<%s;\n' % (k, "*".join(["c"] * 250)) for k in range(max(1, n // 250))))
+
+
 @kind("check-path prism f p", excepted="steps times commands")
 def path_beside_commands(n):
     """A path, and a model with a disabled command for every ten of its steps."""
@@ -310,6 +347,12 @@ def short_properties(n):
 
 
 @kind("to-jani f q", most=380000)
+def properties_of_initial_states(n):
+    """Properties that ask for the built-in label of initial states."""
+    return dict(prism(""), q='P>0[F"init"]' * n)
+
+
+@kind("to-jani f q", most=380000)
 def properties_bound_by_a_chain(n):
     """Properties with a bound of steps, which is a constant at the end of a chain of a thousand."""
     chain = "const c0 = 1;\n" + "".join("const c%d = c%d+1;\n" % (k + 1, k) for k in range(1000))
@@ -357,6 +400,24 @@ def jani_constants_given_from_the_last(n):
 def initial_locations(n):
     """An automaton that may begin in each of its locations."""
     return jani(automata=automaton("A", locations=listed(n, '{"name":"l@"}'), first='","'.join("l%d" % k for k in range(n))))
+
+
+@kind("check-rows jani f s r")
+def listed_beside_initial_locations(n):
+    """An automaton that may begin in half of its locations; all others are listed, and one of these at last."""
+    half = max(n // 2, 2)
+    first = '","'.join("l%d" % k for k in range(half, 2 * half))
+    f = jani(automata=automaton("A", locations=listed(2 * half, '{"name":"l@"}'), first=first))
+    return dict(f, s="(@0)\n" + each(half + 1, "@:(@)\n"), r="%d 0 0\n" % (half + 1))
+
+
+@kind("carry-path jani f p", most=480000, excepted="choices times columns")
+def carried_step_of_wide_states(n):
+    """A path of one step over truth variables, with an enabled edge for every eight of them."""
+    edges = ",".join([edge("", ',"assignments":[{"ref":"v0","value":true}]')] * (n // 8))
+    f = jani(variables=listed(n, FLAG.replace('"v"', '"v@"')), automata=automaton("A", edges=edges))
+    step = ",false" * (n - 1)
+    return dict(f, p="(@0,%s)\n(0,false%s)\n- (0,true%s)\n" % (",".join("#%d" % k for k in range(n)), step, step))
 
 
 ACCEPTING = '{"automaton":"A","input-enable":[%s]}'
