@@ -1,5 +1,5 @@
 -- What is written of a carried path, and what it keeps.
-use Rattle.std.proofs.Common.{◌≡◌, ℕ, suc, ◌||◌, ◌&&◌, List, [], ◌∷◌, map, length, Bool, true, false, cond, IsTrue, Option, Some, None, Result, Ok, Err, refl, sym, ap, ◌∙◌, subst, arith, bytes_eq}
+use Rattle.std.proofs.Common.{◌≡◌, ◌↔◌, ℕ, suc, ◌||◌, ◌&&◌, List, [], ◌∷◌, map, length, Bool, true, false, cond, IsTrue, Option, Some, None, Result, Ok, Err, refl, sym, ap, ◌∙◌, subst, arith, bytes_eq}
 use Rattle.std.specs.List.{list_any, find, filter, All, AllByRecursion as Each}
 use Rattle.std.specs.Option.{IfSome}
 use Rattle.std.specs.Prelude.{IfOk}
@@ -17,6 +17,7 @@ use Rattle.process_core.specs.Steps.{Process, IsProcess}
 use Rattle.process_core.specs.declared.data.State.{State}
 use Rattle.row_check.specs.declared.data.ReadPath.{ReadPath}
 use Rattle.row_check.specs.Forms.{IsPathFile, ReadsPath, Reads}
+use Rattle.row_check.specs.Paths.{IsOwnPath}
 use Rattle.row_check.specs.Laws.{PathIsYes, PathReadOnce, PathFileWhole}
 use Rattle.process_core.specs.Paths.{leads_to}
 use Rattle.carry_maps.specs.declared.map.LabelPair.{LabelPair}
@@ -28,7 +29,7 @@ use Rattle.path_carry.specs.Carried.{state, lost_line, first_of, label_or, chose
 use Rattle.path_carry.specs.Chosen.{GoesAlong}
 use Rattle.path_carry.specs.Texts.{IsShort, path_text, HeaderIsLine}
 use Rattle.path_carry.specs.Written.{IsReadable}
-use Rattle.path_carry.specs.Kept.{Keeps, KeepsPath}
+use Rattle.path_carry.specs.Kept.{AcceptsAlike, Keeps, KeepsPath}
 use Rattle.path_carry.proofs.Columns.{ArePlain, jani_plain, prism_plain}
 use Rattle.path_carry.proofs.Walked.{none_lost, none_is_lost, path_to_jani, path_to_prism, labels_here, labels_carried}
 use Rattle.path_carry.proofs.Accepted.{keeps_path, not_accepted}
@@ -140,17 +141,42 @@ read_failed Is p bytes (R.At f) h = h
 read_failed Is p bytes (R.Memory e) h = tt
 
 module _ (yes : PathIsYes) (once : PathReadOnce) (whole : PathFileWhole) where
+  -- the path that is carried is one there exactly where it is one here
+  alike_in_jani : (m : CarryMap) (p j : Process) → IsProcess p → AreSameBy m p j → HasLabels m.labels → (bytes : List ℕ) (path : ReadPath) → IsPathFile p bytes path →
+      lost_line p.is_state (has_pair m.labels) path ≡ None → IsOwnPath p path ↔ IsOwnPath j (jani_path m (length j.columns) path)
+  alike_in_jani m p j lawful by hl bytes path h none = path_to_jani m p j lawful by hl path (none_is_lost p.is_state (has_pair m.labels) path (whole p bytes path h) none)
+
+  alike_in_prism : (m : CarryMap) (p j : Process) → IsProcess p → AreSameBy m p j → (bytes : List ℕ) (path : ReadPath) → IsPathFile j bytes path →
+      lost_line j.is_state (has_candidate m.labels) path ≡ None → IsOwnPath j path ↔ IsOwnPath p (prism_path p m path)
+  alike_in_prism m p j lawful by bytes path h none = path_to_prism m p j lawful by path (none_is_lost j.is_state (has_candidate m.labels) path (whole j bytes path h) none)
+
+  pub alike_to_jani : (m : CarryMap) (p j : Process) → IsProcess p → AreSameBy m p j → HasLabels m.labels → (bytes : List ℕ) (path : ReadPath) → IsPathFile p bytes path →
+      (c : Carried) → CarriedToJani p j m path c → AcceptsAlike p j bytes c
+  alike_to_jani m p j lawful by hl bytes path h (C.Path text) d =
+      record { path = path; new = jani_path m (length j.columns) path; reads = h; text_is = d.1; alike = alike_in_jani m p j lawful by hl bytes path h d.0 }
+  alike_to_jani m p j lawful by hl bytes path h (C.No k) d =
+      not_accepted yes once p bytes path h (λ i. not_both _ k d (none_lost p lawful (has_pair m.labels) (labels_here m p j lawful by) path i))
+  alike_to_jani m p j lawful by hl bytes path h (C.Wide k) d = absurd d
+  alike_to_jani m p j lawful by hl bytes path h (C.TooMany k) d = absurd d
+
+  pub alike_to_prism : (m : CarryMap) (p j : Process) → IsProcess p → IsProcess j → AreSameBy m p j → (bytes : List ℕ) (path : ReadPath) → IsPathFile j bytes path →
+      (c : Carried) → CarriedToPrism j p m path c → AcceptsAlike j p bytes c
+  alike_to_prism m p j lawful there by bytes path h (C.Path text) d =
+      record { path = path; new = prism_path p m path; reads = h; text_is = d.1; alike = alike_in_prism m p j lawful by bytes path h d.0.0 }
+  alike_to_prism m p j lawful there by bytes path h (C.No k) d =
+      not_accepted yes once j bytes path h (λ i. not_both _ k d (none_lost j there (has_candidate m.labels) (labels_carried m p j lawful by) path i))
+  alike_to_prism m p j lawful there by bytes path h (C.Wide k) d = tt
+  alike_to_prism m p j lawful there by bytes path h (C.TooMany k) d = tt
+
+  -- and what is written is accepted so, where it can be read again
   pub kept_to_jani : (m : CarryMap) (p j : Process) → IsProcess p → AreSameBy m p j → HasLabels m.labels → HeaderIsLine j → (bytes : List ℕ) (path : ReadPath) → IsPathFile p bytes path →
       (c : Carried) → CarriedToJani p j m path c → IsReadable (jani_path m (length j.columns) path).labels c → Keeps p j bytes c
   kept_to_jani m p j lawful by hl line bytes path h (C.Path text) d r =
       let n = length j.columns in
       let new = jani_path m n path in
-      let long = whole p bytes path h in
-      let file = path_file j new line (jani_path_length m n path long) (recursion_from_All _ new.labels r) (jani_states_plain m n path.states (file_plain p bytes path h)) in
-      subst (KeepsPath p j bytes) (sym d.1)
-      (keeps_path yes once p j bytes (path_text j.columns new) path new h file (path_to_jani m p j lawful by hl path (none_is_lost p.is_state (has_pair m.labels) path long d.0)))
-  kept_to_jani m p j lawful by hl line bytes path h (C.No k) d r =
-      not_accepted yes once p bytes path h (λ i. not_both _ k d (none_lost p lawful (has_pair m.labels) (labels_here m p j lawful by) path i))
+      let file = path_file j new line (jani_path_length m n path (whole p bytes path h)) (recursion_from_All _ new.labels r) (jani_states_plain m n path.states (file_plain p bytes path h)) in
+      subst (KeepsPath p j bytes) (sym d.1) (keeps_path yes once p j bytes (path_text j.columns new) path new h file (alike_in_jani m p j lawful by hl bytes path h d.0))
+  kept_to_jani m p j lawful by hl line bytes path h (C.No k) d r = alike_to_jani m p j lawful by hl bytes path h (C.No k) d
   kept_to_jani m p j lawful by hl line bytes path h (C.Wide k) d r = absurd d
   kept_to_jani m p j lawful by hl line bytes path h (C.TooMany k) d r = absurd d
 
@@ -158,11 +184,8 @@ module _ (yes : PathIsYes) (once : PathReadOnce) (whole : PathFileWhole) where
       (c : Carried) → CarriedToPrism j p m path c → IsReadable (prism_path p m path).labels c → Keeps j p bytes c
   kept_to_prism m p j lawful there by line bytes path h (C.Path text) d r =
       let new = prism_path p m path in
-      let long = whole j bytes path h in
-      let file = path_file p new line (prism_path_length p m path long) (recursion_from_All _ new.labels r) (prism_states_plain m path.states (file_plain j bytes path h)) in
-      subst (KeepsPath j p bytes) (sym d.1)
-      (keeps_path yes once j p bytes (path_text p.columns new) path new h file (path_to_prism m p j lawful by path (none_is_lost j.is_state (has_candidate m.labels) path long d.0.0)))
-  kept_to_prism m p j lawful there by line bytes path h (C.No k) d r =
-      not_accepted yes once j bytes path h (λ i. not_both _ k d (none_lost j there (has_candidate m.labels) (labels_carried m p j lawful by) path i))
+      let file = path_file p new line (prism_path_length p m path (whole j bytes path h)) (recursion_from_All _ new.labels r) (prism_states_plain m path.states (file_plain j bytes path h)) in
+      subst (KeepsPath j p bytes) (sym d.1) (keeps_path yes once j p bytes (path_text p.columns new) path new h file (alike_in_prism m p j lawful by bytes path h d.0.0))
+  kept_to_prism m p j lawful there by line bytes path h (C.No k) d r = alike_to_prism m p j lawful there by bytes path h (C.No k) d
   kept_to_prism m p j lawful there by line bytes path h (C.Wide k) d r = tt
   kept_to_prism m p j lawful there by line bytes path h (C.TooMany k) d r = tt

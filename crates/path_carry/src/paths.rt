@@ -33,9 +33,8 @@ pub(crate) fn path_to_jani<S: Steps, T: Steps>(
 ) -> Result<Carried, AllocError>
     requires whole { length path.now.states ≡ suc (length path.now.labels) }
     requires same { AreSameBy map.now (S.process prism.now) (T.process jani.now) }
-    requires names { Each (λ p. IfSome p.jani IsShort) map.now.labels }
     ensures carried { IfOk result (CarriedToJani (S.process prism.now) (T.process jani.now) map.now path.now) }
-    ensures back { IfOk result (IsReadable (jani_path map.now (length (T.process jani.now).columns) path.now).labels) }
+    ensures back { Each (λ p. IfSome p.jani IsShort) map.now.labels → IfOk result (IsReadable (jani_path map.now (length (T.process jani.now).columns) path.now).labels) }
 {
     let index = index_of(alloc, map.labels.as_slice())?;
     indexed_to_jani(alloc, prism, jani, map, &index, path)
@@ -52,11 +51,10 @@ fn indexed_to_jani<S: Steps, T: Steps>(
 ) -> Result<Carried, AllocError>
     requires whole { length path.now.states ≡ suc (length path.now.labels) }
     requires same { AreSameBy map.now (S.process prism.now) (T.process jani.now) }
-    requires names { Each (λ p. IfSome p.jani IsShort) map.now.labels }
     requires index { IsIndex index.now }
     requires pairs { index.now.pairs.now ≡ map.now.labels }
     ensures carried { IfOk result (CarriedToJani (S.process prism.now) (T.process jani.now) map.now path.now) }
-    ensures back { IfOk result (IsReadable (jani_path map.now (length (T.process jani.now).columns) path.now).labels) }
+    ensures back { Each (λ p. IfSome p.jani IsShort) map.now.labels → IfOk result (IsReadable (jani_path map.now (length (T.process jani.now).columns) path.now).labels) }
 {
     match lost_line(prism, &ToJani, index, path) {
         Some(k) => Ok(Carried::No(k)),
@@ -98,9 +96,8 @@ pub(crate) fn path_to_prism<S: Steps, T: Steps>(
 ) -> Result<Carried, AllocError>
     requires whole { length path.now.states ≡ suc (length path.now.labels) }
     requires same { AreSameBy map.now (T.process prism.now) (S.process jani.now) }
-    requires names { Each (λ p. IsShort p.prism) map.now.labels }
     ensures carried { IfOk result (CarriedToPrism (S.process jani.now) (T.process prism.now) map.now path.now) }
-    ensures back { IfOk result (IsReadable (prism_path (T.process prism.now) map.now path.now).labels) }
+    ensures back { Each (λ p. IsShort p.prism) map.now.labels → IfOk result (IsReadable (prism_path (T.process prism.now) map.now path.now).labels) }
 {
     let index = index_of(alloc, map.labels.as_slice())?;
     indexed_to_prism(alloc, jani, prism, map, &index, path)
@@ -117,11 +114,10 @@ fn indexed_to_prism<S: Steps, T: Steps>(
 ) -> Result<Carried, AllocError>
     requires whole { length path.now.states ≡ suc (length path.now.labels) }
     requires same { AreSameBy map.now (T.process prism.now) (S.process jani.now) }
-    requires names { Each (λ p. IsShort p.prism) map.now.labels }
     requires index { IsIndex index.now }
     requires pairs { index.now.pairs.now ≡ map.now.labels }
     ensures carried { IfOk result (CarriedToPrism (S.process jani.now) (T.process prism.now) map.now path.now) }
-    ensures back { IfOk result (IsReadable (prism_path (T.process prism.now) map.now path.now).labels) }
+    ensures back { Each (λ p. IsShort p.prism) map.now.labels → IfOk result (IsReadable (prism_path (T.process prism.now) map.now path.now).labels) }
 {
     match lost_line(jani, &ToPrism, index, path) {
         Some(k) => Ok(Carried::No(k)),
@@ -146,9 +142,8 @@ fn along<T: Steps>(
     requires whole { length path.now.states ≡ suc (length path.now.labels) }
     requires carried { states.now ≡ prism_states map.now path.now.states }
     requires states { All (λ s. IsTrue ((T.process prism.now).is_state s.values)) states.now }
-    requires names { Each (λ p. IsShort p.prism) map.now.labels }
     ensures carried { IfOk result (GoesAlong (T.process prism.now) map.now path.now) }
-    ensures back { IfOk result (IsReadable (prism_path (T.process prism.now) map.now path.now).labels) }
+    ensures back { Each (λ p. IsShort p.prism) map.now.labels → IfOk result (IsReadable (prism_path (T.process prism.now) map.now path.now).labels) }
 {
     match chosen_labels(alloc, prism, index, states, path.labels.as_slice()) {
         Ok(labels) => {

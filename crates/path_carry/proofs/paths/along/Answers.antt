@@ -26,7 +26,7 @@ path_text-requires g c =
     omega arith
 
 pub returns-in_ok-text-in-Ok-clause-back : goal.returns-in_ok-text-in-Ok-clause-back
-returns-in_ok-text-in-Ok-clause-back g c =
+returns-in_ok-text-in-Ok-clause-back g c = λ names.
     let p = g.T.Steps.process c.args.prism.now in
     let m = c.args.map.now in
     let path = c.args.path.now in
@@ -35,4 +35,4 @@ returns-in_ok-text-in-Ok-clause-back g c =
     let e : c.as_slice-in-Ok.result.now ≡ chosen_labels p m.labels (prism_states m path.states) path.labels =
     c.as_slice-in-Ok.ensures ∙ c.in-Ok.ensures.1 ∙ ap (λ x. chosen_labels p x ss ls) c.requires.pairs ∙ ap₂ (λ a b. chosen_labels p m.labels a b) c.requires.carried c.as_slice.ensures in
     subst AreReadable e
-    (c.in_ok-text-in-Ok.ensures.back (subst (All (λ l. IfSome l IsShort)) (sym e) (All-from_recursion (λ l. IfSome l IsShort) _ (chosen_labels_short p m.labels c.requires.names (prism_states m path.states) path.labels))))
+    (c.in_ok-text-in-Ok.ensures.back (subst (All (λ l. IfSome l IsShort)) (sym e) (All-from_recursion (λ l. IfSome l IsShort) _ (chosen_labels_short p m.labels names (prism_states m path.states) path.labels))))

@@ -20,7 +20,7 @@ jani_path-requires-clause-lengths g c =
     lengths_here p (g.met.S.Steps.lawful c.args.prism.now) (length m.columns) (sym c.requires.same.columns.each) path.states (none_is_lost p.is_state (has_pair m.labels) path c.requires.whole none).states
 
 pub returns-in_ok-text-in-None-clause-back : goal.returns-in_ok-text-in-None-clause-back
-returns-in_ok-text-in-None-clause-back g c =
+returns-in_ok-text-in-None-clause-back g c = λ names.
     let m = c.args.map.now in
     let e = c.as_slice-in-None.ensures ∙ ap (λ (q : ReadPath). q.labels) c.in_ok-new-in-None.ensures in
-    subst AreReadable e (c.in_ok-text-in-None.ensures.back (subst (All (λ l. IfSome l IsShort)) (sym e) (All-from_recursion (λ l. IfSome l IsShort) _ (jani_labels_short m.labels c.requires.names c.args.path.now.labels))))
+    subst AreReadable e (c.in_ok-text-in-None.ensures.back (subst (All (λ l. IfSome l IsShort)) (sym e) (All-from_recursion (λ l. IfSome l IsShort) _ (jani_labels_short m.labels names c.args.path.now.labels))))
