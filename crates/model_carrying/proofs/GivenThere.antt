@@ -1,7 +1,6 @@
 -- Values given for constants, and for those that go with them.
 use Rattle.std.proofs.Common.{◌≡◌, ℕ, ◌+◌, ◌<◌, ◌≤◌, List, [], ◌∷◌, ◌++◌, map, length, Bool, true, false, not, ◌||◌, ◌&&◌, cond, Option, Some, None, is_none, if◌then◌else◌, bytes_eq, get_or, drop, refl, sym, ap, ap₂, ◌∙◌, subst, append-nil, append_assoc}
 use Rattle.std.specs.List.{list_any, AllZip, AllByRecursion as Each, IsDistinct, position_or_len}
-use Rattle.std.specs.Option.{option_or}
 use Rattle.std.proofs.lemmas.List.{drop_all}
 use Rattle.basics.specs.Lists.{drop_item}
 use Rattle.basics.specs.Booleans.{second_true, first_false, second_false}
@@ -16,7 +15,7 @@ use Rattle.instance_start.specs.Columns.{constant_of}
 use Rattle.instance_start.specs.Description.{Constant}
 use Rattle.instance_start.specs.Given.{given_by, misfit, fits, takes, is_taken, is_missing, constant_called}
 use Rattle.instance_start.proofs.Givens.{none_misfits, given_typed}
-use Rattle.model_carrying.specs.Values.{value_as, values_there, AreLike, names, ValuesFit, AreGivenAlike, ValuesAreAlike}
+use Rattle.model_carrying.specs.Values.{value_as, values_there, AreLike, names, ValuesFit, IsGivenAs, AreGivenAlike, ValuesAreAlike}
 
 -- ---- the constant of a name is that one
 abbrev OwnName : List Constant → Constant → Type 0
@@ -74,10 +73,7 @@ none_given (c ∷ cs) (d ∷ ds) v x h = skipped c.is_open d.name x (v c.name) (
         by_test false f = f
         by_test true f = absurd (let no : true ≡ false = sym (ap (bytes_eq x) (bytes_eq-true y x f) ∙ bytes_eq-self x) ∙ e in cc)
 
-abbrev GivenSame : Valuation → Valuation → Constant → Constant → Type 0
-GivenSame v w c d = c.is_open ≡ true → w d.name ≡ v c.name
-
-given_same : (cs ds : List Constant) (v : Valuation) → AllZip AreLike cs ds → IsDistinct bytes_eq (names ds) → AllZip (GivenSame v (given_by (values_there cs ds v))) cs ds
+given_same : (cs ds : List Constant) (v : Valuation) → AllZip AreLike cs ds → IsDistinct bytes_eq (names ds) → AllZip (IsGivenAs v (given_by (values_there cs ds v))) cs ds
 unfolding IsDistinct
 given_same [] [] v h d = tt
 given_same [] (e ∷ ds) v h d = absurd h
@@ -92,7 +88,7 @@ given_same (c ∷ cs) (e ∷ ds) v h d = (first c.is_open (v c.name), behind cs 
     first true None i = none_given cs ds v e.name d.0
     first false o i = absurd cc
 
-    behind : (xs ys : List Constant) → AllZip (GivenSame v (given_by rest)) xs ys → Each (λ y. bytes_eq e.name y ≡ false) (names ys) → AllZip (GivenSame v (given_by (value_as c.is_open e.name (v c.name) ++ rest))) xs ys
+    behind : (xs ys : List Constant) → AllZip (IsGivenAs v (given_by rest)) xs ys → Each (λ y. bytes_eq e.name y ≡ false) (names ys) → AllZip (IsGivenAs v (given_by (value_as c.is_open e.name (v c.name) ++ rest))) xs ys
     behind [] [] k a = tt
     behind [] (y ∷ ys) k a = absurd k
     behind (x ∷ xs) [] k a = absurd k
@@ -118,7 +114,7 @@ module _ (all others : List Constant) (given : List Given) (fit : list_any (λ g
       joined (x ∷ xs) ys p q = ap₂ (λ m n. m || n) (first_false (not (fits others x)) _ p) (joined xs ys (second_false (not (fits others x)) _ p) q)
 
 -- none is missing
-none_missing_there : (cs ds : List Constant) (given more : List Given) → AllZip AreLike cs ds → AllZip (GivenSame (given_by given) (given_by more)) cs ds → list_any (is_missing given) cs ≡ false → list_any (is_missing more) ds ≡ false
+none_missing_there : (cs ds : List Constant) (given more : List Given) → AllZip AreLike cs ds → AllZip (IsGivenAs (given_by given) (given_by more)) cs ds → list_any (is_missing given) cs ≡ false → list_any (is_missing more) ds ≡ false
 none_missing_there [] [] given more h k m = refl
 none_missing_there [] (d ∷ ds) given more h k m = absurd h
 none_missing_there (c ∷ cs) [] given more h k m = absurd h
@@ -152,7 +148,7 @@ values_are_alike cs ds given t m = each cs ds (own_names cs t.here) (given_same 
     w : Valuation
     w = given_by (values_there cs ds v)
 
-    each : (xs ys : List Constant) → Each (OwnName cs) xs → AllZip (GivenSame v w) xs ys → AllZip (AreGivenAlike v w) xs ys
+    each : (xs ys : List Constant) → Each (OwnName cs) xs → AllZip (IsGivenAs v w) xs ys → AllZip (AreGivenAlike v w) xs ys
     each [] [] a h = tt
     each [] (y ∷ ys) a h = absurd h
     each (x ∷ xs) [] a h = absurd h

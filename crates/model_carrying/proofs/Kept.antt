@@ -11,7 +11,7 @@ use Rattle.command_words.specs.Words.{Carrying}
 use Rattle.model_process.specs.Starts.{process_for}
 use Rattle.model_process.specs.declared.ending.Ending.TheVariants as E
 use Rattle.model_carrying.specs.Counterparts.{Counterpart}
-use Rattle.model_carrying.specs.Ends.{EndsOnCarry, carried, carry_ending, faulty, process_there, unfit, wide}
+use Rattle.model_carrying.specs.Ends.{ArePairStartable, EndsOnCarry, carried, carry_ending, faulty, process_there, unfit, wide}
 use Rattle.model_carrying.specs.Kept.{CarriedIsKept, LostIsNotAccepted}
 use Rattle.std.specs.Prelude.{Ok}
 
@@ -26,11 +26,18 @@ module _ (d : Description) (o : Counterpart) (c : Carrying) (path : List ℕ) wh
   written_kept text (C.Wide k) h e = absurd cc
   written_kept text (C.TooMany k) h e = absurd cc
 
-  done_kept : (text : List ℕ) → EndsOnCarry d o c path (E.Done text) → KeepsPath (process_for d c.given) (process_there d o c.given) path text
+  pub done_kept : (text : List ℕ) → EndsOnCarry d o c path (E.Done text) → KeepsPath (process_for d c.given) (process_there d o c.given) path text
   done_kept text (unfit i n p) = absurd cc
   done_kept text (wide n w p) = absurd cc
   done_kept text (faulty n w f p) = absurd cc
   done_kept text (carried s r file keeps is) = written_kept text r keeps is
+
+  -- and then both are started
+  pub done_started : (text : List ℕ) → EndsOnCarry d o c path (E.Done text) → ArePairStartable d o c.given
+  done_started text (unfit i n p) = absurd cc
+  done_started text (wide n w p) = absurd cc
+  done_started text (faulty n w f p) = absurd cc
+  done_started text (carried s r file keeps is) = s
 
   -- of a line that tells where a path isn't carried
   line_lost : (line : List ℕ) (r : Carried) → Keeps (process_for d c.given) (process_there d o c.given) path r → E.No line ≡ carry_ending r → (v : Verdict) → ChecksPath (process_for d c.given) path (Ok v) → ¬ (v ≡ Yes)

@@ -10,3 +10,6 @@ pub mod Files
 pub mod Kept
 pub mod JaniPlaces
 pub mod Once
+pub mod OneValuation
+pub mod Judged
+pub mod Across

@@ -47,7 +47,7 @@ same_map m n a b c = ap₂ (λ l q. record { locations = l; columns = q; labels 
 
 -- a model describes one thing, and has one counterpart
 module _ (alike : DescribedAlike) (aside : PlacesStayAside) where
-  prism_alike : (f g : prism.File) → prism_places.bare_file f ≡ prism_places.bare_file g → prism_description f ≡ prism_description g
+  pub prism_alike : (f g : prism.File) → prism_places.bare_file f ≡ prism_places.bare_file g → prism_description f ≡ prism_description g
   prism_alike f g e = sym (alike (flat f) f refl) ∙ alike (flat f) g (aside f g e)
 
   one_jani : (tree : prism.File) (o p : Counterpart) → IsJaniCounterpart tree o → IsJaniCounterpart tree p → o ≡ p

@@ -23,10 +23,12 @@ use Rattle.prism_meaning.specs.Lawful.{described_is}
 use Rattle.prism_meaning.proofs.Typed.{begin_right}
 use Rattle.jani_tree.specs.Syntax as jani
 use Rattle.jani_tree.specs.Form.{IsShortName}
+use Rattle.jani_meaning.specs.Scene as jani_scene
 use Rattle.jani_instance.specs.Described.{jani_description}
 use Rattle.jani_instance.specs.Lawful.{column_count}
 use Rattle.name_table.specs.Correspond.{Correspond}
 use Rattle.jani_translation_laws.specs.SameMeaning.{placed}
+use Rattle.prism_to_jani.specs.Promise.{IsJaniOf}
 use Rattle.prism_to_jani.specs.Maps.{AreSameByMap, IsMapToJani, IsSteppedJani, IsSteppedPrism, MapHasLabels, MapIsShort, MapPlacesAside}
 use Rattle.command_words.specs.Given.{Assignment}
 use Rattle.command_words.specs.Words.{Carrying}
@@ -50,6 +52,11 @@ is_short p h = by_label p.jani h
     by_label : (o : Option (List ℕ)) → IfSome o IsShortName → IfSome o IsShort
     by_label None k = tt
     by_label (Some x) k = λ i. (let s = k.short in omega (arith, s))
+
+-- under valuations that correspond the one has no fault where the other has none
+pub no_fault_in_jani : (old : prism.File) (new : jani.File) → IsJaniOf old new → (v w : Valuation) → Correspond old new v w → instance_faults (scene old v) ≡ [] → instance_faults (jani_scene.scene new w) ≡ []
+no_fault_in_jani old new is v w corresponds none =
+    none_in (instance_faults (jani_scene.scene new w)) (λ f i. subst (λ fs. IsIn f (map (placed (length (element_names new))) fs)) none (((is.same).faults v w corresponds f).1 i))
 
 module _ (alike : DescribedAlike) (fit : ValuesFit) (same_values : ValuesAreAlike) (together : TogetherInJani) (correspond : GivenCorrespond)
     (old written : prism.File) (new : jani.File) (pair : IsPairToJani old written new) (m : CarryMap) (given : List Assignment) where
@@ -85,9 +92,7 @@ module _ (alike : DescribedAlike) (fit : ValuesFit) (same_values : ValuesAreAlik
     none_of_old h = subst (λ (x : Description). instance_faults (x.scene v) ≡ []) is_old h
 
     none_there : instance_faults (scene_for d given) ≡ [] → instance_faults (scene_there d o given) ≡ []
-    none_there h =
-        none_in (instance_faults (scene_there d o given))
-        (λ f i. subst (λ fs. IsIn f (map (placed (length (element_names new))) fs)) (none_of_old h) (((pair.translated.same).faults v w corresponds f).1 i))
+    none_there h = no_fault_in_jani old new pair.translated v w corresponds (none_of_old h)
 
   pub paired_to_jani : ArePaired d o given
   paired_to_jani = record {

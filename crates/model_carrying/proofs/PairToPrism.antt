@@ -18,10 +18,12 @@ use Rattle.prism_meaning.specs.Described.{DescribedAlike, prism_description}
 use Rattle.prism_meaning.specs.Lawful.{described_is}
 use Rattle.prism_meaning.proofs.Typed.{begin_right}
 use Rattle.jani_tree.specs.Syntax as jani
+use Rattle.jani_meaning.specs.Scene as jani_scene
 use Rattle.jani_instance.specs.Described.{jani_description}
 use Rattle.jani_instance.specs.Lawful.{column_count}
 use Rattle.name_table.specs.Correspond.{Correspond}
 use Rattle.prism_translation.specs.SameMeaning.{placed}
+use Rattle.jani_to_prism.specs.Promise.{IsPrismOf}
 use Rattle.jani_to_prism.specs.Maps as maps
 use Rattle.jani_to_prism.specs.Maps.{AreSameByMap, IsMapToPrism, IsSteppedJani, IsSteppedPrism}
 use Rattle.command_words.specs.Given.{Assignment}
@@ -41,6 +43,11 @@ use Rattle.model_carrying.proofs.Started.{both_started}
 none_mapped : {X Y : Type 0} (f : X → Y) (xs : List X) → ((y : Y) → IsIn y (map f xs) → ⊥) → xs ≡ []
 none_mapped f [] h = refl
 none_mapped f (x ∷ xs) h = absurd (h (f x) (inl refl))
+
+-- under valuations that correspond the one has no fault where the other has none
+pub no_fault_in_prism : (old : jani.File) (new : prism.File) → IsPrismOf old new → (v w : Valuation) → Correspond new old v w → instance_faults (jani_scene.scene old w) ≡ [] → instance_faults (scene new v) ≡ []
+no_fault_in_prism old new is v w corresponds none =
+    none_mapped (placed old) (instance_faults (scene new v)) (λ f i. subst (IsIn f) none (((is.same).faults v w corresponds f).0 i))
 
 module _ (alike : DescribedAlike) (fit : ValuesFit) (same_values : ValuesAreAlike) (together : TogetherInPrism) (correspond : GivenCorrespondBack)
     (old : jani.File) (new written : prism.File) (pair : IsPairToPrism old new written) (m : CarryMap) (given : List Assignment) where
@@ -78,9 +85,7 @@ module _ (alike : DescribedAlike) (fit : ValuesFit) (same_values : ValuesAreAlik
         (subst (λ (x : Description). AllZip (AreGivenAlike w v) d.constants x.constants) is_new (same_values d.constants o.description.constants (givens given) go_together fitting))
 
     none_of_new : instance_faults (scene_for d given) ≡ [] → instance_faults (scene new v) ≡ []
-    none_of_new h =
-        none_mapped (placed old) (instance_faults (scene new v))
-        (λ f i. subst (IsIn f) h (((pair.translated.same).faults v w corresponds f).0 i))
+    none_of_new h = no_fault_in_prism old new pair.translated v w corresponds h
 
     none_there : instance_faults (scene_for d given) ≡ [] → instance_faults (scene_there d o given) ≡ []
     none_there h = subst (λ (x : Description). instance_faults (x.scene v) ≡ []) (sym is_new) (none_of_new h)

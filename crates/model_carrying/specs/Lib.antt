@@ -5,3 +5,4 @@ pub mod Ends
 pub mod Kept
 pub mod Once
 pub mod Pairs
+pub mod Across

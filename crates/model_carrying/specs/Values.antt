@@ -40,9 +40,13 @@ pub record GoTogether (cs ds : List Constant) : Type 0 where
 abbrev pub ValuesFit : Type 0
 ValuesFit = (cs ds : List Constant) (given : List Given) → GoTogether cs ds → misfit cs given ≡ None → misfit ds (values_there cs ds (given_by given)) ≡ None
 
--- and each open constant has the value of its own, which is of its type
+-- an open constant has the value of its own
+abbrev pub IsGivenAs : Valuation → Valuation → Constant → Constant → Type 0
+IsGivenAs v w c d = c.is_open ≡ true → w d.name ≡ v c.name
+
+-- and each has so, and the value is of its type
 pub record AreGivenAlike (v w : Valuation) (c d : Constant) : Type 0 where
-  pub same : c.is_open ≡ true → w d.name ≡ v c.name
+  pub same : IsGivenAs v w c d
   pub typed : c.is_open ≡ true → AgreesWith (Some c.ty) (v c.name)
 
 abbrev pub ValuesAreAlike : Type 0

@@ -1,5 +1,6 @@
 // Laws of counterparts: functions that do nothing, whose contracts are the laws.
 
+ghost use Rattle.model_carrying.specs.Across.{AreJudgedAlike, IsNeverRefused, IsTranslation, StartsAlways};
 ghost use Rattle.model_carrying.specs.Kept.{CarriedIsKept, LostIsNotAccepted};
 ghost use Rattle.model_carrying.specs.Once.{CarryEndOrFault, OneCarryEnd, OneCarryFault};
 ghost use Rattle.model_carrying.specs.Together.{GivenCorrespond, GivenCorrespondBack, TogetherInJani, TogetherInPrism};
@@ -30,6 +31,21 @@ pub fn one_carry_law()
     places_law();
     one_syntax();
     form_laws();
+}
+
+/// What is written of a path that is carried, judged on a text that the model's file is translated to, under the same constants by their new names:
+/// where the text is read without fault, its model starts, and what was written has the form of its paths; and where neither check passes a bound,
+/// the one says yes exactly where the other does. Nothing is done.
+pub fn across_law()
+    ensures alike { AreJudgedAlike IsTranslation }
+    ensures not_refused { IsNeverRefused IsTranslation }
+    ensures starts { StartsAlways IsTranslation }
+{
+    described_law();
+    form_law();
+    form_laws();
+    values_law();
+    together_law();
 }
 
 /// Values that fit the constants of a file fit those of another that go with them, each open one of which has the value of its own.

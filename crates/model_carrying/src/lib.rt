@@ -11,4 +11,4 @@ mod starting;
 mod values;
 
 pub use carrying::carry_between;
-pub use laws::{kept_law, one_carry_law};
+pub use laws::{across_law, kept_law, one_carry_law};

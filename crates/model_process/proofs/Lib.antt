@@ -19,3 +19,4 @@ pub mod BoundsOnce
 pub mod Once
 pub mod AcceptedWalks
 pub mod Certified
+pub mod PathAnswers
