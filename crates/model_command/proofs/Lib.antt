@@ -14,3 +14,4 @@ pub mod Tasked
 pub mod CertifiedBounds
 pub mod CarriedPaths
 pub mod FilesEnds
+pub mod CarriedTexts

@@ -7,3 +7,4 @@ pub mod Run
 pub mod Reading
 pub mod Tasks
 pub mod ToPrism
+pub mod CarriedTexts

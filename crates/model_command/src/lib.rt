@@ -14,5 +14,5 @@ mod reading;
 mod to_prism;
 
 pub use command::run;
-pub use laws::one_ending;
+pub use laws::{carried_law, one_ending};
 pub use outcome::Outcome;
