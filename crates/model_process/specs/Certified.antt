@@ -11,7 +11,7 @@ use Rattle.model_process.specs.Starts.{IsStartable, process_for}
 use Rattle.model_process.specs.Claims.{EndsOnFiles}
 use Rattle.model_process.specs.declared.ending.Ending.TheVariants.{Done}
 
--- the other files hold rows of the process, and bounds for the label of this name; of other claims nothing is said
+-- the other files hold rows of the process, and bounds for the label of this name that no strategy passes; of other claims nothing is said
 abbrev pub CertifiesClaim : Process → Claim → List (List ℕ) → Type 0
 CertifiesClaim p (of_path path) others = Unit {0}
 CertifiesClaim p (of_rows states rows) others = Unit {0}

@@ -14,9 +14,12 @@ use Rattle.row_check.specs.Laws.{RowFilesOrdered, RowsYes, WeightsNotNegative, B
 use Rattle.row_check.proofs.Judged.{all_pass}
 use Rattle.value_bound.specs.Reaching.{expected, choices_of, AreBest}
 use Rattle.value_bound.specs.Bounds.{InTurn, JudgesChoice, JudgesLabel, JudgesState, JudgesStates, label_at, is_true, is_target, bound_at}
+use Rattle.value_bound.specs.Own.{is_labelled}
 use Rattle.value_bound.specs.Laws.{YesCertifies}
 use Rattle.value_bound.proofs.Reached.{certificates_bound}
+use Rattle.value_bound.proofs.Strategic.{best_is_greatest}
 use Rattle.value_bound.proofs.OwnReached.{own_at_most}
+use Rattle.value_bound.proofs.OwnStrategic.{own_best_is_greatest}
 
 choices_pass : (bound : ℕ → Fraction) (i : ℕ) (rss : List (List Row)) → InTurn (JudgesChoice bound i) rss None → All (λ run. AtMost (expected bound run) (bound i)) rss
 choices_pass bound i [] h = All-nil (λ (run : List Row). AtMost (expected bound run) (bound i))
@@ -43,6 +46,7 @@ yes_certifies merging ordered rows_yes weights bounds_law p states rows label bo
     let positive = bounds_law (length r.states) bounds bs values in
     let count = values.1 in
     let bounded = states_pass p r label bs own (weights p states rows r files) (λ k l. positive k nought (subst (λ n. k < n) (sym count) l)) h.1 in
+    let own_bounded = λ (n k : ℕ) (l : k < length r.states). AtMost_trans _ _ _ (own_at_most merging p r label proper own (weights p states rows r files) n k l) (bounded n k l) in
     record {
       read = r;
       values = bs;
@@ -50,5 +54,7 @@ yes_certifies merging ordered rows_yes weights bounds_law p states rows label bo
       bounds_are = values;
       own = own;
       bounded = bounded;
-      own_bounded = λ n k l. AtMost_trans _ _ _ (own_at_most merging p r label proper own (weights p states rows r files) n k l) (bounded n k l);
+      own_bounded = own_bounded;
+      strategic = λ s n k l. AtMost_trans _ _ _ (best_is_greatest (is_target p label r.states) r.rows s n [] k (weights p states rows r files)) (bounded n k l);
+      own_strategic = λ s n k l. AtMost_trans _ _ _ (own_best_is_greatest p (is_labelled p label) s n [] (values_at r.states k) proper (own.states k l)) (own_bounded n k l);
     }

@@ -7,4 +7,5 @@ pub mod Summed
 pub mod Walked
 pub mod OwnSums
 pub mod OwnReached
+pub mod OwnStrategic
 pub mod Named

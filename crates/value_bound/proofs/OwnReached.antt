@@ -9,8 +9,8 @@ use Rattle.frac_core.specs.Fraction.{Fraction, nought, unit, times, same_number}
 use Rattle.frac_core.specs.Laws.{same_number_is}
 use Rattle.frac_core.specs.Order.{AtMost, AtMost_refl, AtMost_trans}
 use Rattle.frac_core.specs.Sums.{total}
-use Rattle.process_core.specs.Process.{Branch, Outcome, Good, Bad, Choice}
-use Rattle.process_core.specs.Distribution.{IsProper}
+use Rattle.process_core.specs.Process.{Outcome, Good, Bad, Choice}
+use Rattle.process_core.specs.Distribution.{IsProper, IsDistribution}
 use Rattle.process_core.specs.Often.{often_count}
 use Rattle.process_core.specs.Ready.{Values, Name}
 use Rattle.process_core.specs.Equal.{equal_states, equal_states_is}
@@ -89,12 +89,12 @@ in_greatest f x (y ∷ z ∷ ys) (inl e) = subst (λ w. AtMost (f w) (greatest (
 in_greatest f x (y ∷ z ∷ ys) (inr h) = AtMost_trans _ _ _ (in_greatest f x (z ∷ ys) h) (larger_right (f y) (greatest (map f (z ∷ ys))))
 
 -- ---- the good choices of a state
-good_proper : (is_state : Values → Bool) (cs : List (Choice Name Fraction Values)) → All (λ c. IsProper is_state c.outcome) cs → All (λ (c : GoodChoice). All (λ b. AtMost nought b.probability) c.branches) (good_choices cs)
-good_proper is_state [] h = All-nil (λ (c : GoodChoice). All (λ (b : Branch Fraction Values). AtMost nought b.probability) c.branches)
+pub good_proper : (is_state : Values → Bool) (cs : List (Choice Name Fraction Values)) → All (λ c. IsProper is_state c.outcome) cs → All (λ (c : GoodChoice). IsDistribution is_state c.branches) (good_choices cs)
+good_proper is_state [] h = All-nil (λ (c : GoodChoice). IsDistribution is_state c.branches)
 good_proper is_state (c ∷ cs) h = by_outcome (good_proper is_state cs (All-tail (λ (c : Choice Name Fraction Values). IsProper is_state c.outcome) c cs h)) c.outcome (All-head (λ (c : Choice Name Fraction Values). IsProper is_state c.outcome) c cs h)
   where
-    by_outcome : All (λ (c : GoodChoice). All (λ b. AtMost nought b.probability) c.branches) (good_choices cs) → (o : Outcome Fraction Values) → IsProper is_state o → All (λ (c : GoodChoice). All (λ b. AtMost nought b.probability) c.branches) (if_good c.label o ++ good_choices cs)
-    by_outcome rest (Good bs) k = All-cons (λ (c : GoodChoice). All (λ (b : Branch Fraction Values). AtMost nought b.probability) c.branches) (record { label = c.label; branches = bs }) (good_choices cs) k.not_negative rest
+    by_outcome : All (λ (c : GoodChoice). IsDistribution is_state c.branches) (good_choices cs) → (o : Outcome Fraction Values) → IsProper is_state o → All (λ (c : GoodChoice). IsDistribution is_state c.branches) (if_good c.label o ++ good_choices cs)
+    by_outcome rest (Good bs) k = All-cons (λ (c : GoodChoice). IsDistribution is_state c.branches) (record { label = c.label; branches = bs }) (good_choices cs) k rest
     by_outcome rest (Bad k) p = rest
 
 -- ---- listed states
@@ -176,7 +176,7 @@ module _ (laws : MergingLaws) (p : Process) (r : ReadRows) (label : ℕ) (proper
       same_value c h =
           let q = partner c h in
           let apart = distinct_from g r.states own.distinct in
-          let weigh = among_all (λ (d : GoodChoice). All (λ (b : Branch Fraction Values). AtMost nought b.probability) d.branches) c model h (good_proper p.is_state (p.choices (values_at r.states k)) (proper.proper (values_at r.states k) (own.states k l))) in
+          let weigh = (among_all (λ (d : GoodChoice). IsDistribution p.is_state d.branches) c model h (good_proper p.is_state (p.choices (values_at r.states k)) (proper.proper (values_at r.states k) (own.states k l)))).not_negative in
           let supported = choice_supported laws r.states c (any_not (reaches_unlisted r.states) c model h none_unlisted) in
           told_by_sums g r.states apart c.branches (listed_all g r.states c.branches weigh supported.nothing)
           ∙ ap total (over_same g (sum_to c.branches) (sum_to (map (branch_of_row r.states) q.0)) r.states q.2)

@@ -62,7 +62,7 @@ module _ (f g : ℕ → Fraction) (below : (k : ℕ) → AtMost (f k) (g k)) (po
   chosen (run ∷ other ∷ rss) w (suc i) =
       AtMost_trans _ _ _ (chosen (other ∷ rss) (All-tail (All (λ (r : Row). AtMost nought r.weight)) run (other ∷ rss) w) i) (larger_right (expected g run) (greatest (map (expected g) (other ∷ rss))))
 
-nought_unit : AtMost nought unit
+pub nought_unit : AtMost nought unit
 nought_unit = AtMost-whole _ _ (omega (arith, ints))
 
 pub greatest_not_negative : (f : ℕ → Fraction) → ((j : ℕ) → AtMost nought (f j)) → (rss : List (List Row)) → All (All (λ r. AtMost nought r.weight)) rss → AtMost nought (greatest (map (expected f) rss))

@@ -1,6 +1,6 @@
 -- What is answered about files of states, rows and bounds: the verdict on their content, or the first line that breaks the form;
 -- and what Yes says. (This project's own.)
-use Rattle.std.specs.Prelude.{◌≡◌, ℕ, ◌<◌, List, length, Result, Ok, Err}
+use Rattle.std.specs.Prelude.{◌≡◌, ℕ, ◌<◌, List, [], length, Result, Ok, Err}
 use Rattle.bridge_io.specs.declared.reason.Reason.TheVariants.{RowSyntax}
 use Rattle.frac_core.specs.Fraction.{Fraction}
 use Rattle.frac_core.specs.Order.{AtMost}
@@ -13,8 +13,9 @@ use Rattle.value_bound.specs.declared.data.BoundVerdict.{BoundVerdict}
 use Rattle.value_bound.specs.declared.data.BoundRefused.{BoundRefused}
 use Rattle.value_bound.specs.declared.data.BoundRefused.TheVariants as B
 use Rattle.value_bound.specs.Reaching.{AreBest}
+use Rattle.value_bound.specs.Strategies.{Strategy, reached}
 use Rattle.value_bound.specs.Bounds.{JudgesBounds, is_target, bound_at}
-use Rattle.value_bound.specs.Own.{best_in, is_labelled}
+use Rattle.value_bound.specs.Own.{best_in, OwnStrategy, reached_in, is_labelled}
 
 -- the file of bounds breaks its form, those of states and of rows don't
 abbrev pub IsBoundsBreak : Process → List ℕ → List ℕ → List ℕ → ℕ → Type 0
@@ -38,8 +39,9 @@ ChecksValues p r label bounds (Err (B.Rows f)) = ⊥
 ChecksValues p r label bounds (Err (B.Bounds f)) = (f.reason ≡ RowSyntax) × ReadsBounds (length r.states) bounds (Err f.at)
 ChecksValues p r label bounds (Err (B.Memory e)) = Unit {0}
 
--- The files hold rows of the process, and for each listed state a bound: for every number of steps, no way to choose reaches a state
--- where the label is true with more probability; over the rows, and over the process's own choices.
+-- The files hold rows of the process, and for each listed state a bound. For every number of steps and every strategy, the probability
+-- of reaching a state where the label is true, from a listed state, is at most its bound: over the rows, and over the process's
+-- own choices. So are the greatest probabilities.
 pub record IsCertified (p : Process) (states rows : List ℕ) (label : ℕ) (bounds : List ℕ) : Type 0 where
   pub read : ReadRows
   pub values : List Fraction
@@ -48,3 +50,5 @@ pub record IsCertified (p : Process) (states rows : List ℕ) (label : ℕ) (bou
   pub own : AreRows p read
   pub bounded : AreBest (length read.states) (is_target p label read.states) read.rows (bound_at values)
   pub own_bounded : (n k : ℕ) → k < length read.states → AtMost (best_in p (is_labelled p label) n (values_at read.states k)) (bound_at values k)
+  pub strategic : (s : Strategy) (n k : ℕ) → k < length read.states → AtMost (reached s (is_target p label read.states) read.rows n [] k) (bound_at values k)
+  pub own_strategic : (s : OwnStrategy) (n k : ℕ) → k < length read.states → AtMost (reached_in s p (is_labelled p label) n [] (values_at read.states k)) (bound_at values k)

@@ -1,9 +1,10 @@
 -- What certificates and the verdict Yes mean, and that there is one verdict, as statements. (This project's own.)
-use Rattle.std.specs.Prelude.{◌≡◌, ◌≢◌, ℕ, ◌<◌, List, Bool, Result, Err, length}
+use Rattle.std.specs.Prelude.{◌≡◌, ◌≢◌, ℕ, ◌<◌, List, Bool, IsTrue, Result, Err, length}
 use Rattle.std.specs.declared.alloc.AllocError.{AllocError}
 use Rattle.std.specs.List.{All}
 use Rattle.frac_core.specs.Fraction.{Fraction, nought}
 use Rattle.frac_core.specs.Order.{AtMost}
+use Rattle.process_core.specs.Ready.{Values}
 use Rattle.process_core.specs.Steps.{Process, IsProcess}
 use Rattle.row_check.specs.declared.data.Row.{Row}
 use Rattle.row_check.specs.declared.data.ReadRows.{ReadRows}
@@ -15,7 +16,7 @@ use Rattle.value_bound.specs.declared.data.BoundVerdict.TheVariants.{Yes}
 use Rattle.value_bound.specs.Reaching.{best, IsCertificate, AreBest}
 use Rattle.value_bound.specs.Strategies.{Strategy, reached}
 use Rattle.value_bound.specs.Bounds.{JudgesBounds, is_target}
-use Rattle.value_bound.specs.Own.{best_in, is_labelled}
+use Rattle.value_bound.specs.Own.{best_in, OwnStrategy, reached_in, is_labelled}
 use Rattle.value_bound.specs.declared.data.BoundRefused.{BoundRefused}
 use Rattle.value_bound.specs.declared.data.BoundRefused.TheVariants.{Memory}
 use Rattle.value_bound.specs.Checks.{ChecksBound, IsCertified}
@@ -30,6 +31,11 @@ CertificatesBound = (count : ℕ) (target : ℕ → Bool) (rs : List Row) (bound
 abbrev pub BestIsGreatest : Type 0
 BestIsGreatest = (target : ℕ → Bool) (rs : List Row) (s : Strategy) (n : ℕ) (past : List ℕ) (k : ℕ) →
     All (λ r. AtMost nought r.weight) rs → AtMost (reached s target rs n past k) (best target rs n k)
+
+-- nor does any strategy over the choices of the process itself, from a state, with more than the greatest over these
+abbrev pub OwnBestIsGreatest : Type 0
+OwnBestIsGreatest = (p : Process) (target : Values → Bool) (s : OwnStrategy) (n : ℕ) (past : List Values) (v : Values) →
+    IsProcess p → IsTrue (p.is_state v) → AtMost (reached_in s p target n past v) (best_in p target n v)
 
 -- there is one verdict
 abbrev pub BoundsOnce : Type 0
