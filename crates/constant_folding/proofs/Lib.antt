@@ -14,3 +14,4 @@ pub mod Uncircled
 pub mod Listed
 pub mod Once
 pub mod Fitting
+pub mod Defined

@@ -9,4 +9,5 @@ pub mod ValueLiterals
 pub mod ValueLiteralLaws
 pub mod Constants
 pub mod Unfit
+pub mod Defined
 pub mod Tables

@@ -32,7 +32,7 @@ use Rattle.jani_table.specs.declared.operator.JaniOp.{JaniOp}
 use Rattle.jani_table.specs.Operators.{jani_meaning}
 use Rattle.jani_table.specs.OperatorLaws.{jani_lawful}
 use Rattle.jani_tree.specs.Syntax.{Expression, is_always, Const, Var, Write, Destination, Edge, Automaton, File, element_names}
-use Rattle.jani_tree.specs.Form.{AutomatonRead, ExprForm}
+use Rattle.jani_tree.specs.Form.{AutomatonRead, ExprForm, IsShortName}
 use Rattle.jani_tree.proofs.Literals.{literals}
 use Rattle.jani_check.specs.declared.things.Thing.{Thing}
 use Rattle.jani_check.specs.Things.{beside, const_called, const_thing, global_thing, is_constant, is_label, is_reward, is_transient, kind_type, thing_type, types_by, var_called, var_thing}
@@ -57,7 +57,7 @@ use Rattle.constant_folding.proofs.Uncircled.{circles_less}
 use Rattle.specialise_jani.specs.Literal.{jani_literal}
 use Rattle.specialise_jani.specs.LiteralLaws.{jani_literals, jani_monotone}
 use Rattle.specialise_jani.specs.Specialised.{any_const, any_constants, folded, folded_automaton, folded_destination, folded_edge, folded_restriction, folded_var, folded_write, known_constants, specialised, specialised_const}
-use Rattle.specialise_jani.specs.Clean.{SpecialisedIsClean}
+use Rattle.specialise_jani.specs.Clean.{SpecialisedIsClean, SpecialisedIsShort}
 use Rattle.specialise_jani.proofs.ConstantLaws.{own_const}
 use Rattle.specialise_jani.proofs.Demanding.{HasForm, automaton_form, consts_carried, folded_demand, in_automaton, in_vars, outer_form}
 use Rattle.specialise_jani.proofs.Formed.{specialised_formed}
@@ -509,6 +509,9 @@ module _ (file : File) (checked : IsChecked file) (values : Valuation) (fitting 
 pub specialised_is_clean : SpecialisedIsClean
 specialised_is_clean file values checked fitting = record {
   clean = no_faults file checked values fitting;
-  form = specialised_formed (known_constants file values) values file checked.form;
+  form = specialised_formed HasItems (known_constants file values) values file checked.form;
   once = checked.once;
 }
+
+pub specialised_is_short : SpecialisedIsShort
+specialised_is_short file values short = specialised_formed IsShortName (known_constants file values) values file short

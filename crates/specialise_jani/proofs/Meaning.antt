@@ -4,6 +4,7 @@ use Rattle.std.specs.List.{AllZip, find, filter, list_any}
 use Rattle.std.specs.Option.{option_map, option_or}
 use Rattle.std.proofs.Common.{refl, sym, subst, ap, ap₂, ◌∙◌}
 use Rattle.std.proofs.Math.Path.{fun_ext}
+use Rattle.std.proofs.lemmas.Option.{slice_get-map}
 use Rattle.std.proofs.lemmas.List.{length-map, map-append}
 use Rattle.basics.specs.Lists.{map_agree}
 use Rattle.basics.specs.Mapped.{any_mapped, mapped, walked, found_mapped, kept_mapped, position_mapped}
@@ -18,7 +19,7 @@ use Rattle.op_trees.specs.declared.tree.Value.TheVariants as V
 use Rattle.process_core.specs.Product.{map-map}
 use Rattle.process_core.specs.Ready.{Values, Name, Write, Update}
 use Rattle.process_core.specs.Instance.{Valuation, Between, Column, Scene, instance_faults, is_wide_instance, is_state, is_initial, numbered}
-use Rattle.jani_tree.specs.Syntax.{Expression, is_always, VarKind, boolean, integer, number, real_bounded, one_sided, bounded, Var, Location, Destination, Edge, Automaton, Element, File, element_names}
+use Rattle.jani_tree.specs.Syntax.{Expression, is_always, Const, VarKind, boolean, integer, number, real_bounded, one_sided, bounded, Var, Location, Destination, Edge, Automaton, Element, File, element_names}
 use Rattle.jani_tree.specs.Syntax as syntax
 use Rattle.std.proofs.lemmas.List.Elements.{filter-append}
 use Rattle.frac_core.specs.Fraction.{unit}
@@ -32,10 +33,11 @@ use Rattle.constant_folding.specs.Constants.{AreRanked, specialised_value}
 use Rattle.jani_table.specs.Operators.{jani_meaning}
 use Rattle.specialise_jani.specs.Literal.{jani_literal}
 use Rattle.constant_folding.specs.Unfit.{Extends, IsSmall}
+use Rattle.constant_folding.proofs.Defined.{defined_constant}
 use Rattle.constant_folding.specs.Known.{Known}
 use Rattle.constant_folding.specs.Kept.{Gives}
 use Rattle.specialise_jani.specs.Specialised.{any_constants, known_constants, folded, folded_kind, folded_restriction, folded_var, folded_write, folded_location, folded_destination, folded_edge, folded_automaton, specialised_const, specialised}
-use Rattle.specialise_jani.specs.SameMeaning.{SameMeaningAt, AreApart, GivenHaveValues, SpecialisedMeansTheSame}
+use Rattle.specialise_jani.specs.SameMeaning.{SameMeaningAt, AreApart, GivenDefined, GivenAreDefined, GivenHaveValues, SpecialisedMeansTheSame}
 use Rattle.specialise_jani.proofs.ConstantLaws.{literal_see, known_is_constant, known_gives, folded_see, value_same, constants_same}
 
 -- what each member gives with its number, after a map that keeps it
@@ -432,3 +434,15 @@ given_have_values file given v small extends c y n p =
       (open_value (given c.name.name) (v c.name.name) c.ty (known_constants file given) (constant_names file v) c.value y h n p q).0,
       (open_value (given c.name.name) (v c.name.name) c.ty (known_constants file given) (constant_names (specialised file given) v) c.value y h n p q).1,
     )
+
+-- what comes out of the open constant of this number
+given_seen : (v : Valuation) (names : Name → Seen) (c : Const) (y : Value) → c.value ≡ None → v c.name.name ≡ Some y → (constant_seen (v c.name.name) names c.value).value ≡ Some y
+given_seen v names c y n h = ap (λ o. (constant_seen (v c.name.name) names o).value) n ∙ h
+
+given_defined : (file : File) (given v : Valuation) → Extends given v → GivenDefined file.constants given (instance_faults (scene file v))
+given_defined file given v extends i c y e n h =
+    defined_constant (scene file v) i (constant_seen (v c.name.name) (constant_names file v) c.value) y (slice_get-map (λ k. constant_seen (v k.name.name) (constant_names file v) k.value) file.constants i ∙ ap (option_map (λ k. constant_seen (v k.name.name) (constant_names file v) k.value)) e)
+    (given_seen v (constant_names file v) c y n (extends.gives c.name.name y h))
+
+pub given_are_defined : GivenAreDefined
+given_are_defined file new given v extends same = (given_defined file given v extends, subst (GivenDefined file.constants given) (sym same.faults) (given_defined file given v extends))

@@ -1,17 +1,18 @@
 -- A specialised JANI file means the same wherever the given constants have their given values.
 -- (jani-model specification, "Models": a constant without "value" is a parameter of the model, which is given its value later. That giving it
 -- in the file changes nothing else is what is proved.)
-use Rattle.std.specs.Prelude.{◌≡◌, ℕ, map, Some, None}
+use Rattle.std.specs.Prelude.{◌≡◌, ℕ, List, map, Some, None, slice_get}
 use Rattle.op_trees.specs.Seen.{known}
 use Rattle.op_trees.specs.declared.tree.Value.{Value}
 use Rattle.process_core.specs.Ready.{Values, Name}
-use Rattle.process_core.specs.Instance.{Valuation, is_wide_instance}
+use Rattle.process_core.specs.Instance.{Valuation, Fault, is_wide_instance}
 use Rattle.jani_tree.specs.Syntax.{Const, File}
 use Rattle.jani_meaning.specs.Scene.{scene, constant_called, constant_names, constant_seen}
 use Rattle.jani_meaning.specs.Moment.{moment}
 use Rattle.jani_meaning.specs.Process.{model, excess, has_wide_mark}
 use Rattle.jani_meaning.specs.Elements.{column_number}
 use Rattle.constant_folding.specs.Constants.{AreRanked}
+use Rattle.constant_folding.specs.Defined.{IsDefined}
 use Rattle.constant_folding.specs.Unfit.{Extends, IsSmall}
 use Rattle.specialise_jani.specs.Specialised.{any_constants, known_constants, specialised, specialised_const}
 
@@ -43,3 +44,12 @@ abbrev pub GivenHaveValues : Type 0
 GivenHaveValues = (file : File) (given v : Valuation) → IsSmall given → Extends given v → (c : Const) (y : Value) → c.value ≡ None → given c.name.name ≡ Some y →
     (constant_seen (v c.name.name) (constant_names file v) c.value ≡ known (Some y))
     × (constant_seen (v c.name.name) (constant_names (specialised file given) v) (specialised_const given (known_constants file given) c).value ≡ known (Some y))
+
+-- Of these constants, no open one that is given is undefined, by these faults of an instance.
+abbrev pub GivenDefined : List Const → Valuation → List Fault → Type 0
+GivenDefined constants given fs = (i : ℕ) (c : Const) (y : Value) → slice_get constants i ≡ Some c → c.value ≡ None → given c.name.name ≡ Some y → IsDefined fs i
+
+-- So it is under each valuation that gives the given constants their values: of the file, and of a file that means the same then.
+abbrev pub GivenAreDefined : Type 0
+GivenAreDefined = (file new : File) (given v : Valuation) → Extends given v → SameMeaningAt file new v →
+    GivenDefined file.constants given ((model file).faults v) × GivenDefined file.constants given ((model new).faults v)

@@ -3,6 +3,7 @@ use Rattle.std.specs.Prelude.{◌≡◌, List, [], ◌∷◌, ◌++◌, map, Boo
 use Rattle.std.specs.List.{flat_map, list_all, list_any}
 use Rattle.std.specs.Option.{option_map}
 use Rattle.std.proofs.Common.{refl, sym, subst, ap, ap₂, ◌∙◌}
+use Rattle.std.proofs.lemmas.Option.{slice_get-map}
 use Rattle.basics.specs.Booleans.{first_false, second_false}
 use Rattle.basics.specs.Lists.{map_agree}
 use Rattle.basics.specs.Options.{is_some-map}
@@ -26,10 +27,11 @@ use Rattle.constant_folding.specs.Known.{Known}
 use Rattle.constant_folding.specs.Kept.{Gives}
 use Rattle.constant_folding.specs.Constants.{AreRanked, specialised_value}
 use Rattle.constant_folding.specs.Unfit.{Extends, IsSmall}
+use Rattle.constant_folding.proofs.Defined.{defined_constant}
 use Rattle.prism_tree.specs.Operators.{prism_meaning}
 use Rattle.specialise_prism.specs.Literal.{prism_literal}
 use Rattle.specialise_prism.specs.Specialised.{any_constants, known_constants, folded, folding_by, specialised_const, specialised_module, specialised}
-use Rattle.specialise_prism.specs.SameMeaning.{SameMeaningAt, AreApart, GivenHaveValues, SpecialisedMeansTheSame}
+use Rattle.specialise_prism.specs.SameMeaning.{SameMeaningAt, AreApart, GivenDefined, GivenAreDefined, GivenHaveValues, SpecialisedMeansTheSame}
 use Rattle.specialise_prism.proofs.ConstantLaws.{literal_see, plain_reading, known_is_constant, known_gives, folded_see, value_same, old_names_are, constants_same, new_names_same}
 
 -- ---- parts of a file whose expressions are folded, where a folded expression is seen as the expression
@@ -252,3 +254,15 @@ given_have_values file given v small extends c y n p =
       (open_value (given c.name.name) (v c.name.name) c.ty (known_constants file given) (constant_names file v unchanged) c.value y h n p q).0,
       (open_value (given c.name.name) (v c.name.name) c.ty (known_constants file given) (constant_names (specialised file given) v unchanged) c.value y h n p q).1,
     )
+
+-- what comes out of the open constant of this number
+given_seen : (v : Valuation) (names : Name → Seen) (c : Const) (y : Value) → c.value ≡ None → v c.name.name ≡ Some y → (constant_seen (v c.name.name) names c.value).value ≡ Some y
+given_seen v names c y n h = ap (λ o. (constant_seen (v c.name.name) names o).value) n ∙ h
+
+given_defined : (file : File) (given v : Valuation) → Extends given v → GivenDefined file.constants given (instance_faults (scene file v))
+given_defined file given v extends i c y e n h =
+    defined_constant (scene file v) i (constant_seen (v c.name.name) (constant_names file v unchanged) c.value) y (slice_get-map (λ k. constant_seen (v k.name.name) (constant_names file v unchanged) k.value) file.constants i ∙ ap (option_map (λ k. constant_seen (v k.name.name) (constant_names file v unchanged) k.value)) e)
+    (given_seen v (constant_names file v unchanged) c y n (extends.gives c.name.name y h))
+
+pub given_are_defined : GivenAreDefined
+given_are_defined file new given v extends same = (given_defined file given v extends, subst (GivenDefined file.constants given) (sym same.faults) (given_defined file given v extends))

@@ -1,19 +1,20 @@
 -- A specialised file means the same wherever the given constants have their given values.
 -- (PRISM manual, "The PRISM Language": "Constants": a constant that is left undefined is given its value later. That giving it in the file
 -- changes nothing else is what is proved.)
-use Rattle.std.specs.Prelude.{◌≡◌, map, false, Some, None, bytes_eq}
+use Rattle.std.specs.Prelude.{◌≡◌, ℕ, List, map, false, Some, None, bytes_eq, slice_get}
 use Rattle.std.specs.List.{list_any}
 use Rattle.op_trees.specs.Seen.{known}
 use Rattle.prism_names.specs.Names.{unchanged}
 use Rattle.op_trees.specs.declared.tree.Value.{Value}
 use Rattle.process_core.specs.Ready.{Values, Name}
-use Rattle.process_core.specs.Instance.{Valuation, is_wide_instance}
+use Rattle.process_core.specs.Instance.{Valuation, Fault, is_wide_instance}
 use Rattle.prism_tree.specs.Syntax.{Const, File}
 use Rattle.prism_flat.specs.Scene.{scene, columns_of, constant_called, constant_names, constant_seen}
 use Rattle.prism_flat.specs.Moment.{moment}
 use Rattle.prism_flat.specs.Process.{model, excess, has_wide_mark}
 use Rattle.prism_flat.specs.Kept.{IsWrittenOut}
 use Rattle.constant_folding.specs.Constants.{AreRanked}
+use Rattle.constant_folding.specs.Defined.{IsDefined}
 use Rattle.constant_folding.specs.Unfit.{Extends, IsSmall}
 use Rattle.specialise_prism.specs.Specialised.{any_constants, known_constants, specialised, specialised_const}
 
@@ -45,3 +46,12 @@ abbrev pub GivenHaveValues : Type 0
 GivenHaveValues = (file : File) (given v : Valuation) → IsSmall given → Extends given v → (c : Const) (y : Value) → c.value ≡ None → given c.name.name ≡ Some y →
     (constant_seen (v c.name.name) (constant_names file v unchanged) c.value ≡ known (Some y))
     × (constant_seen (v c.name.name) (constant_names (specialised file given) v unchanged) (specialised_const given (known_constants file given) c).value ≡ known (Some y))
+
+-- Of these constants, no open one that is given is undefined, by these faults of an instance.
+abbrev pub GivenDefined : List Const → Valuation → List Fault → Type 0
+GivenDefined constants given fs = (i : ℕ) (c : Const) (y : Value) → slice_get constants i ≡ Some c → c.value ≡ None → given c.name.name ≡ Some y → IsDefined fs i
+
+-- So it is under each valuation that gives the given constants their values: of the file, and of a file that means the same then.
+abbrev pub GivenAreDefined : Type 0
+GivenAreDefined = (file new : File) (given v : Valuation) → Extends given v → SameMeaningAt file new v →
+    GivenDefined file.constants given ((model file).faults v) × GivenDefined file.constants given ((model new).faults v)
