@@ -1,3 +1,4 @@
 pub mod JaniFiles
 pub mod Once
 pub mod PrismFiles
+pub mod ReadAgain

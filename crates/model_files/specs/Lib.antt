@@ -1,3 +1,4 @@
 pub mod JaniFile
 pub mod Once
 pub mod PrismFile
+pub mod ReadAgain

@@ -4,5 +4,5 @@
 mod laws;
 mod reading;
 
-pub use laws::one_reading_law;
+pub use laws::{jani_again_law, one_reading_law, prism_again_law};
 pub use reading::{read_jani, read_prism};

@@ -1,32 +1,17 @@
 -- What is written for a PRISM file.
 use Rattle.std.specs.Prelude.{◌≡◌, ℕ, List, [], ◌∷◌, ◌++◌}
 use Rattle.std.proofs.Common.{sym, ap, ◌∙◌}
-use Rattle.decimal_json.specs.declared.tree.Json.{Json}
 use Rattle.decimal_json.specs.Laws.{LineFeedBehind}
-use Rattle.decimal_json.specs.Proper.{bare, SpellsValue}
-use Rattle.decimal_json.proofs.Single.{one_value}
+use Rattle.decimal_json.specs.Proper.{SpellsValue}
 use Rattle.prism_tree.specs.Syntax as prism
-use Rattle.jani_table.specs.Node.{node}
 use Rattle.jani_tree.specs.Syntax as jani
 use Rattle.jani_tree.specs.Canonical.{file_node}
 use Rattle.jani_tree.specs.Back.{IsWritable, TextSpells}
 use Rattle.jani_tree.specs.Form.{FileShort}
 use Rattle.jani_tree.specs.Text.{jani_text, SpellsNode}
-use Rattle.jani_tree.proofs.Back.{clean_value, reads_back}
 use Rattle.prism_to_jani.specs.Promise.{IsJaniOf, PlacesAside}
-use Rattle.model_translation.specs.Translation.{IsShaped, IsText, IsJaniText}
-
--- what spells the canonical value of a tree whose names are short has no fault of shape
-shaped : (f : jani.File) (x : Json) (text : List ℕ) → IsWritable f → FileShort f → node x ≡ file_node f → SpellsValue text x → IsShaped text
-shaped f x text ready names e s =
-    record {
-      value = x;
-      spelled = s;
-      clean = clean_value f x e ready;
-      faultless = λ other tokens j.
-          let one : other ≡ s.0 = (one_value text other s.0 tokens s.1 j s.2).0 in
-          (reads_back f x other ready names e (ap bare one ∙ s.3)).shape;
-    }
+use Rattle.model_files.proofs.ReadAgain.{shaped}
+use Rattle.model_translation.specs.Translation.{IsText, IsJaniText}
 
 -- the text of a tree whose names are short, with its line feed
 pub text_is : (f : jani.File) (text : List ℕ) → TextSpells → LineFeedBehind → IsWritable f → FileShort f → text ≡ jani_text f → SpellsNode text (file_node f) → IsText (text ++ 10 ∷ []) f

@@ -3,28 +3,13 @@ use Rattle.std.specs.Prelude.{◌≡◌, ℕ, List, [], ◌∷◌, ◌++◌, Res
 use Rattle.bridge_io.specs.declared.reason.Refused.{Refused}
 use Rattle.bridge_io.specs.declared.reason.Refused.TheVariants as R
 use Rattle.prism_tree.specs.Syntax as prism
-use Rattle.decimal_json.specs.declared.tree.Json.{Json}
-use Rattle.decimal_json.specs.Lang.{Mark}
-use Rattle.decimal_json.specs.Faults.{IsJson}
-use Rattle.decimal_json.specs.Proper.{SpellsValue}
-use Rattle.jani_table.specs.declared.table.Form.TheVariants as F
-use Rattle.jani_table.specs.Node.{node}
-use Rattle.jani_table.specs.Faults.{faults as shape_faults}
 use Rattle.jani_tree.specs.Syntax as jani
 use Rattle.jani_tree.specs.Places.{bare_file}
 use Rattle.jani_tree.specs.Text.{jani_text}
-use Rattle.jani_tree.specs.Back.{IsCleanValue, SpellsFile, SpellsAside, SpellsOnly}
+use Rattle.jani_tree.specs.Back.{SpellsFile, SpellsAside, SpellsOnly}
 use Rattle.prism_to_jani.specs.Promise.{IsJaniOf}
 use Rattle.model_files.specs.PrismFile.{IsFaultless, IsPrismFault}
-
--- No JSON value that the text spells has any fault of shape: no member that is unknown or missing, none of another kind than is asked, and no
--- name of more than 255 bytes; the value of its properties may be any. Of the value that it spells, places aside, each number is in normal form,
--- and no object has a key twice.
-pub record IsShaped (text : List ℕ) : Type 0 where
-  pub value : Json
-  pub spelled : SpellsValue text value
-  pub clean : IsCleanValue value
-  pub faultless : (other : Json) (tokens : List Mark) → IsJson text other tokens → shape_faults F.Model (node other) ≡ []
+use Rattle.model_files.specs.ReadAgain.{IsShaped}
 
 -- The text is the canonical one of the tree and a line feed; it spells the tree, places aside, and no other, by a value without fault of shape.
 pub record IsText (text : List ℕ) (model : jani.File) : Type 0 where
