@@ -2,10 +2,12 @@
 ghost use Rattle.std.specs.Prelude.{◌≡◌, ◌++◌, ◌∷◌, [], IfOk, map};
 ghost use Rattle.jani_tree.specs.Syntax.{file_of};
 ghost use Rattle.jani_tree.specs.Back.{SpellsOnly};
+ghost use Rattle.jani_tree.specs.Form.{FileShort};
 ghost use Rattle.jani_tree.specs.Text.{jani_text};
 ghost use Rattle.jani_check.specs.Faults.{IsChecked};
 ghost use Rattle.command_words.specs.Given.{assignment_of};
 ghost use Rattle.command_words.specs.declared.request.Lang.TheVariants.{Jani};
+ghost use Rattle.model_files.specs.ReadAgain.{IsShaped};
 ghost use Rattle.model_process.specs.Constants.{good_front};
 ghost use Rattle.model_process.specs.Starts.{IsBehind};
 ghost use Rattle.model_specialising.specs.Ends.{EndsOnJani, SpecialisesIn};
@@ -16,10 +18,11 @@ use command_words::Assignment;
 use decimal_json::line_feed_law;
 use jani_check::{CheckedJani, writable_law};
 use jani_tree::{JaniFile, write_jani, written_law};
-use model_files::read_jani;
+use model_files::{jani_again_law, read_jani};
 use model_process::{Ending, good_front};
 use process_core::Given;
-use specialise_jani::specialise_jani;
+use short_names::jani_names_law;
+use specialise_jani::{specialise_jani, specialised_clean_law, specialised_meaning_law};
 use std::alloc::{AllocError, Global};
 
 /// How it ends on the bytes of a JANI file.
@@ -32,6 +35,7 @@ pub(crate) fn in_jani(
     requires { IsBehind 3 (map assignment_of values.now) next }
     ensures { SpecialisesIn Jani (map assignment_of values.now) bytes.now result }
 {
+    jani_names_law();
     let checked = match read_jani(alloc, bytes) {
         Ok(checked) => checked,
         Err(refused) => return Err(refused),
@@ -40,7 +44,8 @@ pub(crate) fn in_jani(
     Ok(ending)
 }
 
-/// How it ends on a judged file, whose text takes so many bytes; the file is let go before the new text is made. `Err` is want of memory.
+/// How it ends on a judged file whose names are short, and whose text takes so many bytes; the file is let go before the new text is
+/// made. `Err` is want of memory.
 fn on_jani(
     alloc: Global,
     next: usize,
@@ -48,7 +53,8 @@ fn on_jani(
     checked: CheckedJani,
     room: usize,
 ) -> Result<Ending, AllocError>
-    requires { IsBehind 3 (map assignment_of values.now) next }
+    requires behind { IsBehind 3 (map assignment_of values.now) next }
+    requires short { FileShort (file_of checked) }
     ensures { IfOk result (EndsOnJani (file_of checked) (map assignment_of values.now)) }
 {
     let given = good_front(alloc, values)?;
@@ -66,8 +72,12 @@ fn by_values(
 ) -> Result<Ending, AllocError>
     requires behind { IsBehind 3 (map assignment_of values.now) next }
     requires front { given.now ≡ good_front (map assignment_of values.now) }
+    requires short { FileShort (file_of checked) }
     ensures { IfOk result (EndsOnJani (file_of checked) (map assignment_of values.now)) }
 {
+    specialised_meaning_law();
+    specialised_clean_law();
+    jani_again_law();
     match specialise_jani(alloc, &checked, given) {
         Ok(file) => {
             drop(checked);
@@ -78,11 +88,14 @@ fn by_values(
     }
 }
 
-/// The canonical text of a file of the profile, which is let go, and a line feed; so many bytes are set aside for it at first. `Err` is want of memory.
+/// The canonical text of a file of the profile with short names, which is let go, and a line feed; so many bytes are set aside for it at first. `Err` is
+/// want of memory.
 fn text_of(alloc: Global, room: usize, file: JaniFile) -> Result<List<u8>, AllocError>
-    requires { IsChecked (file_of file) }
+    requires checked { IsChecked (file_of file) }
+    requires short { FileShort (file_of file) }
     ensures text { IfOk result (λ text. text ≡ jani_text (file_of file) ++ 10 ∷ []) }
     ensures spells { IfOk result (λ text. SpellsOnly text (file_of file)) }
+    ensures shaped { IfOk result IsShaped }
 {
     writable_law();
     written_law();

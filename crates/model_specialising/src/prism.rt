@@ -14,13 +14,14 @@ ghost use Rattle.model_specialising.specs.Ends.{EndsOnPrism, SpecialisesIn};
 use crate::ending::{failed, finished};
 use bridge_io::{List, Refused};
 use command_words::Assignment;
+use model_files::prism_again_law;
 use model_process::{Ending, good_front, read_flat};
 use prism_check::{FlatPrism, form_law, meaning_law, places_law};
 use prism_meaning::described_law;
 use prism_print::print;
 use prism_tree::PrismFile;
 use process_core::Given;
-use specialise_prism::specialise_prism;
+use specialise_prism::{specialise_prism, specialised_meaning_law};
 use std::alloc::{AllocError, Global};
 
 /// How it ends on the bytes of a PRISM file.
@@ -69,6 +70,8 @@ fn by_values(
 {
     described_law();
     meaning_law();
+    specialised_meaning_law();
+    prism_again_law();
     match specialise_prism(alloc, &written, given) {
         Ok(file) => {
             drop(written);

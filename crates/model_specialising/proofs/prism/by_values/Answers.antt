@@ -23,7 +23,7 @@ returns-in_ok-text-in-Ok c = λ tree same.
     of_finished d.constants given (SpecialisesPrism tree (given_by (givens given))) c.in_ok-text-in-Ok.text c.finished.result
     (c.finished.ensures d.constants (subst (λ gs. unfit d.constants gs ≡ None) front fits))
     (λ all. subst (λ gs. SpecialisesPrism tree (given_by gs) c.in_ok-text-in-Ok.text) (front ∙ all)
-    (prism_written c.meaning_law.ensures.meaning c.args.written tree (file_of c.in-Ok.file) (given_by c.args.given.now) c.in_ok-text-in-Ok.text same c.in-Ok.ensures.tree c.in-Ok.ensures.clean c.in-Ok.ensures.meaning
+    (prism_written c.meaning_law.ensures.meaning c.prism_again_law.ensures c.specialised_meaning_law.ensures.defined c.args.written tree (file_of c.in-Ok.file) (given_by c.args.given.now) c.in_ok-text-in-Ok.text same c.in-Ok.ensures.tree c.in-Ok.ensures.clean c.in-Ok.ensures.meaning
     c.in_ok-text-in-Ok.ensures.text c.in_ok-text-in-Ok.ensures.spells))
 
 pub returns-in-Err : goal.returns-in-Err
