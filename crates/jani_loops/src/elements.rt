@@ -17,9 +17,6 @@ use std::alloc::{AllocError, Global};
 /// How many edges a loop may stand for where its guard is evaluated, as those of an instance are.
 pub const EVALUATED: usize = 2_048;
 
-/// How many it may stand for where its guard is counted at most, and written only if it is short.
-pub const COUNTED: usize = 32_768;
-
 /// How many loops a file may have. They are actions times locations, so a short file could have any number of them. Elements with
 /// one such action each, or with one location, can't have more in a file that is read: each takes four bytes at least.
 const LOOPS: usize = 4_194_304;

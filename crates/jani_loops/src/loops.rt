@@ -79,8 +79,8 @@ fn staying(alloc: Global, location: &Named) -> Result<JaniDestination, AllocErro
     })
 }
 
-/// The loop with an action at a location, beside which the automaton has these edges.
-fn loop_at(
+/// The loop with an action at a location, where these are the automaton's edges with that action there. `Err` is want of memory.
+pub fn loop_at(
     alloc: Global,
     action: &Named,
     location: &Named,
