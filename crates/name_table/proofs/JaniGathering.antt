@@ -63,10 +63,6 @@ pub names_are : (es : List JaniElement) → map (λ e. e.name) es ≡ map (λ e.
 names_are [] = refl
 names_are (e ∷ es) = ap (λ ns. e.name ∷ ns) (names_are es)
 
-pub each_named : {C : Type 0} (f g : Named → C) → ((n : Named) → f n ≡ g n) → (es : List JaniElement) → map (λ e. f e.name) es ≡ map g (map (λ e. e.name) (map element_of es))
-each_named f g same [] = refl
-each_named f g same (e ∷ es) = ap₂ (λ a b. a ∷ b) (same e.name) (each_named f g same es)
-
 pub element_there : (file : JaniFile) → name_faults (file_of file) ≡ [] → (k : ℕ) (d : JaniElement) → k < length file.elements →
     is_some (find (λ a. is_called (get_or file.elements k d).name.name a.name) (file_of file).automata) ≡ true
 element_there file none k d h =

@@ -1,16 +1,17 @@
 // The parts of a JANI file that names are given to: the automata that take part, and the variables of the file.
 
 ghost use Rattle.std.specs.Prelude.{◌≡◌, [], List, ℕ, true, ◌++◌, map, IfOk, OnOk, Some, None, is_some};
-ghost use Rattle.std.specs.List.{All, AllByRecursion as Each, filter};
-ghost use Rattle.jani_tree.specs.Syntax.{automaton_of, file_of, kind_of, var_of};
+ghost use Rattle.std.specs.List.{All, filter};
+ghost use Rattle.jani_tree.specs.Syntax.{element_of, file_of, kind_of, var_of};
 ghost use Rattle.jani_check.specs.NameFaults.{name_faults};
 ghost use Rattle.name_rules.specs.Names.{under};
 ghost use Rattle.jani_meaning.specs.Elements.{elements, is_boolean, owned_by, variables, lasting, labels, structures};
-ghost use Rattle.jani_loops.specs.Looped.{IsLooped};
-ghost use Rattle.name_table.specs.JaniParts.{owned_of, element_under, is_wanted, owner_of};
+ghost use Rattle.jani_loops.specs.Elements.{element_view};
+ghost use Rattle.jani_loops.specs.Looped.{element_under};
+ghost use Rattle.name_table.specs.JaniParts.{owned_of, is_wanted, owner_of};
 
-use bridge_io::List;
 use jani_check::automata_by_name;
+use jani_loops::ElementAutomaton;
 use jani_tree::{JaniAutomaton, JaniElement, JaniFile, JaniKind, JaniVar};
 use name_rules::NameMap;
 use std::alloc::{AllocError, Global};
@@ -30,75 +31,47 @@ pub(crate) enum VarUse {
     Structure,
 }
 
-/// The automata of the elements, in order, where these are they with loops, if there are loops. `Err` is want of memory.
+/// The elements of a file, in order, as they take part. `Err` is want of memory.
 pub fn element_automata<'a>(
     alloc: Global,
     file: &'a JaniFile,
-    looped: &'a Option<List<JaniAutomaton>>,
-) -> Result<Vec<&'a JaniAutomaton>, AllocError>
-    requires names { name_faults (file_of file.now) ≡ [] }
-    requires looped { IsLooped (file_of file.now) looped.now }
-    ensures { IfOk result (λ xs. map (λ a. automaton_of a.now) xs.items ≡ elements (file_of file.now)) }
-{
-    match looped {
-        Some(all) => lent(alloc, all.as_slice()),
-        None => plain_automata(alloc, file),
-    }
-}
-
-/// References to these automata.
-fn lent<'a>(
-    alloc: Global,
-    automata: &'a [JaniAutomaton],
-) -> Result<Vec<&'a JaniAutomaton>, AllocError>
-    ensures { IfOk result (λ xs. map (λ a. automaton_of a.now) xs.items ≡ map automaton_of automata.now) }
-{
-    let mut all = Vec::with_capacity(alloc, automata.len())?;
-    for a in automata {
-        all.push(a)?;
-    }
-    Ok(all)
-}
-
-/// The automata of elements that have no loops.
-fn plain_automata<'a>(
-    alloc: Global,
-    file: &'a JaniFile,
-) -> Result<Vec<&'a JaniAutomaton>, AllocError>
-    requires names { name_faults (file_of file.now) ≡ [] }
-    requires plain { Each (λ e. e.enable ≡ []) (file_of file.now).elements }
-    ensures { IfOk result (λ xs. map (λ a. automaton_of a.now) xs.items ≡ elements (file_of file.now)) }
+) -> Result<Vec<ElementAutomaton<'a>>, AllocError>
+    requires { name_faults (file_of file.now) ≡ [] }
+    ensures { IfOk result (λ xs. map element_view xs.items ≡ elements (file_of file.now)) }
 {
     let automata = automata_by_name(alloc, file.automata.as_slice())?;
     elements_in(alloc, &automata, file.elements.as_slice())
 }
 
-/// The automaton of each element, where each has one.
+/// Each element with its automaton, where each has one.
 fn elements_in<'a>(
     alloc: Global,
     automata: &NameMap<'a, &'a JaniAutomaton>,
-    elements: &[JaniElement],
-) -> Result<Vec<&'a JaniAutomaton>, AllocError>
+    elements: &'a [JaniElement],
+) -> Result<Vec<ElementAutomaton<'a>>, AllocError>
     requires { All (λ e. is_some (under automata.now e.name.name) ≡ true) elements.now }
-    ensures { IfOk result (λ xs. map (λ a. automaton_of a.now) xs.items ≡ map (λ e. element_under automata.now e.name) elements.now) }
+    ensures { IfOk result (λ xs. map element_view xs.items ≡ map (element_under automata.now) (map element_of elements.now)) }
 {
     let mut all = Vec::new(alloc);
     for e in elements {
-        if let Some(a) = automata.get(e.name.name.as_str()) {
-            all.push(a)?;
+        if let Some(automaton) = automata.get(e.name.name.as_str()) {
+            all.push(ElementAutomaton {
+                automaton,
+                accepts: e.enable.as_slice(),
+            })?;
         }
     }
     Ok(all)
 }
 
 /// The variables that are not transient, in the order of columns: the global ones, then those of each element, where these are
-/// the automata of the elements. `Err` is want of memory.
+/// the elements. `Err` is want of memory.
 pub fn lasting<'a>(
     alloc: Global,
     file: &'a JaniFile,
-    automata: &[&'a JaniAutomaton],
+    automata: &[ElementAutomaton<'a>],
 ) -> Result<Vec<OwnedVar<'a>>, AllocError>
-    requires { map (λ a. automaton_of a.now) automata.now ≡ elements (file_of file.now) }
+    requires { map element_view automata.now ≡ elements (file_of file.now) }
     ensures { IfOk result (λ xs. map owned_of xs.items ≡ lasting (file_of file.now)) }
 {
     chosen(alloc, file, automata, VarUse::Lasting)
@@ -108,9 +81,9 @@ pub fn lasting<'a>(
 pub fn labels<'a>(
     alloc: Global,
     file: &'a JaniFile,
-    automata: &[&'a JaniAutomaton],
+    automata: &[ElementAutomaton<'a>],
 ) -> Result<Vec<OwnedVar<'a>>, AllocError>
-    requires { map (λ a. automaton_of a.now) automata.now ≡ elements (file_of file.now) }
+    requires { map element_view automata.now ≡ elements (file_of file.now) }
     ensures { IfOk result (λ xs. map owned_of xs.items ≡ labels (file_of file.now)) }
 {
     chosen(alloc, file, automata, VarUse::Label)
@@ -120,9 +93,9 @@ pub fn labels<'a>(
 pub fn structures<'a>(
     alloc: Global,
     file: &'a JaniFile,
-    automata: &[&'a JaniAutomaton],
+    automata: &[ElementAutomaton<'a>],
 ) -> Result<Vec<OwnedVar<'a>>, AllocError>
-    requires { map (λ a. automaton_of a.now) automata.now ≡ elements (file_of file.now) }
+    requires { map element_view automata.now ≡ elements (file_of file.now) }
     ensures { IfOk result (λ xs. map owned_of xs.items ≡ structures (file_of file.now)) }
 {
     chosen(alloc, file, automata, VarUse::Structure)
@@ -132,16 +105,16 @@ pub fn structures<'a>(
 fn chosen<'a>(
     alloc: Global,
     file: &'a JaniFile,
-    automata: &[&'a JaniAutomaton],
+    automata: &[ElementAutomaton<'a>],
     wanted: VarUse,
 ) -> Result<Vec<OwnedVar<'a>>, AllocError>
-    requires { map (λ a. automaton_of a.now) automata.now ≡ elements (file_of file.now) }
+    requires { map element_view automata.now ≡ elements (file_of file.now) }
     ensures { IfOk result (λ xs. map owned_of xs.items ≡ filter (is_wanted wanted) (variables (file_of file.now))) }
 {
     let mut all = Vec::new(alloc);
     add_chosen(&mut all, None, file.variables.as_slice(), wanted)?;
     for (i, a) in automata.iter().enumerate() {
-        add_chosen(&mut all, Some(i), a.variables.as_slice(), wanted)?;
+        add_chosen(&mut all, Some(i), a.variables(), wanted)?;
     }
     Ok(all)
 }

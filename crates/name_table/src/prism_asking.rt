@@ -1,7 +1,8 @@
 // The table of a translation to PRISM: the names of a JANI file, asked for one after another.
 
 ghost use Rattle.std.specs.Prelude.{◌≡◌, map, IfOk, OnOk};
-ghost use Rattle.jani_tree.specs.Syntax.{automaton_of, file_of};
+ghost use Rattle.jani_tree.specs.Syntax.{file_of};
+ghost use Rattle.jani_loops.specs.Elements.{element_view};
 ghost use Rattle.jani_meaning.specs.Elements.{elements, lasting, labels, structures};
 ghost use Rattle.name_table.specs.declared.class.Target.TheVariants.{Prism};
 ghost use Rattle.name_table.specs.Gathered.{told};
@@ -13,8 +14,8 @@ use crate::class::{NameClass, Target};
 use crate::jani_parts::{OwnedVar, element_automata, labels, lasting, structures};
 use crate::table::NameTable;
 use jani_check::CheckedJani;
-use jani_loops::{COUNTED, looped};
-use jani_tree::{JaniAutomaton, JaniConst, JaniElement, JaniFile};
+use jani_loops::ElementAutomaton;
+use jani_tree::{JaniConst, JaniElement, JaniFile};
 use std::alloc::{AllocError, Global};
 
 /// The table of the entries of a translation to PRISM, by this project's own rule: the names of constants, of variables that
@@ -24,18 +25,17 @@ pub fn prism_names(alloc: Global, checked: &CheckedJani) -> Result<NameTable, Al
     ensures { IfOk result (λ t. (t.target ≡ Prism) × (t.entries ≡ entries (file_of checked.now))) }
 {
     let file = checked.file();
-    let looped = looped(alloc, file, COUNTED)?;
-    let automata = element_automata(alloc, file, &looped)?;
+    let automata = element_automata(alloc, file)?;
     table_by(alloc, file, automata.as_slice())
 }
 
-/// The table of a file, where these are the automata of its elements.
+/// The table of a file, where these are its elements.
 fn table_by(
     alloc: Global,
     file: &JaniFile,
-    automata: &[&JaniAutomaton],
+    automata: &[ElementAutomaton],
 ) -> Result<NameTable, AllocError>
-    requires { map (λ a. automaton_of a.now) automata.now ≡ elements (file_of file.now) }
+    requires { map element_view automata.now ≡ elements (file_of file.now) }
     ensures { IfOk result (λ t. (t.target ≡ Prism) × (t.entries ≡ entries (file_of file.now))) }
 {
     let values = lasting(alloc, file, automata)?;
