@@ -1,5 +1,6 @@
 mod Numbered
 pub mod EdgeTables
+pub mod Looping
 pub mod Members
 pub mod Serves
 pub mod Whole

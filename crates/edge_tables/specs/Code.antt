@@ -1,12 +1,14 @@
 -- What the code's values stand for.
-use Rattle.std.specs.Prelude.{◌≡◌, ℕ, List, [], map, Bool, false, Option, Some, None, is_some, slice_get, unwrap_or}
+use Rattle.std.specs.Prelude.{◌≡◌, ℕ, List, [], ◌++◌, map, length, Bool, false, Option, Some, None, is_some, slice_get, unwrap_or}
 use Rattle.std.specs.Borrow.{Bor}
 use Rattle.std.specs.List.{filter, sum_by}
 use Rattle.std.specs.Option.{option_map}
 use Rattle.bridge_io.specs.declared.reason.Named.{Named}
 use Rattle.op_trees.specs.Tree.{capped}
 use Rattle.process_core.specs.Ready.{Name}
-use Rattle.jani_tree.specs.Syntax.{Automaton, Edge, Write, edge_of, vector_of}
+use Rattle.jani_tree.specs.Syntax.{Automaton, Edge, Write, automaton_of, edge_of, vector_of}
+use Rattle.jani_meaning.specs.Loops.{loops}
+use Rattle.jani_loops.specs.declared.accepting.ElementAutomaton.{ElementAutomaton}
 use Rattle.name_rules.specs.Names.{has_name, under}
 use Rattle.prism_translation.specs.Elements.{is_at, some_write}
 use Rattle.gathering.specs.Lists.{list_under}
@@ -17,7 +19,7 @@ use Rattle.edge_tables.specs.declared.edges.ElementEdges.{ElementEdges}
 use Rattle.edge_tables.specs.declared.splits.VectorSplit.{VectorSplit}
 use Rattle.edge_tables.specs.declared.shared.Writing as code
 use Rattle.edge_tables.specs.declared.shared.Writings.{Writings}
-use Rattle.edge_tables.specs.Tables.{Ranked, EdgeTable, Split}
+use Rattle.edge_tables.specs.Tables.{Ranked, EdgeTable, Split, ranked_loop}
 use Rattle.edge_tables.specs.declared.sums.Sums.{Sums}
 use Rattle.edge_tables.specs.Counts.{weight, names_split, value_count, Writing, unwritten}
 
@@ -40,8 +42,32 @@ abbrev pub numbers_in : ElementEdges → Option Name → List ℕ
 numbers_in t None = t.silent
 numbers_in t (Some x) = list_under t.rewarding x
 
+-- those of the automaton, and which names were noted
+abbrev pub own_table : ElementEdges → EdgeTable
+own_table t = record { edges = map ranked_view t.edges.items; rewarding = numbers_in t; plain = has_name t.plain }
+
+abbrev pub loops_of : ElementAutomaton → List Edge
+loops_of e = loops e.accepts.now (automaton_of e.automaton.now)
+
+-- and the loops, whose actions were noted, too
 abbrev pub table_view : ElementEdges → EdgeTable
-table_view t = record { edges = map ranked_view t.edges.items; rewarding = numbers_in t; plain = has_name t.plain }
+table_view t = record {
+  edges = map ranked_view t.edges.items ++ map (ranked_loop (numbers_in t)) (loops_of t.element);
+  rewarding = numbers_in t;
+  plain = has_name t.plain;
+}
+
+-- how many edges an element's automaton has, actions that the element accepts everywhere, and locations
+pub record Shape : Type 0 where
+  pub edges : ℕ
+  pub loops : ℕ
+  pub locations : ℕ
+
+abbrev pub shape_of : ElementAutomaton → Shape
+shape_of e = record { edges = length e.automaton.now.edges; loops = length e.accepts.now; locations = length e.automaton.now.locations }
+
+abbrev pub shape_kept : ElementEdges → Shape
+shape_kept t = record { edges = length t.edges.items; loops = length t.element.accepts.now; locations = length t.element.automaton.now.locations }
 
 abbrev pub no_edges : EdgeTable
 no_edges = record { edges = []; rewarding = λ a. []; plain = λ x. false }

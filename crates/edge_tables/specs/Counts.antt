@@ -5,8 +5,11 @@ use Rattle.std.specs.List.{filter, fold, list_any, sum_by}
 use Rattle.bridge_io.specs.declared.reason.Reason.TheVariants.{SharedWrite}
 use Rattle.bridge_io.specs.declared.reason.Fault.{Fault}
 use Rattle.process_core.specs.Ready.{Name}
-use Rattle.jani_tree.specs.Syntax.{Automaton, Destination, Write, File}
+use Rattle.jani_tree.specs.Syntax.{Automaton, Destination, Edge, Location, Write, File}
 use Rattle.op_trees.specs.Names.{is_called}
+use Rattle.op_trees.specs.Tree as tree
+use Rattle.bridge_io.specs.declared.reason.Named.{Named}
+use Rattle.jani_meaning.specs.Loops.{has_name, or_true}
 use Rattle.jani_meaning.specs.Elements.{Owned, place_of}
 use Rattle.name_rules.specs.Least.{fault_if}
 use Rattle.process_core.specs.Instance.{numbered}
@@ -40,6 +43,20 @@ command_count ss k a = sum_by (edge_count ss k) a.edges + sum_by split_count (fi
 
 abbrev pub node_count : List Split → ℕ → EdgeTable → ℕ
 node_count ss k a = sum_by (λ e. edge_nodes e.edge * edge_count ss k e) a.edges
+
+-- ---- of loops
+-- the edges that start at a location
+abbrev pub edges_at : Location → List Edge → List Edge
+edges_at l es = filter (λ e. is_called l.name.name e.location) es
+
+-- the nodes of the guard of a loop beside these edges: of their guards, of which a missing one is true, and one for each, by which it is
+-- joined to those before, or by which all are negated
+abbrev pub joined_nodes : List Edge → ℕ
+joined_nodes es = sum_by (λ e. tree.node_count (or_true e.guard) + 1) es
+
+-- the nodes of the guards of an automaton's loops with an action, one at each location
+abbrev pub guard_nodes : Automaton → Named → ℕ
+guard_nodes a x = sum_by (λ l. joined_nodes (edges_at l (filter (λ e. has_name x.name e.action) a.edges))) a.locations
 
 -- ---- of elements from a number on
 abbrev pub commands_from : List Split → ℕ → List EdgeTable → ℕ

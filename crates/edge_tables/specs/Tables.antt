@@ -5,7 +5,9 @@ use Rattle.std.specs.List.{filter, flat_map, list_any, range_with_len}
 use Rattle.bridge_io.specs.declared.reason.Named.{Named}
 use Rattle.op_trees.specs.Tree.{capped}
 use Rattle.process_core.specs.Ready.{Name, same_label}
-use Rattle.jani_tree.specs.Syntax.{Edge, Vector, File}
+use Rattle.name_rules.specs.Names.{is_among}
+use Rattle.jani_tree.specs.Syntax.{Automaton, Edge, Vector, File}
+use Rattle.jani_meaning.specs.Loops.{loops}
 use Rattle.process_core.specs.Instance.{numbered, only_if}
 use Rattle.prism_translation.specs.Elements.{Element, edges_of, action_of, some_write, is_reward, rewards}
 use Rattle.prism_translation.specs.Targets.{name_in, part_of, is_named, edges_named, reward_writer, is_another}
@@ -62,6 +64,23 @@ with_edge a e b = record {
   edges = a.edges ++ record { edge = e; rewarding = b; rank = length (a.rewarding (action_of e)) } ∷ [];
   rewarding = λ x. a.rewarding x ++ only_if (has_action x e && b) (length a.edges);
   plain = λ x. a.plain x || (has_action (Some x) e && not b);
+}
+
+-- ---- loops
+-- there is a loop with this action: one is for each action that is accepted everywhere and each location
+abbrev pub is_looped : List Named → Automaton → Name → Bool
+is_looped actions a x = is_among actions x && has_some a.locations
+
+-- a loop assigns nothing, and stands behind all other edges
+abbrev pub ranked_loop : (Option Name → List ℕ) → Edge → Ranked
+ranked_loop rewarding e = record { edge = e; rewarding = false; rank = length (rewarding (action_of e)) }
+
+-- the loops besides, for actions that are accepted everywhere
+abbrev pub and_loops : EdgeTable → List Named → Automaton → EdgeTable
+and_loops t actions a = record {
+  edges = t.edges ++ map (ranked_loop t.rewarding) (loops actions a);
+  rewarding = t.rewarding;
+  plain = λ x. t.plain x || is_looped actions a x;
 }
 
 -- those of the action that a vector names for the element, if it does

@@ -1,7 +1,7 @@
 // How many commands and nodes a translation has, counted before it is made. Either number stands at 2^64 - 1 where it would pass
 // that.
 
-ghost use Rattle.std.specs.Prelude.{◌≡◌, ◌+◌, ◌*◌, List as ListOf, ℕ, map, nat_lt, ◌||◌, if◌then◌else◌, IfOk, OnOk};
+ghost use Rattle.std.specs.Prelude.{◌≡◌, ◌+◌, ◌*◌, ◌≤◌, List as ListOf, ℕ, map, nat_lt, ◌||◌, if◌then◌else◌, IfOk, OnOk};
 ghost use Rattle.std.specs.List.{filter, sum_by};
 ghost use Rattle.std.specs.Option.{option_map};
 ghost use Rattle.op_trees.specs.Tree.{capped, tree};
@@ -13,6 +13,7 @@ ghost use Rattle.edge_tables.specs.Counts.{action_count, blocks_split, command_c
 ghost use Rattle.edge_tables.specs.Code.{ranked_view, table_view, name_in, split_view, sum_under, AreSums};
 
 use crate::edges::{ElementEdges, RankedEdge};
+use crate::loop_counts::{loop_commands, loop_nodes};
 use crate::participants::splits_by_element;
 use crate::parts::{is_another, part_of};
 use crate::splits::VectorSplit;
@@ -49,14 +50,14 @@ pub fn has_too_many(
     Ok(size.commands > COMMAND_LIMIT || size.nodes > NODE_LIMIT)
 }
 
-/// The size of the translation.
+/// The size of the translation. Its nodes are counted only where its commands are not too many.
 fn whole_size(
     alloc: Global,
     elements: &[ElementEdges],
     splits: &[VectorSplit],
 ) -> Result<Size, AllocError>
     ensures commands { IfOk result (λ s. s.commands ≡ capped (commands_from (map split_view splits.now) 0 (map table_view elements.now))) }
-    ensures nodes { IfOk result (λ s. s.nodes ≡ capped (nodes_from (map split_view splits.now) 0 (map table_view elements.now))) }
+    ensures nodes { IfOk result (λ s. s.commands ≤ 200000 → s.nodes ≡ capped (nodes_from (map split_view splits.now) 0 (map table_view elements.now))) }
 {
     let mine = splits_by_element(alloc, splits)?;
     let mut whole = Size {
@@ -64,30 +65,68 @@ fn whole_size(
         nodes: 0,
     };
     for (k, e) in elements.iter().enumerate() {
-        let own = element_size(alloc, e, mine.get(k), k)?;
-        whole.commands = whole.commands.saturating_add(own.commands);
-        whole.nodes = whole.nodes.saturating_add(own.nodes);
+        let next = with_element(alloc, whole, e, mine.get(k), k)?;
+        whole = next;
     }
     Ok(whole)
 }
 
-/// The size of what is made of an element, by the vectors in which it takes part.
-fn element_size(
+/// A size, and what is made of an element besides, by the vectors in which it takes part.
+fn with_element(
     alloc: Global,
+    before: Size,
     element: &ElementEdges,
     splits: &[&VectorSplit],
     number: usize,
 ) -> Result<Size, AllocError>
-    ensures commands { IfOk result (λ s. s.commands ≡ capped (command_count (map (λ t. split_view t.now) splits.now) number (table_view element.now))) }
-    ensures nodes { IfOk result (λ s. s.nodes ≡ capped (node_count (map (λ t. split_view t.now) splits.now) number (table_view element.now))) }
+    ensures commands { IfOk result (λ s. s.commands ≡ capped (before.commands + command_count (map (λ t. split_view t.now) splits.now) number (table_view element.now))) }
+    ensures nodes { IfOk result (λ s. s.commands ≤ 200000 →
+        s.nodes ≡ capped (before.nodes + node_count (map (λ t. split_view t.now) splits.now) number (table_view element.now))) }
 {
     let sums = action_sums(alloc, splits, number)?;
-    let edges = element.edges.as_slice();
-    let blocked = blocked_count(element, splits, number);
+    let own = element_commands(&sums, element, splits, number);
+    let commands = before.commands.saturating_add(own);
+    if commands > COMMAND_LIMIT {
+        return Ok(Size { commands, nodes: 0 });
+    }
+    let own = element_nodes(alloc, &sums, element)?;
     Ok(Size {
-        commands: edge_commands(&sums, edges).saturating_add(blocked),
-        nodes: nodes_of(&sums, edges),
+        commands,
+        nodes: before.nodes.saturating_add(own),
     })
+}
+
+/// The commands of an element, by the sums of it.
+fn element_commands(
+    sums: &Sums,
+    element: &ElementEdges,
+    splits: &[&VectorSplit],
+    number: usize,
+) -> u64
+    ensures { AreSums sums.now (map (λ t. split_view t.now) splits.now) number →
+        result ≡ capped (command_count (map (λ t. split_view t.now) splits.now) number (table_view element.now)) }
+{
+    edge_commands(sums, element.edges.as_slice())
+        .saturating_add(loop_commands(
+            sums,
+            element.element.automaton.locations.as_slice(),
+            element.element.accepts,
+        ))
+        .saturating_add(blocked_count(element, splits, number))
+}
+
+/// The nodes of an element, by the sums of it.
+fn element_nodes(alloc: Global, sums: &Sums, element: &ElementEdges) -> Result<u64, AllocError>
+    ensures { IfOk result (λ n. (ss : ListOf Split) (k : ℕ) → AreSums sums.now ss k → n ≡ capped (node_count ss k (table_view element.now))) }
+{
+    let own = nodes_of(sums, element.edges.as_slice());
+    let loops = loop_nodes(
+        alloc,
+        sums,
+        element.element.automaton,
+        element.element.accepts,
+    )?;
+    Ok(own.saturating_add(loops))
 }
 
 /// How many targets an edge of the element serves, by its action.

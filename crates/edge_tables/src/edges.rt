@@ -4,20 +4,22 @@ ghost use Rattle.std.specs.Prelude.{◌≡◌, ◌&&◌, ◌||◌, ◌++◌, ◌
 ghost use Rattle.std.specs.List.{list_any};
 ghost use Rattle.process_core.specs.Ready.{Name, same_label};
 ghost use Rattle.jani_tree.specs.Syntax.{File, automaton_of, destination_of, edge_of, write_of};
+ghost use Rattle.jani_loops.specs.Elements.{element_view};
 ghost use Rattle.jani_meaning.specs.Elements as jani;
 ghost use Rattle.jani_meaning.specs.Elements.{structures as structures_of};
 ghost use Rattle.process_core.specs.Instance.{numbered, only_if};
 ghost use Rattle.prism_translation.specs.Elements.{elements};
-ghost use Rattle.name_rules.specs.Names.{has_name};
+ghost use Rattle.name_rules.specs.Names.{has_name, is_among};
 ghost use Rattle.name_table.specs.JaniParts.{owned_of};
-ghost use Rattle.edge_tables.specs.Tables.{table_in, table_of, has_edge, makers_at, plain_at, with_edge};
-ghost use Rattle.edge_tables.specs.Code.{table_view, name_in, name_of, no_edges, numbers_in, pays_by};
+ghost use Rattle.edge_tables.specs.Tables.{table_in, table_of, has_edge, is_looped, makers_at, plain_at, with_edge};
+ghost use Rattle.edge_tables.specs.Code.{table_view, own_table, name_in, name_of, no_edges, numbers_in, pays_by, shape_kept, shape_of};
 ghost use Rattle.edge_tables.specs.Places.{place_in};
 
 use crate::places::Places;
 use bridge_io::{List, Named};
 use gathering::NameLists;
-use jani_tree::{JaniAutomaton, JaniDestination, JaniEdge, JaniWrite};
+use jani_loops::ElementAutomaton;
+use jani_tree::{JaniDestination, JaniEdge, JaniWrite};
 use name_rules::NameSet;
 use name_table::OwnedVar;
 use std::alloc::{AllocError, Global};
@@ -30,10 +32,11 @@ pub struct RankedEdge<'a> {
     pub rank: usize,
 }
 
-/// The edges of an element; the numbers of those that assign rewards, by their actions, and of such that are silent; and the
-/// actions of those that assign none.
+/// An element, and the edges of its automaton; the numbers of those that assign rewards, by their actions, and of such that are silent;
+/// and the actions of those that assign none, and of the element's loops, which assign nothing and stand behind all edges.
 #[derive(Drop)]
 pub struct ElementEdges<'a> {
+    pub element: ElementAutomaton<'a>,
     pub edges: Vec<RankedEdge<'a>>,
     rewarding: NameLists<'a, usize>,
     pub silent: List<usize>,
@@ -41,11 +44,13 @@ pub struct ElementEdges<'a> {
 }
 
 impl<'a> ElementEdges<'a> {
-    /// No edge.
-    fn new(alloc: Global) -> ElementEdges<'a>
-        ensures { table_view result ≡ no_edges }
+    /// An element, and no edge of it.
+    fn new(alloc: Global, element: &ElementAutomaton<'a>) -> ElementEdges<'a>
+        ensures element { result.element ≡ element.now }
+        ensures edges { own_table result ≡ no_edges }
     {
         ElementEdges {
+            element: *element,
             edges: Vec::new(alloc),
             rewarding: NameLists::new(alloc),
             silent: List::new(alloc),
@@ -53,18 +58,25 @@ impl<'a> ElementEdges<'a> {
         }
     }
 
-    /// These edges, of the element of this number, where the structures stand at these places.
+    /// The edges of the element of this number, where the structures stand at these places.
     fn of(
         alloc: Global,
-        edges: &[&'a JaniEdge],
-        element: usize,
+        element: &ElementAutomaton<'a>,
+        number: usize,
         structures: &Places,
     ) -> Result<ElementEdges<'a>, AllocError>
-        ensures { IfOk result
-            (λ t. table_view t ≡ table_of (pays_by structures.now element) (map (λ e. edge_of e.now) edges.now)) }
+        ensures edges { IfOk result
+            (λ t. table_view t ≡ table_of (pays_by structures.now number) (element_view element.now).edges) }
+        ensures shape { IfOk result (λ t. shape_kept t ≡ shape_of element.now) }
     {
-        let mut all = ElementEdges::new(alloc);
-        all.add_all(alloc, edges, element, structures)?;
+        let mut all = ElementEdges::new(alloc, element);
+        all.add_all(
+            alloc,
+            element.automaton.edges.as_slice(),
+            number,
+            structures,
+        )?;
+        all.accept()?;
         Ok(all)
     }
 
@@ -72,23 +84,40 @@ impl<'a> ElementEdges<'a> {
     fn add_all(
         &mut self,
         alloc: Global,
-        edges: &[&'a JaniEdge],
-        element: usize,
+        edges: &'a [JaniEdge],
+        number: usize,
         structures: &Places,
     ) -> Result<(), AllocError>
-        ensures { OnOk result (table_view self.old ≡ no_edges →
-            table_view self.new ≡ table_of (pays_by structures.now element) (map (λ e. edge_of e.now) edges.now)) }
+        ensures element { self.new.element ≡ self.old.element }
+        ensures edges { OnOk result (own_table self.old ≡ no_edges →
+            own_table self.new ≡ table_of (pays_by structures.now number) (map edge_of edges.now)) }
     {
         for e in edges {
-            let rewarding = assigns(structures, element, e.destinations.as_slice());
-            self.add(alloc, *e, rewarding)?;
+            let rewarding = assigns(structures, number, e.destinations.as_slice());
+            self.add(alloc, e, rewarding)?;
         }
         Ok(())
     }
 
+    /// Notes the actions of the element's loops, which assign no rewards. There is one for each action that it accepts everywhere and each
+    /// location.
+    fn accept(&mut self) -> Result<(), AllocError>
+        ensures element { self.new.element ≡ self.old.element }
+        ensures edges { self.new.edges ≡ self.old.edges }
+        ensures numbers { (x : Option Name) → numbers_in self.new x ≡ numbers_in self.old x }
+        ensures plain { OnOk result ((x : Name) → has_name self.new.plain x
+            ≡ (has_name self.old.plain x || is_looped self.old.element.accepts.now (automaton_of self.old.element.automaton.now) x)) }
+    {
+        if self.element.automaton.locations.len() == 0 {
+            return Ok(());
+        }
+        add_names(&mut self.plain, self.element.accepts)
+    }
+
     /// Adds an edge at the end.
     fn add(&mut self, alloc: Global, edge: &'a JaniEdge, rewarding: bool) -> Result<(), AllocError>
-        ensures { OnOk result (table_view self.new ≡ with_edge (table_view self.old) (edge_of edge.now) rewarding) }
+        ensures element { self.new.element ≡ self.old.element }
+        ensures edges { OnOk result (own_table self.new ≡ with_edge (own_table self.old) (edge_of edge.now) rewarding) }
     {
         let number = self.edges.len();
         let rank = self.numbers(&edge.action).len();
@@ -108,6 +137,7 @@ impl<'a> ElementEdges<'a> {
         action: &'a Option<Named>,
         rewarding: bool,
     ) -> Result<(), AllocError>
+        ensures element { self.new.element ≡ self.old.element }
         ensures edges { self.new.edges ≡ self.old.edges }
         ensures rewarding { OnOk result ((x : Option Name) → numbers_in self.new x
             ≡ numbers_in self.old x ++ only_if (same_label x (name_in action.now) && rewarding) number) }
@@ -176,25 +206,25 @@ fn assigns_some(structures: &Places, element: usize, writes: &[JaniWrite]) -> bo
     writes.iter().any(|w| structures.place(element, w.target.name.as_str()).is_some())
 }
 
-/// The edges of an element, those of its automaton in order.
-fn edges_of<'a>(alloc: Global, a: &'a JaniAutomaton) -> Result<Vec<&'a JaniEdge>, AllocError>
-    ensures { IfOk result (λ es. map (λ e. edge_of e.now) es.items ≡ (automaton_of a.now).edges) }
+/// Adds these names to a set.
+fn add_names<'a>(names: &mut NameSet<'a>, actions: &'a [Named]) -> Result<(), AllocError>
+    ensures { OnOk result ((x : Name) → has_name names.new x ≡ (has_name names.old x || is_among actions.now x)) }
 {
-    let mut all = Vec::new(alloc);
-    for e in a.edges.as_slice() {
-        all.push(e)?;
+    for a in actions {
+        names.add(a.name.as_str())?;
     }
-    Ok(all)
+    Ok(())
 }
 
-/// The edges of each element, where these are their automata and the numeric transient variables. `Err` is want of memory.
+/// The edges of each element, where these are the elements and the numeric transient variables. `Err` is want of memory.
 pub fn element_edges<'a>(
     alloc: Global,
-    automata: &[&'a JaniAutomaton],
+    automata: &[ElementAutomaton<'a>],
     structures: &[OwnedVar],
 ) -> Result<Vec<ElementEdges<'a>>, AllocError>
-    ensures { IfOk result (λ ts. (file : File) → map owned_of structures.now ≡ structures_of file → map (λ a. automaton_of a.now) automata.now ≡ jani.elements file →
+    ensures edges { IfOk result (λ ts. (file : File) → map owned_of structures.now ≡ structures_of file → map element_view automata.now ≡ jani.elements file →
         map table_view ts.items ≡ map (table_in file) (elements file)) }
+    ensures shapes { IfOk result (λ ts. map shape_kept ts.items ≡ map shape_of automata.now) }
 {
     let places = Places::of(alloc, structures)?;
     all_edges(alloc, automata, &places)
@@ -203,31 +233,16 @@ pub fn element_edges<'a>(
 /// The same by the places of the structures.
 fn all_edges<'a>(
     alloc: Global,
-    automata: &[&'a JaniAutomaton],
+    automata: &[ElementAutomaton<'a>],
     structures: &Places,
 ) -> Result<Vec<ElementEdges<'a>>, AllocError>
-    ensures { IfOk result (λ ts. map table_view ts.items
-        ≡ numbered (λ k a. table_of (pays_by structures.now k) a.edges ∷ []) 0 (map (λ a. automaton_of a.now) automata.now)) }
+    ensures edges { IfOk result (λ ts. map table_view ts.items
+        ≡ numbered (λ k a. table_of (pays_by structures.now k) a.edges ∷ []) 0 (map element_view automata.now)) }
+    ensures shapes { IfOk result (λ ts. map shape_kept ts.items ≡ map shape_of automata.now) }
 {
     let mut all = Vec::new(alloc);
     for (k, a) in automata.iter().enumerate() {
-        add_element(alloc, &mut all, k, a, structures)?;
+        all.push(ElementEdges::of(alloc, a, k, structures)?)?;
     }
     Ok(all)
-}
-
-/// Adds the edges of an element, where this is its automaton.
-fn add_element<'a>(
-    alloc: Global,
-    all: &mut Vec<ElementEdges<'a>>,
-    element: usize,
-    a: &'a JaniAutomaton,
-    structures: &Places,
-) -> Result<(), AllocError>
-    ensures { OnOk result (map table_view all.new.items
-        ≡ map table_view all.old.items ++ table_of (pays_by structures.now element) (automaton_of a.now).edges ∷ []) }
-{
-    let edges = edges_of(alloc, a)?;
-    all.push(ElementEdges::of(alloc, edges.as_slice(), element, structures)?)?;
-    Ok(())
 }

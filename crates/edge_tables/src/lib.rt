@@ -5,6 +5,7 @@
 
 mod counts;
 mod edges;
+mod loop_counts;
 mod participants;
 mod parts;
 mod places;

@@ -3,14 +3,16 @@
 ghost use Rattle.std.specs.Prelude.{◌≡◌, ◌+◌, List as ListOf, ℕ, length, map, IfOk, OnOk};
 ghost use Rattle.std.specs.List.{filter, list_any};
 ghost use Rattle.op_trees.specs.Tree.{capped};
-ghost use Rattle.jani_tree.specs.Syntax.{Automaton, automaton_of, write_of};
+ghost use Rattle.jani_tree.specs.Syntax.{Automaton, write_of};
+ghost use Rattle.jani_loops.specs.Elements.{element_view};
 ghost use Rattle.op_trees.specs.Names.{is_called};
 ghost use Rattle.edge_tables.specs.Counts.{crowded_from, is_crowded, some_crowded};
 ghost use Rattle.edge_tables.specs.Code.{AreCounts, sum_under, usable_in};
 
 use crate::places::Places;
 use crate::sums::Sums;
-use jani_tree::{JaniAutomaton, JaniWrite};
+use jani_loops::ElementAutomaton;
+use jani_tree::JaniWrite;
 use std::alloc::{AllocError, Global};
 
 // The limit on the values that the locations of one element give one boolean transient variable.
@@ -19,10 +21,10 @@ const VALUE_LIMIT: u64 = 1_024;
 /// Whether the locations of some element give one of the variables at these places too many values. `Err` is want of memory.
 pub fn has_many_values(
     alloc: Global,
-    automata: &[&JaniAutomaton],
+    automata: &[ElementAutomaton],
     labels: &Places,
 ) -> Result<bool, AllocError>
-    ensures { IfOk result (λ b. b ≡ crowded_from (usable_in labels.now) 0 (map (λ a. automaton_of a.now) automata.now)) }
+    ensures { IfOk result (λ b. b ≡ crowded_from (usable_in labels.now) 0 (map element_view automata.now)) }
 {
     for (k, a) in automata.iter().enumerate() {
         if is_crowded(alloc, a, k, labels)? {
@@ -35,14 +37,14 @@ pub fn has_many_values(
 /// Whether the locations of this element do.
 fn is_crowded(
     alloc: Global,
-    a: &JaniAutomaton,
+    a: &ElementAutomaton,
     element: usize,
     labels: &Places,
 ) -> Result<bool, AllocError>
-    ensures { IfOk result (λ b. b ≡ some_crowded (usable_in labels.now element) (automaton_of a.now)) }
+    ensures { IfOk result (λ b. b ≡ some_crowded (usable_in labels.now element) (element_view a.now)) }
 {
     let counts = value_counts(alloc, a)?;
-    for l in a.locations.as_slice() {
+    for l in a.locations() {
         if has_crowded(&counts, l.values.as_slice(), element, labels) {
             return Ok(true);
         }
@@ -65,11 +67,11 @@ fn has_crowded(counts: &Sums, values: &[JaniWrite], element: usize, labels: &Pla
 }
 
 /// How many values the locations of an element give to each name.
-fn value_counts(alloc: Global, a: &JaniAutomaton) -> Result<Sums, AllocError>
-    ensures { IfOk result (λ t. AreCounts t (automaton_of a.now)) }
+fn value_counts<'a>(alloc: Global, a: &ElementAutomaton<'a>) -> Result<Sums<'a>, AllocError>
+    ensures { IfOk result (λ t. AreCounts t (element_view a.now)) }
 {
     let mut counts = Sums::new(alloc);
-    for l in a.locations.as_slice() {
+    for l in a.locations() {
         add_values(&mut counts, l.values.as_slice())?;
     }
     Ok(counts)

@@ -13,9 +13,9 @@ by_action : (t : ElementEdges) → t.silent ≡ [] → ((x : Name) → list_unde
 by_action t s n None = s
 by_action t s n (Some x) = n x
 
-pub returns : goal.returns
-returns c =
+pub returns-clause-edges : goal.returns-clause-edges
+returns-clause-edges c =
     ap₂ (λ (f : List Ranked) (g : (Option Name → List ℕ) × (Name → Bool)). record { edges = f; rewarding = g.0; plain = g.1 })
     (ap (map ranked_view) c.new.ensures.items)
     (ap₂ (λ (f : Option Name → List ℕ) (g : Name → Bool). (f, g))
-    (fun_ext (by_action (record { edges = c.new.result; rewarding = c.new-2.result; silent = c.new-3.result; plain = c.new-4.result }) c.new-3.ensures c.new-2.ensures)) (fun_ext (at c.new-4.ensures)))
+    (fun_ext (by_action (record { element = c.args.element.now; edges = c.new.result; rewarding = c.new-2.result; silent = c.new-3.result; plain = c.new-4.result }) c.new-3.ensures c.new-2.ensures)) (fun_ext (at c.new-4.ensures)))
