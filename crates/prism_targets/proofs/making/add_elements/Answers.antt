@@ -1,12 +1,14 @@
-use Rattle.std.specs.Prelude.{◌+◌, ◌++◌, ◌∷◌, [], List, None, map, drop, length, vec_len}
+use Rattle.std.specs.Prelude.{◌+◌, ◌++◌, ◌∷◌, [], List, None, map, drop, take, length, vec_len}
 use Rattle.std.specs.Borrow.{Bor}
 use Rattle.std.proofs.Common.{◌∙◌, ap, ap₂, sym, append_assoc}
+use Rattle.std.proofs.lemmas.List.{map-append}
 use Rattle.basics.specs.Lists.{drop_item}
+use Rattle.gathering.proofs.Loops.{taken}
 use Rattle.edge_tables.specs.declared.edges.ElementEdges.{ElementEdges}
 use Rattle.prism_targets.specs.declared.rows.VectorRow.{VectorRow}
 use Rattle.edge_tables.specs.Tables.{Row, Served, element_serves, served_from}
 use Rattle.prism_targets.specs.Made.{Made, made_alone, silent_from}
-use Rattle.edge_tables.specs.Code.{table_view}
+use Rattle.edge_tables.specs.Code.{Shape, shape_kept, table_view}
 use Rattle.prism_targets.specs.Code.{element_served, row_view, target_view}
 use Rattle.edge_tables.proofs.TakingPart.{serves_own}
 use Rattle.prism_targets.proofs.making.add_elements.Goals as goal
@@ -34,4 +36,9 @@ loop-k-preserved c =
           ∙ append_assoc (map element_served c.loop-k.all.items) (element_serves all k first t ∷ []) (served_from all (k + 1) (first + length (t.rewarding None)) more)
           ∙ ap (λ (l : List ElementEdges). map element_served c.loop-k.all.items ++ served_from all k first (map table_view l)) (sym rest)
           ∙ c.loop-k.invariant.elements;
+      shapes =
+          c.in_ok-add_element.ensures.shapes
+          ∙ ap (λ (l : List Shape). l ++ shape_kept c.index-edges-k.result ∷ []) c.loop-k.invariant.shapes
+          ∙ sym (map-append shape_kept (take k c.args.edges.now) (c.index-edges-k.result ∷ []))
+          ∙ ap (map shape_kept) (sym (taken c.args.edges.now k c.index-edges-k.result c.loop-k-test.true c.index-edges-k.is));
     }

@@ -31,11 +31,11 @@ module _ (file : File) (splits : List Split) (acts : List EdgeTable) (s : splits
   told_if (Ok r) t e few = told r t e few
   told_if (Err r) t e few = tt
 
-pub returns : goal.returns
-returns c =
+pub returns-clause-serving : goal.returns-clause-serving
+returns-clause-serving c =
     let file = file_of c.args.file.now in
     let acts : map table_view c.in_ok-edges.edges.items ≡ map (table_in file) (elements file) =
-    c.in_ok-edges.ensures file c.requires.structures c.requires.automata in
+    c.in_ok-edges.ensures.edges file c.requires.structures c.requires.automata in
     let splits : map split_view c.in_ok-splits.splits.items ≡ map (split_in file) file.vectors =
     c.in_ok-splits.ensures
     ∙ ap₂ (λ (l : List EdgeTable) (vs : List JaniVector). map (λ v. split_from v 0 l) (map vector_of vs)) (ap (map table_view) c.as_slice.ensures.value ∙ acts) c.as_slice-2.ensures

@@ -22,22 +22,22 @@ shared_are file vars all best is v a =
 
 pub is_too_large-requires-clause-edges : goal.is_too_large-requires-clause-edges
 is_too_large-requires-clause-edges c =
-    ap (map table_view) c.as_slice-2.ensures.value ∙ c.in_ok-edges.ensures (file_of c.args.file.now) c.requires.structures c.requires.automata
+    ap (map table_view) c.as_slice-2.ensures.value ∙ c.in_ok-edges.ensures.edges (file_of c.args.checked.now) c.requires.structures c.requires.automata
 
 pub returns-then-is_some : goal.returns-then-is_some
 returns-then-is_some c =
-    let file = file_of c.args.file.now in
+    let file = file_of c.args.checked.now in
     let shared : c.in_ok-shared.shared ≡ soonest None (shared_faults file) =
     shared_are file _ _ _ c.in_ok-shared.ensures c.requires.lasting
-    (ap (map table_view) c.as_slice.ensures.value ∙ c.in_ok-edges.ensures file c.requires.structures c.requires.automata) in
+    (ap (map table_view) c.as_slice.ensures.value ∙ c.in_ok-edges.ensures.edges file c.requires.structures c.requires.automata) in
     shared ∙ sym (first_kind (shared_faults file) (size_faults file) (ap is_some (sym shared) ∙ sym c.is_some.ensures ∙ c.if-is_some.true))
 
 pub returns : goal.returns
 returns c =
-    let file = file_of c.args.file.now in
+    let file = file_of c.args.checked.now in
     let shared : c.in_ok-shared.shared ≡ soonest None (shared_faults file) =
     shared_are file _ _ _ c.in_ok-shared.ensures c.requires.lasting
-    (ap (map table_view) c.as_slice.ensures.value ∙ c.in_ok-edges.ensures file c.requires.structures c.requires.automata) in
+    (ap (map table_view) c.as_slice.ensures.value ∙ c.in_ok-edges.ensures.edges file c.requires.structures c.requires.automata) in
     c.too_large_if.ensures
     ∙ ap (λ b. soonest None (fault_if b 0 TooLarge)) c.in_ok-large.ensures
     ∙ sym (second_kind (shared_faults file) (size_faults file) (ap is_some (sym shared) ∙ sym c.is_some.ensures ∙ c.if-is_some.false))

@@ -2,7 +2,7 @@ use Rattle.edge_tables.specs.Tables.{edge_serves}
 use Rattle.edge_tables.specs.Code.{ranked_view}
 use Rattle.prism_targets.specs.Code.{edge_served}
 use Rattle.gathering.proofs.Loops.{mapped_more}
-use Rattle.prism_targets.proofs.served.edges_serving_by.Goals as goal
+use Rattle.prism_targets.proofs.served.edges_serving.Goals as goal
 
 pub loop-e-preserved : goal.loop-e-preserved
 loop-e-preserved c = λ rows h.

@@ -4,7 +4,7 @@ use Rattle.edge_tables.specs.Tables.{Row, calls, edge_serves}
 use Rattle.gathering.specs.Lists.{list_under}
 use Rattle.edge_tables.specs.Code.{ranked_view}
 use Rattle.prism_targets.specs.Code.{edge_served, row_view}
-use Rattle.prism_targets.proofs.served.edges_serving_by.Given as goal
+use Rattle.prism_targets.proofs.served.edges_serving.Given as goal
 
 abbrev pub invariant-loop-e : goal.invariant-loop-e
 invariant-loop-e l = (rows : List Row) → ((x : List ℕ) → map (λ r. row_view r.now) (list_under l.naming x) ≡ filter (calls l.element x) rows) →
