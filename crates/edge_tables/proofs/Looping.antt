@@ -1,7 +1,7 @@
 -- What the loops of an element add to what is known of its automaton's edges, and to what is counted of them.
-use Rattle.std.specs.Prelude.{◌≡◌, ℕ, ◌+◌, ◌*◌, List, [], ◌∷◌, ◌++◌, map, length, Bool, true, false, not, ◌&&◌, ◌||◌, Option, Some, None, is_some, Vec}
+use Rattle.std.specs.Prelude.{◌≡◌, ℕ, ◌+◌, ◌*◌, List, [], ◌∷◌, ◌++◌, map, length, Bool, true, false, not, ◌&&◌, ◌||◌, Option, Some, is_some, Vec}
 use Rattle.std.specs.Global.{Global}
-use Rattle.std.specs.List.{All, filter, fold, list_any, sum_by}
+use Rattle.std.specs.List.{All, filter, fold, sum_by}
 use Rattle.std.proofs.Common.{refl, sym, ap, ap₂, ◌∙◌, append_assoc, append-nil, arith}
 use Rattle.std.proofs.Math.Path.{fun_ext}
 use Rattle.std.proofs.Math.Bool.{and-false, and-true}
@@ -9,7 +9,7 @@ use Rattle.std.proofs.Math.Nat.{add_comm, mul-add, mul_comm, mul-zero, suc-mul, 
 use Rattle.std.proofs.lemmas.List.{length-map, map-append}
 use Rattle.std.proofs.lemmas.List.Elements.{All-head, All-tail, All-weaker}
 use Rattle.std.proofs.lemmas.List.Folds.{list_any-append}
-use Rattle.std.proofs.lemmas.List.Sums.{fold-append, sum_by-append, sum_by-cons}
+use Rattle.std.proofs.lemmas.List.Sums.{fold-append, sum_by-cons}
 use Rattle.basics.specs.Members.{all_each}
 use Rattle.basics.specs.Texts.{bytes_eq_comm}
 use Rattle.bridge_io.specs.declared.reason.Named.{Named}
@@ -33,7 +33,7 @@ use Rattle.prism_translation.specs.Refused.{destination_nodes, edge_nodes, nodes
 use Rattle.edge_tables.specs.declared.edges.ElementEdges.{ElementEdges}
 use Rattle.edge_tables.specs.declared.edges.RankedEdge.{RankedEdge}
 use Rattle.edge_tables.specs.Tables.{EdgeTable, Ranked, Split, and_loops, has_action, has_some, is_looped, is_plain, ranked, ranked_from, ranked_loop, rewarding_numbers, table_of}
-use Rattle.edge_tables.specs.Counts.{action_count, edge_count, edges_at, guard_nodes, joined_nodes, node_count as nodes_of, noting_destinations, noting_edges, Writing}
+use Rattle.edge_tables.specs.Counts.{action_count, edge_count, edges_at, guard_nodes, joined_nodes, noting_destinations, noting_edges, Writing}
 use Rattle.edge_tables.specs.Code.{loops_of, numbers_in, own_table, ranked_view, shape_kept, shape_of, table_view}
 use Rattle.edge_tables.proofs.Numbered.{no_places, places_more}
 use Rattle.edge_tables.proofs.EdgeTables.{n_ranked}

@@ -1,11 +1,10 @@
 -- Numbers by names: room for one element more, one number more.
-use Rattle.std.proofs.Common.{◌≡◌, ℕ, suc, zero, ◌+◌, ◌<◌, List, [], ◌∷◌, ◌++◌, map, length, take, get_or, cond, refl, sym, ap, ap₂, ◌∙◌, arith, lt-ltb}
-use Rattle.std.specs.Prelude.{Bool, true, false, not, nat_lt, Option, Some, None, slice_get}
+use Rattle.std.proofs.Common.{◌≡◌, ℕ, suc, zero, ◌+◌, ◌<◌, List, [], ◌∷◌, ◌++◌, map, length, take, get_or, cond, refl, sym, ap, ap₂, ◌∙◌, arith}
+use Rattle.std.specs.Prelude.{Bool, true, false, Option, Some, None, slice_get}
 use Rattle.std.specs.List.{position}
 use Rattle.std.specs.Option.{option_map, option_or}
 use Rattle.std.proofs.lemmas.List.{map-append, length-map, length-take}
 use Rattle.basics.specs.Members.{position_cons}
-use Rattle.basics.specs.Numbers.{nat_lt-suc}
 use Rattle.process_core.specs.Ready.{Name}
 use Rattle.name_rules.specs.declared.map.NameMap.{NameMap}
 use Rattle.name_rules.specs.Names.{under}

@@ -24,7 +24,7 @@ use Rattle.jani_tree.specs.declared.syntax.JaniEdge.{JaniEdge}
 use Rattle.jani_tree.specs.declared.syntax.JaniLocation.{JaniLocation}
 use Rattle.jani_tree.specs.Syntax.{Automaton, Edge, Element, File, Location, automaton_of, location_of}
 use Rattle.jani_check.specs.NameFaults.{automaton_names, doubled, doubled_after, doubled_in, doubled_names, global_names, location_names, name_faults, repeated_enabled, var_names}
-use Rattle.jani_meaning.specs.Elements.{automaton_called, element_automaton, nothing_called}
+use Rattle.jani_meaning.specs.Elements.{element_automaton, nothing_called}
 use Rattle.jani_meaning.specs.Loops.{has_name, is_with, loop_at, loops, with_loops}
 use Rattle.jani_loops.specs.Looped.{lent_edge}
 use Rattle.jani_loops.proofs.Made.{chosen_twice}

@@ -1,5 +1,5 @@
 -- What the loops of an element serve.
-use Rattle.std.specs.Prelude.{◌≡◌, ℕ, suc, List, [], ◌∷◌, ◌++◌, map, length, replicate, Bool, false, Option, None, Vec, Result, Ok, Err, IfOk}
+use Rattle.std.specs.Prelude.{◌≡◌, ℕ, List, [], ◌∷◌, ◌++◌, map, length, replicate, Bool, false, Option, None, Vec, Result, Ok, Err, IfOk}
 use Rattle.std.specs.Global.{Global}
 use Rattle.std.specs.List.{flat_map}
 use Rattle.std.proofs.Common.{refl, sym, ap, ap₂, subst, ◌∙◌}
@@ -12,7 +12,6 @@ use Rattle.edge_tables.specs.declared.edges.ElementEdges.{ElementEdges}
 use Rattle.edge_tables.specs.Tables.{Row, edge_serves, element_serves, ranked_loop}
 use Rattle.edge_tables.specs.Code.{loops_of, numbers_in, ranked_view, shape_kept, table_view}
 use Rattle.prism_targets.specs.declared.served.ElementServing.{ElementServing}
-use Rattle.prism_targets.specs.declared.served.EdgeServing.{EdgeServing}
 use Rattle.prism_targets.specs.Code.{edge_served, element_served, loop_serves, loops_served, shape_served}
 
 pub any_edge : Edge

@@ -1,4 +1,4 @@
-use Rattle.std.specs.Prelude.{◌≡◌, ◌||◌, map, take}
+use Rattle.std.specs.Prelude.{◌≡◌, ◌||◌, take}
 use Rattle.process_core.specs.Ready.{Name}
 use Rattle.name_rules.specs.Names.{has_name, is_among}
 use Rattle.edge_tables.proofs.edges.add_names.Given as goal

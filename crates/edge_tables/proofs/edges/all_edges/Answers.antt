@@ -1,5 +1,5 @@
 use Rattle.std.specs.Prelude.{[], ◌∷◌}
-use Rattle.std.proofs.Common.{refl, ap, ◌∙◌, map, take_all}
+use Rattle.std.proofs.Common.{ap}
 use Rattle.jani_tree.specs.Syntax.{Automaton}
 use Rattle.jani_loops.specs.Elements.{element_view}
 use Rattle.edge_tables.specs.Tables.{table_of}

@@ -6,7 +6,6 @@ use Rattle.std.proofs.Math.Path.{fun_ext}
 use Rattle.gathering.specs.Lists.{list_under}
 use Rattle.op_trees.specs.Names.{is_called}
 use Rattle.op_trees.specs.Tree.{capped}
-use Rattle.process_core.specs.Ready.{Name}
 use Rattle.jani_tree.specs.declared.syntax.JaniEdge.{JaniEdge}
 use Rattle.jani_tree.specs.Syntax.{Edge, Location, location_of}
 use Rattle.jani_loops.specs.Looped.{lent_edge}

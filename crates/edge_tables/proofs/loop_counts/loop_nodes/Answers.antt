@@ -2,7 +2,6 @@ use Rattle.std.specs.Prelude.{◌*◌, List, Some, map}
 use Rattle.std.specs.List.{filter, sum_by}
 use Rattle.std.proofs.Common.{◌∙◌, ap, ap₂, take_all}
 use Rattle.bridge_io.specs.declared.reason.Named.{Named}
-use Rattle.gathering.specs.Lists.{list_under}
 use Rattle.op_trees.specs.Tree.{capped}
 use Rattle.jani_tree.specs.declared.syntax.JaniLocation.{JaniLocation}
 use Rattle.jani_tree.specs.Syntax.{Edge, automaton_of, edge_of, location_of}

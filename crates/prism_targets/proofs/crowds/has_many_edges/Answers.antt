@@ -1,4 +1,4 @@
-use Rattle.std.specs.Prelude.{◌≡◌, List, length, map, nat_lt}
+use Rattle.std.specs.Prelude.{List, length, map, nat_lt}
 use Rattle.std.specs.List.{filter, list_any}
 use Rattle.std.proofs.Common.{◌∙◌, ap, ap₂, sym}
 use Rattle.bridge_io.specs.declared.reason.Named.{Named}

@@ -1,7 +1,4 @@
-use Rattle.std.specs.Prelude.{◌≡◌, Bool, List, map}
-use Rattle.std.specs.List.{list_any}
 use Rattle.std.proofs.Common.{◌∙◌, ap, ap₂, sym}
-use Rattle.bridge_io.specs.declared.reason.Named.{Named}
 use Rattle.name_rules.specs.Names.{under}
 use Rattle.jani_tree.specs.Syntax.{element_of}
 use Rattle.gathering.proofs.Loops.{any_here, any_left}

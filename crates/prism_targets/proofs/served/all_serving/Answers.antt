@@ -2,7 +2,6 @@ use Rattle.std.specs.Prelude.{◌≡◌, ℕ, List, Vec, map}
 use Rattle.std.specs.Global.{Global}
 use Rattle.std.specs.List.{filter}
 use Rattle.std.specs.Borrow.{Bor}
-use Rattle.bridge_io.specs.declared.reason.Named.{Named}
 use Rattle.gathering.specs.Lists.{list_under}
 use Rattle.edge_tables.specs.Tables.{Row, calls}
 use Rattle.prism_targets.specs.declared.rows.VectorRow.{VectorRow}

@@ -1,9 +1,9 @@
-use Rattle.std.specs.Prelude.{◌≡◌, ℕ, List, Vec, map}
+use Rattle.std.specs.Prelude.{◌≡◌, ℕ, Vec, map}
 use Rattle.std.specs.Global.{Global}
 use Rattle.std.specs.List.{filter, flat_map}
 use Rattle.std.specs.Borrow.{Bor}
 use Rattle.bridge_io.specs.declared.reason.Named.{Named}
-use Rattle.edge_tables.specs.Tables.{Row, all_numbers, blocks, edge_serves}
+use Rattle.edge_tables.specs.Tables.{all_numbers, blocks, edge_serves}
 use Rattle.edge_tables.specs.Code.{ranked_view, table_view}
 use Rattle.prism_targets.specs.declared.rows.VectorRow.{VectorRow}
 use Rattle.prism_targets.specs.declared.served.EdgeServing.{EdgeServing}

@@ -1,4 +1,4 @@
-use Rattle.std.specs.Prelude.{ℕ, Vec, None}
+use Rattle.std.specs.Prelude.{ℕ, Vec}
 use Rattle.std.specs.Global.{Global}
 use Rattle.std.specs.List.{flat_map}
 use Rattle.std.proofs.Common.{◌∙◌, ap, map, List, take_all}
@@ -6,8 +6,6 @@ use Rattle.std.specs.Borrow.{Bor}
 use Rattle.bridge_io.specs.declared.reason.Named.{Named}
 use Rattle.gathering.specs.Lists.{list_under}
 use Rattle.gathering.proofs.Loops.{map_more}
-use Rattle.jani_meaning.specs.Loops.{loop_at}
-use Rattle.edge_tables.specs.Tables.{Row}
 use Rattle.prism_targets.specs.declared.rows.VectorRow.{VectorRow}
 use Rattle.prism_targets.specs.Code.{loop_numbers, loop_serves, row_view}
 use Rattle.prism_targets.proofs.Looping.{any_edge}
