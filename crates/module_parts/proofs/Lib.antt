@@ -1,5 +1,6 @@
 pub mod ByPlaces
 pub mod Kept
+pub mod OwnEdges
 pub mod Singles
 mod EntryClasses
 mod WritersOf

@@ -3,8 +3,9 @@ use Rattle.std.specs.Prelude.{◌≡◌, ℕ, List, [], ◌∷◌, map, length, 
 use Rattle.std.specs.List.{position, All}
 use Rattle.std.specs.Option.{option_or}
 use Rattle.process_core.specs.Ready.{Name}
-use Rattle.jani_tree.specs.Syntax.{File, Automaton, file_of, automaton_of}
+use Rattle.jani_tree.specs.Syntax.{File, Automaton, file_of}
 use Rattle.op_trees.specs.Names.{is_called}
+use Rattle.jani_loops.specs.Elements.{element_view}
 use Rattle.jani_meaning.specs.Elements.{Owned, lasting, place_of}
 use Rattle.jani_meaning.specs.Scene.{has_condition}
 use Rattle.name_rules.specs.Names.{under}
@@ -61,7 +62,7 @@ lasting_with i o = record { number = i; owned = o } ∷ []
 
 -- ---- elements
 abbrev pub element_of : CodeElement → Element
-element_of el = record { number = el.number; automaton = automaton_of el.automaton.now }
+element_of el = record { number = el.number; automaton = element_view el.automaton }
 
 -- these are the numbers of the locations
 pub record IsElement (el : CodeElement) : Type 0 where

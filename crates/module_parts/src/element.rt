@@ -2,36 +2,39 @@
 
 ghost use Rattle.std.specs.Prelude.{◌≡◌, List, ℕ, map, IfOk};
 ghost use Rattle.std.specs.List.{position};
-ghost use Rattle.jani_tree.specs.Syntax.{automaton_of, location_of};
+ghost use Rattle.jani_tree.specs.Syntax.{location_of};
 ghost use Rattle.op_trees.specs.Names.{is_called};
 ghost use Rattle.jani_meaning.specs.Elements.{location_number, initial_number};
+ghost use Rattle.jani_loops.specs.Elements.{element_view};
 ghost use Rattle.name_rules.specs.Names.{under};
 ghost use Rattle.edge_tables.specs.Elements.{has_several};
 ghost use Rattle.module_parts.specs.Code.{element_of, IsElement, AreElements};
 
-use jani_tree::{JaniAutomaton, JaniLocation};
+use jani_loops::ElementAutomaton;
+use jani_tree::JaniLocation;
 use name_rules::NameMap;
 use std::alloc::{AllocError, Global};
 
-/// An element: its number, its automaton, and the numbers of its locations by their names.
+/// An element: its number, its automaton with the actions that it accepts everywhere, and the numbers of its locations by their names.
 #[derive(Drop)]
 pub struct Element<'a> {
     pub number: usize,
-    pub automaton: &'a JaniAutomaton,
+    pub automaton: ElementAutomaton<'a>,
     locations: NameMap<'a, usize>,
 }
 
 impl<'a> Element<'a> {
-    /// The element of this number with this automaton.
+    /// The element of this number with this automaton and these actions.
     fn of(
         alloc: Global,
         number: usize,
-        automaton: &'a JaniAutomaton,
+        automaton: ElementAutomaton<'a>,
     ) -> Result<Element<'a>, AllocError>
         ensures numbers { IfOk result (λ el. IsElement el) }
-        ensures element { IfOk result (λ el. element_of el ≡ record { number = number; automaton = automaton_of automaton.now }) }
+        ensures element { IfOk result (λ el. element_of el ≡ record { number = number; automaton = element_view automaton.entry }) }
+        ensures automaton { IfOk result (λ el. el.automaton ≡ automaton.entry) }
     {
-        let locations = location_numbers(alloc, automaton.locations.as_slice())?;
+        let locations = location_numbers(alloc, automaton.locations())?;
         Ok(Element {
             number,
             automaton,
@@ -43,7 +46,7 @@ impl<'a> Element<'a> {
     pub fn has_several(&self) -> bool
         ensures { result ≡ has_several (element_of self.now) }
     {
-        self.automaton.locations.len() > 1
+        self.automaton.locations().len() > 1
     }
 
     /// The number of the location of this name; 0 where there is none.
@@ -59,7 +62,7 @@ impl<'a> Element<'a> {
         requires { IsElement self.now }
         ensures { result ≡ initial_number (element_of self.now).automaton }
     {
-        match self.automaton.initial.as_slice() {
+        match self.automaton.initial() {
             [] => 0,
             [first, ..] => self.location(first.name.as_str()),
         }
@@ -80,12 +83,13 @@ fn location_numbers<'a>(
     Ok(all)
 }
 
-/// The elements of these automata.
+/// The elements with these automata.
 pub fn elements<'a>(
     alloc: Global,
-    automata: &[&'a JaniAutomaton],
+    automata: &[ElementAutomaton<'a>],
 ) -> Result<Vec<Element<'a>>, AllocError>
-    ensures { IfOk result (λ els. AreElements els.items (map (λ a. automaton_of a.now) automata.now)) }
+    ensures elements { IfOk result (λ els. AreElements els.items (map element_view automata.now)) }
+    ensures automata { IfOk result (λ els. map (λ el. el.automaton) els.items ≡ automata.now) }
 {
     let mut all = Vec::new(alloc);
     for i in 0..automata.len() {

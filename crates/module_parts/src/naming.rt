@@ -2,9 +2,10 @@
 
 ghost use Rattle.std.specs.Prelude.{◌≡◌, List, ℕ, length, map, IfOk};
 ghost use Rattle.std.specs.List.{position};
-ghost use Rattle.jani_tree.specs.Syntax.{automaton_of, file_of, const_of};
+ghost use Rattle.jani_tree.specs.Syntax.{file_of, const_of};
 ghost use Rattle.op_trees.specs.Names.{is_called};
 ghost use Rattle.jani_meaning.specs.Elements.{elements, lasting as lasting_of_file, labels as labels_of_file, structures as structures_of_file};
+ghost use Rattle.jani_loops.specs.Elements.{element_view};
 ghost use Rattle.name_rules.specs.Names.{under};
 ghost use Rattle.name_table.specs.JaniParts.{owned_of};
 ghost use Rattle.name_table.specs.PrismAsks.{names_by};
@@ -13,7 +14,8 @@ ghost use Rattle.module_parts.specs.Code.{file_in, names_in, classes_in, IsReady
 use crate::entries::{Classes, Names};
 use edge_tables::{Places, has_condition};
 use gathering::{drop_from, first_of};
-use jani_tree::{JaniAutomaton, JaniConst, JaniFile};
+use jani_loops::ElementAutomaton;
+use jani_tree::{JaniConst, JaniFile};
 use name_rules::NameMap;
 use name_table::{Entry, OwnedVar};
 use std::alloc::{AllocError, Global};
@@ -63,18 +65,18 @@ fn constant_numbers<'a>(
     Ok(all)
 }
 
-/// What the names of a file become, where these are the automata of its elements, its variables that are not transient, the counts of
+/// What the names of a file become, where these are its elements, its variables that are not transient, the counts of
 /// its labels and its reward structures, and its entries. An `Err` is want of memory.
 pub fn new_names<'a>(
     alloc: Global,
     file: &'a JaniFile,
-    automata: &[&JaniAutomaton],
+    automata: &[ElementAutomaton],
     lasting: &[OwnedVar<'a>],
     labels: usize,
     structures: usize,
     entries: &'a [Entry],
 ) -> Result<Names<'a>, AllocError>
-    requires automata { map (λ a. automaton_of a.now) automata.now ≡ elements (file_of file.now) }
+    requires automata { map element_view automata.now ≡ elements (file_of file.now) }
     requires lasting { map owned_of lasting.now ≡ lasting_of_file (file_of file.now) }
     requires labels { labels ≡ length (labels_of_file (file_of file.now)) }
     requires structures { structures ≡ length (structures_of_file (file_of file.now)) }

@@ -82,13 +82,13 @@ impl WriterTable {
         }
     }
 
-    /// Adds an element to the writers of what its edges assign.
+    /// Adds an element to the writers of what its edges assign: loops assign nothing.
     fn add_element(&mut self, names: &Names, el: &Element) -> Result<(), AllocError>
         requires { IsReady names.now }
         ensures { OnOk result ((i : ℕ) → writers_at self.new i ≡
             with_if (list_any (some_write (is_to (file_in names.now) i el.now.number)) (element_of el.now).automaton.edges) el.now.number (writers_at self.old i)) }
     {
-        for e in el.automaton.edges.as_slice() {
+        for e in el.automaton.automaton.edges.as_slice() {
             self.add_edge(names, el.number, e)?;
         }
         Ok(())
