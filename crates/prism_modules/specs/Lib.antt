@@ -1,4 +1,5 @@
 pub mod Commands
+pub mod Shapes
 pub use Rattle.module_parts.specs.Code
 pub use Rattle.module_parts.specs.Gathered
 pub use Rattle.module_parts.specs.Homes

@@ -12,9 +12,10 @@ ghost use Rattle.process_core.specs.Instance.{only_if};
 ghost use Rattle.prism_targets.specs.Elements.{elements, has_several, at_home};
 ghost use Rattle.prism_targets.specs.Parts.{counted, location_variable, start_under, variable};
 ghost use Rattle.prism_targets.specs.Modules.{module_of};
-ghost use Rattle.prism_targets.specs.Code.{element_served};
+ghost use Rattle.prism_targets.specs.Code.{element_served, shape_of, shape_served};
 ghost use Rattle.prism_targets.specs.Serving.{served_in};
 ghost use Rattle.gathering.specs.Lists.{list_for};
+ghost use Rattle.prism_modules.specs.Shapes.{FitElements};
 ghost use Rattle.module_parts.specs.Code.{file_in, names_in, IsReady, element_of, IsElement, HasActions, lasting_of};
 
 use crate::served::commands;
@@ -45,7 +46,7 @@ fn location_variable(alloc: Global, names: &Names, el: &Element) -> Result<Prism
     requires element { IsElement el.now }
     ensures { IfOk result (λ r. prism.var_of r ≡ location_variable (file_in names.now) (names_in names.now) (element_of el.now)) }
 {
-    let last = el.automaton.locations.len().saturating_sub(1);
+    let last = el.automaton.locations().len().saturating_sub(1);
     Ok(PrismVar {
         name: made(alloc, name_at(names.entries.locations, el.number))?,
         range: Some(PrismRange {
@@ -106,6 +107,7 @@ fn module(
     requires element { IsElement el.now }
     requires actions { HasActions names.now }
     requires home { map lasting_of home.now ≡ at_home (file_in names.now) (element_of el.now).number }
+    requires shape { shape_served serving.now ≡ shape_of el.now.automaton }
     requires serving { element_served serving.now ≡ served_in (file_in names.now) (element_of el.now) }
     ensures { IfOk result (λ r. prism.module_of r ≡ plain (module_of (file_in names.now) (names_in names.now) (element_of el.now))) }
 {
@@ -132,6 +134,7 @@ pub fn modules(
     requires elements { map element_of els.now ≡ elements (file_in names.now) }
     requires located { All IsElement els.now }
     requires homes { (k : ℕ) → map lasting_of (list_for homes.now k) ≡ at_home (file_in names.now) k }
+    requires shapes { FitElements serving.now els.now }
     requires serving { map element_served serving.now ≡ map (served_in (file_in names.now)) (elements (file_in names.now)) }
     ensures { IfOk result (λ all. map prism.module_of all ≡
         map (λ el. plain (module_of (file_in names.now) (names_in names.now) el)) (elements (file_in names.now))) }

@@ -4,6 +4,7 @@
 
 mod commands;
 mod element_modules;
+mod loops;
 mod served;
 
 pub use element_modules::modules;

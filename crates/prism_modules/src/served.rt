@@ -1,19 +1,18 @@
 // The commands of an element, by what its edges serve.
 
-ghost use Rattle.std.specs.Prelude.{◌≡◌, ◌++◌, Some, None, map, IfOk, OnOk};
-ghost use Rattle.std.specs.List.{flat_map};
+ghost use Rattle.std.specs.Prelude.{◌≡◌, ◌++◌, Some, None, length, map, IfOk, OnOk};
 ghost use Rattle.prism_tree.specs.Syntax as prism;
 ghost use Rattle.process_core.specs.Instance.{only_if};
 ghost use Rattle.jani_tree.specs.Syntax as jani;
 ghost use Rattle.name_table.specs.PrismAsks.{name_at};
-ghost use Rattle.prism_targets.specs.Elements.{placed_edges};
-ghost use Rattle.prism_targets.specs.Modules.{command, commands_of, commands};
+ghost use Rattle.prism_targets.specs.Modules.{command, commands};
 ghost use Rattle.module_parts.specs.Code.{file_in, names_in, IsReady, element_of, IsElement, HasActions};
-ghost use Rattle.prism_modules.specs.Commands.{target_commands, commands_by, never};
-ghost use Rattle.prism_targets.specs.Code.{edge_served, element_served};
-ghost use Rattle.prism_targets.specs.Serving.{edge_in, served_in};
+ghost use Rattle.prism_modules.specs.Commands.{target_commands, commands_by, edge_commands, never};
+ghost use Rattle.prism_targets.specs.Code.{edge_served, element_served, shape_of, shape_served};
+ghost use Rattle.prism_targets.specs.Serving.{served_in};
 
 use crate::commands::command;
+use crate::loops::add_loop_commands;
 use bridge_io::{List, together};
 use gathering::one_of;
 use jani_tree::JaniEdge;
@@ -42,7 +41,7 @@ fn add_commands_of(
 }
 
 /// Adds the commands of an edge for the targets of these numbers.
-fn add_target_commands(
+pub(crate) fn add_target_commands(
     alloc: Global,
     all: &mut List<PrismCommand>,
     names: &Names,
@@ -129,7 +128,7 @@ fn add_blocking(
     Ok(())
 }
 
-/// The commands of the edges of an element, in order.
+/// The commands of an element's own edges, in order.
 fn edge_commands(
     alloc: Global,
     names: &Names,
@@ -138,12 +137,11 @@ fn edge_commands(
 ) -> Result<List<PrismCommand>, AllocError>
     requires names { IsReady names.now }
     requires element { IsElement el.now }
-    requires actions { HasActions names.now }
-    requires serving { map edge_served serving.now ≡ map (edge_in (file_in names.now)) (placed_edges (element_of el.now)) }
+    requires many { length serving.now ≡ length el.now.automaton.automaton.now.edges }
     ensures { IfOk result (λ all. map prism.command_of all ≡
-        flat_map (commands_of (file_in names.now) (names_in names.now) (element_of el.now)) (placed_edges (element_of el.now))) }
+        edge_commands names.now (element_of el.now) (map jani.edge_of el.now.automaton.automaton.now.edges) (map edge_served serving.now)) }
 {
-    let edges = el.automaton.edges.as_slice();
+    let edges = el.automaton.automaton.edges.as_slice();
     let mut all = List::new(alloc);
     for i in 0..edges.len() {
         add_commands_of(alloc, &mut all, names, el, &edges[i], &serving[i])?;
@@ -151,7 +149,7 @@ fn edge_commands(
     Ok(all)
 }
 
-/// The commands of an element: those of its edges, and those that block.
+/// The commands of an element: those of its own edges, those of its loops, and those that block.
 pub(crate) fn commands(
     alloc: Global,
     names: &Names,
@@ -161,10 +159,12 @@ pub(crate) fn commands(
     requires names { IsReady names.now }
     requires element { IsElement el.now }
     requires actions { HasActions names.now }
+    requires shape { shape_served serving.now ≡ shape_of el.now.automaton }
     requires serving { element_served serving.now ≡ served_in (file_in names.now) (element_of el.now) }
     ensures { IfOk result (λ all. map prism.command_of all ≡ commands (file_in names.now) (names_in names.now) (element_of el.now)) }
 {
     let mut all = edge_commands(alloc, names, el, serving.edges.as_slice())?;
+    add_loop_commands(alloc, &mut all, names, el, serving.loops.as_slice())?;
     add_blocking(alloc, &mut all, names, serving.blocked.as_slice())?;
     Ok(all)
 }

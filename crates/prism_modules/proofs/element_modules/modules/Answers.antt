@@ -7,7 +7,7 @@ use Rattle.prism_targets.specs.Elements.{Element}
 use Rattle.prism_targets.specs.Modules.{module_of}
 use Rattle.module_parts.specs.declared.element.Element.{Element as CodeElement}
 use Rattle.module_parts.specs.Code.{file_in, names_in, element_of, IsElement}
-use Rattle.prism_modules.proofs.ByServing.{elements_many, element_at}
+use Rattle.prism_modules.proofs.ByServing.{elements_many, element_at, shape_at}
 use Rattle.prism_modules.proofs.element_modules.modules.Goals as goal
 
 pub bounds-serving-i : goal.bounds-serving-i
@@ -18,6 +18,10 @@ bounds-serving-i c =
 pub module-requires-clause-element : goal.module-requires-clause-element
 module-requires-clause-element c =
     subst IsElement (sym c.index-els-i.is) (All-get_or IsElement c.args.els.now c.loop-i.i c.index-els-i.result (omega arith) c.requires.located)
+
+pub module-requires-clause-shape : goal.module-requires-clause-shape
+module-requires-clause-shape c =
+    shape_at c.args.els.now c.args.serving.now c.loop-i.i c.index-els-i.result c.index-serving-i.result c.requires.shapes (omega arith) c.index-els-i.is c.index-serving-i.is
 
 pub module-requires-clause-serving : goal.module-requires-clause-serving
 module-requires-clause-serving c =
