@@ -1,40 +1,68 @@
 -- The items of a structure are those of its gains.
 use Rattle.std.proofs.Common.{◌≡◌, ℕ, suc, zero, ◌+◌, ◌<◌, List, [], ◌∷◌, ◌++◌, map, length, get_or, refl, sym, ap, ap₂, ◌∙◌, arith}
 use Rattle.std.specs.Prelude.{Option, Some, None, slice_get}
-use Rattle.std.specs.List.{flat_map, zip}
+use Rattle.std.specs.List.{All, filter, flat_map, zip}
 use Rattle.std.specs.Option.{option_map}
 use Rattle.std.proofs.lemmas.List.{map-append}
+use Rattle.std.proofs.lemmas.List.Elements.{All-head, All-tail}
 use Rattle.std.proofs.lemmas.Option.{slice_get-map}
 use Rattle.process_core.specs.Ready.{Name}
 use Rattle.process_core.specs.Product.{map-map}
 use Rattle.process_core.specs.Instance.{numbered}
 use Rattle.prism_tree.specs.Syntax as prism
-use Rattle.jani_tree.specs.Syntax.{File, edge_of}
-use Rattle.jani_meaning.specs.Elements.{Owned}
+use Rattle.jani_tree.specs.declared.syntax.JaniEdge.{JaniEdge}
+use Rattle.jani_tree.specs.Syntax.{Write, Edge, File, automaton_of, edge_of}
+use Rattle.jani_meaning.specs.Elements.{Owned, structure_number}
+use Rattle.jani_meaning.specs.Loops.{loops}
+use Rattle.jani_meaning.specs.LoopLaws.{edges_are, loops_have}
 use Rattle.name_table.specs.declared.entry.Entry.{Entry}
 use Rattle.name_table.specs.PrismAsks.{NewNames}
 use Rattle.name_table.proofs.EntryLemmas.{named_at}
-use Rattle.prism_targets.specs.Elements.{elements, Element, Placed, placed_edges}
+use Rattle.prism_targets.specs.Elements.{elements, Element, Placed, placed_edges, is_at}
 use Rattle.prism_targets.specs.Targets.{Target, targets}
 use Rattle.prism_targets.specs.Parts.{instead}
 use Rattle.prism_targets.specs.Modules.{actions}
-use Rattle.prism_targets.specs.Marks.{Given, assigned_to, given_to, state_item, or_nought, target_item, target_items, target_items_by, structure}
+use Rattle.prism_targets.specs.Marks.{Given, assigned_to, first_writes, given_to, state_item, or_nought, target_item, target_items, target_items_by, structure}
 use Rattle.prism_modules.specs.Element.{Element as CodeElement}
 use Rattle.prism_modules.specs.Code.{element_of}
 use Rattle.jani_to_prism.specs.Gains.{Gain, gain_by, gains_of, gain_item, structure_by}
 use Rattle.prism_modules.proofs.ByPlaces.{action_with, placed_with, later, whole_list}
 
 -- ---- edges that are looked up
-pub numbered_get : {A X Y : Type 0} (f : ℕ → X → Y) (s : A → X) (k : ℕ) (xs : List A) (i : ℕ) → slice_get (numbered (λ j z. f j z ∷ []) k (map s xs)) i ≡ option_map (λ x. f (k + i) (s x)) (slice_get xs i)
-numbered_get f s k [] i = refl
-numbered_get f s k (x ∷ xs) zero = let n : k ≡ k + 0 = omega arith in ap (λ j. Some (f j (s x))) n
-numbered_get f s k (x ∷ xs) (suc i) = let n : (k + 1) + i ≡ k + suc i = omega arith in numbered_get f s (k + 1) xs i ∙ ap (λ j. option_map (λ x. f j (s x)) (slice_get xs i)) n
+-- the edge of this number, if the element has so many of its own
+abbrev pub own_at : CodeElement → ℕ → Option Placed
+own_at el n = option_map (λ e. placed_with (element_of el) n (edge_of e)) (slice_get el.automaton.automaton.now.edges n)
 
-pub edge_there : (el : CodeElement) (n : ℕ) → slice_get (placed_edges (element_of el)) n ≡ option_map (λ e. placed_with (element_of el) n (edge_of e)) (slice_get el.automaton.now.edges n)
-edge_there el n =
-    let k : 0 + n ≡ n = omega arith in
-    numbered_get (placed_with (element_of el)) edge_of 0 el.automaton.now.edges n
-    ∙ ap (λ j. option_map (λ e. placed_with (element_of el) j (edge_of e)) (slice_get el.automaton.now.edges n)) k
+module _ (file : File) (j i : ℕ) (el : Element) where
+  abbrev gained : ℕ → List Edge → ℕ → List Gain
+  gained k es n = gains_of file j i (slice_get (numbered (λ m e. placed_with el m e ∷ []) k es) n)
+
+  -- loops assign nothing
+  nothing_gained : (k : ℕ) (es : List Edge) (n : ℕ) → All (λ e. first_writes e.destinations ≡ []) es → gained k es n ≡ []
+  nothing_gained k [] n h = refl
+  nothing_gained k (e ∷ es) zero h =
+      ap (λ ws. map (gain_by i el.number) (map (λ (w : Write). w.value) (filter (λ (w : Write). is_at j (structure_number file el.number w.target.name)) ws)))
+      (All-head (λ (e : Edge). first_writes e.destinations ≡ []) e es h)
+  nothing_gained k (e ∷ es) (suc n) h = nothing_gained (k + 1) es n (All-tail (λ (e : Edge). first_writes e.destinations ≡ []) e es h)
+
+  own_gained : (k : ℕ) (own : List JaniEdge) (more : List Edge) (n : ℕ) → All (λ e. first_writes e.destinations ≡ []) more →
+      gained k (map edge_of own ++ more) n ≡ gains_of file j i (option_map (λ e. placed_with el (k + n) (edge_of e)) (slice_get own n))
+  own_gained k [] more n h = nothing_gained k more n h
+  own_gained k (e ∷ own) more zero h = let m : k ≡ k + 0 = omega arith in ap (λ p. gains_of file j i (Some (placed_with el p (edge_of e)))) m
+  own_gained k (e ∷ own) more (suc n) h =
+      let m : (k + 1) + n ≡ k + suc n = omega arith in
+      own_gained (k + 1) own more n h ∙ ap (λ p. gains_of file j i (option_map (λ e. placed_with el p (edge_of e)) (slice_get own n))) m
+
+-- what an edge of an element assigns, by the element's own edges
+pub gained_there : (file : File) (j i : ℕ) (el : CodeElement) (n : ℕ) → gains_of file j i (slice_get (placed_edges (element_of el)) n) ≡ gains_of file j i (own_at el n)
+gained_there file j i el n =
+    let a = automaton_of el.automaton.automaton.now in
+    let xs = el.automaton.accepts.now in
+    let m : 0 + n ≡ n = omega arith in
+    ap (λ (es : List Edge). gained file j i (element_of el) 0 es n) (edges_are xs a)
+    ∙ own_gained file j i (element_of el) 0 el.automaton.automaton.now.edges (loops xs a) n
+    (loops_have (λ (e : Edge). first_writes e.destinations ≡ []) a xs (λ k d h m b g. refl))
+    ∙ ap (λ p. gains_of file j i (option_map (λ e. placed_with (element_of el) p (edge_of e)) (slice_get el.automaton.automaton.now.edges n))) m
 
 pub get_there : {X : Type 0} (xs : List X) (i : ℕ) (x : X) → i < length xs → x ≡ get_or xs i x → slice_get xs i ≡ Some x
 get_there [] i x h e = absurd (omega (arith, h))

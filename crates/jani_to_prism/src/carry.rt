@@ -2,7 +2,8 @@
 
 ghost use Rattle.std.specs.Prelude.{◌≡◌, ◌≤◌, length, map, IfOk};
 ghost use Rattle.std.specs.List.{AllByRecursion as Each};
-ghost use Rattle.jani_tree.specs.Syntax.{automaton_of, file_of};
+ghost use Rattle.jani_tree.specs.Syntax.{file_of};
+ghost use Rattle.jani_loops.specs.Elements.{element_view};
 ghost use Rattle.prism_targets.specs.Names.{entries};
 ghost use Rattle.prism_targets.specs.Serving.{target_in};
 ghost use Rattle.prism_targets.specs.Targets.{targets};
@@ -18,8 +19,8 @@ use crate::naming::file_names;
 use bridge_io::{List, together};
 use carry_maps::CarryMap;
 use jani_check::CheckedJani;
-use jani_loops::{COUNTED, looped};
-use jani_tree::{JaniAutomaton, JaniFile};
+use jani_loops::ElementAutomaton;
+use jani_tree::JaniFile;
 use name_table::Entry;
 use prism_modules::{FileParts, Names, file_parts};
 use prism_targets::Target;
@@ -27,14 +28,13 @@ use std::alloc::{AllocError, Global};
 
 /// How the states and labels of a file's translation go with those of the file: for each element how many locations it has, for
 /// each column of the PRISM file the one of the JANI file that it stands for, and each action, in the order of the entries, with the
-/// old name of what it is made for. The actions have at most 255 bytes. Nothing is translated for it. An `Err` is want of memory.
+/// old name of what it is made for. The actions have at most 255 bytes. Nothing is translated for it, and no loop is made. An `Err` is want of memory.
 pub fn carry_map(alloc: Global, checked: &CheckedJani) -> Result<CarryMap, AllocError>
     ensures map { IfOk result (IsMapToPrism (file_of checked.now)) }
     ensures short { IfOk result (λ m. Each (λ p. length p.prism ≤ 255) m.labels) }
 {
     let file = checked.file();
-    let looped = looped(alloc, file, COUNTED)?;
-    let parts = file_parts(alloc, file, &looped)?;
+    let parts = file_parts(alloc, file)?;
     map_for(alloc, file, &parts)
 }
 
@@ -94,13 +94,13 @@ fn map_by(
     })
 }
 
-/// How many locations each automaton has.
-fn location_counts(alloc: Global, automata: &[&JaniAutomaton]) -> Result<List<usize>, AllocError>
-    ensures { IfOk result (λ ns. ns ≡ map (λ a. length a.locations) (map (λ a. automaton_of a.now) automata.now)) }
+/// How many locations each element has.
+fn location_counts(alloc: Global, automata: &[ElementAutomaton]) -> Result<List<usize>, AllocError>
+    ensures { IfOk result (λ ns. ns ≡ map (λ a. length a.locations) (map element_view automata.now)) }
 {
     let mut all = List::new(alloc);
     for i in 0..automata.len() {
-        let count = automata[i].locations.len();
+        let count = automata[i].locations().len();
         all.push(count)?;
     }
     Ok(all)

@@ -19,6 +19,7 @@ ghost use Rattle.prism_modules.specs.Code.{file_in, names_in, IsReady, element_o
 ghost use Rattle.jani_to_prism.specs.Gains.{gain_of, gains_of};
 ghost use Rattle.prism_modules.specs.Homes.{AreWriters};
 ghost use Rattle.prism_modules.specs.Gathered.{AreGathered};
+ghost use Rattle.prism_modules.specs.Shapes.{FitElements};
 ghost use Rattle.jani_to_prism.specs.Given.{AreGiven};
 ghost use Rattle.jani_to_prism.specs.Parts.{globals_in, modules_in, labels_in, rewards_in};
 
@@ -81,6 +82,7 @@ fn modules_by(
     requires located { All IsElement els.now }
     requires writers { AreWriters writers.now (file_in names.now) }
     requires vars { map lasting_of vars.now ≡ lasting_variables (file_in names.now) }
+    requires shapes { FitElements serving.now els.now }
     requires serving { map element_served serving.now ≡ map (served_in (file_in names.now)) (elements (file_in names.now)) }
     ensures { IfOk result (λ ms. map prism.module_of ms ≡ modules_in (file_in names.now) (names_in names.now)) }
 {
@@ -101,6 +103,7 @@ fn moving(
     requires elements { map element_of els.now ≡ elements (file_in names.now) }
     requires located { All IsElement els.now }
     requires vars { map lasting_of vars.now ≡ lasting_variables (file_in names.now) }
+    requires shapes { FitElements serving.now els.now }
     requires serving { map element_served serving.now ≡ map (served_in (file_in names.now)) (elements (file_in names.now)) }
     ensures globals { IfOk result (λ m. map prism.var_of m.globals ≡ globals_in (file_in names.now) (names_in names.now)) }
     ensures modules { IfOk result (λ m. map prism.module_of m.modules ≡ modules_in (file_in names.now) (names_in names.now)) }
@@ -222,6 +225,7 @@ fn moving_by(
     requires elements { map element_of els.now ≡ elements (file_in names.now) }
     requires located { All IsElement els.now }
     requires lasting { map owned_of lasting.now ≡ lasting_of_file (file_in names.now) }
+    requires shapes { FitElements serving.now els.now }
     requires serving { map element_served serving.now ≡ map (served_in (file_in names.now)) (elements (file_in names.now)) }
     ensures globals { IfOk result (λ m. map prism.var_of m.globals ≡ globals_in (file_in names.now) (names_in names.now)) }
     ensures modules { IfOk result (λ m. map prism.module_of m.modules ≡ modules_in (file_in names.now) (names_in names.now)) }
@@ -261,6 +265,7 @@ pub(crate) fn file_by(
     requires located { All IsElement els.now }
     requires parts { AreGathered parts.now (file_in names.now) }
     requires serving { IsServing (file_in names.now) serving.now }
+    requires shapes { FitElements serving.now.elements.items els.now }
     ensures { IfOk result (λ r. prism.file_of r ≡ translated_by (names_in names.now) (file_in names.now)) }
 {
     let moving = moving_by(

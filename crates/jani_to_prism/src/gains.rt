@@ -94,7 +94,7 @@ fn add_maker<'a>(
     Ok(())
 }
 
-/// Adds what the edge of this number assigns.
+/// Adds what the edge of this number assigns. Loops, whose numbers follow those of the element's own edges, assign nothing.
 fn add_edge<'a>(
     alloc: Global,
     all: &mut NumberLists<Gain<'a>>,
@@ -108,7 +108,7 @@ fn add_edge<'a>(
     ensures { OnOk result ((j : ℕ) → map gain_of (list_for all.new j) ≡ map gain_of (list_for all.old j)
         ++ gains_of (file_in names.now) j target (slice_get (placed_edges (element_of el.now)) edge)) }
 {
-    if let Some(e) = el.automaton.edges.get(edge) {
+    if let Some(e) = el.automaton.automaton.edges.get(edge) {
         add_writes(
             alloc,
             all,

@@ -121,7 +121,7 @@ fn add_given<'s, 'a>(
 ) -> Result<(), AllocError>
     ensures { OnOk result ((x : ListOf ℕ) → map given_of (list_under all.new x) ≡ map given_of (list_under all.old x) ++ given_by x (element_of el.now)) }
 {
-    let locations = el.automaton.locations.as_slice();
+    let locations = el.automaton.locations();
     for i in 0..locations.len() {
         add_location(alloc, all, el, i, &locations[i])?;
     }

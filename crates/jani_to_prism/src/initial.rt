@@ -57,7 +57,7 @@ fn at_initial(alloc: Global, names: &Names, el: &Element) -> Result<PrismExpr, A
     ensures { IfOk result (λ r. tree r ≡ some_of (places (file_in names.now) (names_in names.now) (element_of el.now))) }
 {
     let mut all = None;
-    for n in el.automaton.initial.as_slice() {
+    for n in el.automaton.initial() {
         let place = is_there(alloc, names, el.number, el.location(n.name.as_str()))?;
         all = Some(joined(alloc, PrismOp::Or, all, place)?);
     }

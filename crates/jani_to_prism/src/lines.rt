@@ -203,7 +203,7 @@ fn add_location_line(
 {
     if el.has_several() {
         let name = name_at(names.entries.locations, el.number);
-        lines.push(several_line(alloc, name, el.automaton.locations.as_slice())?)?;
+        lines.push(several_line(alloc, name, el.automaton.locations())?)?;
     }
     Ok(())
 }

@@ -3,6 +3,7 @@
 ghost use Rattle.std.specs.Prelude.{◌≡◌, map, IfOk};
 ghost use Rattle.jani_tree.specs.Syntax.{file_of};
 ghost use Rattle.prism_targets.specs.Names.{entries};
+ghost use Rattle.prism_targets.specs.Code.{shape_of, shape_served};
 ghost use Rattle.prism_targets.specs.Serving.{target_in};
 ghost use Rattle.prism_targets.specs.Targets.{targets};
 ghost use Rattle.prism_modules.specs.Gathered.{AreGathered};
@@ -29,7 +30,8 @@ pub(crate) fn named_targets<'a>(
     parts: &FileParts<'a>,
 ) -> Result<NamedTargets<'a>, AllocError>
     requires { AreGathered parts.now (file_of file.now) }
-    ensures { IfOk result (λ n. AreNamed n (file_of file.now)) }
+    ensures named { IfOk result (λ n. AreNamed n (file_of file.now)) }
+    ensures shapes { IfOk result (λ n. map shape_served n.serving.elements.items ≡ map shape_of parts.now.automata.items) }
 {
     let serving = serving(
         alloc,

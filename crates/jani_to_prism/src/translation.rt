@@ -8,9 +8,11 @@ ghost use Rattle.jani_tree.specs.Faults.{FailsFor};
 ghost use Rattle.prism_targets.specs.Names.{entries};
 ghost use Rattle.prism_targets.specs.Elements.{elements};
 ghost use Rattle.prism_targets.specs.Refused.{refused};
+ghost use Rattle.prism_targets.specs.Code.{shape_of, shape_served};
 ghost use Rattle.prism_targets.specs.Serving.{IsServing};
 ghost use Rattle.prism_modules.specs.Code.{file_in, names_in, IsReady, HasActions, element_of, IsElement};
 ghost use Rattle.prism_modules.specs.Gathered.{AreGathered};
+ghost use Rattle.prism_modules.specs.Shapes.{FitElements};
 ghost use Rattle.jani_to_prism.specs.Translation.{IsTranslation, IsTextBy};
 
 use crate::file::file_by;
@@ -19,7 +21,6 @@ use crate::named_targets::named_targets;
 use crate::naming::file_names;
 use bridge_io::{Fault, List, Refused, Text, together};
 use jani_check::CheckedJani;
-use jani_loops::{COUNTED, looped};
 use jani_tree::JaniFile;
 use name_table::Entry;
 use prism_modules::{Element, FileParts, Names, elements, file_parts};
@@ -43,23 +44,25 @@ pub fn translate(alloc: Global, checked: &CheckedJani) -> Result<CheckedPrismTex
     ensures translation { IfOk result (λ t. IsTranslation t (file_of checked.now)) }
     ensures least { IfErr result (FailsFor (refused (file_of checked.now))) }
 {
-    let file = checked.file();
-    let looped = looped(alloc, file, COUNTED)?;
-    let parts = file_parts(alloc, file, &looped)?;
-    judged(alloc, file, &parts)
+    let parts = file_parts(alloc, checked.file())?;
+    judged(alloc, checked, &parts)
 }
 
 /// The translation of a file, where these are its parts, or the least fault for which it has none.
-fn judged(alloc: Global, file: &JaniFile, parts: &FileParts) -> Result<CheckedPrismText, Refused>
-    requires { AreGathered parts.now (file_of file.now) }
-    ensures accepted { OnOk result (refused (file_of file.now) ≡ []) }
-    ensures translation { IfOk result (λ t. IsTranslation t (file_of file.now)) }
-    ensures least { IfErr result (FailsFor (refused (file_of file.now))) }
+fn judged(
+    alloc: Global,
+    checked: &CheckedJani,
+    parts: &FileParts,
+) -> Result<CheckedPrismText, Refused>
+    requires { AreGathered parts.now (file_of checked.now) }
+    ensures accepted { OnOk result (refused (file_of checked.now) ≡ []) }
+    ensures translation { IfOk result (λ t. IsTranslation t (file_of checked.now)) }
+    ensures least { IfErr result (FailsFor (refused (file_of checked.now))) }
 {
-    match first_refused(alloc, file, parts)? {
+    match first_refused(alloc, checked, parts)? {
         Some(fault) => Err(Refused::At(fault)),
         None => {
-            let text = translated(alloc, file, parts)?;
+            let text = translated(alloc, checked.file(), parts)?;
             Ok(text)
         }
     }
@@ -68,15 +71,15 @@ fn judged(alloc: Global, file: &JaniFile, parts: &FileParts) -> Result<CheckedPr
 /// The least fault of a file that has no translation.
 fn first_refused(
     alloc: Global,
-    file: &JaniFile,
+    checked: &CheckedJani,
     parts: &FileParts,
 ) -> Result<Option<Fault>, AllocError>
-    requires { AreGathered parts.now (file_of file.now) }
-    ensures { IfOk result (λ best. best ≡ soonest None (refused (file_of file.now))) }
+    requires { AreGathered parts.now (file_of checked.now) }
+    ensures { IfOk result (λ best. best ≡ soonest None (refused (file_of checked.now))) }
 {
     least_refused(
         alloc,
-        file,
+        checked,
         parts.automata.as_slice(),
         parts.lasting.as_slice(),
         parts.labels.as_slice(),
@@ -107,6 +110,7 @@ fn text(
 ) -> Result<CheckedPrismText, AllocError>
     requires parts { AreGathered parts.now (file_of file.now) }
     requires serving { IsServing (file_of file.now) serving.now }
+    requires shapes { map shape_served serving.now.elements.items ≡ map shape_of parts.now.automata.items }
     requires entries { all.now ≡ entries (file_of file.now) }
     ensures { IfOk result (λ t. IsTranslation t (file_of file.now)) }
 {
@@ -128,6 +132,7 @@ fn text_of(
     requires entries { all.now ≡ entries (file_of file.now) }
     requires elements { map element_of els.now ≡ elements (file_of file.now) }
     requires located { All IsElement els.now }
+    requires shapes { FitElements serving.now.elements.items els.now }
     ensures { IfOk result (λ t. IsTranslation t (file_of file.now)) }
 {
     let names = file_names(alloc, file, parts, all)?;
@@ -148,6 +153,7 @@ fn text_by(
     requires located { All IsElement els.now }
     requires parts { AreGathered parts.now (file_in names.now) }
     requires serving { IsServing (file_in names.now) serving.now }
+    requires shapes { FitElements serving.now.elements.items els.now }
     ensures { IfOk result (λ t. IsTextBy t (names_in names.now) (file_in names.now)) }
 {
     let lines = lines(alloc, names, els, parts, serving.targets.as_slice());

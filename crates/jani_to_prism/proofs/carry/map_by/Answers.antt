@@ -1,7 +1,7 @@
 use Rattle.std.proofs.Common.{◌∙◌, ap, length, map, List}
-use Rattle.std.specs.Borrow.{Bor}
-use Rattle.jani_tree.specs.declared.syntax.JaniAutomaton.{JaniAutomaton}
-use Rattle.jani_tree.specs.Syntax.{Automaton, automaton_of}
+use Rattle.jani_tree.specs.Syntax.{Automaton}
+use Rattle.jani_loops.specs.declared.accepting.ElementAutomaton.{ElementAutomaton}
+use Rattle.jani_loops.specs.Elements.{element_view}
 use Rattle.prism_modules.specs.Code.{file_in, names_in}
 use Rattle.jani_to_prism.proofs.MapMade.{actions_paired}
 use Rattle.jani_to_prism.proofs.carry.map_by.Goals as goal
@@ -14,7 +14,7 @@ returns c =
     record {
       locations =
           (rw outer.0 at c.location_counts-locations.ensures)
-          ∙ ap (λ (l : List (Bor JaniAutomaton)). map (λ (a : Automaton). length a.locations) (map (λ a. automaton_of a.now) l)) c.as_slice.ensures.value
+          ∙ ap (λ (l : List ElementAutomaton). map (λ (a : Automaton). length a.locations) (map element_view l)) c.as_slice.ensures.value
           ∙ ap (map (λ (a : Automaton). length a.locations)) c.requires.parts.automata_are;
       columns = rw inner.0 at c.map_columns-columns.ensures;
       labels = (rw inner.1 at c.label_pairs-labels.ensures) ∙ actions_paired (file_in n) (names_in n) c.args.made.now c.requires.targets;

@@ -12,7 +12,7 @@ use Rattle.gathering.specs.Lists.{list_for}
 use Rattle.prism_modules.specs.Code.{file_in, element_of}
 use Rattle.jani_to_prism.specs.Gains.{Gain, gain_of, gain_with, gain_by, gains_of}
 use Rattle.prism_modules.proofs.ByPlaces.{placed_with}
-use Rattle.jani_to_prism.proofs.GainItems.{edge_there}
+use Rattle.jani_to_prism.proofs.GainItems.{gained_there}
 use Rattle.jani_to_prism.proofs.gains.add_edge.Goals as goal
 
 pub returns-in_ok-add_writes : goal.returns-in_ok-add_writes
@@ -20,15 +20,17 @@ returns-in_ok-add_writes c = λ j.
     let f = file_in c.args.names.now in
     let k = c.args.el.now.number in
     let q = λ (w : Write). is_at j (structure_number f k w.target.name) in
-    let at = edge_there c.args.el.now c.args.edge ∙ ap (option_map (λ (e : JaniEdge). placed_with (element_of c.args.el.now) c.args.edge (edge_of e))) (sym c.in-Some.ensures) in
+    let at = ap (option_map (λ (e : JaniEdge). placed_with (element_of c.args.el.now) c.args.edge (edge_of e))) (sym c.in-Some.ensures) in
     c.in_ok-add_writes.ensures j
     ∙ ap (λ (l : List Gain). map gain_of (list_for c.args.all.now j) ++ l)
     (ap (λ (ws : List Write). map (gain_with c.args.target k) (filter q ws)) c.first_writes.ensures
     ∙ sym (map-map (gain_by c.args.target k) (λ (w : Write). w.value) (filter q (first_writes (edge_of c.in-Some.e.now).destinations)))
-    ∙ sym (ap (λ (o : Option Placed). gains_of f j c.args.target o) at))
+    ∙ sym (gained_there f j c.args.target c.args.el.now c.args.edge ∙ ap (λ (o : Option Placed). gains_of f j c.args.target o) at))
 
 pub returns-in_default : goal.returns-in_default
 returns-in_default c = λ j.
-    let at = edge_there c.args.el.now c.args.edge ∙ ap (option_map (λ (e : JaniEdge). placed_with (element_of c.args.el.now) c.args.edge (edge_of e))) (sym c.in_default.ensures) in
+    let f = file_in c.args.names.now in
+    let at = ap (option_map (λ (e : JaniEdge). placed_with (element_of c.args.el.now) c.args.edge (edge_of e))) (sym c.in_default.ensures) in
     sym (append-nil (map gain_of (list_for c.args.all.now j)))
-    ∙ ap (λ (o : Option Placed). map gain_of (list_for c.args.all.now j) ++ gains_of (file_in c.args.names.now) j c.args.target o) (sym at)
+    ∙ ap (λ (l : List Gain). map gain_of (list_for c.args.all.now j) ++ l)
+    (sym (gained_there f j c.args.target c.args.el.now c.args.edge ∙ ap (λ (o : Option Placed). gains_of f j c.args.target o) at))
