@@ -19,7 +19,6 @@ use crate::names::PropertyNames;
 use crate::text::write_property;
 use bridge_io::List;
 use jani_check::CheckedJani;
-use jani_loops::{COUNTED, looped};
 use jani_tree::JaniFile;
 use module_parts::{FileParts, Names, file_parts, new_names};
 use name_table::{Entry, NameClass, NameTable, OwnedVar, prism_names};
@@ -103,8 +102,7 @@ fn text_under<'a>(
     requires { name_faults (file_of file.now) ≡ [] }
     ensures { IfOk result (λ text. text.items ≡ text_by (file_of file.now) entries.now (map jani_property_of props.now)) }
 {
-    let looped = looped(alloc, file, COUNTED)?;
-    let parts = file_parts(alloc, file, &looped)?;
+    let parts = file_parts(alloc, file)?;
     text_of_parts(alloc, props, file, &parts, entries)
 }
 
