@@ -24,7 +24,8 @@ use std::alloc::Global;
 /// An `Err` is want of memory, or the least fault of the first kind that the file has any of: `SharedWrite` at the name of a
 /// global variable that edges of two elements write, one of them with an action or with rewards; `TooLarge` where the
 /// result would have more than 200,000 commands or 2,000,000 nodes of expressions, or the locations of an element give a
-/// label more than 1,024 values.
+/// label more than 1,024 values, or an element has more than 1,024 edges, its loop counted, at one location with an action
+/// that it accepts everywhere, or the initial condition would have more than 1,024 parts, or a part of it.
 pub fn to_prism(alloc: Global, checked: &CheckedJani) -> Result<CheckedPrismText, Refused>
     ensures ok { IfOk result (λ t. (refused (file_of checked.now) ≡ []) × IsPrismOf (file_of checked.now) (prism.file_of t.file)) }
     ensures lines { IfOk result (λ t. t.lines ≡ lines (file_of checked.now)) }

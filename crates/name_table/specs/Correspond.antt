@@ -12,6 +12,7 @@ use Rattle.jani_tree.specs.Syntax as jani
 abbrev pub GivenAlike : Valuation → Valuation → prism.Const → Name → Type 0
 GivenAlike v w c x = c.value ≡ None → AgreesWith (Some c.ty) (v c.name.name) × (w x ≡ v c.name.name)
 
--- v is of the PRISM file, w of the JANI file
+-- v is of the PRISM file, w of the JANI file. Of files with unequal numbers of constants no valuations correspond; but a file and its translation
+-- have equally many, since what is promised of a translation gives each constant its new name, in order.
 abbrev pub Correspond : prism.File → jani.File → Valuation → Valuation → Type 0
 Correspond p j v w = AllZip (GivenAlike v w) p.constants (map (λ d. d.name.name) j.constants)
