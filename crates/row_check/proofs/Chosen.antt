@@ -3,14 +3,14 @@ use Rattle.std.proofs.Common.{ℤ, Vec, Global, Option, Some, None, subst, sym, 
 use Rattle.std.specs.List.{All, AllZip, list_any}
 use Rattle.std.proofs.lemmas.List.Elements.{All-cons, All-nil}
 use Rattle.std.specs.declared.alloc.AllocError.{AllocError}
-use Rattle.process_core.specs.Process.{EquallyOften}
+use Rattle.frac_core.specs.Fraction.{Fraction}
+use Rattle.process_core.specs.Process.{Choice, EquallyOften}
+use Rattle.process_core.specs.Ready.{Name, Values}
 use Rattle.process_core.specs.Laws.{MergingLaws}
 use Rattle.process_core.specs.declared.data.State.{State}
 use Rattle.row_check.specs.declared.data.Row.{Row}
 use Rattle.row_check.specs.declared.merging.MergedChoice as code
 use Rattle.std.specs.BTreeMap.{BTreeMap}
-use Rattle.process_core.specs.Seen.{seen_choice}
-use Rattle.process_core.specs.declared.data.Choice as code_choice
 use Rattle.row_check.specs.declared.data.Verdict.{Verdict}
 use Rattle.row_check.specs.declared.data.Verdict.TheVariants.{No}
 use Rattle.row_check.specs.declared.data.Why.TheVariants.{Choices}
@@ -78,37 +78,37 @@ told_by_rows own model file (Ok b) f h = λ n ds es t k g. h n ds es k (g file (
 told_by_rows own model file (Err x) f h = tt
 
 -- ---- the verdict on merged choices
-module _ (laws : MergingLaws) (index : BTreeMap (Vec ℤ Global) ℕ) (k : ℕ) (choices : List code_choice.Choice) (own : List Row) (bad : Bool) (b : bad ≡ list_any (λ c. is_bad c.outcome) (map seen_choice choices)) where
-  narrow : (ss : List State) (model : Option (Vec code.MergedChoice Global)) → MergesAll ss (good_choices (map seen_choice choices)) (Ok model) → has_wide_merging (good_choices (map seen_choice choices)) ≡ false
+module _ (laws : MergingLaws) (index : BTreeMap (Vec ℤ Global) ℕ) (k : ℕ) (choices : List (Choice Name Fraction Values)) (own : List Row) (bad : Bool) (b : bad ≡ list_any (λ c. is_bad c.outcome) choices) where
+  narrow : (ss : List State) (model : Option (Vec code.MergedChoice Global)) → MergesAll ss (good_choices choices) (Ok model) → has_wide_merging (good_choices choices) ≡ false
   narrow ss None m = m.0
   narrow ss (Some v) m = m.0
 
-  judged : (model : Option (Vec code.MergedChoice Global)) → ((ss : List State) → IsIndex index ss → MergesAll ss (good_choices (map seen_choice choices)) (Ok model)) → (o : Option Verdict) → JudgesMerged k bad model own o → (ss : List State) → IsIndex index ss → TargetsListed (length ss) own →
-      JudgesChoices k (map seen_choice choices) (map (choice_of_rows ss) (runs own)) o
+  judged : (model : Option (Vec code.MergedChoice Global)) → ((ss : List State) → IsIndex index ss → MergesAll ss (good_choices choices) (Ok model)) → (o : Option Verdict) → JudgesMerged k bad model own o → (ss : List State) → IsIndex index ss → TargetsListed (length ss) own →
+      JudgesChoices k choices (map (choice_of_rows ss) (runs own)) o
   judged model m o h ss x t = by_bad bad refl model m o h
     where
-      by_bad : (c : Bool) → bad ≡ c → (model : Option (Vec code.MergedChoice Global)) → ((ss : List State) → IsIndex index ss → MergesAll ss (good_choices (map seen_choice choices)) (Ok model)) → (o : Option Verdict) → JudgesMerged k c model own o →
-          JudgesChoices k (map seen_choice choices) (map (choice_of_rows ss) (runs own)) o
+      by_bad : (c : Bool) → bad ≡ c → (model : Option (Vec code.MergedChoice Global)) → ((ss : List State) → IsIndex index ss → MergesAll ss (good_choices choices) (Ok model)) → (o : Option Verdict) → JudgesMerged k c model own o →
+          JudgesChoices k choices (map (choice_of_rows ss) (runs own)) o
       by_bad true e model m o h =
-          subst (JudgesChoices k (map seen_choice choices) (map (choice_of_rows ss) (runs own))) (sym h)
+          subst (JudgesChoices k choices (map (choice_of_rows ss) (runs own))) (sym h)
           (inr (narrow ss model (m ss x), inl (λ f. let g : true ≡ false = sym e ∙ b ∙ f in cc, refl)))
       by_bad false e None m o h =
           let q = m ss x in
-          subst (JudgesChoices k (map seen_choice choices) (map (choice_of_rows ss) (runs own))) (sym h)
-          (inr (q.0, inr (sym b ∙ e, (not_same laws ss index x (good_choices (map seen_choice choices)) own t q.1, refl))))
+          subst (JudgesChoices k choices (map (choice_of_rows ss) (runs own))) (sym h)
+          (inr (q.0, inr (sym b ∙ e, (not_same laws ss index x (good_choices choices) own t q.1, refl))))
       by_bad false e (Some v) m o h =
           let q = m ss x in
-          let cs = good_choices (map seen_choice choices) in
+          let cs = good_choices choices in
           let told = h (length ss) (map (sums_over ss) (map merged_choice cs)) (map (sums_over ss) (map merged_choice (map (choice_of_rows ss) (runs own)))) t (model_keeps laws ss index x cs v.items q.2) (file_keeps laws ss index x (runs own)) in
           by_answer o told (sums_tell laws ss index x cs own t q.1) q.0
         where
-          by_answer : (o : Option Verdict) → Must (EquallyOften (map (sums_over ss) (map merged_choice (good_choices (map seen_choice choices)))) (map (sums_over ss) (map merged_choice (map (choice_of_rows ss) (runs own))))) (No (Choices k)) o →
-              EquallyOften (map (sums_over ss) (map merged_choice (good_choices (map seen_choice choices)))) (map (sums_over ss) (map merged_choice (map (choice_of_rows ss) (runs own)))) ↔ EquallyOften (map merged_choice (good_choices (map seen_choice choices))) (map merged_choice (map (choice_of_rows ss) (runs own))) →
-              has_wide_merging (good_choices (map seen_choice choices)) ≡ false → JudgesChoices k (map seen_choice choices) (map (choice_of_rows ss) (runs own)) o
+          by_answer : (o : Option Verdict) → Must (EquallyOften (map (sums_over ss) (map merged_choice (good_choices choices))) (map (sums_over ss) (map merged_choice (map (choice_of_rows ss) (runs own))))) (No (Choices k)) o →
+              EquallyOften (map (sums_over ss) (map merged_choice (good_choices choices))) (map (sums_over ss) (map merged_choice (map (choice_of_rows ss) (runs own)))) ↔ EquallyOften (map merged_choice (good_choices choices)) (map merged_choice (map (choice_of_rows ss) (runs own))) →
+              has_wide_merging (good_choices choices) ≡ false → JudgesChoices k choices (map (choice_of_rows ss) (runs own)) o
           by_answer None told s n = (n, (sym b ∙ e, s.0 told))
           by_answer (Some v) told s n = inr (n, inr (sym b ∙ e, (λ o. told.0 (s.1 o), told.1)))
 
-  pub judged_merged : (model : Option (Vec code.MergedChoice Global)) → ((ss : List State) → IsIndex index ss → MergesAll ss (good_choices (map seen_choice choices)) (Ok model)) → (r : Result (Option Verdict) AllocError) → IfOk r (JudgesMerged k bad model own) →
-      IfOk r (λ o. (ss : List State) → IsIndex index ss → TargetsListed (length ss) own → JudgesChoices k (map seen_choice choices) (map (choice_of_rows ss) (runs own)) o)
+  pub judged_merged : (model : Option (Vec code.MergedChoice Global)) → ((ss : List State) → IsIndex index ss → MergesAll ss (good_choices choices) (Ok model)) → (r : Result (Option Verdict) AllocError) → IfOk r (JudgesMerged k bad model own) →
+      IfOk r (λ o. (ss : List State) → IsIndex index ss → TargetsListed (length ss) own → JudgesChoices k choices (map (choice_of_rows ss) (runs own)) o)
   judged_merged model m (Ok o) h = judged model m o h
   judged_merged model m (Err x) h = tt

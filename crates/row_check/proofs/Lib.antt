@@ -24,3 +24,5 @@ pub mod NotNegative
 pub mod Formed
 pub mod BoundLines
 pub mod OneLine
+pub mod Combined
+pub mod Bare

@@ -2,19 +2,27 @@
 use Rattle.std.specs.Prelude.{Bool, ◌≡◌, ℕ, ◌≤◌, List, [], ◌∷◌, true, false, Option, Some, None, Result, Ok, Err, Vec}
 use Rattle.std.specs.Global.{Global}
 use Rattle.std.specs.List.{AllZip, list_any}
+use Rattle.process_core.specs.Bounds.{excess}
+use Rattle.process_core.specs.Choices.{choices}
+use Rattle.process_core.specs.Ready.{Combination, Values}
 use Rattle.process_core.specs.Equal.{equal_states}
 use Rattle.process_core.specs.Merged.{merged, is_merging_wide}
 use Rattle.process_core.specs.declared.data.State.{State}
 use Rattle.process_core.specs.declared.data.StepFail.{StepFail}
 use Rattle.process_core.specs.declared.data.StepFail.TheVariants.{Memory, Wide, TooMany}
+use Rattle.state_choices.specs.Open.{open_target}
+use Rattle.state_choices.specs.declared.open.OpenBranch.{OpenBranch}
+use Rattle.state_choices.specs.declared.open.OpenOutcome.{OpenOutcome}
+use Rattle.state_choices.specs.declared.open.OpenOutcome.TheVariants as O
 use Rattle.row_check.specs.declared.data.Row.{Row}
 use Rattle.row_check.specs.declared.merging.MergedChoice as code
-use Rattle.process_core.specs.Process.{EquallyOften}
+use Rattle.frac_core.specs.Fraction.{Fraction}
+use Rattle.process_core.specs.Process.{Branch, EquallyOften}
 use Rattle.row_check.specs.declared.data.Verdict.{Verdict}
 use Rattle.row_check.specs.declared.data.Verdict.TheVariants.{No}
 use Rattle.row_check.specs.declared.data.Why.TheVariants.{FaultyState, Choices}
-use Rattle.row_check.specs.Judging.{Must}
-use Rattle.row_check.specs.Rows.{runs}
+use Rattle.row_check.specs.Judging.{Before, Must, excess_verdict}
+use Rattle.row_check.specs.Rows.{JudgesChoices, runs}
 use Rattle.row_check.specs.Merging.{Keeps, Sums, GoodChoice, HoldsBranches, HoldsRows, TargetsDiffer, TargetsListed, has_wide_merging, reaches_unlisted}
 
 -- rows in order of their sources, from `k` on
@@ -46,6 +54,19 @@ MergesAll ss cs (Ok (Some v)) = (has_wide_merging cs ≡ false) × (list_any (re
 MergesAll ss cs (Err Wide) = has_wide_merging cs ≡ true
 MergesAll ss cs (Err TooMany) = ⊥
 MergesAll ss cs (Err (Memory e)) = Unit {0}
+
+-- a branch at a state, without rewards
+abbrev pub bare_branch : Values → OpenBranch → Branch Fraction Values
+bare_branch s b = record { probability = b.weight; target = open_target s b; rewards = [] }
+
+-- a choice is faulty, whatever the state
+abbrev pub is_faulty : OpenOutcome → Bool
+is_faulty (O.Good bs) = false
+is_faulty (O.Faulty k) = true
+
+-- what fails of the choices of a state, where they are those of combinations
+abbrev pub JudgesCombinations : ℕ → Values → List Combination → List GoodChoice → Option Verdict → Type 0
+JudgesCombinations k s cs fs = Before (λ o. o ≡ excess_verdict k (excess cs)) (JudgesChoices k (choices s cs) fs)
 
 -- what fails of merged choices, where there are faulty ones besides or not
 abbrev pub JudgesMerged : ℕ → Bool → Option (Vec code.MergedChoice Global) → List Row → Option Verdict → Type 0

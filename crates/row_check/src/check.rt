@@ -30,7 +30,7 @@ pub fn check_path<S: GroupedSteps>(alloc: Global, s: &S, path: &[u8]) -> Result<
 
 /// The first failure of the rows that two files hold, or `Yes`. `States` exactly where a line breaks the form of files of
 /// states, and `Rows` exactly where none does and a line of the second breaks that of files of rows, at the first such line.
-pub fn check_rows<S: Steps>(
+pub fn check_rows<S: GroupedSteps>(
     alloc: Global,
     s: &S,
     states: &[u8],

@@ -1,6 +1,6 @@
 // Choices merged by their targets.
 
-ghost use Rattle.std.specs.Prelude.{◌≡◌, ◌↔◌, ◌<◌, ℕ, List, IfOk, length, map};
+ghost use Rattle.std.specs.Prelude.{◌≡◌, ◌↔◌, ◌<◌, ℕ, List, IfOk, length, map, option_copied};
 ghost use Rattle.process_core.specs.Seen.{seen_branch};
 ghost use Rattle.row_check.specs.Index.{IsIndex};
 ghost use Rattle.row_check.specs.Merging.{HoldsRows, NumbersBranches};
@@ -25,10 +25,10 @@ impl MergedChoice {
     pub(crate) fn of_branches(
         alloc: Global,
         index: &StateIndex,
-        label: &Option<Text>,
+        label: Option<&Text>,
         branches: &List<Branch>,
     ) -> Result<Option<MergedChoice>, AllocError>
-        ensures { IfOk result (λ o. (ss : List State) → IsIndex index.now.numbers ss → NumbersBranches ss label.now (map seen_branch branches.now) o) }
+        ensures { IfOk result (λ o. (ss : List State) → IsIndex index.now.numbers ss → NumbersBranches ss (option_copied label.entry) (map seen_branch branches.now) o) }
     {
         let mut sums = BTreeMap::new(alloc);
         for branch in branches.as_slice() {
@@ -39,7 +39,7 @@ impl MergedChoice {
                 None => return Ok(None),
             }
         }
-        let label = copy_label(alloc, label.as_ref())?;
+        let label = copy_label(alloc, label)?;
         Ok(Some(MergedChoice { label, sums }))
     }
 

@@ -1,25 +1,34 @@
 // The verdict on rows.
 
-ghost use Rattle.std.specs.Prelude.{◌≡◌, ◌↔◌, ◌+◌, ◌<◌, ◌≤◌, ◌^◌, ◌∷◌, ℕ, IfOk, IsTrue, List, Some, None, MatchResult, drop, false, get_or, length, map, nat_eq, take, true, []};
+ghost use Rattle.std.specs.Prelude.{◌≡◌, ◌↔◌, ◌+◌, ◌<◌, ◌≤◌, ◌^◌, ◌∷◌, ℕ, IfOk, IsTrue, List, Some, None, MatchResult, drop, false, get_or, length, map, nat_eq, option_copied, take, true, []};
 ghost use Rattle.std.specs.List.{All, AllZip, list_any, prefix_len};
-ghost use Rattle.process_core.specs.Seen.{seen_branch, seen_choice};
+ghost use Rattle.process_core.specs.Seen.{seen_branch};
 ghost use Rattle.process_core.specs.Process.{EquallyOften};
+ghost use Rattle.state_choices.specs.Grouped.{AreGroupsAt};
+ghost use Rattle.state_choices.specs.Groups.{of_groups};
+ghost use Rattle.state_choices.specs.Open.{open_branch, open_choice};
+ghost use Rattle.state_choices.specs.Views.{group_of, sum_of};
 ghost use Rattle.row_check.specs.Index.{IsIndex};
 ghost use Rattle.row_check.specs.Judging.{Each, Judges};
-ghost use Rattle.row_check.specs.Merging.{Keeps, Sums, TargetsListed, choice_of_rows, good_choices, is_bad};
+ghost use Rattle.row_check.specs.Merging.{Keeps, Sums, TargetsListed, choice_of_rows, good_choices};
 ghost use Rattle.row_check.specs.Rows.{AreReadRows, JudgesChoices, JudgesChoicesAt, JudgesListed, JudgesRows, JudgesState, RowsDiffer, counts_right, runs, same_choice, start_verdict, target_verdict};
-ghost use Rattle.row_check.specs.Walked.{AreSortedFrom, JudgesMerged, KeepsRun, MergesAll, MergesOne};
+ghost use Rattle.row_check.specs.Walked.{AreSortedFrom, JudgesCombinations, JudgesMerged, KeepsRun, MergesAll, MergesOne, bare_branch, is_faulty};
 
 use crate::counting::equally_often;
 use crate::data::{ReadRows, Row, Verdict, Why};
 use crate::index::StateIndex;
 use crate::merging::MergedChoice;
 use bridge_io::{List, Text};
-use process_core::{Branch, Choice, Outcome, State, StepFail, Steps, merged, merging_laws};
+use process_core::{Branch, State, StepFail, Steps, merged, merging_laws};
+use state_choices::{Group, GroupedSteps, OpenBranch, OpenChoice, OpenOutcome, open_choices};
 use std::alloc::{AllocError, Global};
 
 /// The first failure of rows, or `Yes`.
-pub fn judge_rows<S: Steps>(alloc: Global, s: &S, rows: &ReadRows) -> Result<Verdict, AllocError>
+pub fn judge_rows<S: GroupedSteps>(
+    alloc: Global,
+    s: &S,
+    rows: &ReadRows,
+) -> Result<Verdict, AllocError>
     requires { AreReadRows rows.now }
     ensures { IfOk result (Judges (JudgesRows (S.process s.now) rows.now)) }
 {
@@ -81,7 +90,7 @@ fn judge_start<S: Steps>(s: &S, states: &[State]) -> Option<Verdict>
 }
 
 /// What fails of the choices of the listed states.
-fn judge_states<S: Steps>(
+fn judge_states<S: GroupedSteps>(
     alloc: Global,
     s: &S,
     index: &StateIndex,
@@ -128,7 +137,7 @@ fn own_rows(rest: &[Row], k: usize, n: usize) -> Result<usize, usize>
 }
 
 /// What fails of the choices of a state, whose rows are these.
-fn judge_state<S: Steps>(
+fn judge_state<S: GroupedSteps>(
     alloc: Global,
     s: &S,
     index: &StateIndex,
@@ -141,8 +150,44 @@ fn judge_state<S: Steps>(
     ensures { IfOk result (λ o. (ss : List State) → IsIndex index.now.numbers ss → TargetsListed (length ss) own.now →
         JudgesChoicesAt (S.process s.now) k state.now.values (map (choice_of_rows ss) (runs own.now)) o) }
 {
-    match s.choices(alloc, state) {
-        Ok(choices) => judge_choices(alloc, index, k, &choices, own),
+    let evaluated = s.evaluated(alloc, state)?;
+    judge_evaluated(alloc, s, index, k, state, &evaluated, own)
+}
+
+/// The same, from what commands or edges come out as in the state.
+fn judge_evaluated<S: GroupedSteps>(
+    alloc: Global,
+    s: &S,
+    index: &StateIndex,
+    k: usize,
+    state: &State,
+    evaluated: &S::Evaluated,
+    own: &[Row],
+) -> Result<Option<Verdict>, AllocError>
+    requires groups { AreGroupsAt (S.process s.now) state.now.values (S.groups_of s.now evaluated.now) }
+    requires differ { RowsDiffer own.now }
+    ensures { IfOk result (λ o. (ss : List State) → IsIndex index.now.numbers ss → TargetsListed (length ss) own.now →
+        JudgesChoicesAt (S.process s.now) k state.now.values (map (choice_of_rows ss) (runs own.now)) o) }
+{
+    let groups = s.groups(alloc, evaluated)?;
+    judge_groups(alloc, index, k, state, groups.as_slice(), own)
+}
+
+/// The same of the choices of groups. No state that they lead to is built yet.
+fn judge_groups(
+    alloc: Global,
+    index: &StateIndex,
+    k: usize,
+    state: &State,
+    groups: &[Group],
+    own: &[Row],
+) -> Result<Option<Verdict>, AllocError>
+    requires { RowsDiffer own.now }
+    ensures { IfOk result (λ o. (ss : List State) → IsIndex index.now.numbers ss → TargetsListed (length ss) own.now →
+        JudgesCombinations k state.now.values (of_groups (map group_of groups.now)) (map (choice_of_rows ss) (runs own.now)) o) }
+{
+    match open_choices(alloc, groups) {
+        Ok(choices) => judge_choices(alloc, index, k, state, choices.as_slice(), own),
         Err(StepFail::Wide) => Ok(Some(Verdict::Wide(k))),
         Err(StepFail::TooMany) => Ok(Some(Verdict::TooMany(k))),
         Err(StepFail::Memory(e)) => Err(e),
@@ -153,16 +198,17 @@ fn judge_choices(
     alloc: Global,
     index: &StateIndex,
     k: usize,
-    choices: &List<Choice>,
+    state: &State,
+    choices: &[OpenChoice],
     own: &[Row],
 ) -> Result<Option<Verdict>, AllocError>
     requires { RowsDiffer own.now }
     ensures { IfOk result (λ o. (ss : List State) → IsIndex index.now.numbers ss → TargetsListed (length ss) own.now →
-        JudgesChoices k (map seen_choice choices.now) (map (choice_of_rows ss) (runs own.now)) o) }
+        JudgesChoices k (map (open_choice state.now.values) choices.now) (map (choice_of_rows ss) (runs own.now)) o) }
 {
     merging_laws();
     let bad = has_bad(choices);
-    match merged_choices(alloc, index, choices) {
+    match merged_choices(alloc, index, state, choices) {
         Err(StepFail::Memory(e)) => Err(e),
         Err(_) => Ok(Some(Verdict::Wide(k))),
         Ok(model) => judge_merged(alloc, k, bad, &model, own),
@@ -205,34 +251,36 @@ fn has_choices(alloc: Global, model: &[MergedChoice], own: &[Row]) -> Result<boo
     equally_often(alloc, model, file.as_slice())
 }
 
-fn has_bad(choices: &List<Choice>) -> bool
-    ensures { result ≡ list_any (λ c. is_bad c.outcome) (map seen_choice choices.now) }
+fn has_bad(choices: &[OpenChoice]) -> bool
+    ensures { result ≡ list_any (λ c. is_faulty c.outcome) choices.now }
 {
-    for choice in choices.as_slice() {
+    for choice in choices {
         match &choice.outcome {
-            Outcome::Faulty(_) => return true,
-            Outcome::Good(_) => {}
+            OpenOutcome::Faulty(_) => return true,
+            OpenOutcome::Good(_) => {}
         }
     }
     false
 }
 
-/// The good choices, merged; none where one leads to a state that isn't listed.
+/// The good choices, merged; none where one leads to a state that isn't listed. The states that a choice leads to are built for
+/// that choice alone, and let go once it is merged.
 fn merged_choices(
     alloc: Global,
     index: &StateIndex,
-    choices: &List<Choice>,
+    state: &State,
+    choices: &[OpenChoice],
 ) -> Result<Option<Vec<MergedChoice>>, StepFail>
-    ensures { (ss : List State) → IsIndex index.now.numbers ss → MergesAll ss (good_choices (map seen_choice choices.now)) result }
+    ensures { (ss : List State) → IsIndex index.now.numbers ss → MergesAll ss (good_choices (map (open_choice state.now.values) choices.now)) result }
 {
     let mut all = Vec::new(alloc);
     let mut listed = true;
-    for choice in choices.as_slice() {
+    for choice in choices {
         let branches = match &choice.outcome {
-            Outcome::Good(branches) => branches,
-            Outcome::Faulty(_) => continue,
+            OpenOutcome::Good(branches) => branches,
+            OpenOutcome::Faulty(_) => continue,
         };
-        let one = match merged_choice(alloc, index, &choice.label, branches) {
+        let one = match merged_at(alloc, index, state, choice, branches) {
             Ok(one) => one,
             Err(fail) => return Err(fail),
         };
@@ -250,13 +298,58 @@ fn merged_choices(
     if listed { Ok(Some(all)) } else { Ok(None) }
 }
 
+/// A good choice of a state, merged.
+fn merged_at(
+    alloc: Global,
+    index: &StateIndex,
+    state: &State,
+    choice: &OpenChoice,
+    branches: &List<OpenBranch>,
+) -> Result<Option<MergedChoice>, StepFail>
+    ensures { (ss : List State) → IsIndex index.now.numbers ss → MergesOne ss (record {
+      label = option_copied choice.now.label;
+      branches = map (open_branch state.now.values (map sum_of choice.now.rewards.now)) branches.now;
+    }) result }
+{
+    match bare_branches(alloc, state, branches.as_slice()) {
+        Ok(bare) => merged_choice(alloc, index, choice.label, &bare),
+        Err(e) => Err(StepFail::Memory(e)),
+    }
+}
+
+/// The branches of a choice at a state, without their rewards.
+fn bare_branches(
+    alloc: Global,
+    state: &State,
+    branches: &[OpenBranch],
+) -> Result<List<Branch>, AllocError>
+    ensures { IfOk result (λ bs. map seen_branch bs ≡ map (bare_branch state.now.values) branches.now) }
+{
+    let mut all = List::with_capacity(alloc, branches.len())?;
+    for branch in branches {
+        all.push(bare_branch(alloc, state, branch)?)?;
+    }
+    Ok(all)
+}
+
+fn bare_branch(alloc: Global, state: &State, branch: &OpenBranch) -> Result<Branch, AllocError>
+    ensures { IfOk result (λ b. seen_branch b ≡ bare_branch state.now.values branch.now) }
+{
+    let target = branch.target(alloc, state)?;
+    Ok(Branch {
+        weight: branch.weight,
+        target,
+        rewards: List::new(alloc),
+    })
+}
+
 fn merged_choice(
     alloc: Global,
     index: &StateIndex,
-    label: &Option<Text>,
+    label: Option<&Text>,
     branches: &List<Branch>,
 ) -> Result<Option<MergedChoice>, StepFail>
-    ensures { (ss : List State) → IsIndex index.now.numbers ss → MergesOne ss (record { label = label.now; branches = map seen_branch branches.now }) result }
+    ensures { (ss : List State) → IsIndex index.now.numbers ss → MergesOne ss (record { label = option_copied label.entry; branches = map seen_branch branches.now }) result }
 {
     match merged(alloc, branches) {
         Ok(merged) => match MergedChoice::of_branches(alloc, index, label, &merged) {
