@@ -21,7 +21,6 @@ use jani_instance::start_jani;
 use model_files::read_jani;
 use prism_check::FlatPrism;
 use prism_meaning::{described_law, start_prism};
-use process_core::Steps;
 use row_check::{RowsRefused, check_path, check_rows};
 use state_choices::GroupedSteps;
 use std::alloc::{AllocError, Global};
@@ -217,7 +216,7 @@ fn verdict_on<S: GroupedSteps>(
 }
 
 /// The verdict on the bounds that the last of the files has for the label of this number.
-fn bounds_on<S: Steps>(
+fn bounds_on<S: GroupedSteps>(
     alloc: Global,
     label: usize,
     files: &[List<u8>],
