@@ -21,7 +21,7 @@ pub use bounds_file::read_bounds;
 pub use check::{check_path, check_rows};
 pub use data::{Counts, PathStep, ReadPath, ReadRows, Row, RowsRefused, Verdict, Why};
 pub use laws::{form_laws, verdict_laws};
-pub use path::{judge_path, leads_to};
+pub use path::judge_path;
 pub use path_file::read_path;
 pub use row_files::read_rows;
 pub use rows::{judge_rows, run_len};

@@ -1,15 +1,12 @@
 // The verdict on a path.
 
-ghost use Rattle.std.specs.Prelude.{◌≡◌, ◌<◌, ◌^◌, ◌&&◌, suc, IfOk, IsTrue, length, map};
-ghost use Rattle.process_core.specs.Equal.{equal_states};
-ghost use Rattle.process_core.specs.Paths.{any_leads_to, is_positive, leads_to};
-ghost use Rattle.process_core.specs.Seen.{seen_branch, seen_outcome};
+ghost use Rattle.std.specs.Prelude.{◌≡◌, ◌<◌, ◌^◌, suc, IfOk, IsTrue, length};
 ghost use Rattle.row_check.specs.Judging.{Judges};
 ghost use Rattle.row_check.specs.Paths.{JudgesPath, JudgesStep};
 
 use crate::data::{ReadPath, Verdict, Why};
-use bridge_io::{List, Text};
-use process_core::{Branch, Outcome, State, StepFail, same_state};
+use bridge_io::Text;
+use process_core::{State, StepFail};
 use state_choices::{GroupedSteps, has_step};
 use std::alloc::{AllocError, Global};
 
@@ -57,31 +54,4 @@ fn judge_step<S: GroupedSteps>(
         Err(StepFail::TooMany) => Ok(Some(Verdict::TooMany(k))),
         Err(StepFail::Memory(e)) => Err(e),
     }
-}
-
-/// Whether an outcome is a good one that has a branch of positive probability to this state.
-pub fn leads_to(outcome: &Outcome, to: &State) -> bool
-    ensures { result ≡ leads_to to.now.values (seen_outcome outcome.now) }
-{
-    match outcome {
-        Outcome::Good(branches) => any_leads_to(branches, to),
-        Outcome::Faulty(_) => false,
-    }
-}
-
-fn any_leads_to(branches: &List<Branch>, to: &State) -> bool
-    ensures { result ≡ any_leads_to to.now.values (map seen_branch branches.now) }
-{
-    for branch in branches.as_slice() {
-        if leads(branch, to) {
-            return true;
-        }
-    }
-    false
-}
-
-fn leads(branch: &Branch, to: &State) -> bool
-    ensures { result ≡ (is_positive branch.now.weight && equal_states to.now.values branch.now.target.values) }
-{
-    branch.weight.num() > 0 && same_state(to, &branch.target)
 }
