@@ -40,6 +40,7 @@ use prism_check::{CheckedPrism, FlatPrism, check_prism, flatten};
 use prism_meaning::{described_law, open_constants as prism_constants, start_prism};
 use prism_tree::PrismFile;
 use process_core::{Given, StartFail, Steps};
+use state_choices::GroupedSteps;
 use std::alloc::{AllocError, Global};
 
 /// How it ends on the bytes of a JANI model and of a path.
@@ -194,7 +195,7 @@ fn given_there(
 }
 
 /// How it ends with what starting each answers.
-fn through<S: Steps + Drop, T: Steps + Drop>(
+fn through<S: Steps + Drop, T: GroupedSteps + Drop>(
     alloc: Global,
     here: Result<S, Unstarted>,
     there: Result<T, StartFail>,
@@ -210,7 +211,7 @@ fn through<S: Steps + Drop, T: Steps + Drop>(
 }
 
 /// How it ends with both started, or before that.
-fn ended<S: Steps + Drop, T: Steps + Drop>(
+fn ended<S: Steps + Drop, T: GroupedSteps + Drop>(
     alloc: Global,
     begun: Result<(S, T), Unstarted>,
     map: &CarryMap,
@@ -228,7 +229,7 @@ fn ended<S: Steps + Drop, T: Steps + Drop>(
 }
 
 /// How it ends with both processes.
-fn carried<S: Steps, T: Steps>(
+fn carried<S: Steps, T: GroupedSteps>(
     alloc: Global,
     jani: &S,
     prism: &T,

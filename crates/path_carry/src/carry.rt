@@ -14,6 +14,7 @@ use bridge_io::Refused;
 use carry_maps::CarryMap;
 use process_core::Steps;
 use row_check::{form_laws, read_path, verdict_laws};
+use state_choices::GroupedSteps;
 use std::alloc::Global;
 
 /// The path of a PRISM model as a path of the JANI model that is the same by the map. `No` exactly where a state isn't one of the
@@ -51,7 +52,7 @@ pub fn carry_to_jani<S: Steps, T: Steps>(
 /// first good choice with the step is taken, and the first where there is none. What is written is the text of a path there exactly
 /// where the path is one here. Where the names of the map are short and the header there is a line, it can be read again, and is accepted
 /// there exactly where the path is accepted here. `At` exactly where a line breaks the form of path files, at the first such line.
-pub fn carry_to_prism<S: Steps, T: Steps>(
+pub fn carry_to_prism<S: Steps, T: GroupedSteps>(
     alloc: Global,
     jani: &S,
     prism: &T,

@@ -85,9 +85,9 @@ impl Direction for ToPrism {
 }
 
 /// Whether an action is among the candidates for a label.
-pub(crate) fn is_candidate(index: &LabelIndex, label: &Option<Text>, action: &Option<Text>) -> bool
+pub(crate) fn is_candidate(index: &LabelIndex, label: &Option<Text>, action: Option<&Text>) -> bool
     requires { IsIndex index.now }
-    ensures { result ≡ list_any (same_label action.now) (candidates index.now.pairs.now label.now) }
+    ensures { result ≡ list_any (same_label (option_copied action.entry)) (candidates index.now.pairs.now label.now) }
 {
     match action {
         None => label.is_none(),

@@ -21,6 +21,7 @@ use bridge_io::{List, together};
 use carry_maps::CarryMap;
 use process_core::{State, Steps};
 use row_check::ReadPath;
+use state_choices::GroupedSteps;
 use std::alloc::{AllocError, Global};
 
 /// The path of a PRISM model in the JANI model, or the first line that isn't carried.
@@ -87,7 +88,7 @@ fn jani_path(
 }
 
 /// The path of a JANI model in the PRISM model, or the first line that isn't carried, or what passes a bound first.
-pub(crate) fn path_to_prism<S: Steps, T: Steps>(
+pub(crate) fn path_to_prism<S: Steps, T: GroupedSteps>(
     alloc: Global,
     jani: &S,
     prism: &T,
@@ -104,7 +105,7 @@ pub(crate) fn path_to_prism<S: Steps, T: Steps>(
 }
 
 /// The same, by the index of the map's pairs.
-fn indexed_to_prism<S: Steps, T: Steps>(
+fn indexed_to_prism<S: Steps, T: GroupedSteps>(
     alloc: Global,
     jani: &S,
     prism: &T,
@@ -129,7 +130,7 @@ fn indexed_to_prism<S: Steps, T: Steps>(
 }
 
 /// The path along these states of the PRISM model.
-fn along<T: Steps>(
+fn along<T: GroupedSteps>(
     alloc: Global,
     prism: &T,
     map: &CarryMap,
