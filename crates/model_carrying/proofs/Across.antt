@@ -7,7 +7,7 @@ use Rattle.row_check.specs.Laws.{PathReadOnce}
 use Rattle.prism_tree.specs.Syntax as prism
 use Rattle.prism_check.specs.PlacesLaws.{PlacesStayAside}
 use Rattle.prism_check.proofs.NoFaults.{no_faults}
-use Rattle.prism_meaning.specs.Described.{DescribedAlike, prism_description}
+use Rattle.prism_instance.specs.Described.{DescribedAlike, prism_description}
 use Rattle.jani_tree.specs.Syntax as jani
 use Rattle.jani_instance.specs.Described.{jani_description}
 use Rattle.name_table.specs.Correspond.{Correspond}

@@ -20,7 +20,7 @@ use Rattle.prism_print.specs.Same as prism_places
 use Rattle.prism_parse.specs.Laws.{OneSyntax}
 use Rattle.prism_check.specs.PlacesLaws.{PlacesStayAside, SizesFaultAlike}
 use Rattle.prism_check.specs.SizeFaults.{size_faults}
-use Rattle.prism_meaning.specs.Described.{DescribedAlike, prism_description}
+use Rattle.prism_instance.specs.Described.{DescribedAlike, prism_description}
 use Rattle.jani_tree.specs.Syntax as jani
 use Rattle.jani_instance.specs.Described.{jani_description}
 use Rattle.prism_translation.specs.Refused.{refused}

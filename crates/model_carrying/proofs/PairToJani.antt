@@ -18,9 +18,9 @@ use Rattle.path_carry.specs.Texts.{IsShort}
 use Rattle.prism_tree.specs.Syntax as prism
 use Rattle.prism_names.specs.Flat.{flat}
 use Rattle.prism_flat.specs.Scene.{scene}
-use Rattle.prism_meaning.specs.Described.{DescribedAlike, prism_description}
-use Rattle.prism_meaning.specs.Lawful.{described_is}
-use Rattle.prism_meaning.proofs.Typed.{begin_right}
+use Rattle.prism_instance.specs.Described.{DescribedAlike, prism_description}
+use Rattle.prism_instance.specs.Lawful.{described_is}
+use Rattle.prism_instance.proofs.Typed.{begin_right}
 use Rattle.jani_tree.specs.Syntax as jani
 use Rattle.jani_tree.specs.Form.{IsShortName}
 use Rattle.jani_meaning.specs.Scene as jani_scene

@@ -14,9 +14,9 @@ use Rattle.carry_maps.specs.declared.map.CarryMap.{CarryMap}
 use Rattle.path_carry.specs.Texts.{HeaderIsLine, IsShort}
 use Rattle.prism_tree.specs.Syntax as prism
 use Rattle.prism_flat.specs.Scene.{scene}
-use Rattle.prism_meaning.specs.Described.{DescribedAlike, prism_description}
-use Rattle.prism_meaning.specs.Lawful.{described_is}
-use Rattle.prism_meaning.proofs.Typed.{begin_right}
+use Rattle.prism_instance.specs.Described.{DescribedAlike, prism_description}
+use Rattle.prism_instance.specs.Lawful.{described_is}
+use Rattle.prism_instance.proofs.Typed.{begin_right}
 use Rattle.jani_tree.specs.Syntax as jani
 use Rattle.jani_meaning.specs.Scene as jani_scene
 use Rattle.jani_instance.specs.Described.{jani_description}

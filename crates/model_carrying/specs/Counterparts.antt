@@ -9,7 +9,7 @@ use Rattle.carry_maps.specs.declared.map.CarryMap.{CarryMap}
 use Rattle.prism_tree.specs.Syntax as prism
 use Rattle.prism_names.specs.Flat.{flat}
 use Rattle.prism_check.specs.SizeFaults.{size_faults}
-use Rattle.prism_meaning.specs.Described.{prism_description}
+use Rattle.prism_instance.specs.Described.{prism_description}
 use Rattle.jani_tree.specs.Syntax as jani
 use Rattle.jani_instance.specs.Described.{jani_description}
 use Rattle.prism_to_jani.specs.Promise.{IsJaniOf}

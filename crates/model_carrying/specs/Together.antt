@@ -7,7 +7,7 @@ use Rattle.prism_tree.specs.Syntax as prism
 use Rattle.prism_names.specs.Flat.{flat}
 use Rattle.prism_print.specs.Same as prism_places
 use Rattle.prism_check.specs.NameFaults as prism_names
-use Rattle.prism_meaning.specs.Described.{prism_description}
+use Rattle.prism_instance.specs.Described.{prism_description}
 use Rattle.jani_tree.specs.Syntax as jani
 use Rattle.jani_tree.specs.Places as jani_places
 use Rattle.jani_check.specs.NameFaults as jani_names

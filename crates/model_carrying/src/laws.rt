@@ -8,7 +8,7 @@ ghost use Rattle.model_carrying.specs.Values.{ValuesAreAlike, ValuesFit};
 
 use jani_translation::one_for_one_law;
 use prism_check::{form_law, places_law};
-use prism_meaning::described_law;
+use prism_instance::described_law;
 use prism_parse::one_syntax;
 use row_check::form_laws;
 

@@ -13,7 +13,7 @@ use Rattle.walk_texts.specs.Jobs.{IsWalkAlong, IsWalkBySeed}
 use Rattle.walk_texts.specs.declared.report.Report.{Report}
 use Rattle.walk_texts.specs.declared.report.Report.TheVariants as R
 use Rattle.instance_start.specs.Description.{Description}
-use Rattle.prism_meaning.specs.Described.{DescribedAlike}
+use Rattle.prism_instance.specs.Described.{DescribedAlike}
 use Rattle.short_names.specs.Laws.{JaniLabelsAreTexts, JaniNamesAreShort, PrismNamesAreShort}
 use Rattle.command_words.specs.declared.request.Lang.{Lang}
 use Rattle.command_words.specs.declared.request.Lang.TheVariants.{Prism, Jani}

@@ -9,7 +9,7 @@ use Rattle.prism_tree.specs.Syntax as prism
 use Rattle.jani_tree.specs.Syntax as jani
 use Rattle.model_files.specs.PrismFile.{IsFaultless, RefusesPrism}
 use Rattle.model_files.specs.JaniFile.{IsFaultlessJani, RefusesJani}
-use Rattle.prism_meaning.specs.Described.{prism_description}
+use Rattle.prism_instance.specs.Described.{prism_description}
 use Rattle.jani_instance.specs.Described.{jani_description}
 use Rattle.model_process.specs.Models.{Describes, IsModelFault}
 use Rattle.model_process.specs.declared.ending.Ending.{Ending}

@@ -2,7 +2,7 @@
 use Rattle.std.proofs.Common.{sym, subst}
 use Rattle.process_core.specs.Steps.{IsProcess}
 use Rattle.prism_print.specs.Laws.{SpelledIsPrintable}
-use Rattle.prism_meaning.specs.Described.{DescribedAlike}
+use Rattle.prism_instance.specs.Described.{DescribedAlike}
 use Rattle.short_names.specs.Laws.{JaniNamesAreShort}
 use Rattle.command_words.specs.declared.request.Lang.TheVariants.{Prism, Jani}
 use Rattle.model_process.specs.Lawful.{DescribedIsProcess}

@@ -21,7 +21,7 @@ use Rattle.command_words.specs.declared.request.Lang.{Lang}
 use Rattle.command_words.specs.declared.request.Lang.TheVariants.{Prism, Jani}
 use Rattle.command_words.specs.Given.{Assignment}
 use Rattle.command_words.specs.Words.{Checking, Claim, of_path, of_rows, of_bounds, Job, showing, along, seeded, Walking}
-use Rattle.prism_meaning.specs.Described.{prism_description}
+use Rattle.prism_instance.specs.Described.{prism_description}
 use Rattle.jani_instance.specs.Described.{jani_description}
 use Rattle.model_files.proofs.Once.{faulty_or_jani, faulty_or_prism, one_jani_fault, one_jani_tree, one_prism_fault, one_prism_tree, same_parts}
 use Rattle.prism_parse.specs.Laws.{OneSyntax}

@@ -17,9 +17,9 @@ use Rattle.process_core.specs.Steps.{IsProcess}
 use Rattle.process_core.specs.declared.data.Given.{Given}
 use Rattle.instance_start.specs.Firsts.{BeginRight}
 use Rattle.instance_start.specs.Given.{given_by, misfit}
-use Rattle.prism_meaning.specs.Described.{DescribedAlike, opened, prism_description}
-use Rattle.prism_meaning.specs.Lawful.{described_is}
-use Rattle.prism_meaning.proofs.Typed.{begin_right}
+use Rattle.prism_instance.specs.Described.{DescribedAlike, opened, prism_description}
+use Rattle.prism_instance.specs.Lawful.{described_is}
+use Rattle.prism_instance.proofs.Typed.{begin_right}
 use Rattle.short_names.specs.Laws.{PrismNamesAreShort}
 use Rattle.command_words.specs.Given.{Assignment}
 use Rattle.model_files.specs.PrismFile.{IsFaultless}

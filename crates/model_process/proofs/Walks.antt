@@ -10,7 +10,7 @@ use Rattle.prism_tree.specs.Syntax as prism
 use Rattle.jani_tree.specs.Syntax as jani
 use Rattle.model_files.specs.PrismFile.{IsFaultless}
 use Rattle.model_files.specs.JaniFile.{IsFaultlessJani}
-use Rattle.prism_meaning.specs.Described.{prism_description}
+use Rattle.prism_instance.specs.Described.{prism_description}
 use Rattle.jani_instance.specs.Described.{jani_description}
 use Rattle.model_process.specs.Starts.{IsStartable, process_for}
 use Rattle.model_process.specs.Walks.{EndsOnModel, EndsOnBytes, IsReport, ending_of, shown}

@@ -6,7 +6,7 @@ ghost use Rattle.model_process.specs.Once.{ClaimEndOrFault, EndOrFault, OneClaim
 ghost use Rattle.model_process.specs.ReadBack.{WalksReadBack};
 ghost use Rattle.model_process.specs.WrittenPaths.{WalksAreAccepted, WalksAreNotRefused, WalksEndWithYes};
 
-use prism_meaning::described_law;
+use prism_instance::described_law;
 use prism_parse::one_syntax;
 use prism_print::printable_law;
 use process_texts::text_laws;

@@ -7,7 +7,7 @@ use Rattle.constant_folding.specs.Unfit.{unfit}
 use Rattle.prism_tree.specs.Syntax.{File}
 use Rattle.prism_names.specs.Flat.{flat}
 use Rattle.prism_print.specs.Same.{bare_file}
-use Rattle.prism_meaning.specs.Described.{prism_description}
+use Rattle.prism_instance.specs.Described.{prism_description}
 use Rattle.command_words.specs.Given.{Assignment}
 use Rattle.model_process.specs.Constants.{givens, good_front, unfit_value}
 use Rattle.model_process.specs.Starts.{IsBehind}

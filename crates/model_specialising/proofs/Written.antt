@@ -15,7 +15,7 @@ use Rattle.prism_flat.specs.Kept.{SameMeaning}
 use Rattle.prism_flat.specs.FlatLaws.{same_meaning}
 use Rattle.prism_check.specs.Clean.{IsClean}
 use Rattle.prism_check.specs.PlacesLaws.{PlacesBoundNothing}
-use Rattle.prism_meaning.specs.Described.{DescribedAlike, opened, prism_description}
+use Rattle.prism_instance.specs.Described.{DescribedAlike, opened, prism_description}
 use Rattle.jani_tree.specs.Syntax as jani
 use Rattle.jani_tree.specs.Text.{SpellsNode, jani_text}
 use Rattle.jani_tree.specs.Back.{IsWritable, SpellsOnly, TextSpells}

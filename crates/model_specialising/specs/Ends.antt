@@ -6,7 +6,7 @@ use Rattle.bridge_io.specs.declared.reason.Refused.TheVariants as R
 use Rattle.instance_start.specs.Description.{Constant}
 use Rattle.instance_start.specs.Given.{given_by}
 use Rattle.prism_tree.specs.Syntax as prism
-use Rattle.prism_meaning.specs.Described.{prism_description}
+use Rattle.prism_instance.specs.Described.{prism_description}
 use Rattle.jani_tree.specs.Syntax as jani
 use Rattle.jani_instance.specs.Described.{jani_description}
 use Rattle.command_words.specs.declared.request.Lang.{Lang}

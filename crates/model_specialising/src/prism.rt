@@ -17,7 +17,7 @@ use command_words::Assignment;
 use model_files::prism_again_law;
 use model_process::{Ending, good_front, read_flat};
 use prism_check::{FlatPrism, form_law, meaning_law, places_law};
-use prism_meaning::described_law;
+use prism_instance::described_law;
 use prism_print::print;
 use prism_tree::PrismFile;
 use process_core::Given;

@@ -1,7 +1,7 @@
 use Rattle.std.proofs.Common.{refl, sym, subst}
 use Rattle.std.specs.Prelude.{Err}
 use Rattle.basics.specs.Each.{each_then}
-use Rattle.prism_meaning.specs.Described.{prism_description}
+use Rattle.prism_instance.specs.Described.{prism_description}
 use Rattle.jani_tree.specs.Syntax.{file_of}
 use Rattle.jani_instance.specs.Described.{jani_description}
 use Rattle.path_carry.specs.Texts.{IsShort}

@@ -1,7 +1,7 @@
 use Rattle.std.proofs.Common.{refl}
 use Rattle.prism_names.specs.Flat.{flat}
 use Rattle.prism_check.proofs.NoFaults.{no_faults}
-use Rattle.prism_meaning.specs.Described.{prism_description}
+use Rattle.prism_instance.specs.Described.{prism_description}
 use Rattle.jani_tree.specs.Syntax.{file_of}
 use Rattle.jani_instance.specs.Described.{jani_description}
 use Rattle.command_words.specs.Words.{carrying_of}

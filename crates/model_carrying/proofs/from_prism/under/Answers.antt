@@ -1,8 +1,8 @@
 use Rattle.std.proofs.Common.{◌∙◌, ap, subst}
 use Rattle.instance_start.specs.Given.{given_by}
 use Rattle.instance_start.specs.Started.{Starts}
-use Rattle.prism_meaning.specs.Described.{prism_description}
-use Rattle.prism_meaning.specs.Instance as prism
+use Rattle.prism_instance.specs.Described.{prism_description}
+use Rattle.prism_instance.specs.Instance as prism
 use Rattle.jani_tree.specs.Syntax.{file_of}
 use Rattle.jani_instance.specs.Described.{jani_description}
 use Rattle.jani_instance.specs.Instance as jani

@@ -1,7 +1,7 @@
 use Rattle.std.proofs.Common.{◌∙◌, subst}
 use Rattle.instance_start.specs.Started.{Starts}
-use Rattle.prism_meaning.specs.Described.{prism_description}
-use Rattle.prism_meaning.specs.Instance.{process_of}
+use Rattle.prism_instance.specs.Described.{prism_description}
+use Rattle.prism_instance.specs.Instance.{process_of}
 use Rattle.command_words.specs.Words.{walking_of, words_before}
 use Rattle.model_process.proofs.walking.on_prism.Goals as goal
 

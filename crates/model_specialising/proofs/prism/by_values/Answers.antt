@@ -1,7 +1,7 @@
 use Rattle.std.proofs.Common.{◌≡◌, ◌∙◌, subst, map, None}
 use Rattle.instance_start.specs.Given.{given_by}
 use Rattle.prism_tree.specs.Syntax.{file_of}
-use Rattle.prism_meaning.specs.Described.{prism_description}
+use Rattle.prism_instance.specs.Described.{prism_description}
 use Rattle.constant_folding.specs.Unfit.{Fails, unfit}
 use Rattle.command_words.specs.Given.{assignment_of}
 use Rattle.model_process.specs.Constants.{givens}

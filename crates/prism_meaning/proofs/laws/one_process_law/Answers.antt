@@ -1,5 +1,0 @@
-use Rattle.std.proofs.Common.{refl}
-use Rattle.prism_meaning.proofs.laws.one_process_law.Goals as goal
-
-pub returns : goal.returns
-returns c = λ file v. refl
