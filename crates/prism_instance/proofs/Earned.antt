@@ -7,10 +7,10 @@ use Rattle.process_core.specs.Instance.{numbered, only_if}
 use Rattle.process_core.specs.Ready.{Name}
 use Rattle.instance_start.specs.Numbered.{Numbered, by_number, of_number}
 use Rattle.instance_start.proofs.Numbered.{of_append}
-use Rattle.prism_tree.specs.Syntax.{Command, Item, Rewards}
+use Rattle.prism_tree.specs.Syntax.{Item, Rewards}
 use Rattle.prism_check.specs.Moment.{adds_of}
 use Rattle.prism_check.specs.Process.{is_for_choices}
-use Rattle.prism_instance.specs.Shapes.{Shape, earned, earned_from, earnings}
+use Rattle.prism_instance.specs.Shapes.{earned, earned_from, earnings}
 
 apart : (k a : ℕ) (b : Bool) → nat_eq k a ≡ b → (k ≡ a → ⊥) → nat_eq k a ≡ false
 apart k a true e h = absurd (h (eqb-true k a e))
@@ -72,7 +72,3 @@ module _ (label : Option Name) where
 
   pub by_structure : (rs : List Rewards) (n : ℕ) (es : List (Numbered Item)) → n ≡ length rs → es ≡ earnings rs label → by_number n es ≡ earned rs label
   by_structure rs n es e f = ap₂ (λ m l. by_number m l) e f ∙ each_structure [] 0 rs (λ k h. refl)
-
-pub same_shape : (l : Option Name) (r s : List (List Item)) (m n : List (List Command)) → r ≡ s → m ≡ n →
-    ◌≡◌ {A = Shape} (record { label = l; rewards = r; lists = m }) (record { label = l; rewards = s; lists = n })
-same_shape l r s m n e f = cc

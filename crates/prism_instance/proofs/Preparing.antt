@@ -1,7 +1,6 @@
--- What is prepared, part by part.
-use Rattle.std.proofs.Common.{◌≡◌, List, [], ◌∷◌, ◌++◌, map, Option, refl, sym, ap₂, ◌∙◌}
+-- What is put into a store, part by part.
+use Rattle.std.proofs.Common.{◌≡◌, List, ◌++◌, Option, refl, sym, ◌∙◌}
 use Rattle.op_trees.specs.Seen.{Seen, known_names, seen}
-use Rattle.process_core.specs.Product.{map-map}
 use Rattle.process_core.specs.Ready.{Name}
 use Rattle.instance_start.specs.declared.data.Place.{Place}
 use Rattle.expr_store.specs.Alike.{IsMade, alike_same, made_put}
@@ -35,7 +34,3 @@ module _ (places : Name → Option Place) where
   -- a missing probability
   pub made_same : {X : Type 0} (ns : List (Node PrismOp)) (x : X) → IsMade prism_meaning places ns ns (λ at. x) (λ names. x)
   made_same ns x = record { grown = grown_none ns; made = alike_same x }
-
-pub maps_seen : {B C D : Type 0} (f : B → C) (t : C → D) (ls : List (List B)) → map (map (λ x. t (f x))) ls ≡ map (map t) (map (map f) ls)
-maps_seen f t [] = refl
-maps_seen f t (l ∷ ls) = ap₂ (λ y k. y ∷ k) (sym (map-map t f l)) (maps_seen f t ls)

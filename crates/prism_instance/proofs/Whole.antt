@@ -1,7 +1,6 @@
--- What an instance computes at a state is what its file has there.
-use Rattle.std.proofs.Common.{◌≡◌, ℕ, ◌<◌, List, [], ◌∷◌, map, true, Option, Some, length, get_or, slice_get, option_map, IsTrue, refl, sym, ap, ap₂, ◌∙◌}
+-- Names, commands and marks at a state are those that the file has there.
+use Rattle.std.proofs.Common.{◌≡◌, List, [], ◌∷◌, map, true, Option, length, IsTrue, refl, sym, ap, ap₂, ◌∙◌}
 use Rattle.std.proofs.lemmas.List.{length-map}
-use Rattle.std.proofs.lemmas.Option.{slice_get_read, slice_get-map}
 use Rattle.std.specs.List.{list_all}
 use Rattle.basics.specs.Lists.{map_agree}
 use Rattle.op_trees.specs.Seen.{Seen, known, looked_up}
@@ -13,10 +12,9 @@ use Rattle.prism_tree.specs.Syntax as syntax
 use Rattle.prism_names.specs.Names.{formula_body, unchanged, part_of, reading, see}
 use Rattle.prism_check.specs.Scene.{columns_of, constant}
 use Rattle.prism_check.specs.Moment.{value_in, names_in, place_of, weight_seen, write_at, update_at, command_at, part_at, item_at, moment}
-use Rattle.prism_check.specs.Process.{choice_rewards}
 use Rattle.prism_check.specs.Kept.{is_plain, IsWrittenOut}
 use Rattle.prism_check.proofs.CleanTypes.{same_written}
-use Rattle.prism_instance.specs.Shapes.{bodies, shapes, write_under, update_under, command_under, group_under}
+use Rattle.prism_instance.specs.Shapes.{bodies, write_under, update_under, command_under}
 use Rattle.std.proofs.Math.Path.{fun_ext}
 use Rattle.op_trees.specs.Seen.{known_names}
 use Rattle.op_trees.specs.declared.tree.Value.{Value}
@@ -25,7 +23,7 @@ use Rattle.prism_instance.specs.Shapes.{sum_under, earned_in_states}
 use Rattle.instance_start.specs.Columns.{column_of}
 use Rattle.instance_start.specs.States.{state_length}
 use Rattle.instance_start.specs.declared.data.Column as code
-use Rattle.prism_instance.proofs.Grouped.{groups_are, joined_groups, sums_are}
+use Rattle.prism_instance.proofs.Rewards.{sums_are}
 
 pub reads_plainly : (file : File) → file.formulas ≡ [] → (names : Name → Seen) → reading file names ≡ names
 unfolding reading
@@ -43,21 +41,12 @@ module _ (file : File) (cs : List Column) (names : Name → Seen) where
       ap {B = Ready} (λ us. record { action = (command_under cs names c).action; guard = see c.guard names; updates = us })
       (map_agree _ _ update_is c.branches)
 
-modules_are : (file : File) (v : Valuation) (s : Values) (ms : List Module) → list_all is_plain ms ≡ true →
+pub modules_are : (file : File) (v : Valuation) (s : Values) (ms : List Module) → list_all is_plain ms ≡ true →
     map (map (command_under (columns_of file v) (names_in file v s unchanged))) (bodies ms) ≡ map (part_at file v s) (map (part_of file) ms)
 modules_are file v s [] h = refl
 modules_are file v s (plain m ∷ ms) h =
     ap₂ (λ c l. c ∷ l) (map_agree _ _ (command_is file (columns_of file v) (names_in file v s unchanged)) m.commands) (modules_are file v s ms h)
 modules_are file v s (copied m ∷ ms) h = absurd cc
-
--- the groups that are fixed at the start are at the state those of the modules there
-pub whole_groups : (file : File) (v : Valuation) (s : Values) → IsWrittenOut file → (cs : List Column) (names : Name → Seen) →
-    cs ≡ columns_of file v → names ≡ names_in file v s unchanged →
-    map (group_under cs names) (shapes file.rewards (bodies file.modules)) ≡ joined_groups (choice_rewards (moment file v s).rewards) (moment file v s).modules
-whole_groups file v s w cs names e f =
-    ap₂ (λ c n. map (group_under c n) (shapes file.rewards (bodies file.modules))) e f
-    ∙ groups_are (names_in file v s unchanged) (columns_of file v) file.rewards (bodies file.modules)
-    ∙ ap (joined_groups (choice_rewards (moment file v s).rewards)) (modules_are file v s file.modules w.modules)
 
 -- ---- columns
 pub column_count : (cols : List code.Column) (cs : List Column) → map column_of cols ≡ cs → length (map (λ (c : Column). c.name) cs) ≡ length cols
@@ -67,11 +56,6 @@ column_count cols cs e =
 -- a state has a value for each column that the code keeps
 pub as_long : (cols : List code.Column) (cs : List Column) (s : Values) → map column_of cols ≡ cs → IsTrue (is_state cs s) → length s ≡ length cols
 as_long cols cs s e h = state_length cs s h ∙ column_count cols cs e
-
-pub kept_name : (cols : List code.Column) (i : ℕ) (c : code.Column) → i < length cols → c ≡ get_or cols i c → slice_get (map (λ (d : Column). d.name) (map column_of cols)) i ≡ Some c.name.now
-kept_name cols i c h e =
-    slice_get-map (λ (d : Column). d.name) (map column_of cols) i
-    ∙ ap (option_map (λ (d : Column). d.name)) (slice_get-map column_of cols i ∙ ap (option_map column_of) (slice_get_read cols (length cols) i c refl h e))
 
 -- ---- names
 pub names_are : (file : File) (v : Valuation) (s : Values) → IsWrittenOut file → (env : Name → Option Value) →

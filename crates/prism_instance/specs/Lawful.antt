@@ -14,7 +14,6 @@ use Rattle.process_core.specs.Steps.{IsProcess}
 use Rattle.instance_start.specs.States.{state_length}
 use Rattle.instance_start.specs.Participants.{each_flat, of_all}
 use Rattle.instance_start.specs.Marks.{marks_length, first_names, mark_kinds}
-use Rattle.instance_start.specs.Given.{given_by}
 use Rattle.instance_start.specs.Firsts.{BeginRight, HasFirst, HaveFirsts, initial_states, wide_states, condition_is, first_is}
 use Rattle.prism_tree.specs.Syntax.{Branch, Command, File}
 use Rattle.prism_names.specs.Names.{unchanged, Part, parts, see, written_name}
@@ -23,8 +22,6 @@ use Rattle.prism_flat.specs.FlatLaws.{none_seen}
 use Rattle.prism_flat.specs.Moment.{place_of, write_at, update_at, command_at, names_in, part_at, moment}
 use Rattle.prism_flat.specs.Process.{combinations, choice_rewards}
 use Rattle.prism_instance.specs.Described.{described}
-use Rattle.prism_instance.specs.Instance.{process_of}
-use Rattle.prism_instance.specs.declared.instance.PrismInstance.{PrismInstance}
 
 module _ (file : File) (cs : List Column) (rename : Name → Name) (names : Name → Seen) where
   update_keeps : (b : Branch) → All (KeepsStates (is_state cs)) (update_at file cs rename names b).writes
@@ -81,6 +78,3 @@ module _ (file : File) (v : Valuation) (t : BeginRight (columns_of file v)) (h :
     proper = λ s k. choices_proper (is_state (columns_of file v)) s (combinations (moment file v s)) k
         (of_all (KeepsAll (is_state (columns_of file v))) (choice_rewards (moment file v s).rewards) (moment file v s).modules (all_keep file v s));
   }
-
-pub instance_is : (i : PrismInstance) → IsProcess (process_of i)
-instance_is i = described_is i.flat.now (given_by i.given.now) i.sound.begin i.sound.faultless

@@ -1,7 +1,7 @@
 -- The groups of combinations of a PRISM file before a state is known: which commands and which reward items belong together
 -- (PRISM manual, "The PRISM Language": "Commands", "Synchronisation", "Costs and Rewards").
-use Rattle.std.specs.Prelude.{ℕ, List, [], ◌∷◌, map, Bool, Option, Some, None, bytes_eq}
-use Rattle.std.specs.List.{flat_map, filter, list_any}
+use Rattle.std.specs.Prelude.{ℕ, List, [], map, Bool, Option, bytes_eq}
+use Rattle.std.specs.List.{flat_map, filter}
 use Rattle.op_trees.specs.Seen.{Seen}
 use Rattle.basics.specs.Options.{if_some}
 use Rattle.process_core.specs.Ready.{Name, Write, Update, Ready, Sum, same_label, firsts}
@@ -13,14 +13,7 @@ use Rattle.prism_tree.specs.Syntax as syntax
 use Rattle.prism_names.specs.Names.{unchanged, see}
 use Rattle.prism_flat.specs.Moment.{Adds, adds_of, action_of, place_of, weight_seen}
 use Rattle.prism_flat.specs.Process.{is_for_states, is_for_choices}
-use Rattle.state_choices.specs.Groups.{Group}
 use Rattle.instance_start.specs.Numbered.{Numbered}
-
--- one command of each list, with one label, and what that earns in each reward structure
-pub record Shape : Type 0 where
-  pub label : Option Name
-  pub rewards : List (List Item)
-  pub lists : List (List Command)
 
 abbrev pub acts : Option Name → Command → Bool
 acts a c = same_label a (action_of unchanged c)
@@ -56,25 +49,6 @@ bodies ms = map own_commands ms
 abbrev pub acting : List (List Command) → List Name
 acting ms = firsts bytes_eq (flat_map (λ m. flat_map (λ c. if_some (action_of unchanged c)) m) ms)
 
--- of the modules that have the action, the commands with it
-abbrev pub sharing : Name → List (List Command) → List (List Command)
-sharing a ms = map (filter (acts (Some a))) (filter (list_any (acts (Some a))) ms)
-
--- a list that isn't empty
-abbrev pub unless_empty : {X : Type 0} → List X → List (List X)
-unless_empty [] = []
-unless_empty (x ∷ xs) = (x ∷ xs) ∷ []
-
-abbrev pub silent_shape : List (List Item) → List (List Command) → Shape
-silent_shape rewards ms = record { label = None; rewards = rewards; lists = flat_map (filter (acts None)) ms ∷ [] }
-
-abbrev pub action_shape : List Rewards → List (List Command) → Name → Shape
-action_shape rewards ms a = record { label = Some a; rewards = earned rewards (Some a); lists = sharing a ms }
-
--- the commands without action, then for each action those with it of each module that has it
-abbrev pub shapes : List Rewards → List (List Command) → List Shape
-shapes rewards ms = silent_shape (earned rewards None) ms ∷ map (action_shape rewards ms) (acting ms)
-
 -- ---- at a state, whose names are seen so; names of a file that is written out stand for themselves
 abbrev pub item_under : (Name → Seen) → Item → core.Item
 item_under names i = record { guard = see i.guard names; value = see i.value names }
@@ -91,6 +65,3 @@ module _ (cs : List Column) (names : Name → Seen) where
 
   abbrev pub command_under : Command → Ready
   command_under c = record { action = action_of unchanged c; guard = see c.guard names; updates = map update_under c.branches }
-
-  abbrev pub group_under : Shape → Group
-  group_under g = record { label = g.label; rewards = map (sum_under names) g.rewards; lists = map (map command_under) g.lists }

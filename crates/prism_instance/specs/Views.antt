@@ -1,6 +1,6 @@
--- What the code of an instance stands for: groups that are fixed at the start, and names.
+-- What the code of an instance stands for: commands, items and names.
 -- (This project's own rule.)
-use Rattle.std.specs.Prelude.{◌≡◌, ℕ, length, List, [], ◌∷◌, map, take, drop, Option, Some, None, option_copied}
+use Rattle.std.specs.Prelude.{◌≡◌, length, List, [], map, Option}
 use Rattle.std.specs.Borrow.{Bor}
 use Rattle.op_trees.specs.Meaning.{Environment}
 use Rattle.op_trees.specs.Seen.{Seen, known_names}
@@ -16,54 +16,17 @@ use Rattle.op_trees.specs.declared.tree.Value.{Value}
 use Rattle.instance_start.specs.declared.data.Column as code
 use Rattle.instance_start.specs.declared.data.Place.{Place}
 use Rattle.instance_start.specs.Columns.{column_of, value_at, column_at, type_of, agrees}
-use Rattle.state_choices.specs.Groups.{Group}
-use Rattle.state_choices.specs.Views as choices
 use Rattle.prism_flat.specs.Moment.{place_of}
 use Rattle.prism_tree.specs.Syntax as syntax
-use Rattle.gathering.specs.Lists.{list_under}
-use Rattle.instance_start.specs.Numbered.{Numbered, by_number}
-use Rattle.prism_instance.specs.Shapes as shapes
-use Rattle.prism_instance.specs.Shapes.{earnings}
-use Rattle.prism_instance.specs.declared.data.Earned.{Earned}
-use Rattle.prism_instance.specs.declared.data.Shape.{Shape}
-use Rattle.prism_instance.specs.declared.shapes.Earnings.{Earnings}
-use Rattle.prism_instance.specs.declared.data.Evaluated.{Evaluated}
 use Rattle.prism_instance.specs.declared.constant_names.ConstantNames.{ConstantNames}
 use Rattle.prism_instance.specs.declared.state_names.StateNames.{StateNames}
 
--- ---- groups
+-- ---- commands and items
 abbrev pub items_of : List (Bor PrismItem) → List syntax.Item
 items_of is = map (λ i. item_of i.now) is
 
 abbrev pub commands_of : List (Bor PrismCommand) → List syntax.Command
 commands_of cs = map (λ c. command_of c.now) cs
-
-abbrev pub earned_of : Earned → Numbered syntax.Item
-earned_of e = record { number = e.structure; value = item_of e.item.now }
-
-abbrev pub shape_of : Shape → shapes.Shape
-shape_of g = record {
-  label = option_copied g.label;
-  rewards = by_number g.structures (map earned_of g.earned.items);
-  lists = map (λ cs. commands_of cs.items) g.lists.items;
-}
-
--- the items that choices earn, by their labels
-pub record AreEarnings (rewards : List syntax.Rewards) (e : Earnings) : Type 0 where
-  pub silent : map earned_of e.silent.items ≡ earnings rewards None
-  pub named : (x : Name) → map earned_of (list_under e.named x) ≡ earnings rewards (Some x)
-
--- a list cut into parts of these lengths, from the left
-abbrev pub cut : {X : Type 0} → List ℕ → List X → List (List X)
-cut [] xs = []
-cut (n ∷ ns) xs = take n xs ∷ cut ns (drop n xs)
-
-abbrev pub evaluated_of : Evaluated → Group
-evaluated_of g = record {
-  label = option_copied g.label;
-  rewards = map choices.sum_of g.rewards;
-  lists = cut g.lengths.items (map choices.command_of g.commands);
-}
 
 -- ---- names, in a state or where there are constants alone
 abbrev pub values_in : ConstantNames → Environment

@@ -12,25 +12,26 @@ ghost use Rattle.instance_start.specs.Columns.{AreColumns, column_of, constant_o
 ghost use Rattle.instance_start.specs.Firsts.{BeginRight};
 ghost use Rattle.instance_start.specs.Given.{given_by, misfit};
 ghost use Rattle.instance_start.specs.Started.{FailsIn, Starts};
+ghost use Rattle.prism_instance.specs.Built.{AreParts};
 ghost use Rattle.prism_instance.specs.Constants.{AreConstants, HasWideConstant, declared_const, narrow_value};
 ghost use Rattle.prism_instance.specs.Described.{described, mark_names, opened, prism_description, structure_name};
 ghost use Rattle.prism_instance.specs.Instance.{process_of};
-ghost use Rattle.prism_instance.specs.Knowing.{IsFixed, IsKnown, IsPrepared};
+ghost use Rattle.prism_instance.specs.Knowing.{IsFixed, IsKnown};
 ghost use Rattle.prism_instance.specs.Places.{constant_place};
 ghost use Rattle.prism_instance.specs.Variables.{all_variables, vars_of};
 ghost use Rattle.prism_instance.specs.Views.{names_by, FindsIn};
 ghost use Rattle.prism_check.specs.Flattened.{IsFlat};
 
 use crate::constants::{constant_order, constant_values, constants_alone};
-use crate::data::Prepared;
-use crate::instance::PrismInstance;
+use crate::model::{PrismInstance, PrismModel};
+use crate::parts::{Parts, built};
 use crate::places::{constant_places, places};
-use crate::prepare::prepared;
-use crate::shapes::{earned_in_states, shapes};
 use crate::state_names::StateNames;
 use crate::variables::{all_variables, variables_under};
+use bridge_io::{List, Text};
 use instance_start::{Column, Constant, Place, Variable, columns, given_values, misfit};
 use name_rules::NameMap;
+use network::{Instance, Network};
 use op_trees::{EvalFail, Value};
 use prism_check::FlatPrism;
 use prism_tree::{PrismConst, PrismFile, PrismLabel, PrismRewards, PrismVar};
@@ -93,11 +94,12 @@ fn start_known<'a>(
     ensures { IfOk result (λ i. process_of i ≡ described flat.now (given_by given.now)) }
 {
     let fixed = what_is_fixed(alloc, flat.file(), &known)?;
-    Ok(instance_of(flat, given, known, fixed))
+    Ok(instance_of(alloc, flat, given, known, fixed))
 }
 
 /// The instance of what is known and fixed.
 fn instance_of<'a>(
+    alloc: Global,
     flat: &'a FlatPrism,
     given: &'a [Given],
     known: Known<'a>,
@@ -108,15 +110,37 @@ fn instance_of<'a>(
     requires begin { BeginRight (columns_of flat.now (given_by given.now)) }
     ensures { process_of result ≡ described flat.now (given_by given.now) }
 {
-    let _file = flat.file();
-    PrismInstance {
-        flat,
-        given,
-        places: known.places,
-        constants: known.constants,
-        columns: known.columns,
-        prepared: fixed.prepared,
-        marks: fixed.marks,
+    let file = flat.file();
+    let Fixed {
+        parts,
+        marks,
+        texts,
+    } = fixed;
+    let Parts {
+        store,
+        choosing,
+        marking,
+    } = parts;
+    Instance {
+        model: PrismModel { flat, given },
+        network: Network {
+            alloc,
+            store,
+            constants: known.constants,
+            columns: known.columns,
+            texts,
+            components: choosing.components,
+            vectors: choosing.vectors,
+            rewards: file.rewards.len(),
+            silent: choosing.silent,
+            labels: marking.labels,
+            sums: marking.sums,
+            structures: Vec::new(alloc),
+            marks,
+            starts: Vec::new(alloc),
+            condition: marking.condition,
+            has_condition: file.init.is_some(),
+        },
     }
 }
 
@@ -289,11 +313,12 @@ fn variables_by<'a>(
     variables_under(alloc, has_condition, variables, &run)
 }
 
-/// What of a file doesn't change from state to state: what is prepared of it, and the names of the marks.
+/// What of a file doesn't change from state to state: the parts of its network, and the names of the marks and of the columns.
 #[derive(Drop)]
 pub(crate) struct Fixed<'a> {
-    pub(crate) prepared: Prepared<'a>,
+    pub(crate) parts: Parts<'a>,
     pub(crate) marks: Vec<&'a str>,
+    pub(crate) texts: List<Text>,
 }
 
 fn what_is_fixed<'a>(
@@ -304,32 +329,42 @@ fn what_is_fixed<'a>(
     requires { FindsIn known.now.places known.now.columns.items }
     ensures { IfOk result (IsFixed (file_of file.now) known.now) }
 {
-    let prepared = what_is_prepared(alloc, file, known)?;
     let marks = marks(alloc, file)?;
-    Ok(Fixed { prepared, marks })
+    let texts = texts(alloc, known.columns.as_slice())?;
+    let parts = known_parts(alloc, file, known)?;
+    Ok(Fixed {
+        parts,
+        marks,
+        texts,
+    })
 }
 
-fn what_is_prepared<'a>(
+/// The parts of its network, where names stand where they are known to.
+fn known_parts<'a>(
     alloc: Global,
     file: &'a PrismFile,
     known: &Known,
-) -> Result<Prepared<'a>, AllocError>
+) -> Result<Parts<'a>, AllocError>
     requires { FindsIn known.now.places known.now.columns.items }
-    ensures { IfOk result (IsPrepared (file_of file.now) known.now) }
+    ensures { IfOk result (AreParts (file_of file.now) (λ x. under known.now.places x) (map column_of known.now.columns.items)) }
 {
-    let groups = shapes(alloc, file)?;
-    let states = earned_in_states(alloc, file.rewards.as_slice())?;
     let names = StateNames {
         places: &known.places,
         columns: known.columns.as_slice(),
     };
-    prepared(
-        alloc,
-        groups.as_slice(),
-        states.as_slice(),
-        file.labels.as_slice(),
-        &names,
-    )
+    built(alloc, file, &names)
+}
+
+/// The names of the columns.
+fn texts(alloc: Global, columns: &[Column]) -> Result<List<Text>, AllocError>
+    ensures { IfOk result (λ ts. ts ≡ map (λ c. c.name) (map column_of columns.now)) }
+{
+    let mut all = List::with_capacity(alloc, columns.len())?;
+    for column in columns {
+        let text = Text::copy_of(alloc, column.name.as_str())?;
+        all.push(text)?;
+    }
+    Ok(all)
 }
 
 /// The names of the marks: those of the labels, then those of the reward structures.
