@@ -6,3 +6,4 @@ pub mod Numbers
 pub mod Tokens
 pub mod Front
 pub mod Laws
+pub mod Alike
