@@ -5,3 +5,4 @@ pub mod Lang
 pub mod Grammar
 pub mod Faults
 pub mod Laws
+pub mod AlikeLaws

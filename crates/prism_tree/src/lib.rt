@@ -2,9 +2,11 @@
 //! a relation between lists of tokens and trees, and its faults are stated beside it.
 #![tactic(auto)]
 
+mod laws;
 mod operator;
 mod syntax;
 
+pub use laws::alike_law;
 pub use operator::PrismOp;
 pub use syntax::{
     CopiedModule, ItemOn, NamePair, PlainModule, PrismBranch, PrismCommand, PrismConst, PrismExpr,
