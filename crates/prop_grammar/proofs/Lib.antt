@@ -1,0 +1,2 @@
+pub mod GrammarMoves
+pub mod AlikeProperties
