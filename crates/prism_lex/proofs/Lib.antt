@@ -11,3 +11,6 @@ pub mod NextLemmas
 pub mod Once
 pub mod Readers
 pub mod NameTexts
+pub mod Keeping
+pub mod Fitting
+pub mod Names

@@ -7,3 +7,4 @@ pub mod Tokens
 pub mod Front
 pub mod Laws
 pub mod Alike
+pub mod Kept
