@@ -1,7 +1,7 @@
 -- What is kept goes on being seen as it was where the tables grow.
-use Rattle.std.proofs.Common.{arith, ◌≡◌, ◌≢◌, ℕ, zero, suc, ◌≤◌, ◌<◌, Bool, true, false, List, [], ◌∷◌, ◌++◌, map, length, take, Option, Some, None, refl, sym, ap, ap₂, subst, ◌∙◌, append-nil}
+use Rattle.std.proofs.Common.{arith, ◌≡◌, ◌≢◌, ℕ, zero, suc, ◌≤◌, ◌<◌, Bool, true, false, List, [], ◌∷◌, ◌++◌, map, length, take, Option, Some, None, refl, sym, ap, ap₂, subst, ◌∙◌, append-nil, ◌+◌, ◌*◌}
 use Rattle.std.specs.Prelude.{nat_lt, slice_get, if◌then◌else◌}
-use Rattle.std.proofs.lemmas.List.{map-append, length-append, take-append-le, take_at}
+use Rattle.std.proofs.lemmas.List.{map-append, length-append, take-append-le}
 use Rattle.frac_core.specs.declared.decimal.Decimal.{Decimal}
 use Rattle.prism_lex.specs.declared.token.TokenKind.{TokenKind}
 use Rattle.prism_lex.specs.declared.token.TokenKind.TheVariants as K
@@ -12,8 +12,8 @@ use Rattle.prism_lex.specs.declared.kept.Kept.TheVariants.{Word, Symbol, Ident, 
 use Rattle.prism_lex.specs.declared.kept.Found.{Found}
 use Rattle.prism_lex.specs.declared.kept.Lexed.{Lexed}
 use Rattle.prism_lex.specs.Tokens.{Lexeme}
-use Rattle.prism_lex.specs.Alike.{Alike, AreAlike}
-use Rattle.prism_lex.specs.Kept.{made, is_ascii_text, front_name, name_from, if_ascii, in_rows, number_in, ident_at, quoted_at, number_at, lexeme_by, lexeme_at, lexemes, HasNoEnd, Keeps, spelled, IsOf, Grows, HoldsName, HoldsNumber, Holds}
+use Rattle.prism_lex.specs.Alike.{is_named, Alike, AreAlike}
+use Rattle.prism_lex.specs.Kept.{made, is_ascii_text, front_name, name_from, if_ascii, in_rows, number_in, named_at, number_at, lexeme_by, lexeme_at, lexemes, HasNoEnd, Keeps, spelled, IsOf, Grows, HoldsName, HoldsNumber, Holds}
 
 -- ---- a table with more behind it
 
@@ -21,10 +21,6 @@ get_more : {X : Type 0} (xs ys : List X) (i : ℕ) (x : X) → slice_get xs i �
 get_more [] ys i x e = absurd cc
 get_more (y ∷ xs) ys zero x e = e
 get_more (y ∷ xs) ys (suc i) x e = get_more xs ys i x e
-
-pub get_last : {X : Type 0} (xs : List X) (x : X) → slice_get (xs ++ x ∷ []) (length xs) ≡ Some x
-get_last [] x = refl
-get_last (y ∷ xs) x = get_last xs x
 
 not_less : (n m : ℕ) → nat_lt n m ≡ false → m ≤ n
 not_less n m e = grind (arith, e)
@@ -34,8 +30,12 @@ less n m e = grind (arith, e)
 
 front_more : (names more w : List ℕ) → front_name names ≡ Some w → front_name (names ++ more) ≡ Some w
 front_more [] more w e = absurd cc
-front_more (n ∷ v) more w e = go (nat_lt (length v) n) (nat_lt (length (v ++ more)) n) refl refl e
+front_more (low ∷ []) more w e = absurd cc
+front_more (low ∷ high ∷ v) more w e = go (nat_lt (length v) n) (nat_lt (length (v ++ more)) n) refl refl e
   where
+    n : ℕ
+    n = low + 256 * high
+
     go : (b c : Bool) → nat_lt (length v) n ≡ b → nat_lt (length (v ++ more)) n ≡ c → (if b then None else Some (take n v)) ≡ Some w → (if c then None else Some (take n (v ++ more))) ≡ Some w
     go true c f g e = absurd cc
     go false true f g e = let l = length-append v more in let a = not_less (length v) n f in let b = less (length (v ++ more)) n g in absurd (omega arith)
@@ -46,29 +46,12 @@ name_more names more zero w e = front_more names more w e
 name_more [] more (suc i) w e = absurd cc
 name_more (n ∷ names) more (suc i) w e = name_more names more i w e
 
--- A name that is put behind its length at the end of the table stands there.
-pub front_is : (w : List ℕ) → front_name (length w ∷ w) ≡ Some w
-front_is w = go (nat_lt (length w) (length w)) refl
-  where
-    go : (b : Bool) → nat_lt (length w) (length w) ≡ b → (if b then None else Some (take (length w) w)) ≡ Some w
-    go true e = absurd (grind (arith, e))
-    go false e = ap Some (ap (take (length w)) (sym (append-nil w)) ∙ take_at w [] (length w) refl)
-
-pub name_last : (names w : List ℕ) → name_from (names ++ length w ∷ w) (length names) ≡ Some w
-name_last [] w = front_is w
-name_last (n ∷ names) w = name_last names w
-
 -- ---- a token with tables that grow
 
-ident_more : (names more : List ℕ) (place at : ℕ) (o : Option (List ℕ)) → name_from names place ≡ o → (ident_at (if_ascii o) at).kind ≢ K.End
-    → ident_at (if_ascii (name_from (names ++ more) place)) at ≡ ident_at (if_ascii o) at
-ident_more names more place at None e h = absurd (h refl)
-ident_more names more place at (Some w) e h = ap (λ (o : Option (List ℕ)). ident_at (if_ascii o) at) (name_more names more place w e)
-
-quoted_more : (names more : List ℕ) (place at : ℕ) (o : Option (List ℕ)) → name_from names place ≡ o → (quoted_at (if_ascii o) at).kind ≢ K.End
-    → quoted_at (if_ascii (name_from (names ++ more) place)) at ≡ quoted_at (if_ascii o) at
-quoted_more names more place at None e h = absurd (h refl)
-quoted_more names more place at (Some w) e h = ap (λ (o : Option (List ℕ)). quoted_at (if_ascii o) at) (name_more names more place w e)
+named_more : (kind : TokenKind) (names more : List ℕ) (place at : ℕ) (o : Option (List ℕ)) → name_from names place ≡ o → (named_at kind (if_ascii o) at).kind ≢ K.End
+    → named_at kind (if_ascii (name_from (names ++ more) place)) at ≡ named_at kind (if_ascii o) at
+named_more kind names more place at None e h = absurd (h refl)
+named_more kind names more place at (Some w) e h = ap (λ (o : Option (List ℕ)). named_at kind (if_ascii o) at) (name_more names more place w e)
 
 number_more : (literals more : List Decimal) (place at : ℕ) (o : Option Decimal) → slice_get literals place ≡ o → (number_at o at).kind ≢ K.End
     → number_at (slice_get (literals ++ more) place) at ≡ number_at o at
@@ -79,8 +62,8 @@ lexeme_more : (names more : List ℕ) (literals others : List Decimal) (k : Kept
     → lexeme_by (names ++ more) (literals ++ others) k at size ≡ lexeme_by names literals k at size
 lexeme_more names more literals others (Word r) at size h = refl
 lexeme_more names more literals others (Symbol s) at size h = refl
-lexeme_more names more literals others (Ident row) at size h = ident_more names more (in_rows row size) at (name_from names (in_rows row size)) refl h
-lexeme_more names more literals others (Quoted row) at size h = quoted_more names more (in_rows row size) at (name_from names (in_rows row size)) refl h
+lexeme_more names more literals others (Ident row) at size h = named_more K.Ident names more (in_rows row size) at (name_from names (in_rows row size)) refl h
+lexeme_more names more literals others (Quoted row) at size h = named_more K.Quoted names more (in_rows row size) at (name_from names (in_rows row size)) refl h
 lexeme_more names more literals others (Number row) at size h = number_more literals others (in_rows row size) at (number_in literals row size) refl h
 
 all_more : (names more : List ℕ) (literals others : List Decimal) (found : List Found) → HasNoEnd (map (lexeme_at names literals) found)
@@ -101,8 +84,16 @@ full_more : (ts : List Lexeme) (t : Lexeme) → HasNoEnd ts → t.kind ≢ K.End
 full_more [] t h k = (k, tt)
 full_more (u ∷ ts) t h k = (h.0, full_more ts t h.1 k)
 
+spelled_is : (kind : TokenKind) (w : List ℕ) → is_named kind ≡ true → spelled kind w ≡ w
+spelled_is K.Ident w e = refl
+spelled_is K.Quoted w e = refl
+spelled_is (K.Word r) w e = absurd cc
+spelled_is (K.Number d) w e = absurd cc
+spelled_is (K.Symbol s) w e = absurd cc
+spelled_is K.End w e = absurd cc
+
 alike_of : (kind : TokenKind) (name : List ℕ) (at : ℕ) (l : Lexeme) → IsOf kind name at l → Alike (made kind (spelled kind name) at) l
-alike_of kind name at l is = record { kind = sym is.kind; at = sym is.at; text = λ e. sym (is.text e) }
+alike_of kind name at l is = record { kind = sym is.kind; at = sym is.at; text = λ e. spelled_is kind name e ∙ sym (is.text e) }
 
 pub token_kept : (before after : Lexed) (kind : TokenKind) (name : List ℕ) (at n : ℕ) (k : Kept) (size : ℕ) (ls : List Lexeme) (l : Lexeme)
     → Holds before after kind name k size → n ≡ at → Keeps before ls → IsOf kind name at l
@@ -165,7 +156,7 @@ holds_ident before after kind name row size e ascii h literals found =
       no_end = ident_no_end;
       found = found;
       grows = record { more_names = h.more; more_literals = []; names = h.grows; literals = literals ∙ sym (append-nil before.literals) };
-      is = λ at. ap (λ (o : Option (List ℕ)). ident_at (if_ascii o) at) h.at ∙ ap (λ (o : Option (List ℕ)). ident_at o at) (ascii_is name ascii);
+      is = λ at. ap (λ (o : Option (List ℕ)). named_at K.Ident (if_ascii o) at) h.at ∙ ap (λ (o : Option (List ℕ)). named_at K.Ident o at) (ascii_is name ascii);
     })
 
 pub holds_quoted : (before after : Lexed) (kind : TokenKind) (name : List ℕ) (row size : ℕ) → kind ≡ K.Quoted → is_ascii_text name ≡ true
@@ -176,7 +167,7 @@ holds_quoted before after kind name row size e ascii h literals found =
       no_end = quoted_no_end;
       found = found;
       grows = record { more_names = h.more; more_literals = []; names = h.grows; literals = literals ∙ sym (append-nil before.literals) };
-      is = λ at. ap (λ (o : Option (List ℕ)). quoted_at (if_ascii o) at) h.at ∙ ap (λ (o : Option (List ℕ)). quoted_at o at) (ascii_is name ascii);
+      is = λ at. ap (λ (o : Option (List ℕ)). named_at K.Quoted (if_ascii o) at) h.at ∙ ap (λ (o : Option (List ℕ)). named_at K.Quoted o at) (ascii_is name ascii);
     })
 
 pub holds_number : (before after : Lexed) (kind : TokenKind) (name : List ℕ) (value : Decimal) (row size : ℕ) → kind ≡ K.Number value

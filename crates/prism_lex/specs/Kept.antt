@@ -21,15 +21,13 @@ made kind text at = record { kind = kind; text = text; at = at }
 abbrev pub is_ascii_text : List ℕ → Bool
 is_ascii_text w = list_all is_ascii w
 
-abbrev pub in_quotes : List ℕ → List ℕ
-in_quotes w = 34 ∷ (w ++ 34 ∷ [])
-
 -- ---- the tables
 
--- In the table of names stands the length of each in one byte, and behind it its bytes. None where there are fewer.
+-- In the table of names stands the length of each text in two bytes, the low one first, and behind it the text. None where there are fewer.
 abbrev pub front_name : List ℕ → Option (List ℕ)
 front_name [] = None
-front_name (n ∷ w) = if nat_lt (length w) n then None else Some (take n w)
+front_name (low ∷ []) = None
+front_name (low ∷ high ∷ w) = if nat_lt (length w) (low + 256 * high) then None else Some (take (low + 256 * high) w)
 
 abbrev pub name_from : List ℕ → ℕ → Option (List ℕ)
 name_from names place = front_name (drop place names)
@@ -52,13 +50,9 @@ number_in literals row place = slice_get literals (in_rows row place)
 -- ---- what the grammar sees
 
 -- A name or a number that stands in no table is seen as an end, which no grammar reads. Only names have a text.
-abbrev pub ident_at : Option (List ℕ) → ℕ → Lexeme
-ident_at None at = made K.End [] at
-ident_at (Some w) at = made K.Ident w at
-
-abbrev pub quoted_at : Option (List ℕ) → ℕ → Lexeme
-quoted_at None at = made K.End [] at
-quoted_at (Some w) at = made K.Quoted (in_quotes w) at
+abbrev pub named_at : TokenKind → Option (List ℕ) → ℕ → Lexeme
+named_at kind None at = made K.End [] at
+named_at kind (Some w) at = made kind w at
 
 abbrev pub number_at : Option Decimal → ℕ → Lexeme
 number_at None at = made K.End [] at
@@ -67,8 +61,8 @@ number_at (Some d) at = made (K.Number d) [] at
 abbrev pub lexeme_by : List ℕ → List Decimal → Kept → ℕ → ℕ → Lexeme
 lexeme_by names literals (Word r) at size = made (K.Word r) [] at
 lexeme_by names literals (Symbol s) at size = made (K.Symbol s) [] at
-lexeme_by names literals (Ident row) at size = ident_at (name_in names row size) at
-lexeme_by names literals (Quoted row) at size = quoted_at (name_in names row size) at
+lexeme_by names literals (Ident row) at size = named_at K.Ident (name_in names row size) at
+lexeme_by names literals (Quoted row) at size = named_at K.Quoted (name_in names row size) at
 lexeme_by names literals (Number row) at size = number_at (number_in literals row size) at
 
 abbrev pub lexeme_at : List ℕ → List Decimal → Found → Lexeme
@@ -89,26 +83,25 @@ pub record Keeps (l : Lexed) (ls : List Lexeme) : Type 0 where
   pub alike : AreAlike (lexemes l) ls
   pub full : HasNoEnd (lexemes l)
 
--- the text of a token of this kind with this name
+-- what is kept of the text of a token of this kind
 abbrev pub spelled : TokenKind → List ℕ → List ℕ
 spelled K.Ident w = w
-spelled K.Quoted w = in_quotes w
+spelled K.Quoted w = w
 spelled (K.Word _) w = []
 spelled (K.Symbol _) w = []
 spelled (K.Number _) w = []
 spelled K.End w = []
 
--- The token is of this kind, has this name, if it has one, and stands at this offset.
-pub record IsOf (k : TokenKind) (name : List ℕ) (n : ℕ) (l : Lexeme) : Type 0 where
+-- The token is of this kind, has this text, if it is a name, and stands at this offset.
+pub record IsOf (k : TokenKind) (w : List ℕ) (n : ℕ) (l : Lexeme) : Type 0 where
   pub kind : l.kind ≡ k
   pub at : l.at ≡ n
-  pub text : is_named k ≡ true → l.text ≡ spelled k name
+  pub text : is_named k ≡ true → l.text ≡ w
 
--- It is the name of a token of this kind with this text, without quotes, and a short one.
+-- It is the text of a token of this kind, if that is a name, and ASCII.
 pub record IsNameOf (k : TokenKind) (w name : List ℕ) : Type 0 where
-  pub text : is_named k ≡ true → w ≡ spelled k name
+  pub text : is_named k ≡ true → w ≡ name
   pub ascii : is_ascii_text name ≡ true
-  pub short : length name ≤ 255
 
 -- These are the tokens of the bytes, which have no fault.
 pub record IsLexed (bytes : List ℕ) (l : Lexed) : Type 0 where

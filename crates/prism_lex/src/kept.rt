@@ -1,5 +1,5 @@
 // The tokens of a text, as they are kept.
-ghost use Rattle.std.specs.Prelude.{◌≡◌, ◌≢◌, ◌≤◌, ◌<◌, [], ◌∷◌, ◌++◌, List, length, true, IfOk, IfSome, IfNone, Some, None, slice_get};
+ghost use Rattle.std.specs.Prelude.{◌≡◌, ◌<◌, [], ◌∷◌, ◌++◌, List, true, IfOk, IfSome, IfNone, Some, None, slice_get};
 ghost use Rattle.prism_lex.specs.Tokens.{Lexeme};
 ghost use Rattle.prism_lex.specs.Kept.{is_ascii_text, name_from, in_rows, Keeps, IsOf, HoldsName, HoldsNumber, Holds};
 
@@ -41,7 +41,7 @@ const _: () = prove!(size_of::<Found>() == 8);
 /// The tokens of a text: its names and numbers, and what each token is.
 #[derive(Drop)]
 pub struct Lexed {
-    /// The names, without quotes, each behind its length in one byte.
+    /// The names, quoted ones with their quotes, each behind its length in two bytes, the low one first.
     pub names: List<u8>,
     /// The numbers.
     pub literals: List<Decimal>,
@@ -57,14 +57,17 @@ pub fn name_from(names: &[u8], place: usize) -> Option<&[u8]>
     ensures none { IfNone result (name_from names.now place ≡ None) }
 {
     let rest = names.split_at(place.min(names.len())).1;
-    let Some((first, behind)) = rest.split_first() else {
+    let Some((low, behind)) = rest.split_first() else {
         return None;
     };
-    let length = *first as usize;
-    if length > behind.len() {
+    let Some((high, text)) = behind.split_first() else {
+        return None;
+    };
+    let length = *low as usize + 256 * (*high as usize);
+    if length > text.len() {
         return None;
     }
-    Some(behind.split_at(length).0)
+    Some(text.split_at(length).0)
 }
 
 // How many places of names and of numbers are remembered.
@@ -159,7 +162,6 @@ fn keep_name(
     places: &mut [u32; SLOTS],
     name: &[u8],
 ) -> Result<u32, AllocError>
-    requires { length name.now ≤ 255 }
     ensures { IfOk result (λ place. HoldsName names.old name.now names.new place) }
 {
     let slot = name_slot(name);
@@ -168,7 +170,11 @@ fn keep_name(
         return Ok(known);
     }
     let place = place_behind(names.len())?;
-    names.push(name.len() as u8)?;
+    let Ok(length) = u16::try_from(name.len()) else {
+        return Err(AllocError);
+    };
+    names.push((length % 256) as u8)?;
+    names.push((length / 256) as u8)?;
     add_bytes(names, name)?;
     places[slot] = place;
     Ok(place)
@@ -236,7 +242,6 @@ impl Lexer {
 
     // What a name is kept as.
     fn name(&mut self, name: &[u8]) -> Result<(u8, u16), AllocError>
-        requires { length name.now ≤ 255 }
         ensures name { IfOk result (λ r. HoldsName self.old.lexed.names name.now self.new.lexed.names (in_rows r.0 r.1)) }
         ensures literals { self.new.lexed.literals ≡ self.old.lexed.literals }
         ensures found { self.new.lexed.found ≡ self.old.lexed.found }
@@ -247,7 +252,7 @@ impl Lexer {
 
     // What a token is kept as.
     fn kept(&mut self, kind: TokenKind, name: &[u8]) -> Result<(Kept, u16), AllocError>
-        requires { (length name.now ≤ 255) × (is_ascii_text name.now ≡ true) }
+        requires { is_ascii_text name.now ≡ true }
         ensures { IfOk result (λ r. Holds self.old.lexed self.new.lexed kind name.now r.0 r.1) }
     {
         match kind {
@@ -269,12 +274,11 @@ impl Lexer {
         }
     }
 
-    /// Keeps a token behind the others: its kind, the bytes of its name without quotes, none where it has no name, and the offset of its
-    /// first byte. An `Err` is want of memory, also where a place or an offset is too large to be kept, or the token is an end; then nothing
-    /// is known of the tokens that are kept.
+    /// Keeps a token behind the others: its kind, its text, if it is a name, a quoted one with its quotes, and the offset of its first
+    /// byte. The text of another may be left out. An `Err` is want of memory, also where a length, a place or an offset is too large to
+    /// be kept, or the token is an end; then nothing is known of the tokens that are kept.
     pub fn keep(&mut self, kind: TokenKind, name: &[u8], at: usize) -> Result<(), AllocError>
-        requires short { length name.now ≤ 255 }
-        requires ascii { is_ascii_text name.now ≡ true }
+        requires { is_ascii_text name.now ≡ true }
         ensures { IfOk result (λ done. (ls : List Lexeme) (l : Lexeme) → Keeps self.old.lexed ls → IsOf kind name.now at l → Keeps self.new.lexed (ls ++ l ∷ [])) }
     {
         let (kind, size) = self.kept(kind, name)?;

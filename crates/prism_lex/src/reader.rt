@@ -1,7 +1,7 @@
 // A text whose tokens are kept.
-ghost use Rattle.std.specs.Prelude.{◌≡◌, ℕ, ◌≤◌, IfOk, IfErr, List, ◌∷◌, ◌++◌, [], length, None, slice_range};
-ghost use Rattle.prism_lex.specs.Tokens.{IsKind, refusal};
-ghost use Rattle.prism_lex.specs.Kept.{in_quotes, IsNameOf, IsLexed, IsTokenRefusal};
+ghost use Rattle.std.specs.Prelude.{◌≡◌, ◌≤◌, IfOk, IfErr, length, slice_range};
+ghost use Rattle.prism_lex.specs.Tokens.{IsKind};
+ghost use Rattle.prism_lex.specs.Kept.{IsNameOf, IsLexed, IsTokenRefusal};
 
 use crate::kept::{Lexed, Lexer};
 use crate::laws::reader_laws;
@@ -18,28 +18,14 @@ fn text_of(bytes: &[u8], token: Token) -> &[u8]
     &bytes[token.at..token.end]
 }
 
-// A text without its quotes.
-fn without_quotes(text: &[u8]) -> &[u8]
-    ensures { (name : List ℕ) → text.now ≡ in_quotes name → result.now ≡ name }
-{
-    let Some((_, behind)) = text.split_first() else {
-        return text;
-    };
-    let Some((_, name)) = behind.split_last() else {
-        return behind;
-    };
-    name
-}
-
-// The name of a token of this kind with this text, without quotes; none where it has no name.
+// The text of a token of this kind, if that is a name; else none.
 fn name_of(kind: TokenKind, text: &[u8]) -> &[u8]
-    requires kind { IsKind text.now kind }
-    requires accepted { refusal kind text.now ≡ None }
+    requires { IsKind text.now kind }
     ensures { IsNameOf kind text.now result.now }
 {
     match kind {
         TokenKind::Ident => text,
-        TokenKind::Quoted => without_quotes(text),
+        TokenKind::Quoted => text,
         _ => &[],
     }
 }

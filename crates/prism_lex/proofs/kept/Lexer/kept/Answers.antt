@@ -9,11 +9,11 @@ returns-in-Symbol c = holds_symbol c.args.self.now.lexed c.args.kind c.args.name
 
 pub returns-in_ok-row-in-Ident : goal.returns-in_ok-row-in-Ident
 returns-in_ok-row-in-Ident c =
-    holds_ident c.args.self.now.lexed _ c.args.kind c.args.name.now _ _ c.in-Ident.is c.requires.1 c.in_ok-row-in-Ident.ensures.name c.in_ok-row-in-Ident.ensures.literals c.in_ok-row-in-Ident.ensures.found
+    holds_ident c.args.self.now.lexed _ c.args.kind c.args.name.now _ _ c.in-Ident.is c.requires c.in_ok-row-in-Ident.ensures.name c.in_ok-row-in-Ident.ensures.literals c.in_ok-row-in-Ident.ensures.found
 
 pub returns-in_ok-row-in-Quoted : goal.returns-in_ok-row-in-Quoted
 returns-in_ok-row-in-Quoted c =
-    holds_quoted c.args.self.now.lexed _ c.args.kind c.args.name.now _ _ c.in-Quoted.is c.requires.1 c.in_ok-row-in-Quoted.ensures.name c.in_ok-row-in-Quoted.ensures.literals c.in_ok-row-in-Quoted.ensures.found
+    holds_quoted c.args.self.now.lexed _ c.args.kind c.args.name.now _ _ c.in-Quoted.is c.requires c.in_ok-row-in-Quoted.ensures.name c.in_ok-row-in-Quoted.ensures.literals c.in_ok-row-in-Quoted.ensures.found
 
 pub returns-in_ok-row-in-Number : goal.returns-in_ok-row-in-Number
 returns-in_ok-row-in-Number c =
