@@ -3,6 +3,7 @@
 //! devices in memory and over the runtime's files and streams.
 #![tactic(auto)]
 
+mod feeder;
 mod file_shelf;
 mod list;
 mod memory_shelf;
@@ -17,6 +18,7 @@ mod std_sink;
 mod tally;
 mod transfer;
 
+pub use feeder::Feeder;
 pub use file_shelf::FileShelf;
 pub use list::{List, Text};
 pub use memory_shelf::MemoryShelf;
