@@ -70,8 +70,8 @@ impl<T> List<T> {
     }
 }
 
-// Up to so many items a list takes memory for no more than it has.
-const SHORT: usize = 4;
+// So many items of a list are the first that take memory: for one item, and then for four.
+const SHORT: usize = 2;
 
 impl<T: Drop> List<T> {
     /// Adds an item at the end. Where memory is refused the list stays as it was, and the item is let go.
@@ -79,8 +79,9 @@ impl<T: Drop> List<T> {
         ensures ok { OnOk result (self.new ≡ self.old ++ item ∷ []) }
         ensures err { OnErr result (self.new ≡ self.old) }
     {
-        if self.items.len() < SHORT {
-            self.items.reserve_exact(1)?;
+        let len = self.items.len();
+        if len < SHORT {
+            self.items.reserve_exact(1 + 2 * len)?;
         }
         self.items.push(item)?;
         Ok(())
