@@ -1,4 +1,5 @@
 pub mod formers
+pub mod Feeding
 pub mod FileShelf
 pub mod Kept
 pub mod MemoryShelf

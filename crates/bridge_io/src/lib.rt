@@ -29,4 +29,4 @@ pub use results::together;
 pub use shelf::{Shelf, ShelfFault};
 pub use sink::{Sink, SinkFault, write_whole};
 pub use std_sink::StdSink;
-pub use transfer::{ReadFail, read_all};
+pub use transfer::{ReadFail, read_all, read_into};
