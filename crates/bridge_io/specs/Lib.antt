@@ -10,3 +10,4 @@ pub mod ReadFail
 pub mod Reason
 pub mod StdSink
 pub mod Tally
+pub mod Whole

@@ -17,6 +17,7 @@ mod sink;
 mod std_sink;
 mod tally;
 mod transfer;
+mod whole;
 
 pub use feeder::Feeder;
 pub use file_shelf::FileShelf;
@@ -30,3 +31,4 @@ pub use shelf::{Shelf, ShelfFault};
 pub use sink::{Sink, SinkFault, write_whole};
 pub use std_sink::StdSink;
 pub use transfer::{ReadFail, read_all, read_into};
+pub use whole::Whole;

@@ -5,7 +5,7 @@ ghost use Rattle.bridge_io.specs.Feeding.{IsGiven};
 ghost use Rattle.bridge_io.specs.ReadFail.{IsTooLong};
 ghost use Rattle.bridge_io.specs.declared.transfer.ReadFail.TheVariants.{Memory};
 
-use crate::{Feeder, List, Place, Shelf, place_of};
+use crate::{Feeder, List, Place, Shelf, Whole};
 use std::alloc::{AllocError, Global};
 use thiserror::Error;
 
@@ -128,19 +128,7 @@ pub fn read_all<H: Shelf>(
     ensures count { H.faults shelf.old ≤ H.faults shelf.new }
     ensures steady { (other : List ℕ) → H.steady shelf.old other → H.steady shelf.new other }
 {
-    let mut bytes = List::new(alloc);
-    let mut buffer = [0u8; PIECE];
-    'fill: while bytes.len() <= limit {
-        let room = PIECE.min(limit + 1 - bytes.len());
-        let Ok(n) = shelf.read_next(name, &mut buffer[..room]) else {
-            return Err(ReadFail::Fault);
-        };
-        if n == 0 {
-            return Ok(bytes);
-        }
-        if let Err(e) = bytes.extend(&buffer[..n]) {
-            return Err(ReadFail::Memory(e));
-        }
-    }
-    Err(ReadFail::TooLong(place_of(bytes.as_slice(), limit)))
+    let mut whole = Whole::new(alloc);
+    read_into(shelf, name, limit, &mut whole)?;
+    Ok(whole.bytes())
 }
