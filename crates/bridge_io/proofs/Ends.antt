@@ -1,5 +1,5 @@
 -- The place of the end of some bytes, and of the end of one byte more.
-use Rattle.std.proofs.Common.{arith, ◌≡◌, ℕ, ◌+◌, ◌-◌, ◌<◌, ◌≤◌, Bool, true, false, cond, not, List, [], ◌∷◌, ◌++◌, length, get_or, take, count_by, refl, ap, sym, subst, ◌∙◌, append-nil, append_assoc, length-append, length-take-le, le_of_eq}
+use Rattle.std.proofs.Common.{arith, ◌≡◌, ℕ, ◌+◌, ◌-◌, ◌<◌, ◌≤◌, Bool, true, false, cond, not, List, [], ◌∷◌, ◌++◌, length, get_or, take, count_by, refl, ap, sym, subst, ◌∙◌, append_assoc}
 use Rattle.std.specs.Prelude.{◌==◌}
 use Rattle.std.specs.List.{prefix_len, suffix_len, after_last}
 use Rattle.std.proofs.lemmas.Bool.{false_from_ne_true, eqb-true}
@@ -34,7 +34,7 @@ column_whole bytes = ap (λ l. 1 + length (after_last (λ b. b == 10) l)) (take_
 ends : (b : ℕ) → b ≡ 10 → (b == 10) ≡ true
 ends b is = ap (λ k. k == 10) is
 
-ends_none : (b : ℕ) → (b ≡ 10 → ⊥) → (b == 10) ≡ false
+pub ends_none : (b : ℕ) → (b ≡ 10 → ⊥) → (b == 10) ≡ false
 ends_none b other = false_from_ne_true (b == 10) (λ t. other (eqb-true b 10 t))
 
 -- behind the end of a line

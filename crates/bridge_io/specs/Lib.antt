@@ -2,6 +2,7 @@ pub mod formers
 pub mod Feeding
 pub mod FileShelf
 pub mod Kept
+pub mod LineMap
 pub mod MemoryShelf
 pub mod MemorySink
 pub mod Outside

@@ -1,5 +1,5 @@
 -- What a feeder that keeps its bytes stands for.
-use Rattle.std.specs.Prelude.{◌≡◌, ℕ, Bool, false, List, length}
+use Rattle.std.specs.Prelude.{◌≡◌, ℕ, false, List, length}
 use Rattle.bridge_io.specs.declared.whole.Whole.{Whole}
 
 -- how many bytes it was fed

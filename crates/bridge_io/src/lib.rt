@@ -5,6 +5,7 @@
 
 mod feeder;
 mod file_shelf;
+mod line_map;
 mod list;
 mod memory_shelf;
 mod memory_sink;
@@ -21,6 +22,7 @@ mod whole;
 
 pub use feeder::Feeder;
 pub use file_shelf::FileShelf;
+pub use line_map::LineMap;
 pub use list::{List, Text};
 pub use memory_shelf::MemoryShelf;
 pub use memory_sink::MemorySink;

@@ -1,10 +1,9 @@
-use Rattle.std.proofs.Common.{arith, ◌≡◌, ◌<◌, ◌≤◌, ℕ, ◌+◌, ◌-◌, min, List, ◌++◌, Option, length, take, drop, ap, sym, subst, ◌∙◌, le_trans, le_of_eq, append_assoc, length-append, length-take, length-take-le}
-use Rattle.std.proofs.Math.Seq.{take-add}
-use Rattle.std.proofs.lemmas.List.{take_all, take_at, drop_at, take-take, take_min, take-append-le}
+use Rattle.std.proofs.Common.{arith, ◌≡◌, ◌≤◌, ℕ, ◌+◌, ◌-◌, min, List, ◌++◌, Option, length, take, ap, sym, subst, ◌∙◌, le_trans, le_of_eq, append_assoc, length-append, length-take, length-take-le}
+use Rattle.std.proofs.lemmas.List.{take_all, take-take, take_min, take-append-le}
 use Rattle.bridge_io.specs.Outside.{Lefts, Takes}
 use Rattle.bridge_io.specs.Feeding.{IsFed}
 use Rattle.bridge_io.specs.Place.{IsEnd}
-use Rattle.bridge_io.proofs.Bytes.{takes_more}
+use Rattle.bridge_io.proofs.Bytes.{takes_more, take_behind}
 use Rattle.bridge_io.proofs.transfer.read_into.Goals as goal
 
 -- what was read fits into the room, so that no more than one byte too many is there
@@ -34,13 +33,6 @@ cut_piece piece rest room n before fits is =
     sym (take_min room (take n piece)) ∙ ap (λ m. take (min room m) (take n piece)) size ∙ ap (λ m. take m (take n piece)) less
     ∙ take-take before n piece within ∙ sym (take-append-le before piece rest (le_trans within fits))
 
-cut_behind : (bytes piece : List ℕ) (limit count : ℕ) → length bytes ≡ count → count ≤ limit → take limit (bytes ++ piece) ≡ bytes ++ take (limit - count) piece
-cut_behind bytes piece limit count all few =
-    let split : limit ≡ count + (limit - count) = omega arith in
-    ap (λ m. take m (bytes ++ piece)) split ∙ take-add count (limit - count) (bytes ++ piece)
-    ∙ ap (λ l. l ++ take (limit - count) (drop count (bytes ++ piece))) (take_at bytes piece count all)
-    ∙ ap (λ l. bytes ++ take (limit - count) l) (drop_at bytes piece count all)
-
 -- Of a piece that makes it one byte too many the place passes all but the last.
 passed : (line column : ℕ) (bytes piece rest : List ℕ) (limit n before count : ℕ) → length bytes ≡ count → count ≤ limit → n ≤ length piece → before ≡ min n (limit - count)
     → IsEnd line column (take limit bytes ++ take before (piece ++ rest)) → IsEnd line column (take limit (bytes ++ take n piece))
@@ -48,7 +40,7 @@ passed line column bytes piece rest limit n before count all few fits is end =
     let whole : take limit bytes ≡ bytes = take_all limit bytes (le_trans (le_of_eq all) few) in
     let same : take limit bytes ++ take before (piece ++ rest) ≡ take limit (bytes ++ take n piece) =
     ap (λ l. l ++ take before (piece ++ rest)) whole ∙ ap (λ l. bytes ++ l) (sym (cut_piece piece rest (limit - count) n before fits is))
-    ∙ sym (cut_behind bytes (take n piece) limit count all few) in
+    ∙ sym (take_behind bytes (take n piece) limit count all few) in
     subst (IsEnd line column) same end
 
 pub returns-in-Err-clause-err : goal.returns-in-Err-clause-err

@@ -1,6 +1,4 @@
-use Rattle.std.proofs.Common.{arith, rules, ◌≡◌, ◌<◌, ◌≤◌, ◌+◌, ◌++◌, [], ℕ, List, length, take, append-nil, sym, ap, subst, ◌∙◌}
-use Rattle.std.proofs.lemmas.List.{take_all}
-use Rattle.bridge_io.specs.Place.{IsEnd}
+use Rattle.std.proofs.Common.{arith}
 use Rattle.bridge_io.proofs.Ends.{end_next, end_of_all}
 use Rattle.bridge_io.proofs.place.Place.past.Goals as goal
 
