@@ -1,4 +1,4 @@
-use Rattle.std.proofs.Common.{arith, ◌≡◌, ◌≤◌, ℕ, ◌+◌, ◌-◌, min, List, ◌++◌, Option, length, take, ap, sym, subst, ◌∙◌, le_trans, le_of_eq, append_assoc, length-append, length-take, length-take-le}
+use Rattle.std.proofs.Common.{arith, ◌≡◌, ◌≤◌, ℕ, ◌+◌, ◌-◌, min, List, ◌++◌, Option, length, take, drop, ap, sym, subst, ◌∙◌, le_trans, le_of_eq, append_assoc, length-append, length-take, length-take-le}
 use Rattle.std.proofs.lemmas.List.{take_all, take-take, take_min, take-append-le}
 use Rattle.bridge_io.specs.Outside.{Lefts, Takes}
 use Rattle.bridge_io.specs.Feeding.{IsFed}
@@ -52,21 +52,22 @@ pub returns-in-Err-clause-stops : goal.returns-in-Err-clause-stops
 returns-in-Err-clause-stops g c =
     let read = c.fill.invariant.read in
     let fits : c.in-Ok.n ≤ length c.read_next.new.piece = le_trans c.in-Ok.ensures.bound (le_of_eq (sym c.read_next.auto.piece)) in
-    let within = count_within _ _ _ _ _ _ fits c.read_next.auto.piece c.min-room.ensures c.fill-test.true in
+    let within = count_within c.read_next.new.piece c.fill.buffer c.in-Ok.n c.min-room.result c.fill.count c.args.limit fits c.read_next.auto.piece c.min-room.ensures c.fill-test.true in
     (read.0 ++ take c.in-Ok.n c.read_next.new.piece, le_trans (le_of_eq (counted read.0 _ _ _ read.1 fits)) within, takes_more _ _ _ _ _ _ read.2.taken c.in-Ok.ensures.taken)
 
 pub fill-preserved : goal.fill-preserved
 fill-preserved g c =
     let read = c.fill.invariant.read in
     let fits : c.in-Ok.n ≤ length c.read_next.new.piece = le_trans c.in-Ok.ensures.bound (le_of_eq (sym c.read_next.auto.piece)) in
+    let rest : List ℕ = drop c.min-room.result c.fill.buffer in
     record {
-      within = count_within _ _ _ _ _ _ fits c.read_next.auto.piece c.min-room.ensures c.fill-test.true;
-      fed = fed_count _ _ _ _ _ _ c.fill.invariant.fed fits c.in_default-feed.ensures.grown;
+      within = count_within c.read_next.new.piece c.fill.buffer c.in-Ok.n c.min-room.result c.fill.count c.args.limit fits c.read_next.auto.piece c.min-room.ensures c.fill-test.true;
+      fed = fed_count _ rest _ _ _ _ c.fill.invariant.fed fits c.in_default-feed.ensures.grown;
       read = (
         read.0 ++ take c.in-Ok.n c.read_next.new.piece,
         counted read.0 _ _ _ read.1 fits,
-        fed_more _ _ _ _ _ _ _ read.0 _ _ _ fits read.2 c.in-Ok.ensures.taken c.in_default-feed.ensures.ok,
-        passed _ _ read.0 _ _ _ _ _ _ read.1 c.fill-test.true fits c.min-before.ensures (c.past-end.ensures.end _ read.3),
+        fed_more _ _ _ _ _ _ _ read.0 _ rest _ fits read.2 c.in-Ok.ensures.taken c.in_default-feed.ensures.ok,
+        passed _ _ read.0 _ rest _ _ _ _ read.1 c.fill-test.true fits c.min-before.ensures (c.past-end.ensures.end _ read.3),
       );
       held = λ _. c.in-Ok.ensures.held;
       count = le_trans c.fill.invariant.count c.in-Ok.ensures.count;
