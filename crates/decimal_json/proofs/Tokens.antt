@@ -1,6 +1,6 @@
 -- Several bytes of a piece at once.
 use Rattle.std.proofs.Common.{◌≡◌, ℕ, zero, suc, ◌+◌, ◌-◌, ◌<◌, ◌≤◌, Bool, true, false, ◌&&◌, nat_eq, List, [], ◌∷◌, ◌++◌, take, drop, length, reverse, refl, sym, ap, subst, ◌∙◌, arith}
-use Rattle.std.specs.Prelude.{Some, None, Result, Ok, Err}
+use Rattle.std.specs.Prelude.{Option, Some, None, IfSome, Result, Ok, Err}
 use Rattle.std.proofs.Math.ListN.{get_or}
 use Rattle.std.proofs.Math.Seq.{take-add, split_at}
 use Rattle.std.proofs.lemmas.List.{take_more, get_or-drop, length-take-le, length-drop}
@@ -62,7 +62,7 @@ from_memory at n w u l st h = advances_memory at w st l
 pub from_step : (at n : ℕ) (w : List ℕ) (u v : State) → n < length w → Steps (at + n) (get_or w n 0) u (Ok v) → From at w n u (Ok (n + 1, v))
 from_step at n w u v l k st h = advances_front at (n + 1) w st v (omega (arith, l)) (omega arith) (along_more w at n st u v l h k)
 
-from_halt : (at n : ℕ) (w : List ℕ) (u : State) (e : Stop) → n < length w → Halts (at + n) (get_or w n 0) u e → From at w n u (Err (n, e))
+pub from_halt : (at n : ℕ) (w : List ℕ) (u : State) (e : Stop) → n < length w → Halts (at + n) (get_or w n 0) u e → From at w n u (Err (n, e))
 from_halt at n w u e l k st h = (take n w, drop (suc n) w, get_or w n 0, split_at w n 0 l, length-take-le n w (omega (arith, l)), u, h, k)
 
 pub from_stepped : (at n : ℕ) (w : List ℕ) (u : State) (e : Stop) → n < length w → Steps (at + n) (get_or w n 0) u (Err e) → From at w n u (Err (n, e))
@@ -131,6 +131,19 @@ from_next at n m w u v t l k a h = from_on at n m w u v (Ok ((n + m) + 1, t)) l 
 
 pub from_end : (at n m : ℕ) (w : List ℕ) (u v : State) → n ≤ length w → 0 < length w → n + m ≡ length w → Along (at + n) (take m (drop n w)) u v → From at w n u (Ok (n + m, v))
 from_end at n m w u v l z e a = from_on at n m w u v (Ok (n + m, v)) l a (from_all at (n + m) w v z e)
+
+pub some_holds : {A : Type 0} (P : A → Type 0) (o : Option A) (x : A) → o ≡ Some x → IfSome o P → P x
+some_holds {A} P o x e h = let F : Option A → Type 0 = λ k. IfSome k P in subst F e h
+
+-- the same mode, told otherwise
+pub from_in_key : (at n start : ℕ) (w : List ℕ) (done : List Member) (from : ℕ) (t u : Within) (v z : List ℕ) (fs : List Frame) (result : Result (ℕ × State) (ℕ × Stop)) → t ≡ u → v ≡ z → From at w n (record { mode = modes.InKey start done from u z; frames = fs }) result → From at w n (record { mode = modes.InKey start done from t v; frames = fs }) result
+from_in_key at n start w done from t u v z fs result e f h =
+    let F : Within → Type 0 = λ x. From at w n (record { mode = modes.InKey start done from x v; frames = fs }) result in
+    let G : List ℕ → Type 0 = λ x. From at w n (record { mode = modes.InKey start done from u x; frames = fs }) result in
+    subst F (sym e) (subst G (sym f) h)
+
+pub from_in_text : (at n start : ℕ) (w : List ℕ) (v z : List ℕ) (fs : List Frame) (result : Result (ℕ × State) (ℕ × Stop)) → v ≡ z → From at w n (record { mode = modes.InString start Between z; frames = fs }) result → From at w n (record { mode = modes.InString start Between v; frames = fs }) result
+from_in_text at n start w v z fs result f h = let G : List ℕ → Type 0 = λ x. From at w n (record { mode = modes.InString start Between x; frames = fs }) result in subst G (sym f) h
 
 -- ---- a step
 

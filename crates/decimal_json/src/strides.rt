@@ -1,15 +1,16 @@
 // The reader over several bytes at once, its state changed in its place.
 
-ghost use Rattle.std.specs.Prelude.{◌≡◌, ◌⊎◌, ℕ, ◌+◌, ◌<◌, ◌≤◌, List, length, take, slice_index, reverse, None, true, false, IfSome};
+ghost use Rattle.std.specs.Prelude.{◌≡◌, ◌⊎◌, ℕ, ◌+◌, ◌<◌, ◌≤◌, List, [], length, take, slice_index, reverse, None, true, false, IfSome};
 ghost use Rattle.decimal_json.specs.declared.machine.Mode.TheVariants.{First, FirstKey, InString, InKey, Key, Colon, Word};
 ghost use Rattle.decimal_json.specs.declared.machine.State.{State};
+ghost use Rattle.decimal_json.specs.declared.chars.Within.TheVariants.{Between};
 ghost use Rattle.decimal_json.specs.Grammar.{is_space};
 ghost use Rattle.decimal_json.specs.Number.{onward, RunsOn};
 ghost use Rattle.decimal_json.specs.States.{waits, AllSpaces, From, leaving, took, Begins, Ends, begin_now, closes};
 
 use crate::brackets::Frame;
 use crate::chars::{Within, closes};
-use crate::letters::Letters;
+use crate::letters::{Letters, plain_string};
 use crate::machine::{
     KeptMode, Mode, State, Stop, begin, closed, in_after, in_array, in_colon, in_first,
     in_first_key, in_next_key, in_number, in_value, in_word, is_closing, is_space, is_value,
@@ -17,7 +18,7 @@ use crate::machine::{
 use crate::members::{Members, Pending};
 use crate::number::{Stage, first, is_end, onward};
 use crate::tree::Json;
-use bridge_io::{List, Reason};
+use bridge_io::{List, Reason, Text};
 use frac_core::decimal_of;
 use std::alloc::Global;
 use std::mem;
@@ -102,6 +103,31 @@ fn colon_at(
     taken(n, in_colon(at + n, start, pending, state, bytes[n]))
 }
 
+/// Before the quotation mark that ends a key.
+fn key_named(
+    at: usize,
+    n: usize,
+    start: usize,
+    members: Members,
+    from: usize,
+    name: Text,
+    state: &mut State,
+    bytes: &[u8],
+) -> Taken
+    requires some { n < length bytes.now }
+    requires quote { slice_index bytes.now n ≡ 34 }
+    requires room { at + length bytes.now < 9223372036854775808 }
+    ensures { From at bytes.now n (record { mode = InKey start members from Between name; frames = state.old.frames }) (leaving result state.new) }
+{
+    if members.has(name.as_str()) {
+        drop(members);
+        drop(name);
+        return Err((n, Stop::At(from, Reason::TwiceMember)));
+    }
+    let pending = Pending::new(members, name, from);
+    colon_at(at, n + 1, start, pending, state, bytes)
+}
+
 /// Behind so many bytes, inside a key.
 fn key_from(
     at: usize,
@@ -137,13 +163,45 @@ fn key_from(
                 drop(longer);
                 return Err((end, Stop::Here));
             }
-            if members.has(longer.as_str()) {
-                drop(members);
-                drop(longer);
-                return Err((end, Stop::At(from, Reason::TwiceMember)));
+            match longer.into_text() {
+                Err(_) => {
+                    drop(members);
+                    Err((0, Stop::Memory))
+                }
+                Ok(name) => key_named(at, end, start, members, from, name, state, bytes),
             }
-            let pending = Pending::new(members, longer, from);
-            colon_at(at, end + 1, start, pending, state, bytes)
+        }
+    }
+}
+
+/// Behind the quotation mark that begins a key.
+fn key_opened(
+    alloc: Global,
+    at: usize,
+    n: usize,
+    start: usize,
+    members: Members,
+    from: usize,
+    state: &mut State,
+    bytes: &[u8],
+) -> Taken
+    requires some { 0 < length bytes.now }
+    requires front { n ≤ length bytes.now }
+    requires room { at + length bytes.now < 9223372036854775808 }
+    ensures { From at bytes.now n (record { mode = InKey start members from Between []; frames = state.old.frames }) (leaving result state.new) }
+{
+    match plain_string(alloc, &bytes[n..]) {
+        Err(_) => {
+            drop(members);
+            Err((0, Stop::Memory))
+        }
+        Ok(None) => {
+            let text = Letters::new(alloc);
+            let within = Within::Between;
+            key_from(at, n, start, members, from, within, text, state, bytes)
+        }
+        Ok(Some((more, name))) => {
+            key_named(at, n + more, start, members, from, name, state, bytes)
         }
     }
 }
@@ -173,9 +231,7 @@ fn key_at(
     if bytes[n] != b'"' {
         return taken(n, in_next_key(alloc, here, start, members, state, bytes[n]));
     }
-    let text = Letters::new(alloc);
-    let within = Within::Between;
-    key_from(at, n + 1, start, members, here, within, text, state, bytes)
+    key_opened(alloc, at, n + 1, start, members, here, state, bytes)
 }
 
 /// A first key or the end of the object is to come.
@@ -202,9 +258,8 @@ fn first_key_at(
     if bytes[n] != b'"' {
         return taken(n, in_first_key(alloc, here, start, state, bytes[n]));
     }
-    let (members, text) = (Members::new(alloc), Letters::new(alloc));
-    let within = Within::Between;
-    key_from(at, n + 1, start, members, here, within, text, state, bytes)
+    let members = Members::new(alloc);
+    key_opened(alloc, at, n + 1, start, members, here, state, bytes)
 }
 
 /// Behind a value, over the next byte, and over a key behind a comma.
@@ -318,6 +373,40 @@ fn text_from(
     }
 }
 
+/// Behind the quotation mark that begins a string that is a value.
+fn text_opened(
+    alloc: Global,
+    at: usize,
+    n: usize,
+    start: usize,
+    state: &mut State,
+    bytes: &[u8],
+) -> Taken
+    requires some { 0 < length bytes.now }
+    requires front { n ≤ length bytes.now }
+    requires room { at + length bytes.now < 9223372036854775808 }
+    ensures { From at bytes.now n (record { mode = InString start Between []; frames = state.old.frames }) (leaving result state.new) }
+{
+    match plain_string(alloc, &bytes[n..]) {
+        Err(_) => Err((0, Stop::Memory)),
+        Ok(None) => {
+            let (within, text) = (Within::Between, Letters::new(alloc));
+            text_from(alloc, at, n, start, within, text, state, bytes)
+        }
+        Ok(Some((more, whole))) => {
+            let value = Json::Str(start, whole);
+            let end = n + more;
+            if end + 1 == bytes.len() {
+                state.mode = KeptMode {
+                    mode: Mode::After(value),
+                };
+                return Ok(end + 1);
+            }
+            after_at(alloc, at, end + 1, value, state, bytes)
+        }
+    }
+}
+
 /// Whether these bytes are a word and more behind it.
 fn begins_with(bytes: &[u8], word: &[u8]) -> bool
     ensures within { result ≡ true → length word.now < length bytes.now }
@@ -419,8 +508,7 @@ fn value_at(alloc: Global, at: usize, n: usize, state: &mut State, bytes: &[u8])
     let here = at + n;
     let c = bytes[n];
     if c == b'"' {
-        let (within, text) = (Within::Between, Letters::new(alloc));
-        return text_from(alloc, at, n + 1, here, within, text, state, bytes);
+        return text_opened(alloc, at, n + 1, here, state, bytes);
     }
     if c == b'{' && state.frames.len() < 1024 {
         return first_key_at(alloc, at, n + 1, here, state, bytes);

@@ -1,4 +1,4 @@
-use Rattle.std.proofs.Common.{◌<◌, length, refl, arith}
+use Rattle.std.proofs.Common.{◌<◌, [], length, refl, arith}
 use Rattle.decimal_json.specs.declared.machine.Mode.TheVariants as modes
 use Rattle.decimal_json.proofs.Tokens.{from_mode, from_first_key}
 use Rattle.decimal_json.proofs.strides.first_key_at.Goals as goal
@@ -9,4 +9,4 @@ returns-then-bytes-n-ne34 c =
 
 pub returns : goal.returns
 returns c =
-    let l : c.args.n < length c.args.bytes.now = (let e = c.if-n-bytes.false in let f = c.requires.front in omega (arith, e, f)) in from_first_key c.args.at c.args.n c.args.start c.args.bytes.now c.new-members.result c.args.state.now.frames c.new-text.result _ l (let e = c.if-bytes-n-ne34.false in omega (arith, e)) c.new-members.ensures c.new-text.ensures c.key_from.ensures
+    let l : c.args.n < length c.args.bytes.now = (let e = c.if-n-bytes.false in let f = c.requires.front in omega (arith, e, f)) in from_first_key c.args.at c.args.n c.args.start c.args.bytes.now c.new-members.result c.args.state.now.frames [] _ l (let e = c.if-bytes-n-ne34.false in omega (arith, e)) c.new-members.ensures refl c.key_opened.ensures
