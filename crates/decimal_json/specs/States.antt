@@ -1,5 +1,5 @@
 -- What may follow in each state of the reader, as a language; and what a step and the end give.
-use Rattle.std.specs.Prelude.{◌≡◌, ◌⊎◌, ℕ, suc, ◌+◌, ◌<◌, ◌≤◌, List, [], ◌∷◌, ◌++◌, reverse, Result, Ok, Err, length, take, Option, None, Some}
+use Rattle.std.specs.Prelude.{◌≡◌, ◌⊎◌, ℕ, suc, ◌+◌, ◌<◌, ◌≤◌, List, [], ◌∷◌, ◌++◌, reverse, Result, Ok, Err, length, take, Option, None, Some, IfSome, IsSomeAnd}
 use Rattle.bridge_io.specs.declared.reason.Reason.{Reason}
 use Rattle.decimal_json.specs.declared.tree.Json.{Json}
 use Rattle.decimal_json.specs.declared.tree.Json.TheVariants.{Str, Array, Object}
@@ -150,24 +150,33 @@ pub record Breaks (p : Place) (c : ℕ) (L : Lang Json) (from : ℕ) (reason : R
 abbrev pub verdict : Digits → Bool
 verdict n = if is_end n.stage then is_beyond n.text else n.before
 
+-- the number that is read now, and from where on
+abbrev pub number_in : Mode → Option (ℕ × Digits)
+number_in modes.Value = None
+number_in (modes.First at) = None
+number_in (modes.FirstKey at) = None
+number_in (modes.Key at done) = None
+number_in (modes.Colon at o) = None
+number_in (modes.InKey at done from t s) = None
+number_in (modes.InString at t s) = None
+number_in (modes.Word bytes x) = None
+number_in (modes.InNumber at n) = Some (at, n)
+number_in (modes.After x) = None
+
 -- no number, or one that begins at this offset
 abbrev pub Fresh : Place → Place → Mode → Type 0
-Fresh p q (modes.InNumber from n) = (from ≡ p.at) × (n.before ≡ false) × (q.marks ≡ p.marks)
-Fresh p q m = Unit {0}
+Fresh p q m = IfSome (number_in m) (λ r. (r.0 ≡ p.at) × (r.1.before ≡ false) × (q.marks ≡ p.marks))
 
 abbrev pub NoNumber : Mode → Type 0
-NoNumber (modes.InNumber from n) = ⊥
-NoNumber m = Unit {0}
+NoNumber m = IfSome (number_in m) (λ r. ⊥)
 
 -- no number that breaks a limit is left here
 abbrev pub Settles : Mode → Type 0
-Settles (modes.InNumber from n) = verdict n ≡ false
-Settles m = Unit {0}
+Settles m = IfSome (number_in m) (λ r. verdict r.1 ≡ false)
 
 -- the second state is further in the number of the first
 abbrev pub Continues : Place → Place → Mode → Mode → Type 0
-Continues p q (modes.InNumber from n) (modes.InNumber at m) = (at ≡ from) × (is_end m.stage ≡ false → m.before ≡ verdict n) × (q.marks ≡ p.marks)
-Continues p q m n = ⊥
+Continues p q m n = IsSomeAnd (number_in m) (λ r. IsSomeAnd (number_in n) (λ t. (t.0 ≡ r.0) × (is_end t.1.stage ≡ false → t.1.before ≡ verdict r.1) × (q.marks ≡ p.marks)))
 
 abbrev pub Carried : Place → Place → Mode → Mode → Type 0
 Carried p q m n = (Settles m × Fresh p q n) ⊎ Continues p q m n
@@ -186,18 +195,20 @@ Goes at c L (Err e) = (p : Place) → p.at ≡ at → Stopped p c L e
 -- the state is in no number, and no token breaks a limit
 abbrev pub Quiet : Result State Stop → Type 0
 Quiet (Ok s) = NoNumber s.mode
+Quiet (Err Memory) = Unit {0}
+Quiet (Err Here) = Unit {0}
 Quiet (Err (At from reason)) = ⊥
-Quiet (Err e) = Unit {0}
+Quiet (Err (TooFar from)) = Unit {0}
 
 -- the number ends before c and breaks a limit
 abbrev pub TooFarAt : Mode → ℕ → ℕ → Type 0
-TooFarAt (modes.InNumber at n) c from = (from ≡ at) × (verdict n ≡ true) × (onward n.stage c ≡ None)
-TooFarAt m c from = ⊥
+TooFarAt m c from = IsSomeAnd (number_in m) (λ r. (from ≡ r.0) × (verdict r.1 ≡ true) × (onward r.1.stage c ≡ None))
 
 abbrev pub Halts : ℕ → ℕ → State → Stop → Type 0
-Halts at c s (TooFar from) = TooFarAt s.mode c from
 Halts at c s Memory = Unit {0}
-Halts at c s e = ((p : Place) → p.at ≡ at → Stopped p c (rest s) e) × Settles s.mode
+Halts at c s Here = ((p : Place) → p.at ≡ at → Stopped p c (rest s) Here) × Settles s.mode
+Halts at c s (At from reason) = ((p : Place) → p.at ≡ at → Stopped p c (rest s) (At from reason)) × Settles s.mode
+Halts at c s (TooFar from) = TooFarAt s.mode c from
 
 -- what a step from a state gives
 abbrev pub Steps : ℕ → ℕ → State → Result State Stop → Type 0
@@ -206,9 +217,10 @@ Steps at c s (Err e) = Halts at c s e
 
 -- what a step in a number gives
 abbrev pub NumberHalts : ℕ → ℕ → ℕ → Digits → List Frame → Stop → Type 0
-NumberHalts at c from n fs (TooFar start) = (start ≡ from) × (verdict n ≡ true) × (onward n.stage c ≡ None)
 NumberHalts at c from n fs Memory = Unit {0}
-NumberHalts at c from n fs e = ((p : Place) → p.at ≡ at → Stopped p c (in_number from n.stage n.text fs) e) × (verdict n ≡ false)
+NumberHalts at c from n fs Here = ((p : Place) → p.at ≡ at → Stopped p c (in_number from n.stage n.text fs) Here) × (verdict n ≡ false)
+NumberHalts at c from n fs (At start reason) = ((p : Place) → p.at ≡ at → Stopped p c (in_number from n.stage n.text fs) (At start reason)) × (verdict n ≡ false)
+NumberHalts at c from n fs (TooFar start) = (start ≡ from) × (verdict n ≡ true) × (onward n.stage c ≡ None)
 
 abbrev pub Numbers : ℕ → ℕ → ℕ → Digits → List Frame → Result State Stop → Type 0
 Numbers at c from n fs (Ok t) = (p : Place) → p.at ≡ at → (q : Place) × IsNext p q × Turns p c q (in_number from n.stage n.text fs) (rest t) × Carried p q (modes.InNumber from n) t.mode
@@ -224,8 +236,7 @@ Over L (Some x) = (p : Place) → (q : Place) × Stops p L x q × NotesHere p q
 Over L None = (p : Place) → NoEmpty p L
 
 abbrev pub TooFarEnd : Mode → ℕ → Type 0
-TooFarEnd (modes.InNumber at n) from = (from ≡ at) × (verdict n ≡ true)
-TooFarEnd m from = ⊥
+TooFarEnd m from = IsSomeAnd (number_in m) (λ r. (from ≡ r.0) × (verdict r.1 ≡ true))
 
 -- nothing follows, and the longest number that stands breaks no limit; or one that does
 abbrev pub Finishes : State → Result (Option Json) ℕ → Type 0
