@@ -142,8 +142,11 @@ from_in_key at n start w done from t u v z fs result e f h =
     let G : List ℕ → Type 0 = λ x. From at w n (record { mode = modes.InKey start done from u x; frames = fs }) result in
     subst F (sym e) (subst G (sym f) h)
 
-pub from_in_text : (at n start : ℕ) (w : List ℕ) (v z : List ℕ) (fs : List Frame) (result : Result (ℕ × State) (ℕ × Stop)) → v ≡ z → From at w n (record { mode = modes.InString start Between z; frames = fs }) result → From at w n (record { mode = modes.InString start Between v; frames = fs }) result
-from_in_text at n start w v z fs result f h = let G : List ℕ → Type 0 = λ x. From at w n (record { mode = modes.InString start Between x; frames = fs }) result in subst G (sym f) h
+pub from_in_text : (at n start : ℕ) (w : List ℕ) (t u : Within) (v z : List ℕ) (fs : List Frame) (result : Result (ℕ × State) (ℕ × Stop)) → t ≡ u → v ≡ z → From at w n (record { mode = modes.InString start u z; frames = fs }) result → From at w n (record { mode = modes.InString start t v; frames = fs }) result
+from_in_text at n start w t u v z fs result e f h =
+    let F : Within → Type 0 = λ x. From at w n (record { mode = modes.InString start x v; frames = fs }) result in
+    let G : List ℕ → Type 0 = λ x. From at w n (record { mode = modes.InString start u x; frames = fs }) result in
+    subst F (sym e) (subst G (sym f) h)
 
 -- ---- a step
 

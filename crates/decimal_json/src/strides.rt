@@ -6,6 +6,7 @@ ghost use Rattle.decimal_json.specs.declared.machine.State.{State};
 ghost use Rattle.decimal_json.specs.declared.chars.Within.TheVariants.{Between};
 ghost use Rattle.decimal_json.specs.Grammar.{is_space};
 ghost use Rattle.decimal_json.specs.Number.{onward, RunsOn};
+ghost use Rattle.decimal_json.specs.Strings as chars;
 ghost use Rattle.decimal_json.specs.States.{waits, AllSpaces, From, leaving, took, Begins, Ends, begin_now, closes};
 
 use crate::brackets::Frame;
@@ -43,11 +44,16 @@ fn waits(mode: &Mode) -> bool
     ensures { result ≡ waits mode.now }
 {
     match mode {
+        Mode::Value => true,
+        Mode::First(_) => true,
+        Mode::FirstKey(_) => true,
+        Mode::Key(_, _) => true,
+        Mode::Colon(_, _) => true,
         Mode::InKey(_, _, _, _, _) => false,
         Mode::InString(_, _, _) => false,
         Mode::Word(_, _) => false,
         Mode::InNumber(_, _) => false,
-        _ => true,
+        Mode::After(_) => true,
     }
 }
 
@@ -128,6 +134,44 @@ fn key_named(
     colon_at(at, n + 1, start, pending, state, bytes)
 }
 
+/// Behind bytes that go on with a key, up to the first that does not.
+fn key_on(
+    at: usize,
+    n: usize,
+    start: usize,
+    members: Members,
+    from: usize,
+    within: Within,
+    text: Letters,
+    state: &mut State,
+    bytes: &[u8],
+) -> Taken
+    requires some { 0 < length bytes.now }
+    requires front { n ≤ length bytes.now }
+    requires stops { n < length bytes.now → chars.onward within (slice_index bytes.now n) ≡ None }
+    requires room { at + length bytes.now < 9223372036854775808 }
+    ensures { From at bytes.now n (record { mode = InKey start members from within text; frames = state.old.frames }) (leaving result state.new) }
+{
+    if n == bytes.len() {
+        state.mode = KeptMode {
+            mode: Mode::InKey(start, members, from, within, text),
+        };
+        return Ok(n);
+    }
+    if !closes(within, bytes[n]) {
+        drop(members);
+        drop(text);
+        return Err((n, Stop::Here));
+    }
+    match text.into_text() {
+        Err(_) => {
+            drop(members);
+            Err((0, Stop::Memory))
+        }
+        Ok(name) => key_named(at, n, start, members, from, name, state, bytes),
+    }
+}
+
 /// Behind so many bytes, inside a key.
 fn key_from(
     at: usize,
@@ -152,24 +196,7 @@ fn key_from(
         }
         Ok((more, now, longer)) => {
             let end = n + more;
-            if end == bytes.len() {
-                state.mode = KeptMode {
-                    mode: Mode::InKey(start, members, from, now, longer),
-                };
-                return Ok(end);
-            }
-            if !closes(now, bytes[end]) {
-                drop(members);
-                drop(longer);
-                return Err((end, Stop::Here));
-            }
-            match longer.into_text() {
-                Err(_) => {
-                    drop(members);
-                    Err((0, Stop::Memory))
-                }
-                Ok(name) => key_named(at, end, start, members, from, name, state, bytes),
-            }
+            key_on(at, end, start, members, from, now, longer, state, bytes)
         }
     }
 }
@@ -326,6 +353,32 @@ fn after_at(
     comma_at(alloc, at, end, whole, state, bytes)
 }
 
+/// Before the quotation mark that ends a string that is a value.
+fn text_ended(
+    alloc: Global,
+    at: usize,
+    n: usize,
+    start: usize,
+    text: Text,
+    state: &mut State,
+    bytes: &[u8],
+) -> Taken
+    requires some { n < length bytes.now }
+    requires quote { slice_index bytes.now n ≡ 34 }
+    requires room { at + length bytes.now < 9223372036854775808 }
+    ensures { From at bytes.now n (record { mode = InString start Between text; frames = state.old.frames }) (leaving result state.new) }
+{
+    let value = Json::Str(start, text);
+    let end = n + 1;
+    if end == bytes.len() {
+        state.mode = KeptMode {
+            mode: Mode::After(value),
+        };
+        return Ok(end);
+    }
+    after_at(alloc, at, end, value, state, bytes)
+}
+
 /// Behind so many bytes, inside a string that is a value.
 fn text_from(
     alloc: Global,
@@ -358,16 +411,7 @@ fn text_from(
             }
             match longer.into_text() {
                 Err(_) => Err((0, Stop::Memory)),
-                Ok(whole) => {
-                    let value = Json::Str(start, whole);
-                    if end + 1 == bytes.len() {
-                        state.mode = KeptMode {
-                            mode: Mode::After(value),
-                        };
-                        return Ok(end + 1);
-                    }
-                    after_at(alloc, at, end + 1, value, state, bytes)
-                }
+                Ok(whole) => text_ended(alloc, at, end, start, whole, state, bytes),
             }
         }
     }
@@ -394,15 +438,7 @@ fn text_opened(
             text_from(alloc, at, n, start, within, text, state, bytes)
         }
         Ok(Some((more, whole))) => {
-            let value = Json::Str(start, whole);
-            let end = n + more;
-            if end + 1 == bytes.len() {
-                state.mode = KeptMode {
-                    mode: Mode::After(value),
-                };
-                return Ok(end + 1);
-            }
-            after_at(alloc, at, end + 1, value, state, bytes)
+            text_ended(alloc, at, n + more, start, whole, state, bytes)
         }
     }
 }
