@@ -1,6 +1,6 @@
 -- Several bytes of a piece at once.
 use Rattle.std.proofs.Common.{◌≡◌, ℕ, zero, suc, ◌+◌, ◌-◌, ◌<◌, ◌≤◌, Bool, true, false, ◌&&◌, nat_eq, List, [], ◌∷◌, ◌++◌, take, drop, length, reverse, refl, sym, ap, subst, ◌∙◌, arith}
-use Rattle.std.specs.Prelude.{Option, Some, None, IfSome, Result, Ok, Err}
+use Rattle.std.specs.Prelude.{Option, Some, None, IfSome, IfNone, Result, Ok, Err}
 use Rattle.std.proofs.Math.ListN.{get_or}
 use Rattle.std.proofs.Math.Seq.{take-add, split_at}
 use Rattle.std.proofs.lemmas.List.{take_more, get_or-drop, length-take-le, length-drop}
@@ -13,6 +13,7 @@ use Rattle.decimal_json.specs.declared.machine.Stop.{Stop}
 use Rattle.decimal_json.specs.declared.machine.Stop.TheVariants.{Memory, Here, At}
 use Rattle.decimal_json.specs.declared.chars.Within.{Within}
 use Rattle.decimal_json.specs.Grammar.{is_among, names}
+use Rattle.decimal_json.specs.Kept.{AddsItem}
 use Rattle.decimal_json.specs.Strings.{onward, is_between}
 use Rattle.decimal_json.specs.declared.machine.Mode.{Mode}
 use Rattle.decimal_json.specs.declared.number.Digits.{Digits}
@@ -30,7 +31,7 @@ use Rattle.decimal_json.specs.Number as num
 use Rattle.decimal_json.specs.Number.{RunsOn}
 use Rattle.decimal_json.specs.States.{Goes, goes_on, Steps, Settles, Quiet, Numbers, Halts, Along, From, leaving, stepping, took, waits, AllSpaces, Begins, Ends, closes, begin_now, begin_value, begin_items, begin_members, begin_key, in_string, in_word}
 use Rattle.decimal_json.proofs.Steps as s
-use Rattle.decimal_json.proofs.StepLemmas.{plain, with_mark, pushed, popped, goes_by, bracket_fine, by_mode, number_steps, number_begins, number_over, verdict_end, after_none, open_object_comma, closes_is, closes_not, key_breaks, word_from, word_over}
+use Rattle.decimal_json.proofs.StepLemmas.{plain, with_mark, pushed, popped, goes_by, bracket_fine, by_mode, number_steps, number_begins, number_over, verdict_end, after_none, open_array_comma, open_object_comma, closes_is, closes_not, key_breaks, word_from, word_over}
 use Rattle.decimal_json.proofs.Chains.{along_join, one, tail_is, advances_front, advances_memory, spaces_on, key_opens, first_opens, spelling, digits_along}
 
 -- ---- along the bytes
@@ -131,6 +132,9 @@ from_next at n m w u v t l k a h = from_on at n m w u v (Ok ((n + m) + 1, t)) l 
 
 pub from_end : (at n m : ℕ) (w : List ℕ) (u v : State) → n ≤ length w → 0 < length w → n + m ≡ length w → Along (at + n) (take m (drop n w)) u v → From at w n u (Ok (n + m, v))
 from_end at n m w u v l z e a = from_on at n m w u v (Ok (n + m, v)) l a (from_all at (n + m) w v z e)
+
+pub none_holds : {A : Type 0} (P : Type 0) (o : Option A) → o ≡ None → IfNone o P → P
+none_holds {A} P o e h = let F : Option A → Type 0 = λ k. IfNone k P in subst F e h
 
 pub some_holds : {A : Type 0} (P : A → Type 0) (o : Option A) (x : A) → o ≡ Some x → IfSome o P → P x
 some_holds {A} P o x e h = let F : Option A → Type 0 = λ k. IfSome k P in subst F e h
@@ -244,6 +248,23 @@ module _ (at n i : ℕ) (w : List ℕ) (L M : Lang Json) (l : i < length w) (h :
 
 pub comma_is_none : (c : ℕ) → c ≡ 44 → is_space c ≡ false
 comma_is_none c e = ap is_space e
+
+-- a comma behind an item of an array, which was added in its place
+pub from_item : (at n : ℕ) (w : List ℕ) (fs gs : List Frame) (x : Json) (u v : State) → n < length w → get_or w n 0 ≡ 44 → AddsItem fs x gs → v ≡ record { mode = modes.Value; frames = gs } → Ends (at + n) (get_or w n 0) u (closes (reverse fs) x) → From at w n u (Ok (n + 1, v))
+from_item at n w fs gs x u v l q a e b =
+    let s : State = record { mode = modes.Value; frames = gs } in
+    let r : Result State Stop = Ok s in
+    let F : State → Type 0 = λ y. From at w n u (Ok (n + 1, y)) in
+    subst F (sym e) (from_step at n w u s l
+    (b r (pushed (λ k. Goes (at + n) (get_or w n 0) (closes k x) r) a.outer fs (InArray a.start a.items) a.before
+    (λ p j. plain p (at + n) _ 0x2c (closes (InArray a.start a.items ∷ reverse a.outer) x) (λ h. begin_value (reverse gs)) j q (open_array_comma a.outer x p gs a.start a.items (a.items ++ x ∷ []) refl a.behind))) tt))
+
+-- the same brackets and the same value, told otherwise
+pub ends_same : (at c : ℕ) (u : State) (fs gs : List Frame) (x y : Json) → gs ≡ fs → y ≡ x → Ends at c u (closes (reverse fs) x) → Ends at c u (closes (reverse gs) y)
+ends_same at c u fs gs x y e f h =
+    let F : List Frame → Type 0 = λ k. Ends at c u (closes (reverse k) y) in
+    let G : Json → Type 0 = λ k. Ends at c u (closes (reverse fs) k) in
+    subst F (sym e) (subst G (sym f) h)
 
 -- no bracket is open
 pub from_closed : (at n : ℕ) (w : List ℕ) (fs : List Frame) (x : Json) (u : State) → n < length w → get_or w n 0 ≡ 44 → fs ≡ [] → Ends (at + n) (get_or w n 0) u (closes (reverse fs) x) → From at w n u (Err (n, Here))

@@ -13,8 +13,9 @@ use crate::brackets::Frame;
 use crate::chars::{Within, closes};
 use crate::letters::{Letters, plain_string};
 use crate::machine::{
-    KeptMode, Mode, State, Stop, begin, closed, in_after, in_array, in_colon, in_first,
-    in_first_key, in_next_key, in_number, in_value, in_word, is_closing, is_space, is_value,
+    KeptMode, Mode, State, Stop, await_value, begin, closed, in_after, in_array, in_colon,
+    in_first, in_first_key, in_next_key, in_number, in_value, in_word, is_closing, is_space,
+    is_value,
 };
 use crate::members::{Members, Pending};
 use crate::number::{Stage, first, is_end, onward};
@@ -289,7 +290,36 @@ fn first_key_at(
     key_opened(alloc, at, n + 1, start, members, here, state, bytes)
 }
 
-/// Behind a value, over the next byte, and over a key behind a comma.
+/// Behind a value, over a comma, and over a key behind it.
+fn comma_on(
+    alloc: Global,
+    at: usize,
+    n: usize,
+    value: Json,
+    state: &mut State,
+    bytes: &[u8],
+) -> Taken
+    requires some { n < length bytes.now }
+    requires comma { slice_index bytes.now n ≡ 44 }
+    requires room { at + length bytes.now < 9223372036854775808 }
+    ensures { (u : State) → Ends (at + n) (slice_index bytes.now n) u (closes (reverse state.old.frames) value) → From at bytes.now n u (leaving result state.new) }
+{
+    match state.frames.pop() {
+        None => {
+            drop(value);
+            Err((n, Stop::Here))
+        }
+        Some(Frame::InArray(start, items)) => {
+            taken(n, in_array(start, items, value, state, bytes[n]))
+        }
+        Some(Frame::InObject(start, pending)) => match pending.with(alloc, value) {
+            Err(_) => Err((0, Stop::Memory)),
+            Ok(members) => key_at(alloc, at, n + 1, start, members, state, bytes),
+        },
+    }
+}
+
+/// Behind a value, over the next byte, and over a key behind a comma. An item of an array is added in its place.
 fn comma_at(
     alloc: Global,
     at: usize,
@@ -307,16 +337,13 @@ fn comma_at(
     if c != b',' {
         return taken(n, in_after(alloc, here, value, state, c));
     }
-    match state.frames.pop() {
-        None => {
-            drop(value);
-            Err((n, Stop::Here))
+    match state.frames.add_item(value) {
+        Err(_) => Err((0, Stop::Memory)),
+        Ok(Some(same)) => comma_on(alloc, at, n, same, state, bytes),
+        Ok(None) => {
+            await_value(state);
+            Ok(n + 1)
         }
-        Some(Frame::InArray(start, items)) => taken(n, in_array(start, items, value, state, c)),
-        Some(Frame::InObject(start, pending)) => match pending.with(alloc, value) {
-            Err(_) => Err((0, Stop::Memory)),
-            Ok(members) => key_at(alloc, at, n + 1, start, members, state, bytes),
-        },
     }
 }
 
@@ -437,9 +464,7 @@ fn text_opened(
             let (within, text) = (Within::Between, Letters::new(alloc));
             text_from(alloc, at, n, start, within, text, state, bytes)
         }
-        Ok(Some((more, whole))) => {
-            text_ended(alloc, at, n + more, start, whole, state, bytes)
-        }
+        Ok(Some((more, whole))) => { text_ended(alloc, at, n + more, start, whole, state, bytes) }
     }
 }
 
