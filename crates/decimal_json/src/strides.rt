@@ -1,7 +1,7 @@
 // The reader over several bytes at once, its state changed in its place.
 
 ghost use Rattle.std.specs.Prelude.{◌≡◌, ◌⊎◌, ℕ, ◌+◌, ◌<◌, ◌≤◌, List, [], length, take, slice_index, reverse, None, true, false, IfSome};
-ghost use Rattle.decimal_json.specs.declared.machine.Mode.TheVariants.{First, FirstKey, InString, InKey, Key, Colon, Word};
+ghost use Rattle.decimal_json.specs.declared.machine.Mode.TheVariants.{Value, First, FirstKey, InString, InKey, Key, Colon, Word, InNumber};
 ghost use Rattle.decimal_json.specs.declared.machine.State.{State};
 ghost use Rattle.decimal_json.specs.declared.chars.Within.TheVariants.{Between};
 ghost use Rattle.decimal_json.specs.Grammar.{is_space};
@@ -18,7 +18,7 @@ use crate::machine::{
     is_value,
 };
 use crate::members::{Members, Pending};
-use crate::number::{Stage, first, is_end, onward};
+use crate::number::{Digits, Stage, first, is_end, onward};
 use crate::tree::Json;
 use bridge_io::{List, Reason, Text};
 use frac_core::decimal_of;
@@ -603,16 +603,40 @@ fn first_at(
     }
 }
 
+/// A value is to come, over one byte.
+fn value_on(alloc: Global, at: usize, n: usize, state: &mut State, bytes: &[u8]) -> Taken
+    requires some { n < length bytes.now }
+    requires room { at + length bytes.now < 9223372036854775808 }
+    ensures { From at bytes.now n (record { mode = Value; frames = state.old.frames }) (leaving result state.new) }
+{
+    taken(n, in_value(alloc, at + n, state, bytes[n]))
+}
+
+/// Inside a number, over one byte.
+fn number_on(
+    alloc: Global,
+    at: usize,
+    n: usize,
+    start: usize,
+    digits: Digits,
+    state: &mut State,
+    bytes: &[u8],
+) -> Taken
+    requires some { n < length bytes.now }
+    requires room { at + length bytes.now < 9223372036854775808 }
+    ensures { From at bytes.now n (record { mode = InNumber start digits; frames = state.old.frames }) (leaving result state.new) }
+{
+    taken(n, in_number(alloc, at + n, start, digits, state, bytes[n]))
+}
+
 /// Behind so many bytes, over some more.
 fn token(alloc: Global, at: usize, n: usize, state: &mut State, bytes: &[u8]) -> Taken
     requires some { n < length bytes.now }
     requires room { at + length bytes.now < 9223372036854775808 }
     ensures { From at bytes.now n state.old (leaving result state.new) }
 {
-    let here = at + n;
-    let c = bytes[n];
     match mem::replace(&mut state.mode, KeptMode { mode: Mode::Value }).into_mode() {
-        Mode::Value => taken(n, in_value(alloc, here, state, c)),
+        Mode::Value => value_on(alloc, at, n, state, bytes),
         Mode::First(start) => first_at(alloc, at, n, start, state, bytes),
         Mode::FirstKey(start) => first_key_at(alloc, at, n, start, state, bytes),
         Mode::Key(start, members) => key_at(alloc, at, n, start, members, state, bytes),
@@ -624,7 +648,7 @@ fn token(alloc: Global, at: usize, n: usize, state: &mut State, bytes: &[u8]) ->
             text_from(alloc, at, n, start, within, text, state, bytes)
         }
         Mode::Word(word, value) => word_from(alloc, at, n, word, value, state, bytes),
-        Mode::InNumber(start, digits) => taken(n, in_number(alloc, here, start, digits, state, c)),
+        Mode::InNumber(start, digits) => number_on(alloc, at, n, start, digits, state, bytes),
         Mode::After(value) => after_at(alloc, at, n, value, state, bytes),
     }
 }

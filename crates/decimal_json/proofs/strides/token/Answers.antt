@@ -1,5 +1,5 @@
 use Rattle.std.proofs.Common.{◌≡◌, sym, ap, ◌∙◌}
-use Rattle.decimal_json.proofs.Tokens.{from_mode, from_number, from_state, ends_after}
+use Rattle.decimal_json.proofs.Tokens.{from_state, ends_after}
 use Rattle.decimal_json.specs.declared.machine.Mode.{Mode}
 use Rattle.decimal_json.specs.declared.machine.State.{State}
 use Rattle.decimal_json.proofs.strides.token.Goals as goal
@@ -9,11 +9,11 @@ is_in u m e = ap (λ (k : Mode). record { mode = k; frames = u.frames }) e
 
 pub returns-in-Value : goal.returns-in-Value
 returns-in-Value c =
-    from_mode c.args.at c.args.n c.args.bytes.now _ c.args.state.now.frames c.args.state.now c.in_value.new.state c.in_value.result c.taken.result (is_in c.args.state.now _ (sym (c.into_mode.ensures ∙ c.replace.ensures.value) ∙ c.in-Value.is)) c.requires.some c.taken.ensures tt c.in_value.ensures
+    from_state c.args.at c.args.n c.args.bytes.now _ c.args.state.now _ (sym (is_in c.args.state.now _ (sym (c.into_mode.ensures ∙ c.replace.ensures.value) ∙ c.in-Value.is))) c.value_on.ensures
 
 pub returns-in-InNumber : goal.returns-in-InNumber
 returns-in-InNumber c =
-    from_number c.args.at c.args.n c.in-InNumber.start c.args.bytes.now c.in-InNumber.digits c.args.state.now.frames c.args.state.now c.in_number.new.state c.in_number.result c.taken-in-InNumber.result (is_in c.args.state.now _ (sym (c.into_mode.ensures ∙ c.replace.ensures.value) ∙ c.in-InNumber.is)) c.requires.some c.taken-in-InNumber.ensures c.in_number.ensures
+    from_state c.args.at c.args.n c.args.bytes.now _ c.args.state.now _ (sym (is_in c.args.state.now _ (sym (c.into_mode.ensures ∙ c.replace.ensures.value) ∙ c.in-InNumber.is))) c.number_on.ensures
 
 pub returns-in-After : goal.returns-in-After
 returns-in-After c =
