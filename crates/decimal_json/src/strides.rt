@@ -88,6 +88,7 @@ fn number_front(stage: Stage, bytes: &[u8]) -> (usize, Stage)
 }
 
 /// Behind a key.
+#[inline(always)]
 fn colon_at(
     at: usize,
     n: usize,
@@ -111,6 +112,7 @@ fn colon_at(
 }
 
 /// Before the quotation mark that ends a key.
+#[inline(always)]
 fn key_named(
     at: usize,
     n: usize,
@@ -320,6 +322,7 @@ fn comma_on(
 }
 
 /// Behind a value, over the next byte, and over a key behind a comma. An item of an array is added in its place.
+#[inline(always)]
 fn comma_at(
     alloc: Global,
     at: usize,
@@ -469,6 +472,7 @@ fn text_opened(
 }
 
 /// Whether these bytes are a word and more behind it.
+#[inline(always)]
 fn begins_with(bytes: &[u8], word: &[u8]) -> bool
     ensures within { result ≡ true → length word.now < length bytes.now }
     ensures same { result ≡ true → take (length word.now) bytes.now ≡ word.now }
@@ -477,6 +481,7 @@ fn begins_with(bytes: &[u8], word: &[u8]) -> bool
 }
 
 /// Behind so many bytes, inside a word.
+#[inline(always)]
 fn word_from(
     alloc: Global,
     at: usize,
