@@ -1,14 +1,13 @@
 -- What is read of a literal, byte by byte, and of a numeral, part by part.
-use Rattle.std.proofs.Common.{◌≡◌, ℕ, suc, ◌+◌, ◌*◌, ◌^◌, ◌≤◌, ◌<◌, Bool, true, false, cond, List, [], ◌∷◌, ◌++◌, length, drop, get_or, refl, sym, ap, ap₂, subst, ◌∙◌, arith, min, inl, inr, append-nil}
+use Rattle.std.proofs.Common.{◌≡◌, ℕ, suc, ◌+◌, ◌*◌, ◌^◌, ◌≤◌, ◌<◌, Bool, true, false, cond, List, [], ◌∷◌, ◌++◌, length, refl, sym, ap, ap₂, subst, ◌∙◌, arith, min, inl, inr, append-nil}
 use Rattle.std.specs.Prelude.{◌⊎◌, ◌||◌, ◌==◌, is_some, Option, Some, None}
 use Rattle.std.specs.Char.{is_ascii_digit, digit_value}
 use Rattle.std.specs.Str.Parse.{AllDigits, digits_value, digits_value_after}
-use Rattle.std.proofs.Math.Seq.{drop-cons}
 use Rattle.std.proofs.lemmas.Bool.Decides.{nat_tests}
 use Rattle.frac_core.specs.declared.numeral.Reading.{Reading}
 use Rattle.frac_core.specs.declared.numeral.Section.{Section}
 use Rattle.frac_core.specs.declared.numeral.Section.TheVariants.{Whole, Part, Power}
-use Rattle.frac_core.specs.Numeral.{Exponent, sign_text, exponent_text, part_text, IsSign, IsExponent, IsPart, is_mark, behind, made, with_digit, with_minus, with_byte, reading, reading_of, capped, has_minus, exponent_minus, exponent_value, numeral_reading, NumeralIsRead}
+use Rattle.frac_core.specs.Numeral.{Exponent, sign_text, exponent_text, part_text, IsSign, IsExponent, IsPart, is_mark, behind, section_after, made, nothing_read, with_digit, with_minus, with_byte, reading, reading_of, capped, has_minus, exponent_minus, exponent_value, numeral_reading, NumeralIsRead}
 
 -- ---- the cap
 
@@ -47,13 +46,6 @@ capped_byte s b r = go (is_ascii_digit b) (b == 46 || is_mark b) (b == 45)
     go false false true = capped_minus s r
     go false false false = capped_twice r
 
--- nor what the rest does
-capped_rest : (s : Section) (r : Reading) (bs : List ℕ) → capped (reading s (capped r) bs) ≡ capped (reading s r bs)
-capped_rest s r [] = capped_twice r
-capped_rest s r (b ∷ bs) =
-    sym (capped_rest (behind s b) (with_byte s b (capped r)) bs) ∙ ap (λ (x : Reading). capped (reading (behind s b) x bs)) (capped_byte s b r)
-    ∙ capped_rest (behind s b) (with_byte s b r) bs
-
 places_digit : (s : Section) (d : ℕ) (r : Reading) → (with_digit s d r).places ≤ r.places + 1
 places_digit Whole d r = omega arith
 places_digit Part d r = omega arith
@@ -73,31 +65,47 @@ places_byte s b r = go (is_ascii_digit b) (b == 46 || is_mark b) (b == 45)
     go false false true = places_minus s r
     go false false false = omega arith
 
--- What the code knows after i bytes.
-pub record HasRead (text : List ℕ) (i : ℕ) (s : Section) (r : Reading) : Type 0 where
-  pub rest : capped (reading s r (drop i text)) ≡ capped (reading_of text)
+-- ---- a byte more
+
+section_push : (s : Section) (w : List ℕ) (b : ℕ) → section_after s (w ++ b ∷ []) ≡ behind (section_after s w) b
+section_push s [] b = refl
+section_push s (c ∷ w) b = section_push (behind s c) w b
+
+reading_push : (s : Section) (r : Reading) (w : List ℕ) (b : ℕ) → reading s r (w ++ b ∷ []) ≡ with_byte (section_after s w) b (reading s r w)
+reading_push s r [] b = refl
+reading_push s r (c ∷ w) b = reading_push (behind s c) (with_byte s c r) w b
+
+-- A reading has as many digits behind its point as bytes at most.
+places_reading : (s : Section) (r : Reading) (w : List ℕ) → (reading s r w).places ≤ r.places + length w
+places_reading s r [] = omega arith
+places_reading s r (b ∷ w) =
+    let h = places_reading (behind s b) (with_byte s b r) w in
+    let k = places_byte s b r in
+    omega (arith, h, k)
+
+-- What was read of a text keeps the bounds of its parts.
+pub record IsHeld (text : List ℕ) (r : Reading) : Type 0 where
   pub digits : r.digits ≤ 10 ^ 38
-  pub places : r.places ≤ i
+  pub places : r.places ≤ length text
   pub power : r.power ≤ 10 ^ 38
 
-pub read_more : (text : List ℕ) (i d : ℕ) (s t : Section) (r q : Reading) → HasRead text i s r → i < length text → q ≡ capped (with_byte s (get_or text i d) r) → t ≡ behind s (get_or text i d) → HasRead text (i + 1) t q
-read_more text i d s t r q h l e f = record {
-  rest =
-      let add : i + 1 ≡ suc i = omega arith in
-      ap (λ (n : ℕ). capped (reading t q (drop n text))) add ∙ ap (λ (x : Reading). capped (reading t x (drop (suc i) text))) e
-      ∙ capped_rest t (with_byte s c r) (drop (suc i) text) ∙ ap (λ (u : Section). capped (reading u (with_byte s c r) (drop (suc i) text))) f
-      ∙ ap (λ (u : List ℕ). capped (reading s r u)) (sym (drop-cons text i d l)) ∙ h.rest;
-  digits = let a : q.digits ≡ min (with_byte s c r).digits (10 ^ 38) = ap (λ (x : Reading). x.digits) e in omega (arith, a);
+pub held : (text : List ℕ) (r : Reading) → r ≡ capped (reading_of text) → IsHeld text r
+held text r e = record {
+  digits = let a : r.digits ≡ min (reading_of text).digits (10 ^ 38) = ap (λ (x : Reading). x.digits) e in omega (arith, a);
   places =
-      let a : q.places ≡ (with_byte s c r).places = ap (λ (x : Reading). x.places) e in
-      let b = places_byte s c r in
-      let k = h.places in
-      omega (arith, a, b, k);
-  power = let a : q.power ≡ min (with_byte s c r).power (10 ^ 38) = ap (λ (x : Reading). x.power) e in omega (arith, a);
+      let a : r.places ≡ (reading_of text).places = ap (λ (x : Reading). x.places) e in
+      let b = places_reading Whole nothing_read text in
+      omega (arith, a, b);
+  power = let a : r.power ≡ min (reading_of text).power (10 ^ 38) = ap (λ (x : Reading). x.power) e in omega (arith, a);
 }
-  where
-    c : ℕ
-    c = get_or text i d
+
+pub section_more : (text : List ℕ) (b : ℕ) (s t : Section) → s ≡ section_after Whole text → t ≡ behind s b → t ≡ section_after Whole (text ++ b ∷ [])
+section_more text b s t e f = f ∙ ap (λ (u : Section). behind u b) e ∙ sym (section_push Whole text b)
+
+pub reading_more : (text : List ℕ) (b : ℕ) (s : Section) (r q : Reading) → s ≡ section_after Whole text → r ≡ capped (reading_of text) → q ≡ capped (with_byte s b r) → q ≡ capped (reading_of (text ++ b ∷ []))
+reading_more text b s r q e f g =
+    g ∙ ap (λ (x : Reading). capped (with_byte s b x)) f ∙ capped_byte s b (reading_of text)
+    ∙ ap (λ (u : Section). capped (with_byte u b (reading_of text))) e ∙ ap capped (sym (reading_push Whole nothing_read text b))
 
 -- ---- numerals
 

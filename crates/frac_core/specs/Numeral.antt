@@ -5,6 +5,7 @@ use Rattle.std.specs.Char.{is_ascii_digit, digit_value}
 use Rattle.std.specs.Str.Parse.{AllDigits, IsNumeral, digits_value}
 use Rattle.frac_core.specs.Fraction.{signed}
 use Rattle.frac_core.specs.declared.decimal.Decimal.{Decimal}
+use Rattle.frac_core.specs.declared.numeral.NumeralRead.{NumeralRead}
 use Rattle.frac_core.specs.declared.numeral.Reading.{Reading}
 use Rattle.frac_core.specs.declared.numeral.Section.{Section}
 use Rattle.frac_core.specs.declared.numeral.Section.TheVariants.{Whole, Part, Power}
@@ -107,6 +108,16 @@ reading_of w = reading Whole nothing_read w
 -- the same with the two numbers that have no bound held at 10 ^ 38
 abbrev pub capped : Reading → Reading
 capped r = made r.real r.negative (min r.digits (10 ^ 38)) r.places r.less (min r.power (10 ^ 38))
+
+-- where what follows a text stands
+abbrev pub section_after : Section → List ℕ → Section
+section_after s [] = s
+section_after s (b ∷ bs) = section_after (behind s b) bs
+
+-- All of this text was read.
+pub record IsRead (text : List ℕ) (n : NumeralRead) : Type 0 where
+  pub section : n.section ≡ section_after Whole text
+  pub reading : n.reading ≡ capped (reading_of text)
 
 -- ---- what they are worth
 

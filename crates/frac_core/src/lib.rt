@@ -15,5 +15,5 @@ pub use decimal::Decimal;
 pub use divisor::gcd_of;
 pub use fraction::{Frac, FracFail};
 pub use laws::{fraction_laws, numeral_laws};
-pub use numeral::decimal_of;
+pub use numeral::{NumeralRead, decimal_of};
 pub use text::write_number;

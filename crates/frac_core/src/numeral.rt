@@ -1,7 +1,7 @@
 // Number literals read: their digits, with a point and an exponent that may be missing, and a minus sign before them.
 
-ghost use Rattle.std.specs.Prelude.{◌≡◌, ◌≢◌, ◌<◌, ◌≤◌, ◌+◌, ◌*◌, ◌^◌, ◌%◌, ◌-◌, pos, ◌+ℤ◌, nat_abs, min, IfSome, IfNone};
-ghost use Rattle.frac_core.specs.Numeral.{behind, nothing_read, with_digit, with_minus, with_byte, reading, capped, exponent_of, decimal_of};
+ghost use Rattle.std.specs.Prelude.{◌≡◌, ◌≢◌, ◌<◌, ◌≤◌, ◌+◌, ◌*◌, ◌^◌, ◌%◌, ◌-◌, pos, ◌+ℤ◌, nat_abs, min, List, ℕ, [], ◌∷◌, ◌++◌, length, IfSome, IfNone};
+ghost use Rattle.frac_core.specs.Numeral.{behind, with_digit, with_minus, with_byte, capped, exponent_of, decimal_of, IsRead};
 
 use crate::decimal::Decimal;
 
@@ -26,6 +26,13 @@ pub struct Reading {
     pub(crate) places: usize,
     pub(crate) less: bool,
     pub(crate) power: u128,
+}
+
+/// What was read of the first bytes of a literal, which may be let go then: its parts, and where the next byte stands.
+#[derive(Clone, Copy)]
+pub struct NumeralRead {
+    section: Section,
+    reading: Reading,
 }
 
 /// Where what follows this byte stands.
@@ -55,11 +62,8 @@ fn push_digit(number: u128, digit: u8) -> u128
 /// What was read, with a digit more.
 #[inline(always)]
 fn with_digit(section: Section, digit: u8, read: Reading) -> Reading
-    requires digit { digit < 10 }
-    requires digits { read.digits ≤ 10 ^ 38 }
-    requires places { read.places < 2 ^ 64 - 1 }
-    requires power { read.power ≤ 10 ^ 38 }
-    ensures { result ≡ capped (with_digit section digit read) }
+    requires { digit < 10 }
+    ensures { read.digits ≤ 10 ^ 38 → read.places < 2 ^ 64 - 1 → read.power ≤ 10 ^ 38 → result ≡ capped (with_digit section digit read) }
 {
     match section {
         Section::Whole => Reading {
@@ -68,7 +72,7 @@ fn with_digit(section: Section, digit: u8, read: Reading) -> Reading
         },
         Section::Part => Reading {
             digits: push_digit(read.digits, digit),
-            places: read.places + 1,
+            places: read.places.saturating_add(1),
             ..read
         },
         Section::Power => Reading {
@@ -94,10 +98,7 @@ fn with_minus(section: Section, read: Reading) -> Reading
 /// What was read, with a byte more.
 #[inline(always)]
 fn with_byte(section: Section, byte: u8, read: Reading) -> Reading
-    requires digits { read.digits ≤ 10 ^ 38 }
-    requires places { read.places < 2 ^ 64 - 1 }
-    requires power { read.power ≤ 10 ^ 38 }
-    ensures { result ≡ capped (with_byte section byte read) }
+    ensures { read.digits ≤ 10 ^ 38 → read.places < 2 ^ 64 - 1 → read.power ≤ 10 ^ 38 → result ≡ capped (with_byte section byte read) }
 {
     match byte {
         b'0'..=b'9' => with_digit(section, byte - b'0', read),
@@ -105,26 +106,6 @@ fn with_byte(section: Section, byte: u8, read: Reading) -> Reading
         b'-' => with_minus(section, read),
         _ => read,
     }
-}
-
-/// What is read of a text.
-fn reading_of(text: &[u8]) -> Reading
-    ensures { result ≡ capped (reading Section.Whole nothing_read text.now) }
-{
-    let mut section = Section::Whole;
-    let mut read = Reading {
-        real: false,
-        negative: false,
-        digits: 0,
-        places: 0,
-        less: false,
-        power: 0,
-    };
-    for byte in text {
-        read = with_byte(section, *byte, read);
-        section = behind(section, *byte);
-    }
-    read
 }
 
 /// The digits without the zeros at their end, and how many those are.
@@ -172,37 +153,83 @@ fn normal_exponent(read: Reading, zeros: u32) -> Option<i32>
     Some(exponent as i32)
 }
 
+impl NumeralRead {
+    /// Nothing was read.
+    pub fn new() -> NumeralRead
+        ensures { IsRead [] result }
+    {
+        NumeralRead {
+            section: Section::Whole,
+            reading: Reading {
+                real: false,
+                negative: false,
+                digits: 0,
+                places: 0,
+                less: false,
+                power: 0,
+            },
+        }
+    }
+
+    /// What was read, with a byte more.
+    #[inline(always)]
+    pub fn with(self, byte: u8) -> NumeralRead
+        ensures { (text : List ℕ) → IsRead text self → length text < 2 ^ 64 - 1 → IsRead (text ++ byte ∷ []) result }
+    {
+        NumeralRead {
+            section: behind(self.section, byte),
+            reading: with_byte(self.section, byte, self.reading),
+        }
+    }
+
+    /// The value of the literal in normal form, or none where it is past the limits: more than 38 digits before the
+    /// exponent, from the first that is not 0, or a normal form with an exponent below -400 or above 400.
+    pub fn decimal(self) -> Option<Decimal>
+        ensures { (text : List ℕ) → IsRead text self → result ≡ decimal_of text }
+    {
+        let read = self.reading;
+        if read.digits >= TOO_MANY {
+            return None;
+        }
+        // No text is read so.
+        if read.power > TOO_MANY {
+            return None;
+        }
+        if read.digits == 0 {
+            return Some(Decimal {
+                real: read.real,
+                negative: false,
+                exponent: 0,
+                digits: 0,
+            });
+        }
+        if !read.real {
+            return Some(Decimal {
+                real: false,
+                negative: read.negative,
+                exponent: 0,
+                digits: read.digits,
+            });
+        }
+        let (digits, zeros) = stripped(read.digits);
+        let exponent = normal_exponent(read, zeros)?;
+        Some(Decimal {
+            real: true,
+            negative: read.negative,
+            exponent,
+            digits,
+        })
+    }
+}
+
 /// The value of a literal in normal form, or none where it is past the limits: more than 38 digits before the exponent,
 /// from the first that is not 0, or a normal form with an exponent below -400 or above 400.
 pub fn decimal_of(text: &[u8]) -> Option<Decimal>
     ensures { result ≡ decimal_of text.now }
 {
-    let read = reading_of(text);
-    if read.digits == TOO_MANY {
-        return None;
+    let mut read = NumeralRead::new();
+    for byte in text {
+        read = read.with(*byte);
     }
-    if read.digits == 0 {
-        return Some(Decimal {
-            real: read.real,
-            negative: false,
-            exponent: 0,
-            digits: 0,
-        });
-    }
-    if !read.real {
-        return Some(Decimal {
-            real: false,
-            negative: read.negative,
-            exponent: 0,
-            digits: read.digits,
-        });
-    }
-    let (digits, zeros) = stripped(read.digits);
-    let exponent = normal_exponent(read, zeros)?;
-    Some(Decimal {
-        real: true,
-        negative: read.negative,
-        exponent,
-        digits,
-    })
+    read.decimal()
 }
