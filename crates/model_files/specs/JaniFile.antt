@@ -1,6 +1,6 @@
 -- Which bytes are a JANI file without fault, and the least fault of all others.
 -- (The files are those of the jani-model specification, version 1; which fault is the least is this project's own rule.)
-use Rattle.std.specs.Prelude.{◌≡◌, ℕ, List, []}
+use Rattle.std.specs.Prelude.{◌≡◌, ℕ, List, [], Result, Ok, Err}
 use Rattle.bridge_io.specs.declared.reason.Fault.{Fault}
 use Rattle.bridge_io.specs.declared.reason.Refused.{Refused}
 use Rattle.bridge_io.specs.declared.reason.Refused.TheVariants as R
@@ -10,7 +10,8 @@ use Rattle.jani_table.specs.declared.table.Form.TheVariants as F
 use Rattle.jani_table.specs.Node.{node}
 use Rattle.name_rules.specs.Least.{IsLeast}
 use Rattle.jani_table.specs.Faults.{faults as shape_faults}
-use Rattle.jani_tree.specs.Syntax.{File}
+use Rattle.jani_tree.specs.Syntax.{File, file_of}
+use Rattle.jani_tree.specs.declared.syntax.JaniFile.{JaniFile}
 use Rattle.jani_tree.specs.Jani.{IsFile}
 use Rattle.jani_check.specs.Faults.{faults as jani_faults}
 
@@ -43,3 +44,8 @@ pub data IsJaniFault (bytes : List ℕ) (f : Fault) : Type 0 where
 abbrev pub RefusesJani : List ℕ → Refused → Type 0
 RefusesJani bytes (R.Memory e) = Unit {0}
 RefusesJani bytes (R.At f) = IsJaniFault bytes f
+
+-- what reading the bytes came to: the file that they are, or why there is none
+abbrev pub IsReadJani : List ℕ → Result JaniFile Refused → Type 0
+IsReadJani bytes (Ok file) = IsFaultlessJani bytes (file_of file)
+IsReadJani bytes (Err refused) = RefusesJani bytes refused

@@ -1,12 +1,13 @@
 -- Which bytes are a PRISM file without fault, and the least fault of all others.
 -- (The files are those of the PRISM manual, "The PRISM Language"; which fault is the least is this project's own rule.)
-use Rattle.std.specs.Prelude.{◌≡◌, ℕ, List, []}
+use Rattle.std.specs.Prelude.{◌≡◌, ℕ, List, [], Result, Ok, Err}
 use Rattle.bridge_io.specs.declared.reason.Fault.{Fault}
 use Rattle.bridge_io.specs.declared.reason.Refused.{Refused}
 use Rattle.bridge_io.specs.declared.reason.Refused.TheVariants as R
 use Rattle.prism_tree.specs.Syntax.{File}
 use Rattle.prism_parse.specs.Parsed.{IsSpelled, IsLeastFault}
 use Rattle.name_rules.specs.Least.{IsLeast}
+use Rattle.prism_check.specs.Checked.{Checked}
 use Rattle.prism_check.specs.Faults.{faults as prism_faults}
 
 -- The bytes have no fault of tokens or grammar, they spell this tree and no other, and the tree has no fault of names, size or
@@ -29,3 +30,8 @@ pub data IsPrismFault (bytes : List ℕ) (f : Fault) : Type 0 where
 abbrev pub RefusesPrism : List ℕ → Refused → Type 0
 RefusesPrism bytes (R.Memory e) = Unit {0}
 RefusesPrism bytes (R.At f) = IsPrismFault bytes f
+
+-- what reading the bytes came to: the file that they are, or why there is none
+abbrev pub IsReadPrism : List ℕ → Result Checked Refused → Type 0
+IsReadPrism bytes (Ok c) = IsFaultless bytes c.file
+IsReadPrism bytes (Err refused) = RefusesPrism bytes refused
