@@ -1,4 +1,4 @@
-//! From the bytes of a PRISM file and those of a properties file to the text of a JANI file with properties.
+//! From a PRISM file that was read and the bytes of a properties file to the text of a JANI file with properties.
 ghost use Rattle.std.specs.Prelude.{◌≡◌, ◌<◌, ◌^◌, ℕ, List, IfOk, length, map};
 ghost use Rattle.prism_names.specs.Flat.{flat};
 ghost use Rattle.prism_print.specs.Same.{bare_file};
@@ -9,6 +9,7 @@ ghost use Rattle.prop_trees.specs.Form.{AreOfPrism};
 ghost use Rattle.prop_trees.specs.Syntax.{property_of};
 ghost use Rattle.prop_to_jani.specs.Laws as of_properties;
 ghost use Rattle.prop_to_jani.specs.ReadBack.{with_properties};
+ghost use Rattle.model_files.specs.PrismFile.{IsReadPrism};
 ghost use Rattle.short_names.specs.ShortNames.{HasShortNames};
 ghost use Rattle.model_translation.specs.WithProperties.{HaveShortNames, IsFileWith, IsWrittenWith, TranslatesFiles};
 
@@ -16,7 +17,6 @@ use crate::translation::{held, room_for, text_of};
 use bridge_io::{Fault, List, Refused};
 use decimal_json::Json;
 use jani_check::CheckedJani;
-use model_files::read_prism;
 use prism_check::{CheckedPrism, FlatPrism, flatten};
 use prism_to_jani::flat_to_jani;
 use prop_check::read_props;
@@ -48,19 +48,22 @@ impl From<AllocError> for FilesRefused {
     }
 }
 
-/// The canonical text of the JANI file that the PRISM file of the first bytes is translated to, with the properties that the second bytes
-/// hold of it, and a line feed. That file means the same process, and its properties agree with those that were read, one by one, in order;
-/// they are what is read of it. An `Err` is want of memory, or the least fault of the model, or else of the properties.
+/// The canonical text of the JANI file that a PRISM file is translated to, with the properties that the bytes hold of it, and a line feed.
+/// That file means the same process, and its properties agree with those that were read, one by one, in order; they are what is read of it.
+/// `model` is what reading the PRISM file came to, and `length` how many bytes it has: only how much memory is set aside at first rests on
+/// it. An `Err` is want of memory, or the least fault of the model, or else of the properties.
 pub fn translate_with_properties(
     alloc: Global,
-    model: &[u8],
+    length: usize,
+    model: Result<CheckedPrism, Refused>,
     properties: &[u8],
 ) -> Result<List<u8>, FilesRefused>
-    ensures { TranslatesFiles model.now properties.now result }
+    requires { (bytes : List ℕ) × IsReadPrism bytes model }
+    ensures { (bytes : List ℕ) → IsReadPrism bytes model → TranslatesFiles bytes properties.now result }
 {
     prism_names_law();
     property_names_law();
-    let checked = match read_prism(alloc, model) {
+    let checked = match model {
         Ok(checked) => checked,
         Err(Refused::At(fault)) => return Err(FilesRefused::Model(fault)),
         Err(Refused::Memory(e)) => return Err(FilesRefused::Memory(e)),
@@ -70,7 +73,7 @@ pub fn translate_with_properties(
         Err(Refused::At(fault)) => return Err(FilesRefused::Properties(fault)),
         Err(Refused::Memory(e)) => return Err(FilesRefused::Memory(e)),
     };
-    let room = room_for(model.len().saturating_add(properties.len()));
+    let room = room_for(length.saturating_add(properties.len()));
     let text = written(alloc, checked, props, room)?;
     Ok(text)
 }

@@ -1,7 +1,8 @@
-//! From the bytes of a PRISM file to the text of the JANI file that it is translated to.
-ghost use Rattle.std.specs.Prelude.{IfOk};
+//! From a PRISM file that was read to the text of the JANI file that it is translated to.
+ghost use Rattle.std.specs.Prelude.{ℕ, List, IfOk};
 ghost use Rattle.jani_tree.specs.Form.{FileShort};
 ghost use Rattle.jani_tree.specs.Syntax.{File, file_of};
+ghost use Rattle.model_files.specs.PrismFile.{IsReadPrism};
 ghost use Rattle.short_names.specs.ShortNames.{HasShortNames};
 ghost use Rattle.short_names.specs.TranslationLaws.{IsHeld};
 ghost use Rattle.model_translation.specs.Translation.{IsText, IsJaniText, TranslatesBytes};
@@ -10,23 +11,28 @@ use bridge_io::{List, Refused};
 use decimal_json::line_feed_law;
 use jani_check::{CheckedJani, writable_law};
 use jani_tree::{write_jani, written_law};
-use model_files::read_prism;
 use prism_check::CheckedPrism;
 use prism_to_jani::{to_jani, translated_law};
 use short_names::{prism_names_law, translated_names_law};
 use std::alloc::{AllocError, Global};
 
-/// The canonical text of the JANI file that the PRISM file of these bytes is translated to, and a line feed; that file has no fault and
-/// means the same process. An `Err` is want of memory, or the least fault of the bytes.
-pub fn translate(alloc: Global, bytes: &[u8]) -> Result<List<u8>, Refused>
-    ensures { TranslatesBytes bytes.now result }
+/// The canonical text of the JANI file that a PRISM file is translated to, and a line feed; that file has no fault and means the same
+/// process. `model` is what reading it came to, and `length` how many bytes it has: only how much memory is set aside at first rests on it.
+/// An `Err` is want of memory, or the least fault of the bytes.
+pub fn translate(
+    alloc: Global,
+    length: usize,
+    model: Result<CheckedPrism, Refused>,
+) -> Result<List<u8>, Refused>
+    requires { (bytes : List ℕ) × IsReadPrism bytes model }
+    ensures { (bytes : List ℕ) → IsReadPrism bytes model → TranslatesBytes bytes result }
 {
     prism_names_law();
-    let checked = match read_prism(alloc, bytes) {
+    let checked = match model {
         Ok(checked) => checked,
         Err(refused) => return Err(refused),
     };
-    let text = translated(alloc, checked, room_for(bytes.len()))?;
+    let text = translated(alloc, checked, room_for(length))?;
     Ok(text)
 }
 
