@@ -1,5 +1,5 @@
 -- From a process to its model, and from a model to the bytes of its file.
-use Rattle.std.proofs.Common.{◌≡◌, sym, subst, List, ◌∷◌, ℕ, zero, suc}
+use Rattle.std.proofs.Common.{◌≡◌, subst, List, ◌∷◌, ℕ, zero, suc}
 use Rattle.std.specs.Prelude.{Result, Ok, Err}
 use Rattle.process_core.specs.Steps.{Process}
 use Rattle.instance_start.specs.Description.{Description}
@@ -18,12 +18,8 @@ of_started d c others p (Err (Memory e)) h s = tt
 of_started d c others p (Err (At zero f)) h s = absurd s
 of_started d c others p (Err (At (suc i) f)) h s = record { sound = h.0; breaks = subst (λ q. BreaksForm q c.claim others i f) h.1 s }
 
-of_model : (c : Checking) (model : List ℕ) (others : List (List ℕ)) (d : Description) (r : Result Ending ClaimRefused) → Describes c.lang model d → JudgesOnModel d c others r → JudgesOn c (model ∷ others) r
+pub of_model : (c : Checking) (model : List ℕ) (others : List (List ℕ)) (d : Description) (r : Result Ending ClaimRefused) → Describes c.lang model d → JudgesOnModel d c others r → JudgesOn c (model ∷ others) r
 of_model c model others d (Ok e) is h = (d, is, h)
 of_model c model others d (Err (Memory e)) is h = tt
 of_model c model others d (Err (At zero f)) is h = absurd h
 of_model c model others d (Err (At (suc i) f)) is h = (d, is, h)
-
-pub of_files : (c : Checking) (files : List (List ℕ)) (model : List ℕ) (others : List (List ℕ)) (d : Description) (r : Result Ending ClaimRefused) → files ≡ model ∷ others →
-    Describes c.lang model d → JudgesOnModel d c others r → JudgesOn c files r
-of_files c files model others d r e is h = subst (λ fs. JudgesOn c fs r) (sym e) (of_model c model others d r is h)

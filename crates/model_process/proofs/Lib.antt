@@ -20,3 +20,4 @@ pub mod Once
 pub mod AcceptedWalks
 pub mod Certified
 pub mod PathAnswers
+pub mod ByLanguage

@@ -9,3 +9,4 @@ pub mod ReadBack
 pub mod WrittenPaths
 pub mod Lawful
 pub mod Once
+pub mod ReadModels

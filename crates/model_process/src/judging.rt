@@ -1,13 +1,16 @@
 //! Claims judged.
-ghost use Rattle.std.specs.Prelude.{◌≡◌, ◌+◌, ◌∷◌, ◌<◌, ℕ, List, Some, length};
+ghost use Rattle.std.specs.Prelude.{◌≡◌, ◌∷◌, ◌<◌, ℕ, List, Some, length};
 ghost use Rattle.value_bound.specs.Labels.{label_named};
 ghost use Rattle.jani_tree.specs.Syntax as jani;
-ghost use Rattle.command_words.specs.Words.{of_bounds, checking_of, claim_files, claim_of, files_of, check, words_before_given};
+ghost use Rattle.command_words.specs.Words.{of_bounds, checking_of, claim_files, claim_of, words_before_given};
 ghost use Rattle.command_words.specs.declared.request.Lang.TheVariants.{Prism, Jani};
+ghost use Rattle.model_files.specs.PrismFile.{IsReadPrism};
+ghost use Rattle.model_files.specs.JaniFile.{IsReadJani};
 ghost use Rattle.instance_start.specs.Description.{Description};
 ghost use Rattle.prism_instance.specs.Described.{prism_description};
 ghost use Rattle.jani_instance.specs.Described.{jani_description};
 ghost use Rattle.model_process.specs.Starts.{Begins, IsBehind};
+ghost use Rattle.model_process.specs.ReadModels.{IsRead};
 ghost use Rattle.model_process.specs.Claims.{JudgesOn, JudgesOnModel, JudgesOnProcess, Tells, at_file};
 
 use crate::ending::Ending;
@@ -15,11 +18,11 @@ use crate::finding::Finding;
 use crate::lines::verdict_ending;
 use crate::starting::{Unstarted, begun, good_front, read_flat};
 use bridge_io::{Fault, List, Refused};
-use command_words::{Checking, Claim, Lang};
+use command_words::{Checking, Claim};
 use jani_check::CheckedJani;
 use jani_instance::start_jani;
-use model_files::read_jani;
-use prism_check::FlatPrism;
+use model_files::ReadModel;
+use prism_check::{CheckedPrism, FlatPrism};
 use prism_instance::{described_law, start_prism};
 use row_check::{RowsRefused, check_path, check_rows};
 use state_choices::GroupedSteps;
@@ -45,22 +48,23 @@ impl From<AllocError> for ClaimRefused {
     }
 }
 
-/// Judges the claim about the model in the first of these files that the others make. `next` is the position behind the words
-/// that ask for it. `Err` is the least fault of the model's file; or the first line that breaks the form of another, where the model
-/// starts; or want of memory.
+/// Judges the claim about a model that the other files make. `model` is what reading its file came to. `next` is the position behind the
+/// words that ask for it. `Err` is the least fault of the model's file; or the first line that breaks the form of another, where the model
+/// starts; or want of memory. Files are told by their places among all, from 0 for the model's.
 pub fn judge_claim(
     alloc: Global,
     next: usize,
     checking: &Checking,
-    files: &[List<u8>],
+    model: ReadModel,
+    others: &[List<u8>],
 ) -> Result<Ending, ClaimRefused>
     requires behind { IsBehind (words_before_given (checking_of checking.now)) (checking_of checking.now).given next }
-    requires files { length files.now ≡ length (files_of (check (checking_of checking.now))) }
-    ensures { JudgesOn (checking_of checking.now) files.now result }
+    requires others { length others.now ≡ length (claim_files (checking_of checking.now).claim) }
+    ensures { (bytes : List ℕ) → IsRead (checking_of checking.now).lang bytes model → JudgesOn (checking_of checking.now) (bytes ∷ others.now) result }
 {
-    match checking.lang {
-        Lang::Prism => in_prism(alloc, next, checking, files),
-        Lang::Jani => in_jani(alloc, next, checking, files),
+    match model {
+        ReadModel::Prism(model) => in_prism(alloc, next, checking, model, others),
+        ReadModel::Jani(model) => in_jani(alloc, next, checking, model, others),
     }
 }
 
@@ -69,19 +73,19 @@ fn in_prism(
     alloc: Global,
     next: usize,
     checking: &Checking,
-    files: &[List<u8>],
+    model: Result<CheckedPrism, Refused>,
+    others: &[List<u8>],
 ) -> Result<Ending, ClaimRefused>
-    requires lang { checking.now.lang ≡ Prism }
     requires behind { IsBehind (words_before_given (checking_of checking.now)) (checking_of checking.now).given next }
-    requires files { length files.now ≡ length (files_of (check (checking_of checking.now))) }
-    ensures { JudgesOn (checking_of checking.now) files.now result }
+    requires others { length others.now ≡ length (claim_files (checking_of checking.now).claim) }
+    ensures { (bytes : List ℕ) → IsReadPrism bytes model → (checking_of checking.now).lang ≡ Prism → JudgesOn (checking_of checking.now) (bytes ∷ others.now) result }
 {
-    let flat = match read_flat(alloc, files[0].as_slice()) {
+    let flat = match read_flat(alloc, model) {
         Ok(flat) => flat,
         Err(refused) => return Err(at_file(0, refused)),
     };
     described_law();
-    on_prism(alloc, next, checking, files, &flat)
+    on_prism(alloc, next, checking, others, &flat)
 }
 
 /// The same of a PRISM file that is written out.
@@ -89,19 +93,19 @@ fn on_prism(
     alloc: Global,
     next: usize,
     checking: &Checking,
-    files: &[List<u8>],
+    others: &[List<u8>],
     flat: &FlatPrism,
 ) -> Result<Ending, ClaimRefused>
     requires behind { IsBehind (words_before_given (checking_of checking.now)) (checking_of checking.now).given next }
-    requires files { length files.now ≡ length (files_of (check (checking_of checking.now))) }
-    ensures { (model : List ℕ) (others : List (List ℕ)) → files.now ≡ model ∷ others
-        → JudgesOnModel (prism_description flat.now) (checking_of checking.now) others result }
+    requires others { length others.now ≡ length (claim_files (checking_of checking.now).claim) }
+    ensures { (files : List (List ℕ)) → others.now ≡ files
+        → JudgesOnModel (prism_description flat.now) (checking_of checking.now) files result }
 {
     let values = checking.given.as_slice();
     let given = good_front(alloc, values)?;
     let started = start_prism(alloc, flat, given.as_slice());
     let begun = begun(alloc, next, values, given.len(), started);
-    ended(alloc, checking, files, begun)
+    ended(alloc, checking, others, begun)
 }
 
 /// The same of a JANI file.
@@ -109,18 +113,18 @@ fn in_jani(
     alloc: Global,
     next: usize,
     checking: &Checking,
-    files: &[List<u8>],
+    model: Result<CheckedJani, Refused>,
+    others: &[List<u8>],
 ) -> Result<Ending, ClaimRefused>
-    requires lang { checking.now.lang ≡ Jani }
     requires behind { IsBehind (words_before_given (checking_of checking.now)) (checking_of checking.now).given next }
-    requires files { length files.now ≡ length (files_of (check (checking_of checking.now))) }
-    ensures { JudgesOn (checking_of checking.now) files.now result }
+    requires others { length others.now ≡ length (claim_files (checking_of checking.now).claim) }
+    ensures { (bytes : List ℕ) → IsReadJani bytes model → (checking_of checking.now).lang ≡ Jani → JudgesOn (checking_of checking.now) (bytes ∷ others.now) result }
 {
-    let checked = match read_jani(alloc, files[0].as_slice()) {
+    let checked = match model {
         Ok(checked) => checked,
         Err(refused) => return Err(at_file(0, refused)),
     };
-    on_jani(alloc, next, checking, files, &checked)
+    on_jani(alloc, next, checking, others, &checked)
 }
 
 /// The same of a judged JANI file.
@@ -128,35 +132,35 @@ fn on_jani(
     alloc: Global,
     next: usize,
     checking: &Checking,
-    files: &[List<u8>],
+    others: &[List<u8>],
     checked: &CheckedJani,
 ) -> Result<Ending, ClaimRefused>
     requires behind { IsBehind (words_before_given (checking_of checking.now)) (checking_of checking.now).given next }
-    requires files { length files.now ≡ length (files_of (check (checking_of checking.now))) }
-    ensures { (model : List ℕ) (others : List (List ℕ)) → files.now ≡ model ∷ others
-        → JudgesOnModel (jani_description (jani.file_of checked.now)) (checking_of checking.now) others result }
+    requires others { length others.now ≡ length (claim_files (checking_of checking.now).claim) }
+    ensures { (files : List (List ℕ)) → others.now ≡ files
+        → JudgesOnModel (jani_description (jani.file_of checked.now)) (checking_of checking.now) files result }
 {
     let values = checking.given.as_slice();
     let given = good_front(alloc, values)?;
     let started = start_jani(alloc, checked, given.as_slice());
     let begun = begun(alloc, next, values, given.len(), started);
-    ended(alloc, checking, files, begun)
+    ended(alloc, checking, others, begun)
 }
 
 /// How it ends with a model that is started, or isn't.
 fn ended<S: GroupedSteps + Drop>(
     alloc: Global,
     checking: &Checking,
-    files: &[List<u8>],
+    others: &[List<u8>],
     begun: Result<S, Unstarted>,
 ) -> Result<Ending, ClaimRefused>
-    requires { length files.now ≡ length (files_of (check (checking_of checking.now))) }
-    ensures { (d : Description) (model : List ℕ) (others : List (List ℕ)) → files.now ≡ model ∷ others
+    requires { length others.now ≡ length (claim_files (checking_of checking.now).claim) }
+    ensures { (d : Description) (files : List (List ℕ)) → others.now ≡ files
         → Begins S.process d (words_before_given (checking_of checking.now)) (checking_of checking.now).given begun
-        → JudgesOnModel d (checking_of checking.now) others result }
+        → JudgesOnModel d (checking_of checking.now) files result }
 {
     match begun {
-        Ok(process) => judged(alloc, checking.claim, files, &process),
+        Ok(process) => judged(alloc, checking.claim, others, &process),
         Err(Unstarted::Ended(ending)) => Ok(ending),
         Err(Unstarted::Memory(e)) => Err(ClaimRefused::Memory(e)),
     }
@@ -166,14 +170,14 @@ fn ended<S: GroupedSteps + Drop>(
 fn judged<S: GroupedSteps>(
     alloc: Global,
     claim: Claim,
-    files: &[List<u8>],
+    others: &[List<u8>],
     process: &S,
 ) -> Result<Ending, ClaimRefused>
-    requires { length files.now ≡ 1 + length (claim_files (claim_of claim)) }
-    ensures { (model : List ℕ) (others : List (List ℕ)) → files.now ≡ model ∷ others
-        → JudgesOnProcess (S.process process.now) (claim_of claim.entry) others result }
+    requires { length others.now ≡ length (claim_files (claim_of claim)) }
+    ensures { (files : List (List ℕ)) → others.now ≡ files
+        → JudgesOnProcess (S.process process.now) (claim_of claim.entry) files result }
 {
-    let finding = match verdict_on(alloc, claim, files, process) {
+    let finding = match verdict_on(alloc, claim, others, process) {
         Ok(finding) => finding,
         Err(refused) => return Err(refused),
     };
@@ -185,20 +189,20 @@ fn judged<S: GroupedSteps>(
 fn verdict_on<S: GroupedSteps>(
     alloc: Global,
     claim: Claim,
-    files: &[List<u8>],
+    others: &[List<u8>],
     process: &S,
 ) -> Result<Finding, ClaimRefused>
-    requires { length files.now ≡ 1 + length (claim_files (claim_of claim)) }
-    ensures { (model : List ℕ) (others : List (List ℕ)) → files.now ≡ model ∷ others
-        → Tells (S.process process.now) (claim_of claim.entry) others result }
+    requires { length others.now ≡ length (claim_files (claim_of claim)) }
+    ensures { (files : List (List ℕ)) → others.now ≡ files
+        → Tells (S.process process.now) (claim_of claim.entry) files result }
 {
     match claim {
-        Claim::Path(_) => match check_path(alloc, process, files[1].as_slice()) {
+        Claim::Path(_) => match check_path(alloc, process, others[0].as_slice()) {
             Ok(verdict) => Ok(Finding::Judged(verdict)),
             Err(refused) => Err(at_file(1, refused)),
         },
         Claim::Rows(_, _) => {
-            match check_rows(alloc, process, files[1].as_slice(), files[2].as_slice()) {
+            match check_rows(alloc, process, others[0].as_slice(), others[1].as_slice()) {
                 Ok(verdict) => Ok(Finding::Judged(verdict)),
                 Err(RowsRefused::States(fault)) => Err(ClaimRefused::At(1, fault)),
                 Err(RowsRefused::Rows(fault)) => Err(ClaimRefused::At(2, fault)),
@@ -208,7 +212,7 @@ fn verdict_on<S: GroupedSteps>(
         Claim::Bounds(_, _, name, _) => {
             let label = label_named(alloc, process, name)?;
             match label {
-                Some(label) => bounds_on(alloc, label, files, process),
+                Some(label) => bounds_on(alloc, label, others, process),
                 None => Ok(Finding::NoLabel),
             }
         }
@@ -219,21 +223,21 @@ fn verdict_on<S: GroupedSteps>(
 fn bounds_on<S: GroupedSteps>(
     alloc: Global,
     label: usize,
-    files: &[List<u8>],
+    others: &[List<u8>],
     process: &S,
 ) -> Result<Finding, ClaimRefused>
-    requires files { length files.now ≡ 4 }
+    requires others { length others.now ≡ 3 }
     requires label { label < (S.process process.now).labels }
-    ensures { (states rows name bounds : List ℕ) → (model : List ℕ) (others : List (List ℕ)) → files.now ≡ model ∷ others
-        → label_named (S.process process.now) name ≡ Some label → Tells (S.process process.now) (of_bounds states rows name bounds) others result }
+    ensures { (states rows name bounds : List ℕ) → (files : List (List ℕ)) → others.now ≡ files
+        → label_named (S.process process.now) name ≡ Some label → Tells (S.process process.now) (of_bounds states rows name bounds) files result }
 {
     match check_bound(
         alloc,
         process,
-        files[1].as_slice(),
-        files[2].as_slice(),
+        others[0].as_slice(),
+        others[1].as_slice(),
         label,
-        files[3].as_slice(),
+        others[2].as_slice(),
     ) {
         Ok(verdict) => Ok(Finding::Bounds(verdict)),
         Err(BoundRefused::States(fault)) => Err(ClaimRefused::At(1, fault)),

@@ -6,7 +6,7 @@ ghost use Rattle.prism_tree.specs.Syntax as prism;
 ghost use Rattle.command_words.specs.Given.{assignment_of};
 ghost use Rattle.instance_start.specs.Started.{FailsToStart, Starts};
 ghost use Rattle.instance_start.specs.Description.{Description};
-ghost use Rattle.model_files.specs.PrismFile.{IsFaultless, RefusesPrism};
+ghost use Rattle.model_files.specs.PrismFile.{IsFaultless, IsReadPrism, RefusesPrism};
 ghost use Rattle.model_process.specs.Constants.{good_front};
 ghost use Rattle.model_process.specs.Starts.{Begins, EndsUnstarted, IsBehind, wide_instance_line};
 ghost use Rattle.model_process.specs.declared.ending.Ending.TheVariants.{Excess, Word};
@@ -14,20 +14,23 @@ ghost use Rattle.model_process.specs.declared.ending.Ending.TheVariants.{Excess,
 use crate::ending::Ending;
 use bridge_io::{List, Refused, Text};
 use command_words::Assignment;
-use model_files::read_prism;
 use op_trees::Value;
-use prism_check::{FlatPrism, flatten};
+use prism_check::{CheckedPrism, FlatPrism, flatten};
 use process_core::{Given, StartFail, Steps};
 use process_texts::GivenText;
 use std::alloc::{AllocError, Global};
 use walk_texts::fault_lines;
 
-/// The PRISM file that the bytes are, with its formulas and copies written out, if it has no fault, or its least fault.
-pub fn read_flat(alloc: Global, bytes: &[u8]) -> Result<FlatPrism, Refused>
-    ensures ok { IfOk result (λ f. (tree : prism.File) × IsFaultless bytes.now tree × (bare_file f ≡ bare_file (flat tree))) }
-    ensures refused { IfErr result (RefusesPrism bytes.now) }
+/// The PRISM file that was read, with its formulas and copies written out, if it has no fault, or its least fault. `model` is what reading it
+/// came to.
+pub fn read_flat(
+    alloc: Global,
+    model: Result<CheckedPrism, Refused>,
+) -> Result<FlatPrism, Refused>
+    ensures ok { (bytes : List ℕ) → IsReadPrism bytes model → IfOk result (λ f. (tree : prism.File) × IsFaultless bytes tree × (bare_file f ≡ bare_file (flat tree))) }
+    ensures refused { (bytes : List ℕ) → IsReadPrism bytes model → IfErr result (RefusesPrism bytes) }
 {
-    let checked = match read_prism(alloc, bytes) {
+    let checked = match model {
         Ok(checked) => checked,
         Err(refused) => return Err(refused),
     };

@@ -1,51 +1,59 @@
 //! One state of a model, and walks through it.
-ghost use Rattle.std.specs.Prelude.{◌≡◌, ℕ, IfOk};
+ghost use Rattle.std.specs.Prelude.{◌≡◌, ℕ, List, IfOk};
 ghost use Rattle.jani_tree.specs.Syntax as jani;
 ghost use Rattle.command_words.specs.Words.{job_of, walking_of, words_before};
 ghost use Rattle.command_words.specs.declared.request.Lang.TheVariants.{Prism, Jani};
+ghost use Rattle.model_files.specs.PrismFile.{IsReadPrism};
+ghost use Rattle.model_files.specs.JaniFile.{IsReadJani};
 ghost use Rattle.instance_start.specs.Description.{Description};
 ghost use Rattle.prism_instance.specs.Described.{prism_description};
 ghost use Rattle.jani_instance.specs.Described.{jani_description};
 ghost use Rattle.walk_texts.specs.declared.report.Report.{Report};
+ghost use Rattle.model_process.specs.ReadModels.{IsRead};
 ghost use Rattle.model_process.specs.Starts.{Begins, IsBehind};
 ghost use Rattle.model_process.specs.Walks.{EndsOnModel, IsReport, WalksOn, ending_of, start_word};
 
 use crate::ending::Ending;
 use crate::starting::{Unstarted, begun, good_front, read_flat};
 use bridge_io::Refused;
-use command_words::{Job, Lang, Walking};
+use command_words::{Job, Walking};
 use jani_check::CheckedJani;
 use jani_instance::start_jani;
-use model_files::read_jani;
-use prism_check::FlatPrism;
+use model_files::ReadModel;
+use prism_check::{CheckedPrism, FlatPrism};
 use prism_instance::{described_law, start_prism};
 use state_choices::GroupedSteps;
 use std::alloc::{AllocError, Global};
 use walk_texts::{Report, show, simulate_given, simulate_seed};
 
-/// Shows a state of the model in these bytes, or walks through it. `next` is the position behind the words that ask for it. `Err` is
-/// the least fault of the bytes, or want of memory.
+/// Shows a state of a model, or walks through it. `model` is what reading its file came to. `next` is the position behind the words that ask
+/// for it. `Err` is the least fault of the file, or want of memory.
 pub fn show_or_walk(
     alloc: Global,
     next: usize,
     walking: &Walking,
-    bytes: &[u8],
+    model: ReadModel,
 ) -> Result<Ending, Refused>
     requires { IsBehind (words_before (walking_of walking.now)) (walking_of walking.now).given next }
-    ensures { WalksOn (walking_of walking.now).lang (walking_of walking.now) bytes.now result }
+    ensures { (bytes : List ℕ) → IsRead (walking_of walking.now).lang bytes model → WalksOn (walking_of walking.now).lang (walking_of walking.now) bytes result }
 {
-    match walking.lang {
-        Lang::Prism => in_prism(alloc, next, walking, bytes),
-        Lang::Jani => in_jani(alloc, next, walking, bytes),
+    match model {
+        ReadModel::Prism(model) => in_prism(alloc, next, walking, model),
+        ReadModel::Jani(model) => in_jani(alloc, next, walking, model),
     }
 }
 
 /// The same for a PRISM file.
-fn in_prism(alloc: Global, next: usize, walking: &Walking, bytes: &[u8]) -> Result<Ending, Refused>
+fn in_prism(
+    alloc: Global,
+    next: usize,
+    walking: &Walking,
+    model: Result<CheckedPrism, Refused>,
+) -> Result<Ending, Refused>
     requires { IsBehind (words_before (walking_of walking.now)) (walking_of walking.now).given next }
-    ensures { WalksOn Prism (walking_of walking.now) bytes.now result }
+    ensures { (bytes : List ℕ) → IsReadPrism bytes model → WalksOn Prism (walking_of walking.now) bytes result }
 {
-    let flat = match read_flat(alloc, bytes) {
+    let flat = match read_flat(alloc, model) {
         Ok(flat) => flat,
         Err(refused) => return Err(refused),
     };
@@ -72,11 +80,16 @@ fn on_prism(
 }
 
 /// The same for a JANI file.
-fn in_jani(alloc: Global, next: usize, walking: &Walking, bytes: &[u8]) -> Result<Ending, Refused>
+fn in_jani(
+    alloc: Global,
+    next: usize,
+    walking: &Walking,
+    model: Result<CheckedJani, Refused>,
+) -> Result<Ending, Refused>
     requires { IsBehind (words_before (walking_of walking.now)) (walking_of walking.now).given next }
-    ensures { WalksOn Jani (walking_of walking.now) bytes.now result }
+    ensures { (bytes : List ℕ) → IsReadJani bytes model → WalksOn Jani (walking_of walking.now) bytes result }
 {
-    let checked = match read_jani(alloc, bytes) {
+    let checked = match model {
         Ok(checked) => checked,
         Err(refused) => return Err(refused),
     };

@@ -7,12 +7,12 @@ use Rattle.model_process.proofs.Judged.{of_started}
 use Rattle.model_process.proofs.judging.ended.Goals as goal
 
 pub returns-in-Ok : goal.returns-in-Ok
-returns-in-Ok g c = λ d model others is begins.
+returns-in-Ok g c = λ d files is begins.
     let k = checking_of c.args.checking.now in
-    of_started d k others (g.S.Steps.process c.in-Ok.process) c.judged.result (subst (Begins g.S.Steps.process d (words_before_given k) k.given) c.in-Ok.is begins) (c.judged.ensures model others is)
+    of_started d k files (g.S.Steps.process c.in-Ok.process) c.judged.result (subst (Begins g.S.Steps.process d (words_before_given k) k.given) c.in-Ok.is begins) (c.judged.ensures files is)
 
 pub returns-in-Err-Ended : goal.returns-in-Err-Ended
-returns-in-Err-Ended g c = λ d model others is begins.
+returns-in-Err-Ended g c = λ d files is begins.
     let k = checking_of c.args.checking.now in
     unstarted (rw c.in-Err-Ended.field-0-is
     (subst (λ u. Begins g.S.Steps.process d (words_before_given k) k.given (Err u)) c.in-Err-Ended.field-0-is

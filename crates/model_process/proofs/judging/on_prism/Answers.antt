@@ -8,10 +8,10 @@ use Rattle.model_process.specs.Starts.{Begins, IsBehind}
 use Rattle.model_process.proofs.judging.on_prism.Goals as goal
 
 pub returns : goal.returns
-returns c = λ model others is.
+returns c = λ files is.
     let d = prism_description c.args.flat.now in
     let before = words_before_given (checking_of c.args.checking.now) in
     let values = c.as_slice-values.ensures in
     let starts = subst (λ gs. Starts process_of d gs c.start_prism-started.result) (c.as_slice.ensures ∙ c.in_ok-given.ensures) c.start_prism-started.ensures in
-    c.ended.ensures d model others is (subst (λ vs. Begins process_of d before (map assignment_of vs) c.begun-begun.result) values
+    c.ended.ensures d files is (subst (λ vs. Begins process_of d before (map assignment_of vs) c.begun-begun.result) values
     (c.begun-begun.ensures d before (subst (λ vs. IsBehind before (map assignment_of vs) c.args.next) (sym values) c.requires.behind) starts))
