@@ -1,5 +1,5 @@
 //! JANI models specialised.
-ghost use Rattle.std.specs.Prelude.{◌≡◌, ◌++◌, ◌∷◌, [], IfOk, map};
+ghost use Rattle.std.specs.Prelude.{◌≡◌, ◌++◌, ◌∷◌, ℕ, List, [], IfOk, map};
 ghost use Rattle.jani_tree.specs.Syntax.{file_of};
 ghost use Rattle.jani_tree.specs.Back.{SpellsOnly};
 ghost use Rattle.jani_tree.specs.Form.{FileShort};
@@ -7,6 +7,7 @@ ghost use Rattle.jani_tree.specs.Text.{jani_text};
 ghost use Rattle.jani_check.specs.Faults.{IsChecked};
 ghost use Rattle.command_words.specs.Given.{assignment_of};
 ghost use Rattle.command_words.specs.declared.request.Lang.TheVariants.{Jani};
+ghost use Rattle.model_files.specs.JaniFile.{IsReadJani};
 ghost use Rattle.model_files.specs.ReadAgain.{IsShaped};
 ghost use Rattle.model_process.specs.Constants.{good_front};
 ghost use Rattle.model_process.specs.Starts.{IsBehind};
@@ -18,29 +19,31 @@ use command_words::Assignment;
 use decimal_json::line_feed_law;
 use jani_check::{CheckedJani, writable_law};
 use jani_tree::{JaniFile, write_jani, written_law};
-use model_files::{jani_again_law, read_jani};
+use model_files::jani_again_law;
 use model_process::{Ending, good_front};
 use process_core::Given;
 use short_names::jani_names_law;
 use specialise_jani::{specialise_jani, specialised_clean_law, specialised_meaning_law};
 use std::alloc::{AllocError, Global};
 
-/// How it ends on the bytes of a JANI file.
+/// How it ends on a JANI file of so many bytes, of which this is what reading it came to.
 pub(crate) fn in_jani(
     alloc: Global,
     next: usize,
     values: &[Assignment],
-    bytes: &[u8],
+    length: usize,
+    model: Result<CheckedJani, Refused>,
 ) -> Result<Ending, Refused>
-    requires { IsBehind 3 (map assignment_of values.now) next }
-    ensures { SpecialisesIn Jani (map assignment_of values.now) bytes.now result }
+    requires behind { IsBehind 3 (map assignment_of values.now) next }
+    requires read { (bytes : List ℕ) × IsReadJani bytes model }
+    ensures { (bytes : List ℕ) → IsReadJani bytes model → SpecialisesIn Jani (map assignment_of values.now) bytes result }
 {
     jani_names_law();
-    let checked = match read_jani(alloc, bytes) {
+    let checked = match model {
         Ok(checked) => checked,
         Err(refused) => return Err(refused),
     };
-    let ending = on_jani(alloc, next, values, checked, bytes.len())?;
+    let ending = on_jani(alloc, next, values, checked, length)?;
     Ok(ending)
 }
 

@@ -1,5 +1,5 @@
 //! PRISM models specialised.
-ghost use Rattle.std.specs.Prelude.{◌≡◌, IfOk, map};
+ghost use Rattle.std.specs.Prelude.{◌≡◌, ℕ, List, IfOk, map};
 ghost use Rattle.prism_tree.specs.Syntax.{File, file_of};
 ghost use Rattle.prism_names.specs.Flat.{flat};
 ghost use Rattle.prism_print.specs.Same.{bare_file, SpellsFile};
@@ -7,6 +7,7 @@ ghost use Rattle.prism_print.specs.Printable.{IsPrintable};
 ghost use Rattle.prism_print.specs.Text.{file_text};
 ghost use Rattle.command_words.specs.Given.{assignment_of};
 ghost use Rattle.command_words.specs.declared.request.Lang.TheVariants.{Prism};
+ghost use Rattle.model_files.specs.PrismFile.{IsReadPrism};
 ghost use Rattle.model_process.specs.Constants.{good_front};
 ghost use Rattle.model_process.specs.Starts.{IsBehind};
 ghost use Rattle.model_specialising.specs.Ends.{EndsOnPrism, SpecialisesIn};
@@ -16,7 +17,7 @@ use bridge_io::{List, Refused};
 use command_words::Assignment;
 use model_files::prism_again_law;
 use model_process::{Ending, good_front, read_flat};
-use prism_check::{FlatPrism, form_law, meaning_law, places_law};
+use prism_check::{CheckedPrism, FlatPrism, form_law, meaning_law, places_law};
 use prism_instance::described_law;
 use prism_print::print;
 use prism_tree::PrismFile;
@@ -24,17 +25,17 @@ use process_core::Given;
 use specialise_prism::{specialise_prism, specialised_meaning_law};
 use std::alloc::{AllocError, Global};
 
-/// How it ends on the bytes of a PRISM file.
+/// How it ends on a PRISM file, of which this is what reading it came to.
 pub(crate) fn in_prism(
     alloc: Global,
     next: usize,
     values: &[Assignment],
-    bytes: &[u8],
+    model: Result<CheckedPrism, Refused>,
 ) -> Result<Ending, Refused>
     requires { IsBehind 3 (map assignment_of values.now) next }
-    ensures { SpecialisesIn Prism (map assignment_of values.now) bytes.now result }
+    ensures { (bytes : List ℕ) → IsReadPrism bytes model → SpecialisesIn Prism (map assignment_of values.now) bytes result }
 {
-    let flat = match read_flat(alloc, bytes) {
+    let flat = match read_flat(alloc, model) {
         Ok(flat) => flat,
         Err(refused) => return Err(refused),
     };
