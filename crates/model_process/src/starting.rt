@@ -23,10 +23,7 @@ use walk_texts::fault_lines;
 
 /// The PRISM file that was read, with its formulas and copies written out, if it has no fault, or its least fault. `model` is what reading it
 /// came to.
-pub fn read_flat(
-    alloc: Global,
-    model: Result<CheckedPrism, Refused>,
-) -> Result<FlatPrism, Refused>
+pub fn read_flat(alloc: Global, model: Result<CheckedPrism, Refused>) -> Result<FlatPrism, Refused>
     ensures ok { (bytes : List ℕ) → IsReadPrism bytes model → IfOk result (λ f. (tree : prism.File) × IsFaultless bytes tree × (bare_file f ≡ bare_file (flat tree))) }
     ensures refused { (bytes : List ℕ) → IsReadPrism bytes model → IfErr result (RefusesPrism bytes) }
 {
