@@ -1,5 +1,5 @@
 -- From a model and its counterpart to the bytes of both files.
-use Rattle.std.proofs.Common.{arith, ◌≡◌, ◌∙◌, refl, sym, ap₂, subst, ℕ, zero, suc, List, [], ◌∷◌, length, slice_index_or, inl, inr}
+use Rattle.std.proofs.Common.{◌≡◌, refl, sym, subst, ℕ, zero, suc, List, [], ◌∷◌, inl, inr}
 use Rattle.std.specs.Prelude.{Result, Ok, Err}
 use Rattle.bridge_io.specs.declared.reason.Refused.{Refused}
 use Rattle.bridge_io.specs.declared.reason.Refused.TheVariants as R
@@ -18,13 +18,6 @@ use Rattle.model_process.specs.declared.judging.ClaimRefused.TheVariants.{Memory
 use Rattle.model_carrying.specs.Counterparts.{Counterpart, HasCounterpart, IsCarryFault, IsJaniCounterpart, IsPrismCounterpart, of_file, of_translation, of_size}
 use Rattle.model_carrying.specs.Ends.{CarriesOn}
 use Rattle.model_carrying.specs.Pairs.{CarriesFor, IsUntranslated}
-
--- two files are the first and the second
-pub two_files : (files : List (List ℕ)) (x y e f : List ℕ) → length files ≡ 2 → x ≡ e → e ≡ slice_index_or files 0 e → y ≡ f → f ≡ slice_index_or files 1 f → files ≡ x ∷ y ∷ []
-two_files [] x y e f many a p b q = absurd (omega (arith, many))
-two_files (u ∷ []) x y e f many a p b q = absurd (omega (arith, many))
-two_files (u ∷ v ∷ []) x y e f many a p b q = ap₂ (λ s t. s ∷ t ∷ []) (sym p ∙ sym a) (sym q ∙ sym b)
-two_files (u ∷ v ∷ w ∷ files) x y e f many a p b q = absurd (omega (arith, many))
 
 module _ (c : Carrying) (model path : List ℕ) where
   pub of_prism : c.lang ≡ Prism → (tree : prism.File) → IsFaultless model tree → (r : Result Ending ClaimRefused) →

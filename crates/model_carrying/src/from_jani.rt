@@ -1,5 +1,5 @@
 //! Paths carried from JANI models.
-ghost use Rattle.std.specs.Prelude.{◌≡◌, ◌∷◌, [], IfErr, IfOk};
+ghost use Rattle.std.specs.Prelude.{◌≡◌, ◌∷◌, ℕ, List, [], IfErr, IfOk};
 ghost use Rattle.std.specs.List.{AllByRecursion as Each};
 ghost use Rattle.prism_tree.specs.Syntax as prism;
 ghost use Rattle.prism_check.specs.Checked.{Checked};
@@ -13,6 +13,7 @@ ghost use Rattle.command_words.specs.Words.{carrying_of};
 ghost use Rattle.command_words.specs.declared.request.Lang.TheVariants.{Jani};
 ghost use Rattle.instance_start.specs.Description.{Description};
 ghost use Rattle.instance_start.specs.Given.{given_by};
+ghost use Rattle.model_files.specs.JaniFile.{IsReadJani};
 ghost use Rattle.model_process.specs.Constants.{good_front};
 ghost use Rattle.model_process.specs.Starts.{Begins, IsBehind};
 ghost use Rattle.path_carry.specs.Carried.{CarriedToPrism};
@@ -33,7 +34,6 @@ use command_words::Carrying;
 use jani_check::CheckedJani;
 use jani_instance::{open_constants as jani_constants, start_jani};
 use jani_to_prism::{carry_law, carry_map, to_prism};
-use model_files::read_jani;
 use model_process::{ClaimRefused, Ending, Unstarted, at_file, begun, good_front};
 use path_carry::carry_to_prism;
 use prism_check::{CheckedPrism, FlatPrism, check_prism, flatten};
@@ -43,19 +43,19 @@ use process_core::{Given, StartFail, Steps};
 use state_choices::GroupedSteps;
 use std::alloc::{AllocError, Global};
 
-/// How it ends on the bytes of a JANI model and of a path.
+/// How it ends on a JANI model, of which this is what reading it came to, and on the bytes of a path.
 pub(crate) fn from_jani(
     alloc: Global,
     next: usize,
     carrying: &Carrying,
-    model: &[u8],
+    model: Result<CheckedJani, Refused>,
     path: &[u8],
 ) -> Result<Ending, ClaimRefused>
     requires lang { carrying.now.lang ≡ Jani }
     requires behind { IsBehind 4 (carrying_of carrying.now).given next }
-    ensures { CarriesOn (carrying_of carrying.now) (model.now ∷ path.now ∷ []) result }
+    ensures { (bytes : List ℕ) → IsReadJani bytes model → CarriesOn (carrying_of carrying.now) (bytes ∷ path.now ∷ []) result }
 {
-    let checked = match read_jani(alloc, model) {
+    let checked = match model {
         Ok(checked) => checked,
         Err(refused) => return Err(at_file(0, refused)),
     };

@@ -1,5 +1,5 @@
 //! Paths carried from PRISM models.
-ghost use Rattle.std.specs.Prelude.{◌≡◌, ◌∷◌, [], IfOk};
+ghost use Rattle.std.specs.Prelude.{◌≡◌, ◌∷◌, ℕ, List, [], IfOk};
 ghost use Rattle.prism_names.specs.Flat.{flat};
 ghost use Rattle.prism_print.specs.Same.{bare_file};
 ghost use Rattle.prism_tree.specs.Syntax as prism;
@@ -13,6 +13,7 @@ ghost use Rattle.command_words.specs.Words.{carrying_of};
 ghost use Rattle.command_words.specs.declared.request.Lang.TheVariants.{Prism};
 ghost use Rattle.instance_start.specs.Description.{Description};
 ghost use Rattle.instance_start.specs.Given.{given_by};
+ghost use Rattle.model_files.specs.PrismFile.{IsReadPrism};
 ghost use Rattle.model_process.specs.Constants.{good_front};
 ghost use Rattle.model_process.specs.Starts.{Begins, IsBehind};
 ghost use Rattle.path_carry.specs.Carried.{CarriedToJani};
@@ -26,12 +27,11 @@ use crate::ending::carry_ending;
 use crate::laws::{together_law, values_law};
 use crate::starting::both;
 use crate::values::values_there;
-use bridge_io::List;
+use bridge_io::{List, Refused};
 use carry_maps::CarryMap;
 use command_words::Carrying;
 use jani_check::CheckedJani;
 use jani_instance::{open_constants as jani_constants, start_jani};
-use model_files::read_prism;
 use model_process::{ClaimRefused, Ending, Unstarted, at_file, begun, good_front};
 use path_carry::carry_to_jani;
 use prism_check::{CheckedPrism, FlatPrism, flatten};
@@ -41,20 +41,21 @@ use process_core::{Given, StartFail, Steps};
 use short_names::{prism_names_law, translated_names_law};
 use std::alloc::{AllocError, Global};
 
-/// How it ends on the bytes of a PRISM model and of a path.
+/// How it ends on a PRISM model, of which this is what reading it came to, and on the bytes of a path.
 pub(crate) fn from_prism(
     alloc: Global,
     next: usize,
     carrying: &Carrying,
-    model: &[u8],
+    model: Result<CheckedPrism, Refused>,
     path: &[u8],
 ) -> Result<Ending, ClaimRefused>
     requires lang { carrying.now.lang ≡ Prism }
     requires behind { IsBehind 4 (carrying_of carrying.now).given next }
-    ensures { CarriesOn (carrying_of carrying.now) (model.now ∷ path.now ∷ []) result }
+    requires read { (bytes : List ℕ) × IsReadPrism bytes model }
+    ensures { (bytes : List ℕ) → IsReadPrism bytes model → CarriesOn (carrying_of carrying.now) (bytes ∷ path.now ∷ []) result }
 {
     prism_names_law();
-    let checked = match read_prism(alloc, model) {
+    let checked = match model {
         Ok(checked) => checked,
         Err(refused) => return Err(at_file(0, refused)),
     };
