@@ -15,3 +15,4 @@ pub mod CertifiedBounds
 pub mod CarriedPaths
 pub mod FilesEnds
 pub mod CarriedTexts
+pub mod ReadFiles

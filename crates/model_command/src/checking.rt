@@ -1,18 +1,24 @@
 //! What a file consists of, if it has no fault.
-ghost use Rattle.std.specs.Prelude.{◌≡◌, IfOk, string_bytes};
+ghost use Rattle.std.specs.Prelude.{◌≡◌, ℕ, List, IfOk, string_bytes};
 ghost use Rattle.command_words.specs.declared.request.Task.TheVariants.{CheckJani, CheckPrism};
+ghost use Rattle.model_files.specs.PrismFile.{IsReadPrism};
+ghost use Rattle.model_files.specs.JaniFile.{IsReadJani};
 ghost use Rattle.model_command.specs.Checking.{jani_line, prism_line};
 ghost use Rattle.model_command.specs.Tasks.{Judged};
 
 use bridge_io::{List, Refused};
-use model_files::{read_jani, read_prism};
+use jani_check::CheckedJani;
+use prism_check::CheckedPrism;
 use std::alloc::{AllocError, Global};
 
-/// The line that counts the modules and commands of the PRISM file that the bytes are, or their least fault.
-pub(crate) fn count_prism(alloc: Global, bytes: &[u8]) -> Result<List<u8>, Refused>
-    ensures { Judged CheckPrism bytes.now result }
+/// The line that counts the modules and commands of the PRISM file that was read, or its least fault.
+pub(crate) fn count_prism(
+    alloc: Global,
+    model: Result<CheckedPrism, Refused>,
+) -> Result<List<u8>, Refused>
+    ensures { (bytes : List ℕ) → IsReadPrism bytes model → Judged CheckPrism bytes result }
 {
-    let checked = match read_prism(alloc, bytes) {
+    let checked = match model {
         Ok(checked) => checked,
         Err(refused) => return Err(refused),
     };
@@ -20,11 +26,14 @@ pub(crate) fn count_prism(alloc: Global, bytes: &[u8]) -> Result<List<u8>, Refus
     Ok(List::from_vec(line.into_bytes()))
 }
 
-/// The line that counts the elements and edges of the JANI file that the bytes are, or their least fault.
-pub(crate) fn count_jani(alloc: Global, bytes: &[u8]) -> Result<List<u8>, Refused>
-    ensures { Judged CheckJani bytes.now result }
+/// The line that counts the elements and edges of the JANI file that was read, or its least fault.
+pub(crate) fn count_jani(
+    alloc: Global,
+    model: Result<CheckedJani, Refused>,
+) -> Result<List<u8>, Refused>
+    ensures { (bytes : List ℕ) → IsReadJani bytes model → Judged CheckJani bytes result }
 {
-    let checked = match read_jani(alloc, bytes) {
+    let checked = match model {
         Ok(checked) => checked,
         Err(refused) => return Err(refused),
     };

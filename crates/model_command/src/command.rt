@@ -16,19 +16,15 @@ ghost use Rattle.model_command.specs.Run.{AreWhole, ComesTo, IsCause, IsEnd, IsE
 ghost use Rattle.model_command.specs.Tasks.{Makes, IsFit, Judged};
 ghost use Rattle.model_command.specs.Headline.{AreHeld, IsHeadline, IsEndedAsTold, IsShownAsTold, IsTranslatedAsTold};
 
-use crate::checking::{count_jani, count_prism};
 use crate::generating::generate;
+use crate::on_files::{carry_on, judge_on, perform, specialise_on, translate_pair, walk_on};
 use crate::outcome::{Outcome, refusal};
 use crate::reading::read_files;
-use crate::to_prism::translate_to_prism;
 use bridge_io::{List, ReadFail, Reason, Refused, Shelf, Sink, write_whole};
 use command_words::{Request, Task, WordsFail, request_in, words_law};
-use model_carrying::{carry_between, kept_law};
-use model_process::{ClaimRefused, Ending, certified_law, judge_claim, show_or_walk};
-use model_specialising::specialise_model;
-use model_translation::{
-    FilesRefused, one_list_of_faults, translate, translate_properties, translate_with_properties,
-};
+use model_carrying::kept_law;
+use model_process::{ClaimRefused, Ending, certified_law};
+use model_translation::{FilesRefused, one_list_of_faults};
 use std::alloc::Global;
 
 // The status where a write failed.
@@ -296,20 +292,20 @@ fn end_on<'a>(
             let bytes = files[0].as_slice();
             End {
                 name: names[0],
-                outcome: ended(bytes, show_or_walk(alloc, next, walking, bytes)),
+                outcome: ended(bytes, walk_on(alloc, next, walking, bytes)),
             }
         }
         Request::Check(checking) => {
-            told_of_files(names, files, judge_claim(alloc, next, checking, files))
+            told_of_files(names, files, judge_on(alloc, next, checking, files))
         }
         Request::Carry(carrying) => {
-            told_of_files(names, files, carry_between(alloc, next, carrying, files))
+            told_of_files(names, files, carry_on(alloc, next, carrying, files))
         }
         Request::Specialise(specialising) => {
             let bytes = files[0].as_slice();
             End {
                 name: names[0],
-                outcome: ended(bytes, specialise_model(alloc, next, specialising, bytes)),
+                outcome: ended(bytes, specialise_on(alloc, next, specialising, bytes)),
             }
         }
     }
@@ -339,7 +335,7 @@ fn paired<'a>(
 {
     let model = files[0].as_slice();
     let second = files[1].as_slice();
-    let made = translate_with_properties(alloc, model, second);
+    let made = translate_pair(alloc, model, second);
     told_of_pair(names[0], names[1], model, second, made)
 }
 
@@ -408,19 +404,6 @@ fn told_of_files<'a>(
             name: names[0],
             outcome: Outcome::NoMemory,
         },
-    }
-}
-
-// What the task makes of the bytes, or their least fault.
-fn perform(alloc: Global, task: Task, bytes: &[u8]) -> Result<List<u8>, Refused>
-    ensures { Judged task bytes.now result }
-{
-    match task {
-        Task::ToJani => translate(alloc, bytes),
-        Task::ToPrism => translate_to_prism(alloc, bytes),
-        Task::ToPrismProps => translate_properties(alloc, bytes),
-        Task::CheckPrism => count_prism(alloc, bytes),
-        Task::CheckJani => count_jani(alloc, bytes),
     }
 }
 

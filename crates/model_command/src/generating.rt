@@ -5,6 +5,7 @@ ghost use Rattle.model_translation.specs.Translation.{Translates};
 ghost use Rattle.model_command.specs.Generating.{IsGenerated, generated_line};
 ghost use Rattle.model_command.specs.Run.{IsGenerateEnd};
 
+use crate::on_files::{jani_in, prism_in};
 use crate::outcome::Outcome;
 use crate::to_prism::translate_to_prism;
 use bridge_io::{List, Refused};
@@ -28,7 +29,7 @@ fn line_for(alloc: Global, modules: u32) -> Result<List<u8>, Refused>
     ensures { IfOk result (λ line. IsGenerated modules line) }
 {
     let jani = jani_for(alloc, modules)?;
-    let prism = translate_to_prism(alloc, jani.as_slice())?;
+    let prism = translate_to_prism(alloc, jani_in(alloc, jani.as_slice()))?;
     let line = generated_line(alloc, modules, jani.len(), prism.len())?;
     Ok(List::from_vec(line.into_bytes()))
 }
@@ -38,7 +39,7 @@ fn jani_for(alloc: Global, modules: u32) -> Result<List<u8>, Refused>
     ensures { IfOk result (λ jani. Translates (generated_text modules) jani) }
 {
     let model = generated_text(alloc, modules)?;
-    translate(alloc, model.as_slice())
+    translate(alloc, model.len(), prism_in(alloc, model.as_slice()))
 }
 
 // `modules N commands C jani L prism B`

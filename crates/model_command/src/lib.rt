@@ -9,6 +9,7 @@ mod checking;
 mod command;
 mod generating;
 mod laws;
+mod on_files;
 mod outcome;
 mod reading;
 mod to_prism;

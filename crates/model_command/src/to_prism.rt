@@ -1,11 +1,12 @@
-//! From the bytes of a JANI file to the text of the PRISM file that it is translated to.
-ghost use Rattle.std.specs.Prelude.{◌≡◌, [], ◌++◌, IfErr, IfOk};
+//! From a JANI file that was read to the text of the PRISM file that it is translated to.
+ghost use Rattle.std.specs.Prelude.{◌≡◌, ℕ, List, [], ◌++◌, IfErr, IfOk};
 ghost use Rattle.prism_tree.specs.Syntax as prism;
 ghost use Rattle.prism_print.specs.Comments.{lines_text};
 ghost use Rattle.prism_print.specs.Text.{file_text};
 ghost use Rattle.jani_tree.specs.Syntax.{file_of};
 ghost use Rattle.jani_tree.specs.Faults.{FailsFor};
 ghost use Rattle.jani_to_prism.specs.Refused.{refused};
+ghost use Rattle.model_files.specs.JaniFile.{IsReadJani};
 ghost use Rattle.command_words.specs.declared.request.Task.TheVariants.{ToPrism};
 ghost use Rattle.model_command.specs.Tasks.{Judged};
 ghost use Rattle.model_command.specs.ToPrism.{IsPrismText};
@@ -13,17 +14,19 @@ ghost use Rattle.model_command.specs.ToPrism.{IsPrismText};
 use bridge_io::{List, Refused, Text};
 use jani_check::CheckedJani;
 use jani_to_prism::{CheckedPrismText, lines_law, to_prism, translated_law};
-use model_files::read_jani;
 use prism_parse::one_tree;
 use prism_print::{commented_law, print};
 use std::alloc::{AllocError, Global};
 
-/// The text of the PRISM file that the JANI file of these bytes is translated to, or the least fault of the bytes, or of the
-/// translation.
-pub(crate) fn translate_to_prism(alloc: Global, bytes: &[u8]) -> Result<List<u8>, Refused>
-    ensures { Judged ToPrism bytes.now result }
+/// The text of the PRISM file that a JANI file is translated to, or the least fault of its bytes, or of the translation. `model` is what
+/// reading the file came to.
+pub(crate) fn translate_to_prism(
+    alloc: Global,
+    model: Result<CheckedJani, Refused>,
+) -> Result<List<u8>, Refused>
+    ensures { (bytes : List ℕ) → IsReadJani bytes model → Judged ToPrism bytes result }
 {
-    match read_jani(alloc, bytes) {
+    match model {
         Ok(checked) => written(alloc, checked),
         Err(refused) => Err(refused),
     }

@@ -18,7 +18,7 @@ returns-in-Walk c =
     subst (λ r. IsEndOn (request_of r) c.args.files.now (slice_index_or c.args.names.now 0 (record { ref_ptr = (0, 0); now = [] })).now c.ended.result) (sym c.in-Walk.is)
     (one_file (λ bytes. IsWalkEnd w bytes c.ended.result) w.file c.args.names.now _ c.args.files.now _ _
     (subst (λ r. names_of c.args.names.now ≡ files_of (request_of r)) c.in-Walk.is c.requires.names) c.requires.files c.index-files-0-in-Walk.is
-    (subst (λ bytes. IsWalkEnd w bytes c.ended.result) c.as_slice-bytes-in-Walk.ensures (subst (IsWalkEnd w _) (sym c.ended.ensures) (walk_told w _ c.show_or_walk.result c.show_or_walk.ensures))))
+    (subst (λ bytes. IsWalkEnd w bytes c.ended.result) c.as_slice-bytes-in-Walk.ensures (subst (IsWalkEnd w _) (sym c.ended.ensures) (walk_told w _ c.walk_on.result c.walk_on.ensures))))
 
 -- the names of the files, and what is told of them
 pub told_of_files-requires-clause-some : goal.told_of_files-requires-clause-some
@@ -26,17 +26,17 @@ told_of_files-requires-clause-some c =
     some_named c.args.names.now _ _ (subst (λ r. names_of c.args.names.now ≡ files_of (request_of r)) c.in-Check.is c.requires.names)
 
 pub told_of_files-requires-clause-within : goal.told_of_files-requires-clause-within
-told_of_files-requires-clause-within c = claim_within (checking_of c.in-Check.checking) c.args.files.now c.judge_claim.result c.judge_claim.ensures
+told_of_files-requires-clause-within c = claim_within (checking_of c.in-Check.checking) c.args.files.now c.judge_on.result c.judge_on.ensures
 
 pub returns-in-Check : goal.returns-in-Check
 returns-in-Check c =
     let names = subst (λ r. names_of c.args.names.now ≡ files_of (request_of r)) c.in-Check.is c.requires.names in
     subst (λ r. IsEndOn (request_of r) c.args.files.now c.told_of_files.result.name.now c.told_of_files.result.outcome) (sym c.in-Check.is)
-    (claim_told (checking_of c.in-Check.checking) c.args.files.now c.told_of_files.result.name.now c.judge_claim.result c.told_of_files.result.outcome c.judge_claim.ensures
-    (subst (λ ns. IsToldOfFiles ns c.args.files.now c.judge_claim.result c.told_of_files.result.name.now c.told_of_files.result.outcome) names c.told_of_files.ensures))
+    (claim_told (checking_of c.in-Check.checking) c.args.files.now c.told_of_files.result.name.now c.judge_on.result c.told_of_files.result.outcome c.judge_on.ensures
+    (subst (λ ns. IsToldOfFiles ns c.args.files.now c.judge_on.result c.told_of_files.result.name.now c.told_of_files.result.outcome) names c.told_of_files.ensures))
 
-pub carry_between-requires-clause-files : goal.carry_between-requires-clause-files
-carry_between-requires-clause-files c =
+pub carry_on-requires-clause-files : goal.carry_on-requires-clause-files
+carry_on-requires-clause-files c =
     c.requires.files ∙ two_named c.args.names.now _ _ (subst (λ r. names_of c.args.names.now ≡ files_of (request_of r)) c.in-Carry.is c.requires.names)
 
 pub told_of_files-requires-in-Carry-clause-some : goal.told_of_files-requires-in-Carry-clause-some
@@ -44,14 +44,14 @@ told_of_files-requires-in-Carry-clause-some c =
     some_named c.args.names.now _ _ (subst (λ r. names_of c.args.names.now ≡ files_of (request_of r)) c.in-Carry.is c.requires.names)
 
 pub told_of_files-requires-in-Carry-clause-within : goal.told_of_files-requires-in-Carry-clause-within
-told_of_files-requires-in-Carry-clause-within c = carry_within (carrying_of c.in-Carry.carrying) c.args.files.now c.carry_between.result c.carry_between.ensures
+told_of_files-requires-in-Carry-clause-within c = carry_within (carrying_of c.in-Carry.carrying) c.args.files.now c.carry_on.result c.carry_on.ensures
 
 pub returns-in-Carry : goal.returns-in-Carry
 returns-in-Carry c =
     let names = subst (λ r. names_of c.args.names.now ≡ files_of (request_of r)) c.in-Carry.is c.requires.names in
     subst (λ r. IsEndOn (request_of r) c.args.files.now c.told_of_files-in-Carry.result.name.now c.told_of_files-in-Carry.result.outcome) (sym c.in-Carry.is)
-    (carry_told (carrying_of c.in-Carry.carrying) c.args.files.now c.told_of_files-in-Carry.result.name.now c.carry_between.result c.told_of_files-in-Carry.result.outcome c.carry_between.ensures
-    (subst (λ ns. IsToldOfFiles ns c.args.files.now c.carry_between.result c.told_of_files-in-Carry.result.name.now c.told_of_files-in-Carry.result.outcome) names c.told_of_files-in-Carry.ensures))
+    (carry_told (carrying_of c.in-Carry.carrying) c.args.files.now c.told_of_files-in-Carry.result.name.now c.carry_on.result c.told_of_files-in-Carry.result.outcome c.carry_on.ensures
+    (subst (λ ns. IsToldOfFiles ns c.args.files.now c.carry_on.result c.told_of_files-in-Carry.result.name.now c.told_of_files-in-Carry.result.outcome) names c.told_of_files-in-Carry.ensures))
 
 pub returns-in-Specialise : goal.returns-in-Specialise
 returns-in-Specialise c =
@@ -60,4 +60,4 @@ returns-in-Specialise c =
     (one_file (λ bytes. IsSpecialiseEnd p bytes c.ended-in-Specialise.result) p.file c.args.names.now _ c.args.files.now _ _
     (subst (λ r. names_of c.args.names.now ≡ files_of (request_of r)) c.in-Specialise.is c.requires.names) c.requires.files c.index-files-0-in-Specialise.is
     (subst (λ bytes. IsSpecialiseEnd p bytes c.ended-in-Specialise.result) c.as_slice-bytes-in-Specialise.ensures
-    (subst (IsSpecialiseEnd p _) (sym c.ended-in-Specialise.ensures) (specialise_told p _ c.specialise_model.result c.specialise_model.ensures))))
+    (subst (IsSpecialiseEnd p _) (sym c.ended-in-Specialise.ensures) (specialise_told p _ c.specialise_on.result c.specialise_on.ensures))))
